@@ -173,6 +173,11 @@ Turns-step old new P Q steps was here =
 pub Turns-call : (start old new : History) (P Q : Image → Type 0) → During start old P → Steps old new → Q new.present → Turns start new P Q
 Turns-call start old new P Q during steps here = Turns-after start old new P Q during (Turns-step old new P Q steps (During-now start old P during) here)
 
+-- calls, and then one in which the turn may come
+pub Turns-either : (start old new : History) (P Q : Image → Type 0) → During start old P → Steps old new → P new.present ⊎ Q new.present → Turns start new P Q
+Turns-either start old new P Q during steps (inl still) = Turns-not start new P Q (During-call start old new P during steps still)
+Turns-either start old new P Q during steps (inr turned) = Turns-call start old new P Q during steps turned
+
 -- a call that leaves past and present as they were
 pub Steps-same : (old new : History) → new.past ≡ old.past → new.present ≡ old.present → Steps old new
 Steps-same old new past_is present_is = Turns-past old new _ _ record {

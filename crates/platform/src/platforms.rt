@@ -48,7 +48,7 @@ pub trait Platform {
 
         ensures address { IfOk result (λ address. address ≡ head self.old) }
         ensures appended { tells → OnOk result ((history self.new).present ≡ with_page (history self.old).present page.now page.now) }
-        ensures at_fault { tells → OnErr result (MayHavePage (history self.old).present page.now (history self.new).present) }
+        ensures either { tells → MayHavePage (history self.old).present page.now (history self.new).present }
         ensures cell { tells → (history self.new).present.cell ≡ (history self.old).present.cell }
         ensures time { tells → Steps (history self.old) (history self.new) }
 
@@ -80,7 +80,7 @@ pub trait Platform {
     /// Makes every page that was handed over outlast a loss of power. After a fault all of that was done, or nothing.
     fn sync(&mut self) -> Result<(), PlatformFault>
         ensures synced { tells → OnOk result ((history self.new).present ≡ all_synced (history self.old).present) }
-        ensures at_fault { tells → OnErr result (IsEither (history self.old).present (all_synced (history self.old).present) (history self.new).present) }
+        ensures either { tells → IsEither (history self.old).present (all_synced (history self.old).present) (history self.new).present }
         ensures cell { tells → (history self.new).present.cell ≡ (history self.old).present.cell }
         ensures time { tells → Steps (history self.old) (history self.new) }
 
@@ -110,7 +110,7 @@ pub trait Platform {
         requires size { length bytes.now ≡ ROOT }
 
         ensures swapped { tells → OnOk result ((history self.new).present ≡ with_cell (history self.old).present (Some bytes.now)) }
-        ensures at_fault { tells → OnErr result (IsEither (history self.old).present (with_cell (history self.old).present (Some bytes.now)) (history self.new).present) }
+        ensures either { tells → IsEither (history self.old).present (with_cell (history self.old).present (Some bytes.now)) (history self.new).present }
         ensures time { tells → Steps (history self.old) (history self.new) }
 
         ensures head { head self.new ≡ head self.old }
@@ -122,7 +122,7 @@ pub trait Platform {
     /// Empties the cell, without a trace of what it held. After a fault it holds that or nothing.
     fn clear_root(&mut self) -> Result<(), PlatformFault>
         ensures cleared { tells → OnOk result ((history self.new).present ≡ with_cell (history self.old).present None) }
-        ensures at_fault { tells → OnErr result (IsEither (history self.old).present (with_cell (history self.old).present None) (history self.new).present) }
+        ensures either { tells → IsEither (history self.old).present (with_cell (history self.old).present None) (history self.new).present }
         ensures time { tells → Steps (history self.old) (history self.new) }
 
         ensures head { head self.new ≡ head self.old }
