@@ -38,6 +38,11 @@ pub pieces_same : (xs ys : List (List ℕ)) → map length xs ≡ map length ys 
 pieces_same xs ys lengths joined =
     sym (fields_again xs []) ∙ ap (λ (sizes : List ℕ). fields_from 0 sizes (concat xs)) lengths ∙ ap (fields_from 0 (map length ys)) joined ∙ fields_again ys []
 
+-- two parts of a list are the same as those of another, where the first parts are as long
+pub append_same : (a b c d : List ℕ) → length a ≡ length c → a ++ b ≡ c ++ d → (a ≡ c) × (b ≡ d)
+append_same a b c d lengths same =
+    (sym (take_at a b (length c) lengths) ∙ ap (take (length c)) same ∙ take_at c d (length c) refl, sym (drop_at a b (length c) lengths) ∙ ap (drop (length c)) same ∙ drop_at c d (length c) refl)
+
 -- numbers with the same bytes are the same
 pub number_same_2 : (m n : ℕ) → m < 2 ^ 16 → n < 2 ^ 16 → to_be_bytes w16 m ≡ to_be_bytes w16 n → m ≡ n
 number_same_2 m n below-m below-n same =
