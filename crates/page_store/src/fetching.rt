@@ -26,6 +26,8 @@ pub fn fetch<P: Platform>(
     requires { want.now.addr < P.head platform.old }
 
     ensures fits { P.tells → IfOk result (λ body. FitsAt (P.history platform.old).present.readable want.now key.now (value_of body (content_of buf.new))) }
+    // What is answered is what the buffer spells, whatever the platform tells.
+    ensures wanted { IfOk result (λ body. IsWantedRecord want.now buf.new.body (value_of body (content_of buf.new))) }
     ensures nothing_fits { P.tells → (addr : ℕ) → IsErrOf result (FetchRefusal.BadRecord addr) → NothingFits (P.history platform.old).present.readable want.now key.now }
     ensures bad { (addr : ℕ) → IsErrOf result (FetchRefusal.BadRecord addr) → addr ≡ want.now.addr }
 
