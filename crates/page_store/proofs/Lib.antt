@@ -1,2 +1,4 @@
 pub mod RecordLaws
 pub mod TreeLaws
+pub mod LeafLaws
+pub mod StandsLaws

@@ -1,14 +1,13 @@
 -- That a page is one record at most, and what an appended page is.
-use Rattle.std.proofs.Common.{◌≡◌, ℕ, ◌+◌, ◌-◌, ◌*◌, ◌<◌, ◌≤◌, ◌^◌, List, [], ◌∷◌, ◌++◌, map, length, replicate, refl, sym, ap, subst, ◌∙◌, arith, zero, suc, length-append}
+use Rattle.std.proofs.Common.{◌≡◌, ℕ, ◌-◌, ◌*◌, ◌<◌, ◌≤◌, ◌^◌, List, [], ◌∷◌, ◌++◌, length, replicate, refl, sym, ap, ◌∙◌, arith, zero, suc, length-append}
 use Rattle.std.specs.Prelude.{All, Some, slice_get}
-use Rattle.std.specs.Int.{w16, w64, to_be_bytes}
 use Rattle.std.specs.List.{flat_map}
 use Rattle.std.proofs.lemmas.List.{length-replicate}
 use Rattle.record_fields.specs.Fields.{fields_from, fields_again, append_same, number_same_2, number_same_8}
 use Rattle.seal_record.specs.Sealing.{masked}
 use Rattle.seal_record.proofs.SealingLaws.{masked-masked}
 use Rattle.node_codec.specs.declared.body.Entry.{Entry}
-use Rattle.node_codec.specs.Record.{Record, DataRecord, NodeRecord, FitsRecord, FitsNode, head_fields, head_bytes, entry_bytes, entries_bytes, record_bytes}
+use Rattle.node_codec.specs.Record.{Record, DataRecord, NodeRecord, FitsRecord, head_fields, head_bytes, entry_bytes, entries_bytes, record_bytes}
 use Rattle.node_codec.specs.Parts.{IsEntry}
 use Rattle.node_codec.specs.Laws.{entries_same, length-entries, length-head_bytes}
 use Rattle.page_store.specs.Places.{IsRecordAt}

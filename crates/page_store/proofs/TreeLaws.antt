@@ -1,14 +1,14 @@
 -- Trees: that there is one at most, what keeps it, and that none has a wrong place.
-use Rattle.std.proofs.Common.{◌≡◌, ◌⊎◌, inl, inr, ℕ, zero, suc, ◌+◌, ◌<◌, ◌≤◌, ◌^◌, List, [], ◌∷◌, ◌++◌, map, length, refl, sym, ap, subst, ◌∙◌, arith}
+use Rattle.std.proofs.Common.{◌≡◌, inl, inr, ℕ, zero, suc, ◌<◌, ◌^◌, List, [], ◌∷◌, ◌++◌, map, refl, sym, ap, subst, ◌∙◌, arith}
 use Rattle.std.specs.Prelude.{All, Some, slice_get}
-use Rattle.std.proofs.lemmas.List.Elements.{All-nil, All-cons, All-head, All-tail, All-weaker}
+use Rattle.std.proofs.lemmas.List.Elements.{All-nil, All-cons, All-head, All-tail, All-weaker, All-append}
 use Rattle.node_codec.specs.declared.body.Entry.{Entry}
 use Rattle.node_codec.specs.Record.{DataRecord, NodeRecord}
 use Rattle.root_codec.specs.declared.root.Root.{Root}
 use Rattle.root_codec.specs.RootRecord.{FitsRoot}
 use Rattle.page_store.specs.declared.wants.Want.{Want}
-use Rattle.page_store.specs.Places.{FitsAt, NothingFits, root_want, child_want}
-use Rattle.page_store.specs.Tree.{TraceEntry, DataOf, NodeOver, Place, Parts, joined, data_parts, node_parts, bound_of, EachChild, SomeChild, IsData, IsNode, IsMisfit, IsAbove, Subtree, Tree, WrongBelow, Wrong}
+use Rattle.page_store.specs.Places.{FitsAt, root_want, child_want}
+use Rattle.page_store.specs.Tree.{DataOf, NodeOver, Place, Parts, joined, data_parts, node_parts, bound_of, EachChild, SomeChild, Subtree, Tree, WrongBelow, Wrong}
 use Rattle.page_store.proofs.RecordLaws.{one_record, record_kept, slice_get-front}
 
 All-left : {A : Type 0} (P : A → Type 0) (xs ys : List A) → All P (xs ++ ys) → All P xs
@@ -67,9 +67,10 @@ each_kept : (pages others : List (List ℕ)) (Below Below' : Want → List ℕ �
 each_kept pages others Below Below' order level high [] [] kept each alike = tt
 each_kept pages others Below Below' order level high [] (parts ∷ children) kept each alike = absurd each
 each_kept pages others Below Below' order level high (entry ∷ entries) [] kept each alike = absurd each
-each_kept pages others Below Below' order level high (entry ∷ entries) (parts ∷ children) kept each alike =
-    (kept (child_want order level entry (bound_of entries high)) entry.key parts each.0 (All-left (ReadsAlike pages others) parts.places (joined children).places alike),
-    each_kept pages others Below Below' order level high entries children kept each.1 (All-right (ReadsAlike pages others) parts.places (joined children).places alike))
+each_kept pages others Below Below' order level high (entry ∷ entries) (parts ∷ children) kept each alike = (
+  kept (child_want order level entry (bound_of entries high)) entry.key parts each.0 (All-left (ReadsAlike pages others) parts.places (joined children).places alike),
+  each_kept pages others Below Below' order level high entries children kept each.1 (All-right (ReadsAlike pages others) parts.places (joined children).places alike),
+)
 
 subtree_kept : (pages others : List (List ℕ)) (order level : ℕ) (want : Want) (key : List ℕ) (parts : Parts) → Subtree pages order level want key parts → All (ReadsAlike pages others) parts.places → Subtree others order level want key parts
 unfolding Subtree
@@ -96,6 +97,34 @@ tree_kept pages others root parts is alike = subtree_kept pages others root.orde
 -- each place of a tree can be read
 abbrev pub IsRead : List (List ℕ) → Place → Type 0
 IsRead pages place = (page : List ℕ) × (slice_get pages place.addr ≡ Some page)
+
+each_read : (pages : List (List ℕ)) (Below : Want → List ℕ → Parts → Type 0) (order level high : ℕ) (entries : List Entry) (children : List Parts) → ((want : Want) (key : List ℕ) (parts : Parts) → Below want key parts → All (IsRead pages) parts.places) → EachChild Below order level high entries children → All (IsRead pages) (joined children).places
+each_read pages Below order level high [] [] read each = All-nil (IsRead pages)
+each_read pages Below order level high [] (parts ∷ children) read each = absurd each
+each_read pages Below order level high (entry ∷ entries) [] read each = absurd each
+each_read pages Below order level high (entry ∷ entries) (parts ∷ children) read each =
+    All-append (IsRead pages) parts.places (joined children).places
+    (read (child_want order level entry (bound_of entries high)) entry.key parts each.0)
+    (each_read pages Below order level high entries children read each.1)
+
+subtree_read : (pages : List (List ℕ)) (order level : ℕ) (want : Want) (key : List ℕ) (parts : Parts) → Subtree pages order level want key parts → All (IsRead pages) parts.places
+unfolding Subtree
+subtree_read pages order zero want key parts is =
+    let here : Place = record { addr = want.addr; key = key; trace = DataOf want.low } in
+    subst (λ (p : Parts). All (IsRead pages) p.places) (sym is.has) (All-cons (IsRead pages) here [] (is.fits.0.page, is.fits.0.reads) (All-nil (IsRead pages)))
+subtree_read pages order (suc level) want key parts is =
+    let here : Place = record { addr = want.addr; key = key; trace = NodeOver (map (λ (e : Entry). e.addr) is.entries) } in
+    let below = each_read pages (Subtree pages order level) order level want.high is.entries is.children (subtree_read pages order level) is.each in
+    subst (λ (p : Parts). All (IsRead pages) p.places) (sym is.has) (All-cons (IsRead pages) here (joined is.children).places (is.fits.0.page, is.fits.0.reads) below)
+
+pub tree_read : (pages : List (List ℕ)) (root : Root) (parts : Parts) → Tree pages root parts → All (IsRead pages) parts.places
+tree_read pages root parts is = subtree_read pages root.order root.level (root_want root) root.key parts is
+
+-- pages that are added keep a tree
+pub tree_stays : (pages more : List (List ℕ)) (root : Root) (parts : Parts) → Tree pages root parts → Tree (pages ++ more) root parts
+tree_stays pages more root parts is =
+    tree_kept pages (pages ++ more) root parts is
+    (All-weaker (IsRead pages) (ReadsAlike pages (pages ++ more)) (λ place read. slice_get-front pages more place.addr read.0 read.1 ∙ sym read.1) parts.places (tree_read pages root parts is))
 
 -- ---- no place of a tree is wrong
 

@@ -3,4 +3,5 @@ pub mod Buffer
 pub mod Device
 pub mod Places
 pub mod Tree
+pub mod Leaf
 pub mod Stands
