@@ -1,0 +1,52 @@
+//! The parts of a line: numbers, hex text and the words between single spaces.
+
+ghost use Rattle.std.specs.Prelude.{◌≡◌, ◌≢◌, ℕ, List, [], ◌∷◌, ◌++◌, IfSome, IfNone};
+ghost use Rattle.script_lang.specs.Grammar.{IsNumber, IsHex, HasNone};
+
+use arrayvec::ArrayVec;
+
+/// The bytes of a block.
+pub const BLOCK: usize = 4096;
+
+/// The number that a text spells: decimal digits with no sign and no leading zero, at most 2^64-1.
+pub fn parse_number(text: &[u8]) -> Option<u64>
+    ensures found { IfSome result (λ n. IsNumber text.now n) }
+    ensures none { IfNone result ((n : ℕ) → IsNumber text.now n → ⊥) }
+{
+    let number = std::str::from_utf8(text).ok()?.parse::<u64>().ok()?;
+    // `parse` also reads a plus and leading zeros, which no number is printed with.
+    let mut printed = itoa::Buffer::new();
+    if printed.format(number).as_bytes() == text {
+        Some(number)
+    } else {
+        None
+    }
+}
+
+/// The bytes that 2 to 8,192 hex digits of either case spell, two digits a byte.
+pub fn parse_hex(text: &[u8]) -> Option<ArrayVec<u8, BLOCK>>
+    ensures found { IfSome result (λ content. IsHex text.now content.items) }
+    ensures none { IfNone result ((content : List ℕ) → IsHex text.now content → ⊥) }
+{
+    let count = text.len() / 2;
+    if count == 0 {
+        return None;
+    }
+    if count > BLOCK {
+        return None;
+    }
+    let mut content = ArrayVec::from([0; BLOCK]);
+    content.truncate(count);
+    hex::decode_to_slice(text, content.as_mut_slice()).ok()?;
+    Some(content)
+}
+
+/// What stands before the first space of a text, and what stands behind it.
+pub fn split_word(text: &[u8]) -> Option<(&[u8], &[u8])>
+    ensures found { IfSome result (λ parts. HasNone 32 parts.0.now × (text.now ≡ parts.0.now ++ 32 ∷ parts.1.now)) }
+    ensures none { IfNone result (HasNone 32 text.now) }
+{
+    let space = text.iter().position(|byte| *byte == b' ')?;
+    let (word, rest) = text.split_at(space);
+    Some((word, &rest[1..]))
+}
