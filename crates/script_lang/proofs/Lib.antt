@@ -2,3 +2,4 @@ pub mod Numbers
 pub mod Outcomes
 pub mod HexText
 pub mod Spaces
+pub mod LongLines

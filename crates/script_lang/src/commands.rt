@@ -1,6 +1,6 @@
 //! The commands of a script, and the grammar of their lines.
 
-ghost use Rattle.std.specs.Prelude.{◌≡◌, ℕ, List, IfSome, IfNone};
+ghost use Rattle.std.specs.Prelude.{◌≡◌, ◌<◌, ℕ, List, length, IfSome, IfNone};
 ghost use Rattle.arrayvec.specs.ArrayVec.{ArrayVec as Bytes};
 ghost use Rattle.script_lang.specs.Grammar.{Spells, IsBad};
 
@@ -117,4 +117,11 @@ fn parse_trim(line: &[u8]) -> Option<Command>
 {
     let block = parse_number(line.strip_prefix(b"trim ".as_slice())?)?;
     Some(Command::Trim { block })
+}
+
+/// No line of the grammar has more than 8,300 bytes, so a reader may answer a longer one `bad` without
+/// keeping it.
+pub fn long_lines_are_bad()
+    ensures { (line : List ℕ) → 8300 < length line → IsBad line }
+{
 }

@@ -3,6 +3,9 @@
 #![tactic(auto)]
 
 mod commands;
+mod replies;
 mod words;
+mod writing;
 
-pub use commands::{Command, parse};
+pub use commands::{Command, long_lines_are_bad, parse};
+pub use replies::Reply;
