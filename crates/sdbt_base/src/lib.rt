@@ -1,13 +1,36 @@
-// A library with one function.
+//! What every crate of Kavastair stands on: sizes, keys, faults, and the traits of the outside.
+//!
+//! Bytes come in through a [`Source`] and go out through a [`Sink`]; keys come from a [`Tape`]. Each of
+//! them counts its faults, and answers a fault only where that count rose.
 #![tactic(auto)]
 
-ghost use Rattle.std.specs.Prelude.{◌≡◌};
-ghost use Rattle.sdbt_base.specs.Echo.{echo_of};
+mod faults;
+mod keys;
+mod limits;
+mod lines;
+mod list_tape;
+mod mem_sink;
+mod mem_source;
+mod read_source;
+mod sinks;
+mod sources;
+mod tapes;
+mod write_sink;
 
-// The `ensures` clause is the contract: what `echo` returns is `echo_of` of its argument, a definition
-// in `specs/Echo.antt`, which a caller's clause can cite too.
-pub fn echo(x: usize) -> usize
-    ensures { result ≡ echo_of x }
-{
-    x
-}
+pub use faults::{Memory, PlatformFault, SinkFault, SourceFault, TapeFault};
+pub use keys::{FreshKey, Key};
+pub use limits::{
+    BLOCK, KEY, MAX_BLOCKS, MAX_INPUT, MAX_LEVEL, MAX_ORDER, MAX_PAGES, RECORD, ROOT,
+};
+pub use lines::Line;
+pub use list_tape::ListTape;
+pub use mem_sink::MemSink;
+pub use mem_source::MemSource;
+pub use read_source::ReadSource;
+pub use sinks::Sink;
+pub use sources::Source;
+pub use tapes::Tape;
+pub use write_sink::WriteSink;
+
+#[cfg(test)]
+mod tests;
