@@ -3,3 +3,4 @@ pub mod Outcomes
 pub mod HexText
 pub mod Spaces
 pub mod LongLines
+pub mod Fronts

@@ -41,7 +41,7 @@ IsTrimmed bytes = (front : List ℕ) → bytes ≢ front ++ 0 ∷ []
 
 -- the front of a block, up to its last byte that isn't zero
 pub record IsFront (bytes : List ℕ) : Type 0 where
-  pub bytes : AllByRecursion (λ byte. byte < 256) bytes
+  pub small : AllByRecursion (λ byte. byte < 256) bytes
   pub fits : length bytes ≤ 4096
   pub trimmed : IsTrimmed bytes
 

@@ -5,8 +5,9 @@ ghost use Rattle.arrayvec.specs.ArrayVec.{ArrayVec as Bytes};
 ghost use Rattle.script_lang.specs.Grammar.{Spells, IsBad};
 
 use arrayvec::ArrayVec;
+use sdbt_base::BLOCK;
 
-use crate::words::{BLOCK, parse_hex, parse_number, split_word};
+use crate::words::{number_before, parse_hex, parse_number};
 
 /// A line of a script, read.
 #[derive(Clone, Debug, PartialEq, Eq, Drop)]
@@ -82,11 +83,9 @@ fn parse_format(line: &[u8]) -> Option<Command>
     ensures found { IfSome result (λ command. Spells line.now command) }
     ensures none { IfNone result ((blocks order : ℕ) → Spells line.now (Command.Format blocks order) → ⊥) }
 {
-    let (blocks, order) = split_word(line.strip_prefix(b"format ".as_slice())?)?;
-    Some(Command::Format {
-        blocks: parse_number(blocks)?,
-        order: parse_number(order)?,
-    })
+    let (blocks, rest) = number_before(line.strip_prefix(b"format ".as_slice())?)?;
+    let order = parse_number(rest)?;
+    Some(Command::Format { blocks, order })
 }
 
 /// `read N`
@@ -103,11 +102,9 @@ fn parse_write(line: &[u8]) -> Option<Command>
     ensures found { IfSome result (λ command. Spells line.now command) }
     ensures none { IfNone result ((block : ℕ) (content : Bytes ℕ) → Spells line.now (Command.Write block content) → ⊥) }
 {
-    let (block, digits) = split_word(line.strip_prefix(b"write ".as_slice())?)?;
-    Some(Command::Write {
-        block: parse_number(block)?,
-        content: parse_hex(digits)?,
-    })
+    let (block, digits) = number_before(line.strip_prefix(b"write ".as_slice())?)?;
+    let content = parse_hex(digits)?;
+    Some(Command::Write { block, content })
 }
 
 /// `trim N`

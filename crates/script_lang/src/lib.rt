@@ -3,9 +3,12 @@
 #![tactic(auto)]
 
 mod commands;
+mod reading;
 mod replies;
 mod words;
 mod writing;
 
 pub use commands::{Command, long_lines_are_bad, parse};
+pub use reading::read_reply;
 pub use replies::Reply;
+pub use writing::write_reply;

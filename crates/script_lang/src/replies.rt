@@ -1,8 +1,7 @@
 //! The replies to the commands of a script.
 
 use arrayvec::ArrayVec;
-
-use crate::words::BLOCK;
+use sdbt_base::BLOCK;
 
 /// The answer to a line.
 #[derive(Clone, Debug, PartialEq, Eq, Drop)]

@@ -1,12 +1,11 @@
 //! The parts of a line: numbers, hex text and the words between single spaces.
 
-ghost use Rattle.std.specs.Prelude.{◌≡◌, ◌≢◌, ℕ, List, [], ◌∷◌, ◌++◌, IfSome, IfNone};
+ghost use Rattle.std.specs.Prelude.{◌≡◌, ◌≢◌, ℕ, List, [], ◌∷◌, ◌++◌, IfSome, IfNone, IsSomeAnd, ◌<◌, ◌^◌};
+ghost use Rattle.std.specs.Fmt.{decimal};
 ghost use Rattle.script_lang.specs.Grammar.{IsNumber, IsHex, HasNone};
 
 use arrayvec::ArrayVec;
-
-/// The bytes of a block.
-pub const BLOCK: usize = 4096;
+use sdbt_base::BLOCK;
 
 /// The number that a text spells: decimal digits with no sign and no leading zero, at most 2^64-1.
 pub fn parse_number(text: &[u8]) -> Option<u64>
@@ -41,8 +40,19 @@ pub fn parse_hex(text: &[u8]) -> Option<ArrayVec<u8, BLOCK>>
     Some(content)
 }
 
+/// The number before the first space of a text, and what stands behind that space.
+pub fn number_before(text: &[u8]) -> Option<(u64, &[u8])>
+    ensures found { IfSome result (λ parts. (parts.0 < 2 ^ 64) × (text.now ≡ decimal parts.0 ++ 32 ∷ parts.1.now)) }
+    ensures only { (n : ℕ) (rest : List ℕ) → n < 2 ^ 64 → text.now ≡ decimal n ++ 32 ∷ rest
+        → IsSomeAnd result (λ parts. (parts.0 ≡ n) × (parts.1.now ≡ rest)) }
+{
+    let (word, rest) = split_word(text)?;
+    let number = parse_number(word)?;
+    Some((number, rest))
+}
+
 /// What stands before the first space of a text, and what stands behind it.
-pub fn split_word(text: &[u8]) -> Option<(&[u8], &[u8])>
+fn split_word(text: &[u8]) -> Option<(&[u8], &[u8])>
     ensures found { IfSome result (λ parts. HasNone 32 parts.0.now × (text.now ≡ parts.0.now ++ 32 ∷ parts.1.now)) }
     ensures none { IfNone result (HasNone 32 text.now) }
 {

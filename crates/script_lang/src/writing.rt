@@ -1,12 +1,15 @@
 //! Writing replies: the line is built in a buffer of fixed size.
 
-ghost use Rattle.std.specs.Prelude.{◌≡◌, ◌+◌, ◌*◌, ◌≤◌, [], ◌∷◌, ◌++◌, length};
+ghost use Rattle.std.specs.Prelude.{◌≡◌, ◌+◌, ◌*◌, ◌≤◌, [], ◌∷◌, ◌++◌, length, OnOk, OnErr, IsTrue, ◌↔◌};
 ghost use Rattle.std.specs.Fmt.{decimal};
 ghost use Rattle.arrayvec.specs.ArrayVec.{array_vec_len};
 ghost use Rattle.hex.specs.Hex.{encode_lower};
-ghost use Rattle.script_lang.specs.Replies.{line_of, text_of, hex_or_dash};
+ghost use Rattle.sdbt_base.specs.Faults.{Rose};
+ghost use Rattle.sdbt_base.specs.Told.{Got, GotPart};
+ghost use Rattle.script_lang.specs.Replies.{line_of, text_of, hex_or_dash, CanWrite};
 
 use arrayvec::ArrayVec;
+use sdbt_base::{Sink, SinkFault};
 
 use crate::replies::Reply;
 
@@ -16,6 +19,17 @@ pub const LINE: usize = 8300;
 
 /// Room for the hex digits of a block.
 const DIGITS: usize = 8192;
+
+/// Puts the line of a reply, with its line feed, in one put. At a fault a first part of it was put.
+pub fn write_reply<O: Sink>(reply: &Reply, sink: &mut O) -> Result<(), SinkFault>
+    requires { CanWrite reply.now }
+    ensures put { OnOk result (Got (O.written sink.old) (line_of reply.now) (O.written sink.new)) }
+    ensures part { OnErr result (GotPart (O.written sink.old) (line_of reply.now) (O.written sink.new)) }
+    ensures count { O.faults sink.old ≤ O.faults sink.new }
+    ensures cause { OnErr result (Rose (O.faults sink.old) (O.faults sink.new)) }
+{
+    sink.put(line_text(reply).as_slice())
+}
 
 /// The line of a reply, with its line feed.
 pub fn line_text(reply: &Reply) -> ArrayVec<u8, LINE>
@@ -113,4 +127,16 @@ fn push_hex(line: &mut ArrayVec<u8, LINE>, bytes: &[u8])
     let digits = &mut digits[..2 * bytes.len()];
     let _ = hex::encode_to_slice(bytes, digits);
     push_text(line, digits);
+}
+
+/// Whether a text is the hex digits of bytes, in lower case.
+pub fn is_hex_of(text: &[u8], bytes: &[u8]) -> bool
+    requires { length bytes.now ≤ 4096 }
+    ensures { IsTrue result ↔ (text.now ≡ encode_lower bytes.now) }
+{
+    let mut digits = [0; DIGITS];
+    let digits = &mut digits[..2 * bytes.len()];
+    let _ = hex::encode_to_slice(bytes, digits);
+    let digits: &[u8] = digits;
+    text == digits
 }
