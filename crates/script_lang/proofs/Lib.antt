@@ -4,3 +4,6 @@ pub mod HexText
 pub mod Spaces
 pub mod LongLines
 pub mod Fronts
+pub mod LineLaws
+pub mod Blocks
+pub mod Trims

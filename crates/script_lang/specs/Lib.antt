@@ -1,2 +1,5 @@
 pub mod Grammar
 pub mod Replies
+pub mod Lines
+pub mod Arrays
+pub mod Answers
