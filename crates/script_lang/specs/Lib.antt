@@ -3,3 +3,4 @@ pub mod Replies
 pub mod Lines
 pub mod Arrays
 pub mod Answers
+pub mod Codes

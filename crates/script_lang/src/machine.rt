@@ -25,8 +25,11 @@ pub struct Machine {
 
 impl Model for Machine {
     ghost use Rattle.script_lang.specs.Arrays.{State};
+    ghost use Rattle.script_lang.specs.Codes.{state_code};
 
     ghost Value = { State };
+
+    ghost coded = { state_code };
 
     ghost view = { λ m. record { device = m.device; session = m.session } };
 }
@@ -287,7 +290,10 @@ fn trimmed_len(bytes: &[u8]) -> usize
     ensures { take result bytes.now ≡ trimmed bytes.now }
 {
     let mut len = bytes.len();
-    while len > 0 && bytes[len - 1] == 0 {
+    while len > 0 {
+        if bytes[len - 1] != 0 {
+            return len;
+        }
         len -= 1;
     }
     len
