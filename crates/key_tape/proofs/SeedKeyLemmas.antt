@@ -1,8 +1,7 @@
 -- What a seeded tape's generator gives, and the keys of a seed.
-use Rattle.std.proofs.Common.{◌≡◌, ℕ, ◌+◌, ◌*◌, ◌^◌, ◌<◌, ◌≤◌, List, [], ◌∷◌, ◌++◌, length, take, refl, sym, ap, ◌∙◌, add-one, arith}
+use Rattle.std.proofs.Common.{◌≡◌, ℕ, ◌+◌, ◌*◌, ◌^◌, ◌<◌, List, [], ◌∷◌, ◌++◌, take, ap, ◌∙◌, add-one, arith}
 use Rattle.std.proofs.lemmas.List.{take_all}
-use Rattle.rand_core.specs.Steps.{fill_via_u32, word_bytes}
-use Rattle.std.specs.Int.{w32, to_le_bytes}
+use Rattle.rand_core.specs.Steps.{fill_via_u32}
 use Rattle.rand_chacha.specs.ChaCha.{ChaCha, next_word, key_of}
 use Rattle.sdbt_base.specs.Bytes.{IsBytes}
 use Rattle.seal_record.specs.Keystream.{words}

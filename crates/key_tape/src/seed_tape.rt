@@ -1,5 +1,5 @@
 //! A tape whose keys follow from a number.
-ghost use Rattle.std.specs.Prelude.{◌≡◌, ◌+◌, ◌*◌, ◌^◌, ◌<◌, ◌≤◌, ◌↔◌, Some, IfOk, OnErr, IsOk, is_ok, if◌then◌else◌};
+ghost use Rattle.std.specs.Prelude.{◌≡◌, ◌+◌, ◌*◌, ◌^◌, ◌<◌, ◌≤◌, ◌↔◌, Some, IfOk, OnErr, IsOk, is_ok, length, if◌then◌else◌};
 ghost use Rattle.sdbt_base.specs.Faults.{Rose, next_count};
 ghost use Rattle.sdbt_base.specs.Told.{Drew};
 ghost use Rattle.key_tape.specs.SeedKeys.{SeedTapeState, seed_bytes, key_at, first_keys};
@@ -73,10 +73,12 @@ impl Tape for SeedTape {
         // It fails exactly where 2^60 keys were drawn.
         ensures succeeds { IsOk result ↔ (self.old.draws < 2 ^ 60) }
         ensures key { IfOk result (λ key. key ≡ key_at self.old.seed self.old.draws) }
+        ensures size { IfOk result (λ key. length key ≡ KEY) }
         ensures state { self.new ≡ record {
-            seed = self.old.seed;
-            draws = (if is_ok result then self.old.draws + 1 else self.old.draws);
-            failed = (if is_ok result then self.old.failed else next_count self.old.failed) } }
+          seed = self.old.seed;
+          draws = (if is_ok result then self.old.draws + 1 else self.old.draws);
+          failed = (if is_ok result then self.old.failed else next_count self.old.failed);
+        } }
     {
         if self.draws >= DRAWS {
             self.failed = self.failed.saturating_add(1);

@@ -2,6 +2,7 @@
 ghost use Rattle.std.specs.Prelude.{◌≡◌, ℕ, ◌<◌, ◌≤◌, ◌⊎◌, Option, None, List, length, take, OnOk, IfOk, OnErr, is_err, if◌then◌else◌};
 ghost use Rattle.sdbt_base.specs.Faults.{Rose, next_count};
 ghost use Rattle.sdbt_base.specs.Told.{Gave, Drew, IsAtEnd};
+ghost use Rattle.key_tape.specs.Parts.{source_of, faults_of};
 
 use sdbt_base::{FreshKey, KEY, Source, Tape, TapeFault};
 
@@ -18,8 +19,8 @@ pub struct SourceTape<S: Source> {
 impl<S: Source> SourceTape<S> {
     /// A tape over the bytes that this source has left.
     pub fn new(source: S) -> SourceTape<S>
-        ensures source { result.source ≡ source }
-        ensures faults { result.faults ≡ 0 }
+        ensures source { source_of result ≡ source }
+        ensures faults { faults_of result ≡ 0 }
     {
         SourceTape { source, faults: 0 }
     }
@@ -28,24 +29,25 @@ impl<S: Source> SourceTape<S> {
 impl<S: Source> Tape for SourceTape<S> {
     ghost drawn = { λ _. None };
 
-    ghost faults = { λ t. t.faults };
+    ghost faults = { faults_of };
 
     fn draw(&mut self) -> Result<FreshKey, TapeFault>
         ensures drawn { IfOk result (λ key. Drew None key None) }
         ensures undrawn { let none : Option (List (List ℕ)) = None in OnErr result (none ≡ none) }
-        ensures count { self.old.faults ≤ self.new.faults }
-        ensures cause { OnErr result (Rose self.old.faults self.new.faults) }
+        ensures count { faults_of self.old ≤ faults_of self.new }
+        ensures cause { OnErr result (Rose (faults_of self.old) (faults_of self.new)) }
 
         // A key is the next bytes of the source; a fault loses fewer than a key has.
-        ensures key { IfOk result (λ key. Gave (S.left self.old.source) key (S.left self.new.source)) }
+        ensures key { IfOk result (λ key. Gave (S.left (source_of self.old)) key (S.left (source_of self.new))) }
+        ensures size { IfOk result (λ key. length key ≡ KEY) }
         ensures lost { OnErr result ((part : List ℕ) × (length part < KEY)
-            × Gave (S.left self.old.source) part (S.left self.new.source)) }
+            × Gave (S.left (source_of self.old)) part (S.left (source_of self.new))) }
         // It fails only where the source failed or had nothing left.
-        ensures fails { OnErr result (Rose (S.faults self.old.source) (S.faults self.new.source)
-            ⊎ IsAtEnd (S.left self.new.source)) }
-        ensures source_count { S.faults self.old.source ≤ S.faults self.new.source }
-        ensures faults { self.new.faults
-            ≡ (if is_err result then next_count self.old.faults else self.old.faults) }
+        ensures fails { OnErr result (Rose (S.faults (source_of self.old)) (S.faults (source_of self.new))
+            ⊎ IsAtEnd (S.left (source_of self.new))) }
+        ensures source_count { S.faults (source_of self.old) ≤ S.faults (source_of self.new) }
+        ensures faults { faults_of self.new
+            ≡ (if is_err result then next_count (faults_of self.old) else faults_of self.old) }
     {
         let mut bytes = [0; KEY];
         let filled = fill(&mut self.source, &mut bytes);

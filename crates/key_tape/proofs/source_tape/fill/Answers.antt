@@ -1,8 +1,7 @@
-use Rattle.std.proofs.Common.{◌≡◌, ℕ, ◌+◌, ◌≤◌, ◌-◌, List, ◌++◌, length, take, drop, length-drop, ap, ◌∙◌, subst, sym, arith, rules}
+use Rattle.std.proofs.Common.{◌≡◌, ℕ, ◌+◌, ◌≤◌, ◌-◌, List, ◌++◌, length, take, drop, length-drop, ap, ◌∙◌, sym, arith}
 use Rattle.std.proofs.Math.Seq.{take-append-add}
 use Rattle.std.proofs.lemmas.List.{take-append-le, length-take-le, length-take}
 use borrow.Rule.Slice.PartMut.{put_mid, post_of, same_len_mid}
-use Rattle.sdbt_base.specs.Told.{Gave}
 use Rattle.sdbt_base.proofs.ToldLaws.{Gave-then}
 use Rattle.key_tape.proofs.source_tape.fill.Goals as goal
 
@@ -21,12 +20,15 @@ takes-preserved g c =
     let room : length into ≡ length (take (length c.takes.bytes - at) (drop at c.takes.bytes)) = c.take.auto.into in
     let fits : c.in-Ok.count ≤ length into = omega (arith, c.in-Ok.ensures.bound) in
     record {
-      within = omega (arith, c.in-Ok.ensures.bound,
+      within = omega (
+        arith,
+        c.in-Ok.ensures.bound,
         same_len_mid at (length c.takes.bytes - at) c.takes.bytes into room,
         length-take (length c.takes.bytes - at) (drop at c.takes.bytes),
-        length-drop at c.takes.bytes);
+        length-drop at c.takes.bytes,
+      );
       gave = rw (front_written at (length c.takes.bytes - at) c.in-Ok.count c.takes.bytes into c.takes.invariant.within fits)
-        (Gave-then (g.S.Source.left c.args.source.now) (take at c.takes.bytes) (g.S.Source.left c.takes.source) (take c.in-Ok.count into)
+          (Gave-then (g.S.Source.left c.args.source.now) (take at c.takes.bytes) (g.S.Source.left c.takes.source) (take c.in-Ok.count into)
           (g.S.Source.left c.take.new.self) c.takes.invariant.gave c.in-Ok.ensures.taken);
-      count = omega (arith, c.in-Ok.ensures.count)
+      count = omega (arith, c.in-Ok.ensures.count);
     }
