@@ -8,34 +8,36 @@ use Rattle.seal_record.specs.Keystream.{words}
 use Rattle.seal_record.proofs.KeystreamLemmas.{length-words, All-words, word_bytes-words}
 use Rattle.key_tape.specs.SeedKeys.{seed_bytes, key_at, first_keys}
 
--- 32 bytes of a generator that stands before key n of stream 1 are that key
-pub drawn_key : (seed n : ℕ) (bytes : List ℕ) (rng after : ChaCha)
-    → (bytes, after) ≡ fill_via_u32 (next_word 10) 32 rng
-    → rng.key ≡ key_of (seed_bytes seed) → rng.stream ≡ 1 → rng.word_pos ≡ 8 * n → n < 2 ^ 60
-    → bytes ≡ key_at seed n
-unfolding key_at
-drawn_key seed n bytes rng after filled key stream place few =
-    let made : List ℕ = words rng.key rng.stream rng.word_pos 8 in
+-- 32 bytes of a generator are its next eight words
+pub eight_words : (bytes : List ℕ) (rng after : ChaCha) → (bytes, after) ≡ fill_via_u32 (next_word 10) 32 rng
+    → rng.word_pos < 2 ^ 67 → bytes ≡ words rng.key rng.stream rng.word_pos 8
+eight_words bytes rng after filled early =
     ap (λ (p : List ℕ × ChaCha). p.0) filled
     ∙ ap (λ (p : List ℕ × ChaCha). take 32 p.0) (word_bytes-words rng 8 (omega arith))
-    ∙ take_all 32 made (omega (arith, length-words rng.key rng.stream rng.word_pos 8))
-    ∙ ap (λ (k : List ℕ). words k rng.stream rng.word_pos 8) key
-    ∙ ap (λ (s : ℕ). words (key_of (seed_bytes seed)) s rng.word_pos 8) stream
-    ∙ ap (λ (p : ℕ). words (key_of (seed_bytes seed)) 1 p 8) place
+    ∙ take_all 32 (words rng.key rng.stream rng.word_pos 8) (omega (arith, length-words rng.key rng.stream rng.word_pos 8))
 
--- and it then stands eight words further
-pub after_drawn : (n : ℕ) (bytes : List ℕ) (rng after : ChaCha)
-    → (bytes, after) ≡ fill_via_u32 (next_word 10) 32 rng
-    → rng.word_pos ≡ 8 * n → n < 2 ^ 60
-    → after ≡ record rng { word_pos = rng.word_pos + 8 }
-after_drawn n bytes rng after filled place few =
+-- and it then stands behind them
+pub behind_eight : (bytes : List ℕ) (rng after : ChaCha) → (bytes, after) ≡ fill_via_u32 (next_word 10) 32 rng
+    → rng.word_pos < 2 ^ 67 → after ≡ record rng { word_pos = rng.word_pos + 8 }
+behind_eight bytes rng after filled early =
     ap (λ (p : List ℕ × ChaCha). p.1) filled
     ∙ ap (λ (p : List ℕ × ChaCha). p.1) (word_bytes-words rng 8 (omega arith))
+
+-- the eight words at the place of a key are that key
+pub key_of_words : (seed n : ℕ) (key : List ℕ) (stream place : ℕ)
+    → key ≡ key_of (seed_bytes seed) → stream ≡ 1 → place ≡ 8 * n → words key stream place 8 ≡ key_at seed n
+unfolding key_at
+key_of_words seed n key stream place same_key same_stream same_place =
+    ap (λ (k : List ℕ). words k stream place 8) same_key
+    ∙ ap (λ (s : ℕ). words (key_of (seed_bytes seed)) s place 8) same_stream
+    ∙ ap (λ (p : ℕ). words (key_of (seed_bytes seed)) 1 p 8) same_place
 
 -- one key more
 pub first_keys-more : (seed n : ℕ) → first_keys seed (n + 1) ≡ first_keys seed n ++ key_at seed n ∷ []
 unfolding first_keys
 first_keys-more seed n = ap (first_keys seed) (add-one n)
+
+pub ruleset seed_keys = (key_of_words, first_keys-more)
 
 -- a key of a seed is 32 bytes
 pub IsBytes-key_at : (seed n : ℕ) → IsBytes 32 (key_at seed n)

@@ -2,6 +2,7 @@
 ghost use Rattle.std.specs.Prelude.{◌≡◌, ◌+◌, ◌*◌, ◌^◌, ◌<◌, ◌≤◌, ◌↔◌, Some, IfOk, OnErr, IsOk, is_ok, length, if◌then◌else◌};
 ghost use Rattle.sdbt_base.specs.Faults.{Rose, next_count};
 ghost use Rattle.sdbt_base.specs.Told.{Drew};
+ghost use Rattle.seal_record.specs.Keystream.{words};
 ghost use Rattle.key_tape.specs.SeedKeys.{SeedTapeState, seed_bytes, key_at, first_keys};
 
 use rand_chacha::ChaCha20Rng;
@@ -62,6 +63,7 @@ impl Tape for SeedTape {
 
     ghost faults = { λ t. t.failed };
 
+    #[tactic(auto, using(crate::proofs::SeedKeyLemmas::seed_keys))]
     fn draw(&mut self) -> Result<FreshKey, TapeFault>
         ensures drawn { IfOk result (λ key. Drew (Some (first_keys self.old.seed self.old.draws)) key
             (Some (first_keys self.new.seed self.new.draws))) }
@@ -84,19 +86,29 @@ impl Tape for SeedTape {
             self.failed = self.failed.saturating_add(1);
             return Err(TapeFault);
         }
-        let mut bytes = [0; KEY];
-        fill_bytes_via_u32(&mut self.rng, &mut bytes);
+        let bytes = next_key(&mut self.rng);
         self.draws += 1;
         Ok(FreshKey::from_bytes(bytes))
     }
 }
 
+/// The next eight words of a generator, each least byte first.
+fn next_key(rng: &mut ChaCha20Rng) -> [u8; KEY]
+    requires { rng.old.word_pos < 2 ^ 67 }
+    ensures key { result ≡ words rng.old.key rng.old.stream rng.old.word_pos 8 }
+    ensures place { rng.new ≡ record rng.old { word_pos = rng.old.word_pos + 8 } }
+{
+    let mut bytes = [0; KEY];
+    fill_bytes_via_u32(rng, &mut bytes);
+    bytes
+}
+
 /// The 32 bytes of a seed: the number, most significant byte first, and zeros.
 #[tactic(auto, unfolding(crate::specs::SeedKeys::seed_bytes))]
-fn spread(seed: u64) -> [u8; 32]
+fn spread(seed: u64) -> [u8; KEY]
     ensures { result ≡ seed_bytes seed }
 {
-    let mut bytes = [0; 32];
+    let mut bytes = [0; KEY];
     bytes[..8].copy_from_slice(&seed.to_be_bytes());
     bytes
 }

@@ -1,8 +1,8 @@
 //! A tape over the bytes of a source.
-ghost use Rattle.std.specs.Prelude.{◌≡◌, ℕ, ◌<◌, ◌≤◌, ◌⊎◌, Option, None, List, length, take, OnOk, IfOk, OnErr, is_err, if◌then◌else◌};
+ghost use Rattle.std.specs.Prelude.{◌≡◌, ℕ, ◌<◌, ◌≤◌, ◌⊎◌, List, length, take, OnOk, IfOk, OnErr, is_err, if◌then◌else◌};
 ghost use Rattle.sdbt_base.specs.Faults.{Rose, next_count};
 ghost use Rattle.sdbt_base.specs.Told.{Gave, Drew, IsAtEnd};
-ghost use Rattle.key_tape.specs.Parts.{source_of, faults_of};
+ghost use Rattle.key_tape.specs.Parts.{source_of, faults_of, told_by};
 
 use sdbt_base::{FreshKey, KEY, Source, Tape, TapeFault};
 
@@ -27,13 +27,13 @@ impl<S: Source> SourceTape<S> {
 }
 
 impl<S: Source> Tape for SourceTape<S> {
-    ghost drawn = { λ _. None };
+    ghost drawn = { told_by };
 
     ghost faults = { faults_of };
 
     fn draw(&mut self) -> Result<FreshKey, TapeFault>
-        ensures drawn { IfOk result (λ key. Drew None key None) }
-        ensures undrawn { let none : Option (List (List ℕ)) = None in OnErr result (none ≡ none) }
+        ensures drawn { IfOk result (λ key. Drew (told_by self.old) key (told_by self.new)) }
+        ensures undrawn { OnErr result (told_by self.new ≡ told_by self.old) }
         ensures count { faults_of self.old ≤ faults_of self.new }
         ensures cause { OnErr result (Rose (faults_of self.old) (faults_of self.new)) }
 
