@@ -85,7 +85,8 @@ impl MediumTrace {
     /// What the page at an address reads as.
     pub fn page(&self, addr: u64) -> &[u8]
         requires { addr < length self.now.recorded }
-        ensures { slice_get self.now.readable addr ≡ Some result.now }
+        ensures page { slice_get self.now.readable addr ≡ Some result.now }
+        ensures size { length result.now ≡ PAGE }
     {
         let place = addr as usize;
         if place >= self.unmarked && self.torn[place - self.unmarked] {
@@ -153,7 +154,8 @@ impl MediumTrace {
 // A page of zero bytes.
 #[tactic(auto, unfolding(crate::specs::Page::zero_page))]
 fn zeros() -> &'static [u8]
-    ensures { result.now ≡ zero_page }
+    ensures bytes { result.now ≡ zero_page }
+    ensures size { length result.now ≡ PAGE }
 {
     &ZERO_PAGE
 }
