@@ -7,3 +7,4 @@ pub mod Fronts
 pub mod LineLaws
 pub mod Blocks
 pub mod Trims
+pub mod ReplyLaws
