@@ -41,7 +41,8 @@ impl RootCell {
 
     /// Puts a record in the place of what it held.
     pub fn replace(&mut self, bytes: &[u8; ROOT])
-        ensures { self.new ≡ Some bytes.now }
+        ensures held { self.new ≡ Some bytes.now }
+        ensures bytes { IsCell self.new }
     {
         is_record(bytes);
         self.record = Some(*bytes);

@@ -1,8 +1,8 @@
 -- What the pages of a medium read as, by their marks.
-use Rattle.std.proofs.Common.{◌≡◌, ℕ, zero, suc, ◌+◌, ◌<◌, Bool, true, false, List, [], ◌∷◌, ◌++◌, length, set, refl, ap, subst, arith}
+use Rattle.std.proofs.Common.{◌≡◌, ℕ, zero, suc, ◌+◌, ◌<◌, Bool, true, false, List, [], ◌∷◌, ◌++◌, length, set, refl, ap, subst, arith, length-append}
 use Rattle.std.specs.Prelude.{All, Some, slice_get, slice_index_or}
 use Rattle.std.proofs.lemmas.List.{length-replicate}
-use Rattle.std.proofs.lemmas.List.Elements.{All-cons, All-head, All-tail, All-replicate, All-nil}
+use Rattle.std.proofs.lemmas.List.Elements.{All-cons, All-head, All-tail, All-replicate, All-nil, All-push}
 use Rattle.medium_trace.specs.Page.{IsPage, zero_page}
 use Rattle.medium_trace.specs.Trace.{Trace, IsWhole, IsMarked, shown, shown_pages}
 
@@ -92,3 +92,12 @@ IsWhole-marked recorded unmarked marks synced trace is_marked is =
       as_many = length-shown_pages unmarked recorded marks is_marked.as_many;
       synced = is_marked.within;
     }
+
+-- one page more, and its mark
+pub IsMarked-push : (recorded : List (List ℕ)) (unmarked : ℕ) (marks : List Bool) (synced : ℕ) (last : List ℕ) → IsMarked recorded unmarked marks synced → IsPage last → IsMarked (recorded ++ last ∷ []) unmarked (marks ++ false ∷ []) synced
+IsMarked-push recorded unmarked marks synced last is_marked is_page = record {
+  pages = All-push IsPage recorded last is_marked.pages is_page;
+  as_many = omega (arith, is_marked.as_many, length-append marks (false ∷ []), length-append recorded (last ∷ []));
+  first = is_marked.first;
+  within = omega (arith, is_marked.within, length-append recorded (last ∷ []));
+}

@@ -36,7 +36,8 @@ impl Model for MediumTrace {
 impl MediumTrace {
     /// A medium without pages.
     pub fn new(alloc: Global) -> Self
-        ensures { result ≡ record { recorded = []; readable = []; synced = 0 } }
+        ensures blank { result ≡ record { recorded = []; readable = []; synced = 0 } }
+        ensures whole { IsWhole result }
     {
         MediumTrace {
             recorded: Pages::new(alloc),
@@ -48,7 +49,8 @@ impl MediumTrace {
 
     /// A medium with these pages, all of them synced.
     pub fn from_pages(alloc: Global, pages: Pages) -> Self
-        ensures { result ≡ record { recorded = pages; readable = pages; synced = length pages } }
+        ensures pages { result ≡ record { recorded = pages; readable = pages; synced = length pages } }
+        ensures whole { IsWhole result }
     {
         let unmarked = pages.len();
         MediumTrace {
@@ -67,6 +69,7 @@ impl MediumTrace {
         ensures recorded { self.new.recorded ≡ (if is_ok result then self.old.recorded ++ page.now ∷ [] else self.old.recorded) }
         ensures readable { self.new.readable ≡ (if is_ok result then self.old.readable ++ page.now ∷ [] else self.old.readable) }
         ensures synced { self.new.synced ≡ self.old.synced }
+        ensures whole { IsWhole self.new }
     {
         let addr = self.recorded.len() as u64;
         self.torn.push(false)?;
@@ -82,7 +85,8 @@ impl MediumTrace {
     /// What the page at an address reads as.
     pub fn page(&self, addr: u64) -> &[u8]
         requires { addr < length self.now.recorded }
-        ensures { slice_get self.now.readable addr ≡ Some result.now }
+        ensures page { slice_get self.now.readable addr ≡ Some result.now }
+        ensures size { length result.now ≡ PAGE }
     {
         let place = addr as usize;
         if place >= self.unmarked && self.torn[place - self.unmarked] {
@@ -116,7 +120,8 @@ impl MediumTrace {
 
     /// From now on no cut changes a page that is recorded.
     pub fn mark_synced(&mut self)
-        ensures { self.new ≡ record self.old { synced = length self.old.recorded } }
+        ensures changed { self.new ≡ record self.old { synced = length self.old.recorded } }
+        ensures whole { IsWhole self.new }
     {
         self.synced = self.recorded.len();
     }
@@ -127,10 +132,12 @@ impl MediumTrace {
         ensures recorded { self.new.recorded ≡ self.old.recorded }
         ensures readable { Tears torn.now self.old.readable self.new.readable }
         ensures synced { self.new.synced ≡ self.old.synced }
+        ensures whole { IsWhole self.new }
     {
         for addr in torn {
             self.tear(*addr);
         }
+        let _ = self.len();
     }
 
     // Makes one page read as zero bytes.
@@ -147,7 +154,8 @@ impl MediumTrace {
 // A page of zero bytes.
 #[tactic(auto, unfolding(crate::specs::Page::zero_page))]
 fn zeros() -> &'static [u8]
-    ensures { result.now ≡ zero_page }
+    ensures bytes { result.now ≡ zero_page }
+    ensures size { length result.now ≡ PAGE }
 {
     &ZERO_PAGE
 }

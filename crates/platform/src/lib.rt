@@ -2,5 +2,6 @@
 #![tactic(auto)]
 
 mod platforms;
+mod store;
 
 pub use platforms::Platform;

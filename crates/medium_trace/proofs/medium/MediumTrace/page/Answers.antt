@@ -6,18 +6,18 @@ use Rattle.medium_trace.proofs.Shown.{shown_pages-at, shown_pages-below}
 use Rattle.medium_trace.proofs.medium.MediumTrace.page.Goals.{else-place-self-via-then-place-self+else-index, else-place-self-via-else-place-self}
 use Rattle.medium_trace.proofs.medium.MediumTrace.page.Goals as goal
 
-pub returns-then-index : goal.returns-then-index
-returns-then-index c =
+pub returns-then-index-clause-page : goal.returns-then-index-clause-page
+returns-then-index-clause-page c =
     let inside = c.self.inside in
     let readable_is : shown_pages inside.unmarked inside.recorded inside.torn.items ≡ c.args.self.now.readable = ap (λ (trace : Trace). trace.readable) c.self.view_is in
     let within : c.args.addr < length inside.recorded = rw (ap (λ (trace : Trace). length trace.recorded) c.self.view_is) c.requires in
     let page = slice_index_or inside.recorded c.args.addr [] in
     let here = shown_pages-at inside.unmarked inside.recorded inside.torn.items (c.args.addr - inside.unmarked) c.args.addr page c.index.result.now
     c.self.invariant.as_many (omega arith) (slice_get-get_or inside.recorded c.args.addr [] within) c.index.ensures in
-    rw (← readable_is, c.zeros.ensures) (here ∙ ap (λ mark. Some (shown page mark)) c.if-index.true)
+    rw (← readable_is, c.zeros.ensures.bytes) (here ∙ ap (λ mark. Some (shown page mark)) c.if-index.true)
 
-pub returns-else-place-self : goal.returns-else-place-self
-returns-else-place-self c =
+pub returns-else-place-self-clause-page : goal.returns-else-place-self-clause-page
+returns-else-place-self-clause-page c =
     let inside = c.self.inside in
     let readable_is : shown_pages inside.unmarked inside.recorded inside.torn.items ≡ c.args.self.now.readable = ap (λ (trace : Trace). trace.readable) c.self.view_is in
     rw (← readable_is) (elim c.else-place-self.branch [
