@@ -196,7 +196,7 @@ pub Steps-push : (old new : History) → new.past ≡ old.past ++ old.present �
 Steps-push old new past_is =
     let size : moment new ≡ moment old + 1 = omega (arith, ap length past_is, length-append old.past (old.present ∷ [])) in
     let was : (i : ℕ) → i ≡ moment old → image_at new i ≡ old.present =
-          λ i at. ap (λ (images : List Image). get_or images i new.present) past_is ∙ get_or-pushed old.past old.present new.present i at in
+    λ i at. ap (λ (images : List Image). get_or images i new.present) past_is ∙ get_or-pushed old.past old.present new.present i at in
     record {
       extends = record {
         later = omega arith;

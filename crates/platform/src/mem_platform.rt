@@ -1,6 +1,6 @@
 //! A platform in memory.
 ghost use Rattle.std.specs.Prelude.{◌≡◌, ◌↔◌, ◌⊎◌, ◌<◌, ◌≤◌, ◌+◌, ◌-◌, ◌^◌, [], ℕ, Some, None, IsTrue, IsSome, IsErr, IfOk, OnOk, OnErr, length, slice_get, refl};
-ghost use Rattle.sdbt_base.specs.Faults.{Rose, next_count};
+ghost use Rattle.sdbt_base.specs.Faults.{Rose};
 ghost use Rattle.platform.specs.Image.{blank, with_page, with_cell, all_synced, IsEither, MayHavePage};
 ghost use Rattle.platform.specs.History.{Steps};
 ghost use Rattle.platform.specs.Failures.{no_calls};
@@ -311,7 +311,8 @@ impl Platform for MemPlatform {
 
 // A call that failed is counted.
 fn fault<T>(faults: &mut u64) -> Result<T, PlatformFault>
-    ensures count { faults.new ≡ next_count faults.old }
+    ensures rises { faults.old ≤ faults.new }
+    ensures rose { Rose faults.old faults.new }
     ensures failed { IsErr result }
 {
     *faults = faults.saturating_add(1);

@@ -2,6 +2,7 @@
 ghost use Rattle.std.specs.Prelude.{◌≡◌, ◌↔◌, ◌≤◌, ◌<◌, ◌+◌, ◌++◌, ◌∷◌, [], Some, None, IsTrue, IsSome, IfOk, All, length, slice_get, is_ok, if◌then◌else◌};
 ghost use Rattle.medium_trace.specs.Trace.{Tears};
 ghost use Rattle.platform.specs.Image.{blank, with_page, with_cell, all_synced};
+ghost use Rattle.platform.specs.History.{Steps};
 ghost use Rattle.platform.specs.Log.{IsLog, IsNow};
 
 use erasable_root::RootCell;
@@ -90,6 +91,7 @@ impl Store {
         ensures past { (store_history self.new).past ≡ (if is_ok result
             then (store_history self.old).past ++ (store_history self.old).present ∷ []
             else (store_history self.old).past) }
+        ensures time { Steps (store_history self.old) (store_history self.new) }
     {
         let now = self.now();
         self.log.push(now)?;
@@ -110,6 +112,7 @@ impl Store {
         ensures past { (store_history self.new).past ≡ (if is_ok result
             then (store_history self.old).past ++ (store_history self.old).present ∷ []
             else (store_history self.old).past) }
+        ensures time { Steps (store_history self.old) (store_history self.new) }
     {
         let now = self.now();
         self.log.push(now)?;
@@ -125,6 +128,7 @@ impl Store {
         ensures past { (store_history self.new).past ≡ (if is_ok result
             then (store_history self.old).past ++ (store_history self.old).present ∷ []
             else (store_history self.old).past) }
+        ensures time { Steps (store_history self.old) (store_history self.new) }
     {
         let now = self.now();
         self.log.push(now)?;
@@ -140,6 +144,7 @@ impl Store {
         ensures past { (store_history self.new).past ≡ (if is_ok result
             then (store_history self.old).past ++ (store_history self.old).present ∷ []
             else (store_history self.old).past) }
+        ensures time { Steps (store_history self.old) (store_history self.new) }
     {
         let now = self.now();
         self.log.push(now)?;
