@@ -33,6 +33,14 @@ starved_of platform = platform.starved
 abbrev pub reads_of : MemPlatform → ℕ
 reads_of platform = platform.reads
 
+-- how many calls failed
+abbrev pub faults_of : MemPlatform → ℕ
+faults_of platform = platform.faults
+
+-- how many pages the medium can have
+abbrev pub capacity_of : MemPlatform → ℕ
+capacity_of platform = platform.capacity
+
 -- what the list says of the next call of a kind
 abbrev pub due : MemPlatform → CallKind → Option Bool
 due platform call = listed (failures_of platform) call (next_count (slice_index (calls_of platform) (place_of call)))
@@ -56,3 +64,10 @@ pub record HasEffect (call : CallKind) (old new : MemPlatform) (after : Image) :
   pub with_effect : due old call ≡ Some true → ¬ (Starved old new) → image_of_now new ≡ after
   pub without_effect : due old call ≡ Some false → image_of_now new ≡ image_of_now old
   pub starved : Starved old new → image_of_now new ≡ image_of_now old
+
+-- all that is neither image nor list stays
+pub record IsSameRest (old new : MemPlatform) : Type 0 where
+  pub capacity : capacity_of new ≡ capacity_of old
+  pub reads : reads_of new ≡ reads_of old
+  pub faults : faults_of new ≡ faults_of old
+  pub starved : starved_of new ≡ starved_of old

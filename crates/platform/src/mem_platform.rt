@@ -1,16 +1,17 @@
 //! A platform in memory.
-ghost use Rattle.std.specs.Prelude.{◌≡◌, ◌↔◌, ◌⊎◌, ◌<◌, ◌≤◌, ◌+◌, ◌-◌, ◌^◌, [], ℕ, Some, None, IsTrue, IsSome, IsErr, IfOk, OnOk, OnErr, length, slice_get, refl};
+ghost use Rattle.std.specs.Prelude.{◌≡◌, ◌↔◌, ◌⊎◌, ◌<◌, ◌≤◌, ◌+◌, ◌-◌, ◌^◌, [], ℕ, Some, None, IsTrue, IsSome, IsErr, IfOk, OnOk, OnErr, All, length, slice_get};
+ghost use Rattle.medium_trace.specs.Trace.{Tears};
 ghost use Rattle.sdbt_base.specs.Faults.{Rose};
-ghost use Rattle.platform.specs.Image.{blank, with_page, with_cell, all_synced, IsEither, MayHavePage};
+ghost use Rattle.platform.specs.Image.{blank, with_page, with_cell, all_synced, MayLeave};
 ghost use Rattle.platform.specs.History.{Steps};
 ghost use Rattle.platform.specs.Failures.{no_calls};
 ghost use Rattle.platform.specs.Kept.{store_history};
 
 use crate::failures::Plan;
 use crate::store::Store;
-use crate::{CallKind, Platform};
+use crate::{CallKind, Failure, Platform};
 use medium_trace::Pages;
-use sdbt_base::{MAX_PAGES, PlatformFault, RECORD, ROOT};
+use sdbt_base::{MAX_PAGES, Memory, PlatformFault, RECORD, ROOT};
 use std::alloc::Global;
 
 /// A medium and a root cell in memory. It tells everything, and keeps a log of its moments for that.
@@ -30,14 +31,14 @@ pub struct MemPlatform {
 }
 
 impl MemPlatform {
-    ghost use Rattle.platform.specs.Mem.{mem_history, image_of_now, failures_of, calls_of, starved_of, reads_of};
+    ghost use Rattle.platform.specs.Mem.{mem_history, image_of_now, failures_of, calls_of, starved_of, reads_of, capacity_of, IsSameRest};
 
     /// No page, an empty cell and no failures.
     pub fn blank(alloc: Global, capacity: u64) -> Self
         requires { capacity ≤ MAX_PAGES }
         ensures image { image_of_now result ≡ blank }
         ensures past { (mem_history result).past ≡ [] }
-        ensures capacity { result.capacity ≡ capacity }
+        ensures capacity { capacity_of result ≡ capacity }
         ensures failures { failures_of result ≡ [] }
         ensures reads { reads_of result ≡ 0 }
         ensures starved { starved_of result ≡ 0 }
@@ -51,6 +52,62 @@ impl MemPlatform {
             faults: 0,
             starved: 0,
         }
+    }
+
+    /// These pages, all of them synced, and this cell, with no failures.
+    pub fn from_parts(
+        alloc: Global,
+        pages: Pages,
+        cell: Option<[u8; ROOT]>,
+        capacity: u64,
+    ) -> Self
+        requires pages { length pages ≤ capacity }
+        requires capacity { capacity ≤ MAX_PAGES }
+        ensures image { image_of_now result ≡ record { cell = cell; recorded = pages; readable = pages; synced = length pages } }
+        ensures past { (mem_history result).past ≡ [] }
+        ensures capacity { capacity_of result ≡ capacity }
+        ensures failures { failures_of result ≡ [] }
+        ensures reads { reads_of result ≡ 0 }
+        ensures starved { starved_of result ≡ 0 }
+    {
+        MemPlatform {
+            alloc,
+            store: Store::from_parts(alloc, pages, cell),
+            capacity,
+            plan: Plan::new(alloc),
+            reads: 0,
+            faults: 0,
+            starved: 0,
+        }
+    }
+
+    /// From now on these failures come, counted from the next call on; an earlier list is forgotten.
+    /// Without memory the earlier list and its counting stay.
+    pub fn set_failures(&mut self, list: &[Failure]) -> Result<(), Memory>
+        ensures set { OnOk result (failures_of self.new ≡ list.now) }
+        ensures counting { OnOk result (calls_of self.new ≡ no_calls) }
+        ensures refused { OnErr result (failures_of self.new ≡ failures_of self.old) }
+        ensures still_counting { OnErr result (calls_of self.new ≡ calls_of self.old) }
+        ensures image { image_of_now self.new ≡ image_of_now self.old }
+        ensures past { (mem_history self.new).past ≡ (mem_history self.old).past }
+        ensures rest { IsSameRest self.old self.new }
+    {
+        self.plan = Plan::of(self.alloc, list)?;
+        Ok(())
+    }
+
+    /// The power is lost: these pages, none of them synced, read as zero bytes from now on. A new history
+    /// begins with what is left; the moments from before are none of it.
+    pub fn power_cut(&mut self, torn: &[u64])
+        requires { All (λ addr. ((image_of_now self.old).synced ≤ addr) × (addr < length (image_of_now self.old).recorded)) torn.now }
+        ensures torn { Tears torn.now (image_of_now self.old).readable (image_of_now self.new).readable }
+        ensures left { MayLeave (image_of_now self.old) (image_of_now self.new) }
+        ensures past { (mem_history self.new).past ≡ [] }
+        ensures failures { failures_of self.new ≡ failures_of self.old }
+        ensures calls { calls_of self.new ≡ calls_of self.old }
+        ensures rest { IsSameRest self.old self.new }
+    {
+        self.store.cut(torn);
     }
 
     /// Each page that was ever handed over.
@@ -94,7 +151,7 @@ impl Platform for MemPlatform {
     ghost use Rattle.sdbt_base.specs.Faults.{Rose};
     ghost use Rattle.platform.specs.Image.{with_page, with_cell, all_synced, IsEither, MayHavePage};
     ghost use Rattle.platform.specs.History.{Steps};
-    ghost use Rattle.platform.specs.Mem.{mem_history, image_of_now, due, starved_of, reads_of, FailsAsListed, Starved, Counts, HasEffect};
+    ghost use Rattle.platform.specs.Mem.{mem_history, image_of_now, due, starved_of, reads_of, faults_of, capacity_of, FailsAsListed, Starved, Counts, HasEffect};
 
     ghost tells = { Unit {0} };
 
@@ -102,11 +159,11 @@ impl Platform for MemPlatform {
 
     ghost head = { λ platform. length (image_of_now platform).recorded };
 
-    ghost capacity = { λ platform. platform.capacity };
+    ghost capacity = { capacity_of };
 
-    ghost reads = { λ platform. platform.reads };
+    ghost reads = { reads_of };
 
-    ghost faults = { λ platform. platform.faults };
+    ghost faults = { faults_of };
 
     ghost counts_pages = { λ told platform. refl };
 
@@ -124,7 +181,7 @@ impl Platform for MemPlatform {
 
     fn append(&mut self, page: &[u8]) -> Result<u64, PlatformFault>
         requires size { length page.now ≡ RECORD }
-        requires room { length (image_of_now self.old).recorded < self.old.capacity }
+        requires room { length (image_of_now self.old).recorded < capacity_of self.old }
 
         ensures address { IfOk result (λ address. address ≡ length (image_of_now self.old).recorded) }
         ensures appended { OnOk result (image_of_now self.new ≡ with_page (image_of_now self.old) page.now page.now) }
@@ -135,10 +192,10 @@ impl Platform for MemPlatform {
         ensures head_ok { OnOk result (length (image_of_now self.new).recorded ≡ length (image_of_now self.old).recorded + 1) }
         ensures head_rises { length (image_of_now self.old).recorded ≤ length (image_of_now self.new).recorded }
         ensures head_by_one { length (image_of_now self.new).recorded ≤ length (image_of_now self.old).recorded + 1 }
-        ensures capacity { self.new.capacity ≡ self.old.capacity }
+        ensures capacity { capacity_of self.new ≡ capacity_of self.old }
         ensures reads { reads_of self.new ≡ reads_of self.old }
-        ensures faults { self.old.faults ≤ self.new.faults }
-        ensures cause { OnErr result (Rose self.old.faults self.new.faults) }
+        ensures faults { faults_of self.old ≤ faults_of self.new }
+        ensures cause { OnErr result (Rose (faults_of self.old) (faults_of self.new)) }
 
         ensures fails { FailsAsListed CallKind.Append self.old self.new result }
         ensures effect { HasEffect CallKind.Append self.old self.new (with_page (image_of_now self.old) page.now page.now) }
@@ -167,12 +224,12 @@ impl Platform for MemPlatform {
         ensures time { Steps (mem_history self.old) (mem_history self.new) }
 
         ensures head { length (image_of_now self.new).recorded ≡ length (image_of_now self.old).recorded }
-        ensures capacity { self.new.capacity ≡ self.old.capacity }
+        ensures capacity { capacity_of self.new ≡ capacity_of self.old }
         ensures reads_ok { OnOk result (reads_of self.new ≡ reads_of self.old + 1) }
         ensures reads_rise { reads_of self.old ≤ reads_of self.new }
         ensures reads_by_one { reads_of self.new ≤ reads_of self.old + 1 }
-        ensures faults { self.old.faults ≤ self.new.faults }
-        ensures cause { OnErr result (Rose self.old.faults self.new.faults) }
+        ensures faults { faults_of self.old ≤ faults_of self.new }
+        ensures cause { OnErr result (Rose (faults_of self.old) (faults_of self.new)) }
 
         // A read fails too where its count has come to its end.
         ensures fails { IsErr result ↔ (IsSome (due self.old CallKind.Read) ⊎ (Starved self.old self.new ⊎ (reads_of self.old ≡ 2 ^ 64 - 1))) }
@@ -198,10 +255,10 @@ impl Platform for MemPlatform {
         ensures time { Steps (mem_history self.old) (mem_history self.new) }
 
         ensures head { length (image_of_now self.new).recorded ≡ length (image_of_now self.old).recorded }
-        ensures capacity { self.new.capacity ≡ self.old.capacity }
+        ensures capacity { capacity_of self.new ≡ capacity_of self.old }
         ensures reads { reads_of self.new ≡ reads_of self.old }
-        ensures faults { self.old.faults ≤ self.new.faults }
-        ensures cause { OnErr result (Rose self.old.faults self.new.faults) }
+        ensures faults { faults_of self.old ≤ faults_of self.new }
+        ensures cause { OnErr result (Rose (faults_of self.old) (faults_of self.new)) }
 
         ensures fails { FailsAsListed CallKind.Sync self.old self.new result }
         ensures effect { HasEffect CallKind.Sync self.old self.new (all_synced (image_of_now self.old)) }
@@ -230,10 +287,10 @@ impl Platform for MemPlatform {
         ensures time { Steps (mem_history self.old) (mem_history self.new) }
 
         ensures head { length (image_of_now self.new).recorded ≡ length (image_of_now self.old).recorded }
-        ensures capacity { self.new.capacity ≡ self.old.capacity }
+        ensures capacity { capacity_of self.new ≡ capacity_of self.old }
         ensures reads { reads_of self.new ≡ reads_of self.old }
-        ensures faults { self.old.faults ≤ self.new.faults }
-        ensures cause { OnErr result (Rose self.old.faults self.new.faults) }
+        ensures faults { faults_of self.old ≤ faults_of self.new }
+        ensures cause { OnErr result (Rose (faults_of self.old) (faults_of self.new)) }
 
         ensures fails { FailsAsListed CallKind.Load self.old self.new result }
         ensures starved { starved_of self.new ≡ starved_of self.old }
@@ -254,10 +311,10 @@ impl Platform for MemPlatform {
         ensures time { Steps (mem_history self.old) (mem_history self.new) }
 
         ensures head { length (image_of_now self.new).recorded ≡ length (image_of_now self.old).recorded }
-        ensures capacity { self.new.capacity ≡ self.old.capacity }
+        ensures capacity { capacity_of self.new ≡ capacity_of self.old }
         ensures reads { reads_of self.new ≡ reads_of self.old }
-        ensures faults { self.old.faults ≤ self.new.faults }
-        ensures cause { OnErr result (Rose self.old.faults self.new.faults) }
+        ensures faults { faults_of self.old ≤ faults_of self.new }
+        ensures cause { OnErr result (Rose (faults_of self.old) (faults_of self.new)) }
 
         ensures fails { FailsAsListed CallKind.Swap self.old self.new result }
         ensures effect { HasEffect CallKind.Swap self.old self.new (with_cell (image_of_now self.old) (Some bytes.now)) }
@@ -285,10 +342,10 @@ impl Platform for MemPlatform {
         ensures time { Steps (mem_history self.old) (mem_history self.new) }
 
         ensures head { length (image_of_now self.new).recorded ≡ length (image_of_now self.old).recorded }
-        ensures capacity { self.new.capacity ≡ self.old.capacity }
+        ensures capacity { capacity_of self.new ≡ capacity_of self.old }
         ensures reads { reads_of self.new ≡ reads_of self.old }
-        ensures faults { self.old.faults ≤ self.new.faults }
-        ensures cause { OnErr result (Rose self.old.faults self.new.faults) }
+        ensures faults { faults_of self.old ≤ faults_of self.new }
+        ensures cause { OnErr result (Rose (faults_of self.old) (faults_of self.new)) }
 
         ensures fails { FailsAsListed CallKind.Clear self.old self.new result }
         ensures effect { HasEffect CallKind.Clear self.old self.new (with_cell (image_of_now self.old) None) }
