@@ -1,6 +1,6 @@
 -- What a loss of power tears is what it may leave.
-use Rattle.std.proofs.Common.{◌≡◌, ℕ, zero, suc, ◌<◌, ◌≤◌, Option, Some, None, List, [], ◌∷◌, length, take, refl, sym, ◌∙◌, ap, subst, arith}
-use Rattle.std.specs.Prelude.{All, Contains, slice_get}
+use Rattle.std.proofs.Common.{◌≡◌, ℕ, zero, suc, ◌<◌, ◌≤◌, Option, Some, None, List, [], ◌∷◌, length, take, refl, ◌∙◌, ap, arith}
+use Rattle.std.specs.Prelude.{All, slice_get}
 use Rattle.std.proofs.lemmas.List.Elements.{All-contains}
 use Rattle.medium_trace.specs.Trace.{Trace, Tears, IsWhole as IsTrace}
 use Rattle.platform.specs.Image.{MayLeave}
@@ -22,7 +22,7 @@ MayLeave-torn old new held torn is_trace recorded synced unsynced tears = record
   recorded = recorded;
   synced = synced;
   readable = take-same old.synced new.readable old.readable
-    (λ addr below. tears.other_pages addr (λ among. let is = All-contains (λ k. (old.synced ≤ k) × (k < length old.recorded)) torn addr unsynced among in absurd (omega (arith, is.0))));
+      (λ addr below. tears.other_pages addr (λ among. let is = All-contains (λ k. (old.synced ≤ k) × (k < length old.recorded)) torn addr unsynced among in absurd (omega (arith, is.0))));
   whole = is_trace.readable;
   as_many = is_trace.as_many ∙ ap length recorded;
 }

@@ -1,14 +1,13 @@
 -- A change that is logged before it is made adds a moment to the history.
-use Rattle.std.proofs.Common.{◌≡◌, ℕ, zero, suc, ◌+◌, ◌<◌, ◌≤◌, Option, List, [], ◌∷◌, ◌++◌, length, take, get_or, refl, sym, ◌∙◌, ap, subst, arith, map}
+use Rattle.std.proofs.Common.{◌≡◌, ℕ, zero, suc, ◌≤◌, Option, List, [], ◌∷◌, ◌++◌, length, take, refl, sym, ◌∙◌, ap, subst, arith}
 use Rattle.std.specs.Prelude.{All, AllPairs}
-use Rattle.std.proofs.lemmas.List.{length-take-le, take_all, take-take, map-append}
-use Rattle.std.proofs.lemmas.List.Elements.{All-nil, All-cons, All-head, All-tail, All-push, All-take, All-weaker}
+use Rattle.std.proofs.lemmas.List.{take-take, map-append}
+use Rattle.std.proofs.lemmas.List.Elements.{All-nil, All-head, All-tail, All-push, All-take, All-weaker}
 use Rattle.std.proofs.lemmas.List.Kept.{AllPairs-cons}
-use Rattle.medium_trace.specs.Page.{IsPage}
 use Rattle.medium_trace.specs.Trace.{Trace, IsWhole as IsTrace}
 use Rattle.erasable_root.specs.Cell.{IsCell}
 use Rattle.platform.specs.declared.store.Moment.{Moment}
-use Rattle.platform.specs.Image.{Image, IsWhole, IsEarlier}
+use Rattle.platform.specs.Image.{Image}
 use Rattle.platform.specs.Log.{HasBeen, IsBefore, IsLog, IsNow, image_now, image_then, past_images}
 use Rattle.platform.specs.Logged.{AllPairs-nil, AllPairs-first, AllPairs-rest}
 

@@ -1,11 +1,9 @@
 -- How the moments of calls compose, for whoever calls a platform.
 use Rattle.std.proofs.Common.{◌≡◌, ◌⊎◌, inl, inr, ℕ, zero, suc, ◌+◌, ◌<◌, ◌≤◌, min, max, List, [], ◌∷◌, ◌++◌, length, take, get_or, refl, sym, ◌∙◌, ap, subst, arith, length-append}
-use Rattle.std.specs.Prelude.{All, slice_get}
+use Rattle.std.specs.Prelude.{slice_get}
 use Rattle.std.proofs.lemmas.Bool.{cases_lt}
-use Rattle.sdbt_base.specs.Bytes.{IsBytes}
-use Rattle.sdbt_base.specs.declared.limits.TheConstants.{RECORD}
 use Rattle.platform.specs.Image.{Image, IsWhole, IsEarlier, MayLeave, LeavesOnly}
-use Rattle.platform.specs.History.{History, image_of, image_at, moment, Extends, During, Turns, Steps}
+use Rattle.platform.specs.History.{History, image_at, moment, Extends, During, Turns, Steps}
 
 le_or_gt : (a b : ℕ) → (a ≤ b) ⊎ (b < a)
 le_or_gt a b = elim (cases_lt b a) [ inl more ↦ inr more | inr no_more ↦ inl no_more ]

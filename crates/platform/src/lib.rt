@@ -9,3 +9,6 @@ mod store;
 pub use failures::{CallKind, Failure};
 pub use mem_platform::MemPlatform;
 pub use platforms::Platform;
+
+#[cfg(test)]
+mod tests;

@@ -55,12 +55,7 @@ impl MemPlatform {
     }
 
     /// These pages, all of them synced, and this cell, with no failures.
-    pub fn from_parts(
-        alloc: Global,
-        pages: Pages,
-        cell: Option<[u8; ROOT]>,
-        capacity: u64,
-    ) -> Self
+    pub fn from_parts(alloc: Global, pages: Pages, cell: Option<[u8; ROOT]>, capacity: u64) -> Self
         requires pages { length pages ≤ capacity }
         requires capacity { capacity ≤ MAX_PAGES }
         ensures image { image_of_now result ≡ record { cell = cell; recorded = pages; readable = pages; synced = length pages } }
@@ -147,7 +142,7 @@ impl MemPlatform {
 }
 
 impl Platform for MemPlatform {
-    ghost use Rattle.std.specs.Prelude.{◌≡◌, ◌↔◌, ◌⊎◌, ◌<◌, ◌≤◌, ◌+◌, ◌-◌, ◌^◌, ℕ, Some, None, IsTrue, IsSome, IsErr, IfOk, OnOk, OnErr, length, slice_get, refl};
+    ghost use Rattle.std.specs.Prelude.{◌≡◌, ◌↔◌, ◌⊎◌, ◌<◌, ◌≤◌, ◌+◌, ◌-◌, ◌^◌, ℕ, true, false, Some, None, IsTrue, IsSome, IsErr, IfOk, OnOk, OnErr, length, slice_get, refl};
     ghost use Rattle.sdbt_base.specs.Faults.{Rose};
     ghost use Rattle.platform.specs.Image.{with_page, with_cell, all_synced, IsEither, MayHavePage};
     ghost use Rattle.platform.specs.History.{Steps};
@@ -196,6 +191,7 @@ impl Platform for MemPlatform {
         ensures reads { reads_of self.new ≡ reads_of self.old }
         ensures faults { faults_of self.old ≤ faults_of self.new }
         ensures cause { OnErr result (Rose (faults_of self.old) (faults_of self.new)) }
+        ensures no_fault { OnOk result (faults_of self.new ≡ faults_of self.old) }
 
         ensures fails { FailsAsListed CallKind.Append self.old self.new result }
         ensures effect { HasEffect CallKind.Append self.old self.new (with_page (image_of_now self.old) page.now page.now) }
@@ -230,9 +226,14 @@ impl Platform for MemPlatform {
         ensures reads_by_one { reads_of self.new ≤ reads_of self.old + 1 }
         ensures faults { faults_of self.old ≤ faults_of self.new }
         ensures cause { OnErr result (Rose (faults_of self.old) (faults_of self.new)) }
+        ensures no_fault { OnOk result (faults_of self.new ≡ faults_of self.old) }
 
         // A read fails too where its count has come to its end.
         ensures fails { IsErr result ↔ (IsSome (due self.old CallKind.Read) ⊎ (Starved self.old self.new ⊎ (reads_of self.old ≡ 2 ^ 64 - 1))) }
+        // A read that is told to fail with its effect counts as read.
+        ensures with_effect { due self.old CallKind.Read ≡ Some true → ¬ (Starved self.old self.new) → reads_of self.old < 2 ^ 64 - 1
+            → reads_of self.new ≡ reads_of self.old + 1 }
+        ensures without_effect { due self.old CallKind.Read ≡ Some false → reads_of self.new ≡ reads_of self.old }
         ensures starved { starved_of self.new ≡ starved_of self.old }
         ensures counts { Counts CallKind.Read self.old self.new }
     {
@@ -259,6 +260,7 @@ impl Platform for MemPlatform {
         ensures reads { reads_of self.new ≡ reads_of self.old }
         ensures faults { faults_of self.old ≤ faults_of self.new }
         ensures cause { OnErr result (Rose (faults_of self.old) (faults_of self.new)) }
+        ensures no_fault { OnOk result (faults_of self.new ≡ faults_of self.old) }
 
         ensures fails { FailsAsListed CallKind.Sync self.old self.new result }
         ensures effect { HasEffect CallKind.Sync self.old self.new (all_synced (image_of_now self.old)) }
@@ -291,6 +293,7 @@ impl Platform for MemPlatform {
         ensures reads { reads_of self.new ≡ reads_of self.old }
         ensures faults { faults_of self.old ≤ faults_of self.new }
         ensures cause { OnErr result (Rose (faults_of self.old) (faults_of self.new)) }
+        ensures no_fault { OnOk result (faults_of self.new ≡ faults_of self.old) }
 
         ensures fails { FailsAsListed CallKind.Load self.old self.new result }
         ensures starved { starved_of self.new ≡ starved_of self.old }
@@ -315,6 +318,7 @@ impl Platform for MemPlatform {
         ensures reads { reads_of self.new ≡ reads_of self.old }
         ensures faults { faults_of self.old ≤ faults_of self.new }
         ensures cause { OnErr result (Rose (faults_of self.old) (faults_of self.new)) }
+        ensures no_fault { OnOk result (faults_of self.new ≡ faults_of self.old) }
 
         ensures fails { FailsAsListed CallKind.Swap self.old self.new result }
         ensures effect { HasEffect CallKind.Swap self.old self.new (with_cell (image_of_now self.old) (Some bytes.now)) }
@@ -346,6 +350,7 @@ impl Platform for MemPlatform {
         ensures reads { reads_of self.new ≡ reads_of self.old }
         ensures faults { faults_of self.old ≤ faults_of self.new }
         ensures cause { OnErr result (Rose (faults_of self.old) (faults_of self.new)) }
+        ensures no_fault { OnOk result (faults_of self.new ≡ faults_of self.old) }
 
         ensures fails { FailsAsListed CallKind.Clear self.old self.new result }
         ensures effect { HasEffect CallKind.Clear self.old self.new (with_cell (image_of_now self.old) None) }

@@ -1,4 +1,4 @@
-use Rattle.std.proofs.Common.{◌≡◌, ◌∷◌, [], length, take, refl}
+use Rattle.std.proofs.Common.{◌∷◌, [], length, refl}
 use Rattle.std.proofs.lemmas.List.{take_at}
 use Rattle.platform.proofs.LogSteps.{past_images-push}
 use Rattle.platform.proofs.Moments.{Steps-push}
