@@ -10,7 +10,7 @@ use Rattle.root_codec.specs.declared.root.Root.{Root}
 use Rattle.root_codec.specs.Laws.{one_root}
 use Rattle.page_store.specs.Device.{Device}
 use Rattle.page_store.specs.Tree.{Place, Parts, Tree}
-use Rattle.page_store.specs.Stands.{contents, StandsBy, Stands}
+use Rattle.page_store.specs.Stands.{pairs_of, StandsBy, Stands}
 use Rattle.page_store.proofs.RecordLaws.{slice_get-front}
 use Rattle.page_store.proofs.TreeLaws.{ReadsAlike, IsRead, tree_kept, tree_read, one_tree}
 
@@ -29,8 +29,8 @@ one_parts_of image device other root root' parts parts' stands stands' =
     let roots = one_root_of image device other root root' parts parts' stands stands' in
     one_tree image.readable root parts parts' stands.in_range stands.tree (subst (λ (r : Root). Tree image.readable r parts') (sym roots) stands'.tree)
 
-same_device : (device other : Device) → device.blocks ≡ other.blocks → device.order ≡ other.order → device.commit ≡ other.commit → device.map ≡ other.map → device ≡ other
-same_device device other blocks order commit same_map = λ i. record { blocks = blocks i; order = order i; commit = commit i; map = same_map i }
+same_device : (device other : Device) → device.blocks ≡ other.blocks → device.order ≡ other.order → device.number ≡ other.number → device.contents ≡ other.contents → device ≡ other
+same_device device other blocks order number same = λ i. record { blocks = blocks i; order = order i; number = number i; contents = same i }
 
 -- an image stands for one device at most
 pub one_device : (image : Image) (one other : Option Device) → Stands image one → Stands image other → one ≡ other
@@ -43,8 +43,8 @@ one_device image (Some device) (Some other) (root, parts, stands) (root', parts'
     ap (λ (d : Device). Some d) (same_device device other
     (sym stands.blocks ∙ ap (λ (r : Root). r.blocks) roots ∙ stands'.blocks)
     (sym stands.order ∙ ap (λ (r : Root). r.order) roots ∙ stands'.order)
-    (sym stands.commit ∙ ap (λ (r : Root). r.commit) roots ∙ stands'.commit)
-    (stands.map ∙ ap (λ (p : Parts). from_entries (contents p)) all ∙ sym stands'.map))
+    (sym stands.number ∙ ap (λ (r : Root). r.commit) roots ∙ stands'.number)
+    (stands.contents ∙ ap (λ (p : Parts). from_entries (pairs_of p)) all ∙ sym stands'.contents))
 
 -- ---- what keeps it
 
@@ -56,14 +56,14 @@ stands_kept image other device root parts stands cell head readable recorded = r
   key = stands.key;
   order = stands.order;
   blocks = stands.blocks;
-  commit = stands.commit;
+  number = stands.number;
   head = head;
   tree = tree_kept image.readable other.readable root parts stands.tree readable;
   apart = stands.apart;
   count = stands.count;
   below = stands.below;
   recorded = λ k d inside. readable k d inside ∙ stands.recorded k d inside ∙ sym (recorded k d inside);
-  map = stands.map;
+  contents = stands.contents;
 }
 
 slice_get-take : (n : ℕ) (pages : List (List ℕ)) (addr : ℕ) (page : List ℕ) → slice_get (take n pages) addr ≡ Some page → slice_get pages addr ≡ Some page

@@ -7,5 +7,5 @@ use Rattle.std.specs.FinMap.{FinMap}
 pub record Device : Type 0 where
   pub blocks : ℕ
   pub order : ℕ
-  pub commit : ℕ
-  pub map : FinMap nat_cmp (List ℕ)
+  pub number : ℕ
+  pub contents : FinMap nat_cmp (List ℕ)

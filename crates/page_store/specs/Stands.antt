@@ -9,8 +9,8 @@ use Rattle.page_store.specs.Device.{Device}
 use Rattle.page_store.specs.Tree.{Parts, Tree}
 
 -- the blocks that a tree maps, each with its content
-abbrev pub contents : Parts → List (ℕ × List ℕ)
-contents parts = map (λ m. (m.block, m.content)) parts.mapped
+abbrev pub pairs_of : Parts → List (ℕ × List ℕ)
+pairs_of parts = map (λ m. (m.block, m.content)) parts.mapped
 
 -- the image's cell is this root record, and its tree has these parts, which are the device's
 pub record StandsBy (image : Image) (device : Device) (root : Root) (parts : Parts) : Type 0 where
@@ -19,14 +19,14 @@ pub record StandsBy (image : Image) (device : Device) (root : Root) (parts : Par
   pub key : IsBytes 32 root.key
   pub order : root.order ≡ device.order
   pub blocks : root.blocks ≡ device.blocks
-  pub commit : root.commit ≡ device.commit
+  pub number : root.commit ≡ device.number
   pub head : root.head ≤ image.synced
   pub tree : Tree image.readable root parts
   pub apart : AllPairs (λ p q. p.addr ≢ q.addr) parts.places
   pub count : length parts.mapped ≡ root.mapped
   pub below : All (λ p. p.addr < root.head) parts.places
   pub recorded : All (λ p. slice_get image.readable p.addr ≡ slice_get image.recorded p.addr) parts.places
-  pub map : device.map ≡ from_entries (contents parts)
+  pub contents : device.contents ≡ from_entries (pairs_of parts)
 
 -- the image stands for the device: with an empty cell for none
 abbrev pub Stands : Image → Option Device → Type 0

@@ -18,3 +18,6 @@ pub use fetching::fetch;
 pub use refusals::{AppendFault, CurrentRefusal, FetchRefusal};
 pub use roots::current;
 pub use wants::Want;
+
+#[cfg(test)]
+mod tests;
