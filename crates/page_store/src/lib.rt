@@ -8,6 +8,7 @@
 mod appending;
 mod buffers;
 mod fetching;
+mod laws;
 mod refusals;
 mod roots;
 mod wants;
@@ -15,6 +16,7 @@ mod wants;
 pub use appending::Placed;
 pub use buffers::Buffers;
 pub use fetching::fetch;
+pub use laws::{no_wrong_place, one_device, one_tree, outlasts_loss_of_power};
 pub use refusals::{AppendFault, CurrentRefusal, FetchRefusal};
 pub use roots::current;
 pub use wants::Want;
