@@ -1,2 +1,4 @@
+pub mod Cuts
 pub mod LogSteps
 pub mod Moments
+pub mod RunLaws

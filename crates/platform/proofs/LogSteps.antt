@@ -1,14 +1,13 @@
 -- A change that is logged before it is made adds a moment to the history.
-use Rattle.std.proofs.Common.{◌≡◌, ℕ, zero, suc, ◌+◌, ◌<◌, ◌≤◌, Option, List, [], ◌∷◌, ◌++◌, length, take, get_or, refl, sym, ◌∙◌, ap, subst, arith, map}
+use Rattle.std.proofs.Common.{◌≡◌, ℕ, zero, suc, ◌≤◌, Option, List, [], ◌∷◌, ◌++◌, length, take, refl, sym, ◌∙◌, ap, subst, arith}
 use Rattle.std.specs.Prelude.{All, AllPairs}
-use Rattle.std.proofs.lemmas.List.{length-take-le, take_all, take-take, map-append}
-use Rattle.std.proofs.lemmas.List.Elements.{All-nil, All-cons, All-head, All-tail, All-push, All-take, All-weaker}
+use Rattle.std.proofs.lemmas.List.{take-take, map-append}
+use Rattle.std.proofs.lemmas.List.Elements.{All-nil, All-head, All-tail, All-push, All-take, All-weaker}
 use Rattle.std.proofs.lemmas.List.Kept.{AllPairs-cons}
-use Rattle.medium_trace.specs.Page.{IsPage}
 use Rattle.medium_trace.specs.Trace.{Trace, IsWhole as IsTrace}
 use Rattle.erasable_root.specs.Cell.{IsCell}
 use Rattle.platform.specs.declared.store.Moment.{Moment}
-use Rattle.platform.specs.Image.{Image, IsWhole, IsEarlier}
+use Rattle.platform.specs.Image.{Image}
 use Rattle.platform.specs.Log.{HasBeen, IsBefore, IsLog, IsNow, image_now, image_then, past_images}
 use Rattle.platform.specs.Logged.{AllPairs-nil, AllPairs-first, AllPairs-rest}
 
@@ -18,7 +17,7 @@ AllPairs-push : {X : Type 0} (R : X → X → Type 0) (xs : List X) (last : X) �
 AllPairs-push R [] last pairs all = AllPairs-cons R last [] (All-nil (R last)) (AllPairs-nil R)
 AllPairs-push R (x ∷ xs) last pairs all =
     AllPairs-cons R x (xs ++ last ∷ []) (All-push (R x) xs last (AllPairs-first R x xs pairs) (All-head (λ y. R y last) x xs all))
-      (AllPairs-push R xs last (AllPairs-rest R x xs pairs) (All-tail (λ y. R y last) x xs all))
+    (AllPairs-push R xs last (AllPairs-rest R x xs pairs) (All-tail (λ y. R y last) x xs all))
 
 AllPairs-take : {X : Type 0} (R : X → X → Type 0) (n : ℕ) (xs : List X) → AllPairs R xs → AllPairs R (take n xs)
 AllPairs-take R zero xs pairs = AllPairs-nil R
@@ -40,7 +39,7 @@ IsLog-push trace held log now is_log is_now = record {
     synced = omega (arith, is_now.synced);
   };
   ordered = AllPairs-push IsBefore log now is_log.ordered
-    (All-weaker (HasBeen trace) (λ then. IsBefore then now) (λ then been. record { pages = omega (arith, is_now.pages, been.pages); synced = omega (arith, is_now.synced, been.synced) }) log is_log.past);
+      (All-weaker (HasBeen trace) (λ then. IsBefore then now) (λ then been. record { pages = omega (arith, is_now.pages, been.pages); synced = omega (arith, is_now.synced, been.synced) }) log is_log.past);
 }
 
 -- the last moment is taken back
@@ -58,7 +57,7 @@ IsLog-grown old new held log is_trace pages synced is_log = record {
   medium = is_trace;
   cell = is_log.cell;
   past = All-weaker (HasBeen old) (HasBeen new)
-    (λ then been. record { cell = been.cell; within = been.within; pages = omega (arith, pages, been.pages); synced = omega (arith, synced, been.synced) }) log is_log.past;
+      (λ then been. record { cell = been.cell; within = been.within; pages = omega (arith, pages, been.pages); synced = omega (arith, synced, been.synced) }) log is_log.past;
   ordered = is_log.ordered;
 }
 
@@ -90,10 +89,10 @@ past_images-push old new held log now is_log is_now recorded readable =
     let pages : take now.pages new.recorded ≡ old.recorded = ap (λ n. take n new.recorded) is_now.pages ∙ recorded in
     let reads : take now.pages new.readable ≡ old.readable = ap (λ n. take n new.readable) is_now.pages ∙ readable in
     let last : image_then new now ≡ image_now old held =
-          ap (λ (xs : List (List ℕ)). record { cell = now.cell; recorded = xs; readable = take now.pages new.readable; synced = now.synced }) pages
-          ∙ ap (λ (xs : List (List ℕ)). record { cell = now.cell; recorded = old.recorded; readable = xs; synced = now.synced }) reads
-          ∙ ap (λ cell. record { cell = cell; recorded = old.recorded; readable = old.readable; synced = now.synced }) is_now.cell
-          ∙ ap (λ synced. record { cell = held; recorded = old.recorded; readable = old.readable; synced = synced }) is_now.synced in
+    ap (λ (xs : List (List ℕ)). record { cell = now.cell; recorded = xs; readable = take now.pages new.readable; synced = now.synced }) pages
+    ∙ ap (λ (xs : List (List ℕ)). record { cell = now.cell; recorded = old.recorded; readable = xs; synced = now.synced }) reads
+    ∙ ap (λ cell. record { cell = cell; recorded = old.recorded; readable = old.readable; synced = now.synced }) is_now.cell
+    ∙ ap (λ synced. record { cell = held; recorded = old.recorded; readable = old.readable; synced = synced }) is_now.synced in
     map-append (image_then new) log (now ∷ [])
     ∙ ap (λ (images : List Image). images ++ image_then new now ∷ []) (past_images-kept old new log is_log.past recorded readable)
     ∙ ap (λ (image : Image). past_images old log ++ image ∷ []) last

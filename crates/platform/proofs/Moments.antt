@@ -1,11 +1,9 @@
 -- How the moments of calls compose, for whoever calls a platform.
 use Rattle.std.proofs.Common.{◌≡◌, ◌⊎◌, inl, inr, ℕ, zero, suc, ◌+◌, ◌<◌, ◌≤◌, min, max, List, [], ◌∷◌, ◌++◌, length, take, get_or, refl, sym, ◌∙◌, ap, subst, arith, length-append}
-use Rattle.std.specs.Prelude.{All, slice_get}
+use Rattle.std.specs.Prelude.{slice_get}
 use Rattle.std.proofs.lemmas.Bool.{cases_lt}
-use Rattle.sdbt_base.specs.Bytes.{IsBytes}
-use Rattle.sdbt_base.specs.declared.limits.TheConstants.{RECORD}
 use Rattle.platform.specs.Image.{Image, IsWhole, IsEarlier, MayLeave, LeavesOnly}
-use Rattle.platform.specs.History.{History, image_of, image_at, moment, Extends, During, Turns, Steps}
+use Rattle.platform.specs.History.{History, image_at, moment, Extends, During, Turns, Steps}
 
 le_or_gt : (a b : ℕ) → (a ≤ b) ⊎ (b < a)
 le_or_gt a b = elim (cases_lt b a) [ inl more ↦ inr more | inr no_more ↦ inl no_more ]
@@ -196,7 +194,7 @@ pub Steps-push : (old new : History) → new.past ≡ old.past ++ old.present �
 Steps-push old new past_is =
     let size : moment new ≡ moment old + 1 = omega (arith, ap length past_is, length-append old.past (old.present ∷ [])) in
     let was : (i : ℕ) → i ≡ moment old → image_at new i ≡ old.present =
-          λ i at. ap (λ (images : List Image). get_or images i new.present) past_is ∙ get_or-pushed old.past old.present new.present i at in
+    λ i at. ap (λ (images : List Image). get_or images i new.present) past_is ∙ get_or-pushed old.past old.present new.present i at in
     record {
       extends = record {
         later = omega arith;

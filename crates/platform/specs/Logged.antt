@@ -1,14 +1,13 @@
 -- Why the images of a log are a history: each is whole, and they only grow.
-use Rattle.std.proofs.Common.{◌≡◌, ℕ, zero, suc, ◌+◌, ◌<◌, ◌≤◌, Option, List, [], ◌∷◌, ◌++◌, length, take, get_or, refl, sym, ◌∙◌, ap, subst, arith, map}
+use Rattle.std.proofs.Common.{◌≡◌, ℕ, zero, suc, ◌≤◌, Option, List, [], ◌∷◌, length, take, get_or, sym, ◌∙◌, ap, arith}
 use Rattle.std.specs.Prelude.{All, AllPairs}
-use Rattle.std.proofs.lemmas.List.{length-take-le, take_all, take-take, map-append}
-use Rattle.std.proofs.lemmas.List.Elements.{All-nil, All-cons, All-head, All-tail, All-push, All-take, All-weaker}
-use Rattle.std.proofs.lemmas.List.Kept.{AllPairs-cons}
+use Rattle.std.proofs.lemmas.List.{length-take-le, take_all, take-take}
+use Rattle.std.proofs.lemmas.List.Elements.{All-head, All-tail, All-take}
 use Rattle.medium_trace.specs.Page.{IsPage}
 use Rattle.medium_trace.specs.Trace.{Trace, IsWhole as IsTrace}
 use Rattle.erasable_root.specs.Cell.{IsCell}
 use Rattle.platform.specs.declared.store.Moment.{Moment}
-use Rattle.platform.specs.Image.{Image, IsWhole, IsEarlier}
+use Rattle.platform.specs.Image.{IsWhole, IsEarlier}
 use Rattle.platform.specs.Log.{HasBeen, IsBefore, IsLog, image_now, image_then, past_images}
 
 -- pairs of a list

@@ -1,7 +1,8 @@
 // Medium and cell with a log of their moments. Each change is logged before it is made, and nothing else is.
 ghost use Rattle.std.specs.Prelude.{◌≡◌, ◌↔◌, ◌≤◌, ◌<◌, ◌+◌, ◌++◌, ◌∷◌, [], Some, None, IsTrue, IsSome, IfOk, All, length, slice_get, is_ok, if◌then◌else◌};
 ghost use Rattle.medium_trace.specs.Trace.{Tears};
-ghost use Rattle.platform.specs.Image.{blank, with_page, with_cell, all_synced};
+ghost use Rattle.platform.specs.Image.{blank, with_page, with_cell, all_synced, MayLeave};
+ghost use Rattle.platform.specs.History.{Steps};
 ghost use Rattle.platform.specs.Log.{IsLog, IsNow};
 
 use erasable_root::RootCell;
@@ -39,6 +40,37 @@ impl Store {
             cell: RootCell::empty(),
             log: Vec::new(alloc),
         }
+    }
+
+    /// These pages, all of them synced, and this cell, and no moment before this one.
+    pub fn from_parts(alloc: Global, pages: Pages, held: Option<[u8; ROOT]>) -> Self
+        ensures present { (store_history result).present
+            ≡ record { cell = held; recorded = pages; readable = pages; synced = length pages } }
+        ensures past { (store_history result).past ≡ [] }
+    {
+        let mut cell = RootCell::empty();
+        if let Some(bytes) = &held {
+            cell.replace(bytes);
+        }
+        let _ = cell.get();
+        Store {
+            medium: MediumTrace::from_pages(alloc, pages),
+            cell,
+            log: Vec::new(alloc),
+        }
+    }
+
+    /// The power is lost: these pages, none of them synced, read as zero bytes, and the log begins anew.
+    pub fn cut(&mut self, torn: &[u64])
+        requires { All (λ addr. ((store_history self.old).present.synced ≤ addr) ×
+            (addr < length (store_history self.old).present.recorded)) torn.now }
+        ensures torn { Tears torn.now (store_history self.old).present.readable
+            (store_history self.new).present.readable }
+        ensures left { MayLeave (store_history self.old).present (store_history self.new).present }
+        ensures past { (store_history self.new).past ≡ [] }
+    {
+        self.log.clear();
+        self.medium.cut(torn);
     }
 
     /// How many pages are recorded.
@@ -83,13 +115,15 @@ impl Store {
     /// Adds a page, and answers its address.
     pub fn append(&mut self, page: &[u8]) -> Result<u64, Memory>
         requires { length page.now ≡ RECORD }
-        ensures address { IfOk result (λ addr. addr ≡ length (store_history self.old).present.recorded) }
+        ensures address { IfOk result
+            (λ addr. addr ≡ length (store_history self.old).present.recorded) }
         ensures present { (store_history self.new).present ≡ (if is_ok result
             then with_page (store_history self.old).present page.now page.now
             else (store_history self.old).present) }
         ensures past { (store_history self.new).past ≡ (if is_ok result
             then (store_history self.old).past ++ (store_history self.old).present ∷ []
             else (store_history self.old).past) }
+        ensures time { Steps (store_history self.old) (store_history self.new) }
     {
         let now = self.now();
         self.log.push(now)?;
@@ -110,6 +144,7 @@ impl Store {
         ensures past { (store_history self.new).past ≡ (if is_ok result
             then (store_history self.old).past ++ (store_history self.old).present ∷ []
             else (store_history self.old).past) }
+        ensures time { Steps (store_history self.old) (store_history self.new) }
     {
         let now = self.now();
         self.log.push(now)?;
@@ -125,6 +160,7 @@ impl Store {
         ensures past { (store_history self.new).past ≡ (if is_ok result
             then (store_history self.old).past ++ (store_history self.old).present ∷ []
             else (store_history self.old).past) }
+        ensures time { Steps (store_history self.old) (store_history self.new) }
     {
         let now = self.now();
         self.log.push(now)?;
@@ -140,6 +176,7 @@ impl Store {
         ensures past { (store_history self.new).past ≡ (if is_ok result
             then (store_history self.old).past ++ (store_history self.old).present ∷ []
             else (store_history self.old).past) }
+        ensures time { Steps (store_history self.old) (store_history self.new) }
     {
         let now = self.now();
         self.log.push(now)?;
