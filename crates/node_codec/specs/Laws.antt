@@ -1,7 +1,7 @@
 -- The laws of records: the parts decide the bytes, and the bytes decide the parts.
 use Rattle.std.proofs.Common.{◌≡◌, ℕ, ◌+◌, ◌-◌, ◌*◌, ◌<◌, ◌≤◌, ◌^◌, List, [], ◌∷◌, ◌++◌, map, length, take, drop, replicate, refl, sym, ap, subst, ◌∙◌, arith, length-append, inl, inr, lit<}
-use Rattle.std.specs.Prelude.{All, Option, Some, None, IfSome, IfNone, IsSomeAnd, slice_index, slice_index_or}
-use Rattle.std.specs.Int.{w64, to_be_bytes}
+use Rattle.std.specs.Prelude.{All, Option, Some, None, IfSome, IfNone, IsSomeAnd, codes, slice_index, slice_index_or}
+use Rattle.std.specs.Int.{w16, w64, to_be_bytes}
 use Rattle.std.specs.List.{concat, flat_map}
 use Rattle.std.specs.List.Sorted.{IsStrictlyIncreasing}
 use Rattle.std.proofs.lemmas.Bool.{cases_lt}
@@ -263,3 +263,44 @@ pub one_record : (addr other : ℕ) (a b : Record) → addr < 2 ^ 64 → other <
 one_record addr other a b below below' fits fits' same =
     let parts = append_same (front_of addr a) (payload_of a) (front_of other b) (payload_of b) (length-front addr a ∙ sym (length-front other b)) (sym (record_is addr a) ∙ same ∙ record_is other b) in
     values_same addr other a b below below' fits fits' parts.0 parts.1
+
+-- ---- what a record's bytes begin with and end with
+
+-- a record begins with the stamp and its own address
+pub record_stamp : (addr : ℕ) (value : Record) → take 16 (record_bytes addr value) ≡ codes "SDBTREC1" ++ to_be_bytes w64 addr
+unfolding record_bytes head_fields
+record_stamp addr (DataRecord block content) = refl
+record_stamp addr (NodeRecord level entries) = refl
+
+-- the kind byte
+pub data_kind : (addr block : ℕ) (content : List ℕ) → slice_index (record_bytes addr (DataRecord block content)) 16 ≡ 1
+unfolding record_bytes head_fields
+data_kind addr block content = refl
+
+pub node_kind : (addr level : ℕ) (entries : List Entry) → slice_index (record_bytes addr (NodeRecord level entries)) 16 ≡ 2
+unfolding record_bytes head_fields
+node_kind addr level entries = refl
+
+-- the count of a node
+pub node_count : (addr level : ℕ) (entries : List Entry) → part 18 2 (record_bytes addr (NodeRecord level entries)) ≡ to_be_bytes w16 (length entries)
+unfolding record_bytes head_fields
+node_count addr level entries = refl
+
+-- the bytes behind the head
+pub data_payload : (addr block : ℕ) (content : List ℕ) → drop 32 (record_bytes addr (DataRecord block content)) ≡ content
+unfolding record_bytes
+data_payload addr block content = drop_at (head_bytes addr 1 0 0 block) content 32 (length-head_bytes addr 1 0 0 block)
+
+pub node_payload : (addr level : ℕ) (entries : List Entry) → drop 32 (record_bytes addr (NodeRecord level entries)) ≡ entries_bytes entries
+unfolding record_bytes
+node_payload addr level entries = drop_at (head_bytes addr 2 level (length entries) 0) (entries_bytes entries) 32 (length-head_bytes addr 2 level (length entries) 0)
+
+-- a record has 4,128 bytes
+pub record_length : (addr : ℕ) (value : Record) → addr < 2 ^ 64 → FitsRecord addr value → length (record_bytes addr value) ≡ 4128
+unfolding record_bytes
+record_length addr (DataRecord block content) below fits =
+    omega (arith, length-append (head_bytes addr 1 0 0 block) content, length-head_bytes addr 1 0 0 block, fits.1.0)
+record_length addr (NodeRecord level entries) below fits =
+    let are = entries_fit addr entries below (record { ascend = fits.0.ascend; lows = fits.0.lows; below = fits.0.below; keys = fits.1 }) in
+    let zeros : List ℕ = replicate (4096 - 48 * length entries) 0 in
+    omega (arith, length-append (head_bytes addr 2 level (length entries) 0) (entries_bytes entries), length-head_bytes addr 2 level (length entries) 0, length-append (flat_map entry_bytes entries) zeros, length-entries entries are, length-replicate {A = ℕ} (4096 - 48 * length entries) 0, fits.0.count)
