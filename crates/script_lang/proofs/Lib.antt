@@ -1,0 +1,10 @@
+pub mod Numbers
+pub mod Outcomes
+pub mod HexText
+pub mod Spaces
+pub mod LongLines
+pub mod Fronts
+pub mod LineLaws
+pub mod Blocks
+pub mod Trims
+pub mod ReplyLaws

@@ -1,0 +1,135 @@
+-- The array machine: which reply belongs to a command, and which state follows. A device is an array of
+-- blocks that commits change; a session is a device's blocks with changes that aren't committed yet.
+use Rattle.std.specs.Prelude.{◌≡◌, ℕ, ◌+◌, ◌-◌, ◌%◌, Bool, true, false, not, ◌&&◌, ◌||◌, ◌==◌, nat_lt, nat_le, if◌then◌else◌, List, [], ◌∷◌, ◌++◌, length, replicate, Option, Some, None, unwrap_or}
+use Rattle.std.specs.Ordering.{nat_cmp}
+use Rattle.std.specs.FinMap as map
+use Rattle.arrayvec.specs.ArrayVec.{ArrayVec}
+use Rattle.script_lang.specs.declared.commands.Command.{Command}
+use Rattle.script_lang.specs.declared.commands.Command.TheVariants.{Format, Mount, Read, Write, Trim, Commit, Drop, Erase, Stat, Seize}
+use Rattle.script_lang.specs.declared.replies.Reply.{Reply}
+use Rattle.script_lang.specs.declared.replies.Reply.TheVariants.{Formatted, Mounted, Content, Done, Committed, Dropped, Erased, Unmounted, AlreadyMounted, NotEmpty, NoDevice, Range, Full, Unbuilt}
+use Rattle.script_lang.specs.declared.replies.Reply.TheVariants as replies
+use Rattle.script_lang.specs.declared.devices.Device.{Device}
+use Rattle.script_lang.specs.declared.devices.Session.{Session}
+
+-- what blocks hold: 4,096 bytes for each mapped block
+abbrev pub Blocks : Type 0
+Blocks = map.FinMap nat_cmp (List ℕ)
+
+-- the machine's state: the device, and the session that is open on it
+pub record State : Type 0 where
+  pub device : Option Device
+  pub session : Option Session
+
+-- so many zeros
+unfoldable pub zeros : ℕ → List ℕ
+zeros n = replicate n 0
+
+-- a block that isn't mapped holds zeros
+abbrev pub content_of : Blocks → ℕ → List ℕ
+content_of blocks block = unwrap_or (map.get blocks block) (zeros 4096)
+
+-- bytes with zeros up to the end of the block
+abbrev pub padded : List ℕ → List ℕ
+padded bytes = bytes ++ zeros (4096 - length bytes)
+
+-- a byte before bytes that have no trailing zeros: a zero before nothing is a trailing one
+abbrev pub before_trimmed : ℕ → List ℕ → List ℕ
+before_trimmed byte [] = if byte == 0 then [] else byte ∷ []
+before_trimmed byte (next ∷ bytes) = byte ∷ next ∷ bytes
+
+-- bytes without their trailing zeros
+unfoldable pub trimmed : List ℕ → List ℕ
+trimmed [] = []
+trimmed (byte ∷ bytes) = before_trimmed byte (trimmed bytes)
+
+-- the reply that gives a block's content
+abbrev pub content_reply : List ℕ → Reply
+content_reply content = Content (record { items = trimmed content })
+
+-- a device may have 1 to 1,048,576 blocks, and an even order from 4 to 64
+abbrev pub in_limits : ℕ → ℕ → Bool
+in_limits blocks order = nat_le 1 blocks && nat_le blocks 1048576 && nat_le 4 order && nat_le order 64 && (order % 2 == 0)
+
+-- goes on with the device, if there is one
+abbrev pub on_device : {A : Type 0} → Option Device → A → (Device → A) → A
+on_device None without present = without
+on_device (Some device) without present = present device
+
+-- goes on with the session, if there is one
+abbrev pub on_session : {A : Type 0} → Option Session → A → (Session → A) → A
+on_session None without present = without
+on_session (Some session) without present = present session
+
+-- goes on with the session and its device, if there is one
+abbrev pub in_session : {A : Type 0} → Option Device → Option Session → A → (Device → Session → A) → A
+in_session None session unmounted mounted = unmounted
+in_session (Some device) None unmounted mounted = unmounted
+in_session (Some device) (Some session) unmounted mounted = mounted device session
+
+-- the state with another session
+abbrev pub with_session : State → Session → State
+with_session state session = record state { session = Some session }
+
+abbrev pub new_device : ℕ → ℕ → Device
+new_device blocks order = record { blocks = blocks; order = order; number = 0; contents = map.empty }
+
+-- no change yet
+abbrev pub session_on : Device → Session
+session_on device = record { contents = device.contents; touched = false }
+
+-- the session's blocks become the device's
+abbrev pub committed : Device → Session → Device
+committed device session = record device { number = device.number + 1; contents = session.contents }
+
+-- the session after a write, and after a trim
+abbrev pub written : Session → ℕ → List ℕ → Session
+written session block bytes = record { contents = map.insert session.contents block (padded bytes); touched = true }
+
+abbrev pub unmapped : Session → ℕ → Session
+unmapped session block = record { contents = map.remove session.contents block; touched = session.touched || map.contains_key session.contents block }
+
+-- one step: the reply, and the state that follows
+abbrev pub step : State → Command → Reply × State
+step state (Format blocks order) = on_device state.device
+    (if in_limits blocks order then (Formatted, record state { device = Some (new_device blocks order) }) else (Range, state))
+    (λ device. (NotEmpty, state))
+step state Mount = on_session state.session
+    (on_device state.device (NoDevice, state) (λ device. (Mounted device.number, with_session state (session_on device))))
+    (λ session. (AlreadyMounted, state))
+step state (Read block) = in_session state.device state.session (Unmounted, state) (λ device session.
+    if nat_lt block device.blocks then (content_reply (content_of session.contents block), state) else (Range, state))
+step state (Write block content) = in_session state.device state.session (Unmounted, state) (λ device session.
+    if nat_lt block device.blocks then (Done, with_session state (written session block content.items)) else (Range, state))
+step state (Trim block) = in_session state.device state.session (Unmounted, state) (λ device session.
+    if nat_lt block device.blocks then (Done, with_session state (unmapped session block)) else (Range, state))
+step state Commit = in_session state.device state.session (Unmounted, state) (λ device session.
+    if session.touched then (Committed (device.number + 1), record { device = Some (committed device session); session = Some (session_on (committed device session)) })
+    else (Committed device.number, state))
+step state Drop = in_session state.device state.session (Unmounted, state) (λ device session. (Dropped, record state { session = None }))
+step state Erase = on_device state.device (NoDevice, state) (λ device. (Erased, record { device = None; session = None }))
+step state Stat = in_session state.device state.session (Unmounted, state) (λ device session.
+    (replies.Stat (map.len session.contents) device.number, state))
+-- a seizure is no matter of the array
+step state Seize = (Unbuilt, state)
+
+-- whether the command is one that is accepted and needs room on the medium
+abbrev pub needs_room : State → Command → Bool
+needs_room state (Format blocks order) = on_device state.device (in_limits blocks order) (λ device. false)
+needs_room state (Write block content) = in_session state.device state.session false (λ device session. nat_lt block device.blocks)
+needs_room state Commit = in_session state.device state.session false (λ device session. session.touched)
+needs_room state Mount = false
+needs_room state (Read block) = false
+needs_room state (Trim block) = false
+needs_room state Drop = false
+needs_room state Erase = false
+needs_room state Stat = false
+needs_room state Seize = false
+
+-- one step on a medium that is full, or isn't
+abbrev pub step_if : Bool → State → Command → Reply × State
+step_if full state command = if needs_room state command && full then (Full, state) else step state command
+
+-- the commit number of the device, and 0 without one
+abbrev pub number_of : State → ℕ
+number_of state = on_device state.device 0 (λ device. device.number)

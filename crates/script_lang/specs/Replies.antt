@@ -1,0 +1,71 @@
+-- The text of each reply.
+use Rattle.std.specs.Prelude.{◌≡◌, ◌≢◌, ℕ, ◌<◌, ◌≤◌, ◌^◌, List, [], ◌∷◌, ◌++◌, length, codes}
+use Rattle.std.specs.List.{AllByRecursion}
+use Rattle.std.specs.Fmt.{decimal}
+use Rattle.hex.specs.Hex.{encode_lower}
+use Rattle.script_lang.specs.declared.replies.Reply.{Reply}
+use Rattle.script_lang.specs.declared.replies.Reply.TheVariants.{Formatted, Mounted, Content, Done, Committed, Dropped, Erased, Stat, Seized, Bad, Unmounted, AlreadyMounted, NotEmpty, NoDevice, Range, Full, Unbuilt}
+
+-- the bytes of a block's front in hex; a dash where there is none
+abbrev pub hex_or_dash : List ℕ → List ℕ
+hex_or_dash [] = codes "-"
+hex_or_dash (byte ∷ bytes) = encode_lower (byte ∷ bytes)
+
+-- a reply's line, without its line feed
+unfoldable pub text_of : Reply → List ℕ
+text_of Formatted = codes "formatted"
+text_of (Mounted number) = codes "mounted " ++ decimal number
+text_of (Content bytes) = codes "data " ++ hex_or_dash bytes.items
+text_of Done = codes "ok"
+text_of (Committed number) = codes "committed " ++ decimal number
+text_of Dropped = codes "dropped"
+text_of Erased = codes "erased"
+text_of (Stat mapped number) = codes "stat mapped " ++ (decimal mapped ++ (codes " commit " ++ decimal number))
+text_of (Seized pages nodes blocks) = codes "seized pages " ++ (decimal pages ++ (codes " nodes " ++ (decimal nodes ++ (codes " blocks " ++ decimal blocks))))
+text_of Bad = codes "bad"
+text_of Unmounted = codes "unmounted"
+text_of AlreadyMounted = codes "already mounted"
+text_of NotEmpty = codes "not empty"
+text_of NoDevice = codes "no device"
+text_of Range = codes "range"
+text_of Full = codes "full"
+text_of Unbuilt = codes "unbuilt"
+
+-- a reply's line, with its line feed
+abbrev pub line_of : Reply → List ℕ
+line_of reply = text_of reply ++ 10 ∷ []
+
+-- the bytes don't end in a zero
+abbrev pub IsTrimmed : List ℕ → Type 0
+IsTrimmed bytes = (front : List ℕ) → bytes ≢ front ++ 0 ∷ []
+
+-- the front of a block, up to its last byte that isn't zero
+pub record IsFront (bytes : List ℕ) : Type 0 where
+  pub small : AllByRecursion (λ byte. byte < 256) bytes
+  pub fits : length bytes ≤ 4096
+  pub trimmed : IsTrimmed bytes
+
+-- a reply that can be given: its numbers have 64 bits, and its bytes are a block's front
+abbrev pub IsReply : Reply → Type 0
+IsReply (Mounted number) = number < 2 ^ 64
+IsReply (Content bytes) = IsFront bytes.items
+IsReply (Committed number) = number < 2 ^ 64
+IsReply (Stat mapped number) = (mapped < 2 ^ 64) × (number < 2 ^ 64)
+IsReply (Seized pages nodes blocks) = (pages < 2 ^ 64) × (nodes < 2 ^ 64) × (blocks < 2 ^ 64)
+IsReply Formatted = Unit {0}
+IsReply Done = Unit {0}
+IsReply Dropped = Unit {0}
+IsReply Erased = Unit {0}
+IsReply Bad = Unit {0}
+IsReply Unmounted = Unit {0}
+IsReply AlreadyMounted = Unit {0}
+IsReply NotEmpty = Unit {0}
+IsReply NoDevice = Unit {0}
+IsReply Range = Unit {0}
+IsReply Full = Unit {0}
+IsReply Unbuilt = Unit {0}
+
+-- a block's content in a reply is given without its trailing zeros
+abbrev pub CanWrite : Reply → Type 0
+CanWrite (Content bytes) = IsTrimmed bytes.items
+CanWrite _ = Unit {0}

@@ -1,0 +1,124 @@
+//! The commands of a script, and the grammar of their lines.
+
+ghost use Rattle.std.specs.Prelude.{◌≡◌, ◌<◌, ℕ, List, length, IfSome, IfNone};
+ghost use Rattle.arrayvec.specs.ArrayVec.{ArrayVec as Bytes};
+ghost use Rattle.script_lang.specs.Grammar.{Spells, IsBad};
+
+use arrayvec::ArrayVec;
+use sdbt_base::BLOCK;
+
+use crate::words::{number_before, parse_hex, parse_number};
+
+/// A line of a script, read.
+#[derive(Clone, Debug, PartialEq, Eq, Drop)]
+pub enum Command {
+    /// Makes a device of so many blocks, with nodes of at most `order` entries.
+    Format { blocks: u64, order: u64 },
+    /// Opens a session.
+    Mount,
+    /// Reads a block.
+    Read { block: u64 },
+    /// Writes a block: these 1 to 4,096 bytes, and zeros up to its end.
+    Write {
+        block: u64,
+        content: ArrayVec<u8, BLOCK>,
+    },
+    /// Unmaps a block, which is all zeros then.
+    Trim { block: u64 },
+    /// Makes the session's changes the device's.
+    Commit,
+    /// Gives the session and its changes up.
+    Drop,
+    /// Makes the device none.
+    Erase,
+    /// Asks for the number of mapped blocks, and of commits.
+    Stat,
+    /// Asks what an adversary who takes the device now would read.
+    Seize,
+}
+
+/// The command that a line spells, without its line feed; None for a line outside the grammar.
+pub fn parse(line: &[u8]) -> Option<Command>
+    ensures found { IfSome result (λ command. Spells line.now command) }
+    ensures none { IfNone result (IsBad line.now) }
+{
+    if let Some(command) = parse_word(line) {
+        return Some(command);
+    }
+    if let Some(command) = parse_format(line) {
+        return Some(command);
+    }
+    if let Some(command) = parse_read(line) {
+        return Some(command);
+    }
+    if let Some(command) = parse_write(line) {
+        return Some(command);
+    }
+    parse_trim(line)
+}
+
+/// A command that is one word.
+fn parse_word(line: &[u8]) -> Option<Command>
+    ensures found { IfSome result (λ command. Spells line.now command) }
+    ensures mount { IfNone result (Spells line.now Command.Mount → ⊥) }
+    ensures commit { IfNone result (Spells line.now Command.Commit → ⊥) }
+    ensures drop { IfNone result (Spells line.now Command.Drop → ⊥) }
+    ensures erase { IfNone result (Spells line.now Command.Erase → ⊥) }
+    ensures stat { IfNone result (Spells line.now Command.Stat → ⊥) }
+    ensures seize { IfNone result (Spells line.now Command.Seize → ⊥) }
+{
+    match line {
+        b"mount" => Some(Command::Mount),
+        b"commit" => Some(Command::Commit),
+        b"drop" => Some(Command::Drop),
+        b"erase" => Some(Command::Erase),
+        b"stat" => Some(Command::Stat),
+        b"seize" => Some(Command::Seize),
+        _ => None,
+    }
+}
+
+/// `format B M`
+fn parse_format(line: &[u8]) -> Option<Command>
+    ensures found { IfSome result (λ command. Spells line.now command) }
+    ensures none { IfNone result ((blocks order : ℕ) → Spells line.now (Command.Format blocks order) → ⊥) }
+{
+    let (blocks, rest) = number_before(line.strip_prefix(b"format ".as_slice())?)?;
+    let order = parse_number(rest)?;
+    Some(Command::Format { blocks, order })
+}
+
+/// `read N`
+fn parse_read(line: &[u8]) -> Option<Command>
+    ensures found { IfSome result (λ command. Spells line.now command) }
+    ensures none { IfNone result ((block : ℕ) → Spells line.now (Command.Read block) → ⊥) }
+{
+    let block = parse_number(line.strip_prefix(b"read ".as_slice())?)?;
+    Some(Command::Read { block })
+}
+
+/// `write N HEX`
+fn parse_write(line: &[u8]) -> Option<Command>
+    ensures found { IfSome result (λ command. Spells line.now command) }
+    ensures none { IfNone result ((block : ℕ) (content : Bytes ℕ) → Spells line.now (Command.Write block content) → ⊥) }
+{
+    let (block, digits) = number_before(line.strip_prefix(b"write ".as_slice())?)?;
+    let content = parse_hex(digits)?;
+    Some(Command::Write { block, content })
+}
+
+/// `trim N`
+fn parse_trim(line: &[u8]) -> Option<Command>
+    ensures found { IfSome result (λ command. Spells line.now command) }
+    ensures none { IfNone result ((block : ℕ) → Spells line.now (Command.Trim block) → ⊥) }
+{
+    let block = parse_number(line.strip_prefix(b"trim ".as_slice())?)?;
+    Some(Command::Trim { block })
+}
+
+/// No line of the grammar has more than 8,300 bytes, so a reader may answer a longer one `bad` without
+/// keeping it.
+pub fn long_lines_are_bad()
+    ensures { (line : List ℕ) → 8300 < length line → IsBad line }
+{
+}

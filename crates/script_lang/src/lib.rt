@@ -1,0 +1,18 @@
+//! The script language of the device: lines, commands, replies, and the array machine that says
+//! which reply belongs to which command.
+#![tactic(auto)]
+
+mod commands;
+mod devices;
+mod machine;
+mod reading;
+mod replies;
+mod words;
+mod writing;
+
+pub use commands::{Command, long_lines_are_bad, parse};
+pub use devices::{Contents, Device, Session};
+pub use machine::Machine;
+pub use reading::read_reply;
+pub use replies::Reply;
+pub use writing::write_reply;

@@ -1,0 +1,333 @@
+//! The array machine as plain code.
+
+ghost use Rattle.std.specs.Prelude.{◌≡◌, ◌≢◌, ◌-◌, ◌^◌, ◌<◌, ◌≤◌, [], length, None, IfOk, OnErr, IsTrue, ◌↔◌, nat_lt, if◌then◌else◌};
+ghost use Rattle.script_lang.specs.Arrays.{State, in_limits, number_of, step, step_if, written, unmapped, padded, trimmed, content_of, content_reply};
+ghost use Rattle.std.specs.Prelude.{take};
+ghost use Rattle.script_lang.specs.Replies.{CanWrite};
+
+use std::alloc::Global;
+use std::marker::Model;
+
+use arrayvec::ArrayVec;
+use sdbt_base::{BLOCK, MAX_BLOCKS, MAX_ORDER, Memory};
+
+use crate::commands::Command;
+use crate::devices::{Contents, Device, Session};
+use crate::replies::Reply;
+
+/// A device that is an array of blocks, and the session that is open on it.
+#[derive(Drop)]
+pub struct Machine {
+    alloc: Global,
+    device: Option<Device>,
+    session: Option<Session>,
+}
+
+impl Model for Machine {
+    ghost use Rattle.script_lang.specs.Arrays.{State};
+    ghost use Rattle.script_lang.specs.Codes.{state_code};
+
+    ghost Value = { State };
+
+    ghost coded = { state_code };
+
+    ghost view = { λ m. record { device = m.device; session = m.session } };
+}
+
+impl Machine {
+    /// No device, and no session.
+    pub fn new(alloc: Global) -> Machine
+        ensures { result ≡ record { device = None; session = None } }
+    {
+        Machine {
+            alloc,
+            device: None,
+            session: None,
+        }
+    }
+
+    /// The commit number of the device, and 0 without one.
+    pub fn number(&self) -> u64
+        ensures { result ≡ number_of self.now }
+    {
+        match &self.device {
+            None => 0,
+            Some(device) => device.number,
+        }
+    }
+
+    /// The reply to a command, on a medium that is full or is not: `full` answers `Full` where a format, a
+    /// write or a commit of changes would be accepted. After `Memory` the machine is as before.
+    pub fn step(&mut self, command: &Command, full: bool) -> Result<Reply, Memory>
+        requires served { command.now ≢ Command.Seize }
+        requires counted { number_of self.old < 2 ^ 64 - 1 }
+        ensures step { IfOk result (λ reply. (reply, self.new) ≡ step_if full self.old command.now) }
+        ensures memory { OnErr result (self.new ≡ self.old) }
+    {
+        match command {
+            Command::Format { blocks, order } => Ok(self.format(*blocks, *order, full)),
+            Command::Mount => self.mount(),
+            Command::Read { block } => Ok(self.read(*block)),
+            Command::Write { block, content } => self.write(*block, content.as_slice(), full),
+            Command::Trim { block } => Ok(self.trim(*block)),
+            Command::Commit => self.commit(full),
+            Command::Drop => Ok(self.give_up()),
+            Command::Erase => Ok(self.erase()),
+            Command::Stat => Ok(self.stat()),
+            Command::Seize => unreachable!(),
+        }
+    }
+
+    fn format(&mut self, blocks: u64, order: u64, full: bool) -> Reply
+        ensures { (result, self.new) ≡ step_if full self.old (Command.Format blocks order) }
+    {
+        if self.device.is_some() {
+            return Reply::NotEmpty;
+        }
+        if !is_in_limits(blocks, order) {
+            return Reply::Range;
+        }
+        if full {
+            return Reply::Full;
+        }
+        self.device = Some(Device {
+            blocks,
+            order,
+            number: 0,
+            contents: Contents::new(self.alloc),
+        });
+        Reply::Formatted
+    }
+
+    fn mount(&mut self) -> Result<Reply, Memory>
+        ensures step { IfOk result (λ reply. (reply, self.new) ≡ step self.old Command.Mount) }
+        ensures memory { OnErr result (self.new ≡ self.old) }
+    {
+        if self.session.is_some() {
+            return Ok(Reply::AlreadyMounted);
+        }
+        let Some(device) = &self.device else {
+            return Ok(Reply::NoDevice);
+        };
+        let number = device.number;
+        let contents = device.contents.duplicate()?;
+        self.session = Some(Session {
+            contents,
+            touched: false,
+        });
+        Ok(Reply::Mounted { number })
+    }
+
+    fn read(&self, block: u64) -> Reply
+        ensures { (result, self.now) ≡ step self.now (Command.Read block) }
+    {
+        let Some(device) = &self.device else {
+            return Reply::Unmounted;
+        };
+        let Some(session) = &self.session else {
+            return Reply::Unmounted;
+        };
+        if block < device.blocks {
+            content(&session.contents, block)
+        } else {
+            Reply::Range
+        }
+    }
+
+    fn write(&mut self, block: u64, bytes: &[u8], full: bool) -> Result<Reply, Memory>
+        requires { length bytes.now ≤ 4096 }
+        ensures step { IfOk result (λ reply. (reply, self.new) ≡ step_if full self.old (Command.Write block (record { items = bytes.now }))) }
+        ensures memory { OnErr result (self.new ≡ self.old) }
+    {
+        let Some(device) = &self.device else {
+            return Ok(Reply::Unmounted);
+        };
+        let blocks = device.blocks;
+        let Some(mut session) = self.session.take() else {
+            return Ok(Reply::Unmounted);
+        };
+        let reply = if block >= blocks {
+            Ok(Reply::Range)
+        } else if full {
+            Ok(Reply::Full)
+        } else {
+            write_block(&mut session, block, bytes)
+        };
+        self.session = Some(session);
+        reply
+    }
+
+    fn trim(&mut self, block: u64) -> Reply
+        ensures { (result, self.new) ≡ step self.old (Command.Trim block) }
+    {
+        let Some(device) = &self.device else {
+            return Reply::Unmounted;
+        };
+        let blocks = device.blocks;
+        let Some(mut session) = self.session.take() else {
+            return Reply::Unmounted;
+        };
+        let reply = if block < blocks {
+            trim_block(&mut session, block)
+        } else {
+            Reply::Range
+        };
+        self.session = Some(session);
+        reply
+    }
+
+    fn commit(&mut self, full: bool) -> Result<Reply, Memory>
+        requires { number_of self.old < 2 ^ 64 - 1 }
+        ensures step { IfOk result (λ reply. (reply, self.new) ≡ step_if full self.old Command.Commit) }
+        ensures memory { OnErr result (self.new ≡ self.old) }
+    {
+        let Some(device) = &self.device else {
+            return Ok(Reply::Unmounted);
+        };
+        let Some(session) = &self.session else {
+            return Ok(Reply::Unmounted);
+        };
+        if !session.touched {
+            return Ok(Reply::Committed {
+                number: device.number,
+            });
+        }
+        if full {
+            return Ok(Reply::Full);
+        }
+        let number = device.number + 1;
+        let committed = Device {
+            blocks: device.blocks,
+            order: device.order,
+            number,
+            contents: session.contents.duplicate()?,
+        };
+        let unchanged = Session {
+            contents: session.contents.duplicate()?,
+            touched: false,
+        };
+        self.device = Some(committed);
+        self.session = Some(unchanged);
+        Ok(Reply::Committed { number })
+    }
+
+    fn give_up(&mut self) -> Reply
+        ensures { (result, self.new) ≡ step self.old Command.Drop }
+    {
+        if self.device.is_none() {
+            return Reply::Unmounted;
+        }
+        if self.session.is_none() {
+            return Reply::Unmounted;
+        }
+        self.session = None;
+        Reply::Dropped
+    }
+
+    fn erase(&mut self) -> Reply
+        ensures { (result, self.new) ≡ step self.old Command.Erase }
+    {
+        if self.device.is_none() {
+            return Reply::NoDevice;
+        }
+        self.device = None;
+        self.session = None;
+        Reply::Erased
+    }
+
+    fn stat(&self) -> Reply
+        ensures { (result, self.now) ≡ step self.now Command.Stat }
+    {
+        let Some(device) = &self.device else {
+            return Reply::Unmounted;
+        };
+        let Some(session) = &self.session else {
+            return Reply::Unmounted;
+        };
+        Reply::Stat {
+            mapped: session.contents.len(),
+            number: device.number,
+        }
+    }
+}
+
+/// Whether a device may have so many blocks, and this order.
+fn is_in_limits(blocks: u64, order: u64) -> bool
+    ensures { result ≡ in_limits blocks order }
+{
+    1 <= blocks
+        && blocks <= MAX_BLOCKS
+        && 4 <= order
+        && order <= u64::from(MAX_ORDER)
+        && order % 2 == 0
+}
+
+/// What a block holds, as a reply.
+fn content(contents: &Contents, block: u64) -> Reply
+    ensures { result ≡ content_reply (content_of contents.now block) }
+{
+    match contents.get(block) {
+        None => Reply::Content {
+            bytes: ArrayVec::new(),
+        },
+        Some(content) => Reply::Content {
+            bytes: front(content),
+        },
+    }
+}
+
+/// The bytes of a block without its trailing zeros.
+fn front(content: &[u8; BLOCK]) -> ArrayVec<u8, BLOCK>
+    ensures { result.items ≡ trimmed content.now }
+{
+    let mut bytes = ArrayVec::from(*content);
+    bytes.truncate(trimmed_len(content.as_slice()));
+    bytes
+}
+
+/// How many bytes stand before the trailing zeros.
+fn trimmed_len(bytes: &[u8]) -> usize
+    ensures { take result bytes.now ≡ trimmed bytes.now }
+{
+    let mut len = bytes.len();
+    while len > 0 {
+        if bytes[len - 1] != 0 {
+            return len;
+        }
+        len -= 1;
+    }
+    len
+}
+
+/// A block that begins with these bytes, and holds zeros up to its end.
+fn block_of(bytes: &[u8]) -> [u8; BLOCK]
+    requires { length bytes.now ≤ 4096 }
+    ensures { result ≡ padded bytes.now }
+{
+    let mut block = [0; BLOCK];
+    block.fill(0);
+    block[..bytes.len()].copy_from_slice(bytes);
+    block
+}
+
+/// Maps a block of a session. After `Memory` the session is as before.
+fn write_block(session: &mut Session, block: u64, bytes: &[u8]) -> Result<Reply, Memory>
+    requires { length bytes.now ≤ 4096 }
+    ensures ok { IfOk result (λ reply. (reply ≡ Reply.Done) × (session.new ≡ written session.old block bytes.now)) }
+    ensures err { OnErr result (session.new ≡ session.old) }
+{
+    session.contents.insert(block, block_of(bytes))?;
+    session.touched = true;
+    Ok(Reply::Done)
+}
+
+/// Unmaps a block of a session.
+fn trim_block(session: &mut Session, block: u64) -> Reply
+    ensures reply { result ≡ Reply.Done }
+    ensures session { session.new ≡ unmapped session.old block }
+{
+    if session.contents.remove(block) {
+        session.touched = true;
+    }
+    Reply::Done
+}

@@ -1,0 +1,221 @@
+//! Reading replies back.
+
+ghost use Rattle.std.specs.Prelude.{◌≡◌, ◌≢◌, ◌++◌, codes, ◌<◌, ◌↔◌, ◌^◌, ℕ, List, Some, length, IfSome, IfNone, IsTrue, OnSome};
+ghost use Rattle.arrayvec.specs.ArrayVec.{ArrayVec as Bytes};
+ghost use Rattle.hex.specs.Hex.{encode_lower};
+ghost use Rattle.script_lang.specs.Replies.{text_of, IsReply, IsFront, IsTrimmed, hex_or_dash};
+ghost use Rattle.std.specs.Fmt.{decimal};
+ghost use Rattle.std.specs.Bool.{OnTrue, OnFalse};
+
+use arrayvec::ArrayVec;
+use sdbt_base::BLOCK;
+
+use crate::replies::Reply;
+use crate::words::{number_before, parse_hex, parse_number};
+use crate::writing::is_hex_of;
+
+/// The reply that a line gives, without its line feed; None for a line that is no reply's text.
+pub fn read_reply(line: &[u8]) -> Option<Reply>
+    ensures found { IfSome result (λ reply. IsReply reply × (line.now ≡ text_of reply)) }
+    ensures none { IfNone result ((reply : Reply) → IsReply reply → line.now ≢ text_of reply) }
+{
+    if let Some(reply) = read_success(line) {
+        return Some(reply);
+    }
+    if let Some(reply) = read_state_refusal(line) {
+        return Some(reply);
+    }
+    if let Some(reply) = read_refusal(line) {
+        return Some(reply);
+    }
+    if let Some(reply) = read_content(line) {
+        return Some(reply);
+    }
+    if let Some(reply) = read_mounted(line) {
+        return Some(reply);
+    }
+    if let Some(reply) = read_committed(line) {
+        return Some(reply);
+    }
+    if let Some(reply) = read_stat(line) {
+        return Some(reply);
+    }
+    read_seized(line)
+}
+
+/// An accepted command's reply that is one word.
+#[tactic(auto, unfolding(crate::specs::Replies::text_of))]
+fn read_success(line: &[u8]) -> Option<Reply>
+    ensures found { IfSome result (λ reply. IsReply reply × (line.now ≡ text_of reply)) }
+    ensures formatted { IfNone result (line.now ≢ text_of Reply.Formatted) }
+    ensures done { IfNone result (line.now ≢ text_of Reply.Done) }
+    ensures dropped { IfNone result (line.now ≢ text_of Reply.Dropped) }
+    ensures erased { IfNone result (line.now ≢ text_of Reply.Erased) }
+{
+    if is_text(line, b"formatted") {
+        return Some(Reply::Formatted);
+    }
+    if is_text(line, b"ok") {
+        return Some(Reply::Done);
+    }
+    if is_text(line, b"dropped") {
+        return Some(Reply::Dropped);
+    }
+    if is_text(line, b"erased") {
+        return Some(Reply::Erased);
+    }
+    None
+}
+
+/// A refusal by the state, as `not empty`.
+#[tactic(auto, unfolding(crate::specs::Replies::text_of))]
+fn read_state_refusal(line: &[u8]) -> Option<Reply>
+    ensures found { IfSome result (λ reply. IsReply reply × (line.now ≡ text_of reply)) }
+    ensures unmounted { IfNone result (line.now ≢ text_of Reply.Unmounted) }
+    ensures already_mounted { IfNone result (line.now ≢ text_of Reply.AlreadyMounted) }
+    ensures not_empty { IfNone result (line.now ≢ text_of Reply.NotEmpty) }
+    ensures no_device { IfNone result (line.now ≢ text_of Reply.NoDevice) }
+{
+    if is_text(line, b"unmounted") {
+        return Some(Reply::Unmounted);
+    }
+    if is_text(line, b"already mounted") {
+        return Some(Reply::AlreadyMounted);
+    }
+    if is_text(line, b"not empty") {
+        return Some(Reply::NotEmpty);
+    }
+    if is_text(line, b"no device") {
+        return Some(Reply::NoDevice);
+    }
+    None
+}
+
+/// Another refusal, as `range`.
+#[tactic(auto, unfolding(crate::specs::Replies::text_of))]
+fn read_refusal(line: &[u8]) -> Option<Reply>
+    ensures found { IfSome result (λ reply. IsReply reply × (line.now ≡ text_of reply)) }
+    ensures bad { IfNone result (line.now ≢ text_of Reply.Bad) }
+    ensures range { IfNone result (line.now ≢ text_of Reply.Range) }
+    ensures full { IfNone result (line.now ≢ text_of Reply.Full) }
+    ensures unbuilt { IfNone result (line.now ≢ text_of Reply.Unbuilt) }
+{
+    if is_text(line, b"bad") {
+        return Some(Reply::Bad);
+    }
+    if is_text(line, b"range") {
+        return Some(Reply::Range);
+    }
+    if is_text(line, b"full") {
+        return Some(Reply::Full);
+    }
+    if is_text(line, b"unbuilt") {
+        return Some(Reply::Unbuilt);
+    }
+    None
+}
+
+/// Whether a line is this text.
+fn is_text(line: &[u8], text: &[u8]) -> bool
+    ensures { IsTrue result ↔ (line.now ≡ text.now) }
+{
+    line == text
+}
+
+/// `data HEX`, in lower case and without trailing zero bytes, or `data -`.
+#[tactic(auto, unfolding(crate::specs::Replies::text_of))]
+fn read_content(line: &[u8]) -> Option<Reply>
+    ensures found { IfSome result (λ reply. IsReply reply × (line.now ≡ text_of reply)) }
+    ensures none { IfNone result ((bytes : Bytes ℕ) → IsReply (Reply.Content bytes) → line.now ≢ text_of (Reply.Content bytes)) }
+{
+    let digits = line.strip_prefix(b"data ".as_slice())?;
+    let bytes = parse_front(digits)?;
+    Some(Reply::Content { bytes })
+}
+
+/// The front of a block that a text gives.
+fn parse_front(text: &[u8]) -> Option<ArrayVec<u8, BLOCK>>
+    ensures found { IfSome result (λ bytes. IsFront bytes.items × (text.now ≡ hex_or_dash bytes.items)) }
+    ensures none { IfNone result ((bytes : List ℕ) → IsFront bytes → text.now ≢ hex_or_dash bytes) }
+{
+    if is_text(text, b"-") {
+        return Some(ArrayVec::new());
+    }
+    let bytes = parse_hex(text)?;
+    if ends_in_zero(bytes.as_slice()) {
+        return None;
+    }
+    // Digits may be of either case, and are printed in lower case.
+    if is_hex_of(text, bytes.as_slice()) {
+        Some(bytes)
+    } else {
+        None
+    }
+}
+
+/// Whether the last of some bytes is a zero.
+fn ends_in_zero(bytes: &[u8]) -> bool
+    ensures zero { OnTrue result (IsTrimmed bytes.now → ⊥) }
+    ensures trimmed { OnFalse result (IsTrimmed bytes.now) }
+{
+    matches!(bytes, [.., 0])
+}
+
+/// `mounted C`
+#[tactic(auto, unfolding(crate::specs::Replies::text_of))]
+fn read_mounted(line: &[u8]) -> Option<Reply>
+    ensures found { IfSome result (λ reply. IsReply reply × (line.now ≡ text_of reply)) }
+    ensures none { IfNone result ((number : ℕ) → number < 2 ^ 64 → line.now ≢ text_of (Reply.Mounted number)) }
+{
+    let number = parse_number(line.strip_prefix(b"mounted ".as_slice())?)?;
+    Some(Reply::Mounted { number })
+}
+
+/// `committed C`
+#[tactic(auto, unfolding(crate::specs::Replies::text_of))]
+fn read_committed(line: &[u8]) -> Option<Reply>
+    ensures found { IfSome result (λ reply. IsReply reply × (line.now ≡ text_of reply)) }
+    ensures none { IfNone result ((number : ℕ) → number < 2 ^ 64 → line.now ≢ text_of (Reply.Committed number)) }
+{
+    let number = parse_number(line.strip_prefix(b"committed ".as_slice())?)?;
+    Some(Reply::Committed { number })
+}
+
+/// `stat mapped K commit C`
+#[tactic(auto, unfolding(crate::specs::Replies::text_of))]
+fn read_stat(line: &[u8]) -> Option<Reply>
+    ensures found { IfSome result (λ reply. IsReply reply × (line.now ≡ text_of reply)) }
+    ensures none { IfNone result ((mapped number : ℕ) → mapped < 2 ^ 64 → number < 2 ^ 64 → line.now ≢ text_of (Reply.Stat mapped number)) }
+{
+    let (mapped, rest) = number_before(line.strip_prefix(b"stat mapped ".as_slice())?)?;
+    let number = parse_number(rest.strip_prefix(b"commit ".as_slice())?)?;
+    Some(Reply::Stat { mapped, number })
+}
+
+/// `seized pages P nodes X blocks Y`
+#[tactic(auto, unfolding(crate::specs::Replies::text_of))]
+fn read_seized(line: &[u8]) -> Option<Reply>
+    ensures found { IfSome result (λ reply. IsReply reply × (line.now ≡ text_of reply)) }
+    ensures none { IfNone result ((pages nodes blocks : ℕ) → pages < 2 ^ 64 → nodes < 2 ^ 64 → blocks < 2 ^ 64
+        → line.now ≢ text_of (Reply.Seized pages nodes blocks)) }
+{
+    let (pages, rest) = number_before(line.strip_prefix(b"seized pages ".as_slice())?)?;
+    let (nodes, blocks) = nodes_and_blocks(rest)?;
+    Some(Reply::Seized {
+        pages,
+        nodes,
+        blocks,
+    })
+}
+
+/// `nodes X blocks Y`
+fn nodes_and_blocks(text: &[u8]) -> Option<(u64, u64)>
+    ensures found { IfSome result (λ parts. (parts.0 < 2 ^ 64) × (parts.1 < 2 ^ 64)
+        × (text.now ≡ codes "nodes " ++ (decimal parts.0 ++ (codes " blocks " ++ decimal parts.1)))) }
+    ensures none { IfNone result ((nodes blocks : ℕ) → nodes < 2 ^ 64 → blocks < 2 ^ 64
+        → text.now ≢ codes "nodes " ++ (decimal nodes ++ (codes " blocks " ++ decimal blocks))) }
+{
+    let (nodes, rest) = number_before(text.strip_prefix(b"nodes ".as_slice())?)?;
+    let blocks = parse_number(rest.strip_prefix(b"blocks ".as_slice())?)?;
+    Some((nodes, blocks))
+}

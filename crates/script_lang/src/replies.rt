@@ -1,0 +1,43 @@
+//! The replies to the commands of a script.
+
+use arrayvec::ArrayVec;
+use sdbt_base::BLOCK;
+
+/// The answer to a line.
+#[derive(Clone, Debug, PartialEq, Eq, Drop)]
+pub enum Reply {
+    /// There is a new device, with commit number 0.
+    Formatted,
+    /// There is a session, over the device with this commit number.
+    Mounted { number: u64 },
+    /// What a block holds, without its trailing zero bytes.
+    Content { bytes: ArrayVec<u8, BLOCK> },
+    /// The write or trim is in the session.
+    Done,
+    /// The device has the session's blocks, and this commit number.
+    Committed { number: u64 },
+    /// The session is given up.
+    Dropped,
+    /// There is no device any more.
+    Erased,
+    /// The number of the session's mapped blocks, and the commit number.
+    Stat { mapped: u64, number: u64 },
+    /// How many pages there are, and how many nodes and blocks can be read.
+    Seized { pages: u64, nodes: u64, blocks: u64 },
+    /// The line is outside the grammar.
+    Bad,
+    /// There is no session.
+    Unmounted,
+    /// There is a session already.
+    AlreadyMounted,
+    /// There is a device already.
+    NotEmpty,
+    /// There is no device.
+    NoDevice,
+    /// The block, or a number of the format, is out of range.
+    Range,
+    /// The medium has no room for this.
+    Full,
+    /// The line is not served yet.
+    Unbuilt,
+}
