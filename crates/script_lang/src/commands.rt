@@ -1,8 +1,9 @@
 //! The commands of a script, and the grammar of their lines.
 
-ghost use Rattle.std.specs.Prelude.{◌≡◌, ◌<◌, ℕ, List, length, IfSome, IfNone};
+ghost use Rattle.std.specs.Prelude.{◌≡◌, ◌<◌, ℕ, List, ◌++◌, length, IfSome, IfNone};
 ghost use Rattle.arrayvec.specs.ArrayVec.{ArrayVec as Bytes};
-ghost use Rattle.script_lang.specs.Grammar.{Spells, IsBad};
+ghost use Rattle.script_lang.specs.Grammar.{Spells, IsBad, HasNone};
+ghost use Rattle.script_lang.specs.Lines.{whole_lines_of, rest_of, lines_of, last_line};
 
 use arrayvec::ArrayVec;
 use sdbt_base::BLOCK;
@@ -120,5 +121,15 @@ fn parse_trim(line: &[u8]) -> Option<Command>
 /// keeping it.
 pub fn long_lines_are_bad()
     ensures { (line : List ℕ) → 8300 < length line → IsBad line }
+{
+}
+
+/// The lines of a text may be found in pieces: of a text that grows, the lines that were whole stay, and the
+/// others are those of the rest with what is new; at its end the rest, if there is one, is the last line.
+pub fn lines_come_in_pieces()
+    ensures whole { (text more : List ℕ) → whole_lines_of (text ++ more) ≡ whole_lines_of text ++ whole_lines_of (rest_of text ++ more) }
+    ensures rest { (text more : List ℕ) → rest_of (text ++ more) ≡ rest_of (rest_of text ++ more) }
+    ensures all { (text : List ℕ) → lines_of text ≡ whole_lines_of text ++ last_line (rest_of text) }
+    ensures feed { (text : List ℕ) → HasNone 10 (rest_of text) }
 {
 }
