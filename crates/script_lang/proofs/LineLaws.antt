@@ -49,9 +49,9 @@ whole_lines_of-append (byte ∷ text) more =
     elim (cases_Bool (byte == 10)) [
       | inl feed ↦ rw (feed, further) refl
       | inr other ↦ elim (cases_Bool (has_feed text)) [
-          | inl feeds ↦ let first = first_line text feeds in rw (other, feeds, further, first.2) refl
-          | inr none ↦ rw (other, none, no_line text none) (rw other refl)
-        ]
+        | inl feeds ↦ let first = first_line text feeds in rw (other, feeds, further, first.2) refl
+        | inr none ↦ rw (other, none, no_line text none) (rw other refl)
+      ]
     ]
 
 -- the rest of a text that grows is that of its rest with what is new
@@ -62,9 +62,9 @@ rest_of-append (byte ∷ text) more =
     elim (cases_Bool (byte == 10)) [
       | inl feed ↦ rw feed (rest_of-append text more)
       | inr other ↦ elim (cases_Bool (has_feed text)) [
-          | inl feeds ↦ rw (other, feeds, feed_in_front text more feeds) (rest_of-append text more)
-          | inr none ↦ rw (other, none) (rw other refl)
-        ]
+        | inl feeds ↦ rw (other, feeds, feed_in_front text more feeds) (rest_of-append text more)
+        | inr none ↦ rw (other, none) (rw other refl)
+      ]
     ]
 
 -- all lines are the whole ones, and the rest
@@ -76,14 +76,14 @@ lines_of-whole (byte ∷ text) =
     elim (cases_Bool (byte == 10)) [
       | inl feed ↦ rw (feed, further) refl
       | inr other ↦ elim (cases_Bool (has_feed text)) [
-          | inl feeds ↦ let first = first_line text feeds in rw (other, feeds, further, first.2) refl
-          | inr none ↦ rw (other, none, further, no_line text none, all_rest text none) (begun_last byte text)
-        ]
+        | inl feeds ↦ let first = first_line text feeds in rw (other, feeds, further, first.2) refl
+        | inr none ↦ rw (other, none, further, no_line text none, all_rest text none) (begun_last byte text)
+      ]
     ]
-    where
-      begun_last : (b : ℕ) (t : List ℕ) → begun_by b (last_line t) ≡ (b ∷ t) ∷ []
-      begun_last b [] = refl
-      begun_last b (c ∷ t) = refl
+  where
+    begun_last : (b : ℕ) (t : List ℕ) → begun_by b (last_line t) ≡ (b ∷ t) ∷ []
+    begun_last b [] = refl
+    begun_last b (c ∷ t) = refl
 
 no_feed : (text : List ℕ) → has_feed text ≡ false → HasNone 10 text
 unfolding has_feed

@@ -19,11 +19,11 @@ use Rattle.std.proofs.lemmas.Bool.{cases_Bool, eqb-false}
 use Rattle.script_lang.proofs.Fronts.{small_at}
 
 -- what stands before the first space, and what behind it
-abbrev before_space : List ℕ → List ℕ
+abbrev pub before_space : List ℕ → List ℕ
 before_space [] = []
 before_space (b ∷ text) = cond (b == 32) [] (b ∷ before_space text)
 
-abbrev behind_space : List ℕ → List ℕ
+abbrev pub behind_space : List ℕ → List ℕ
 behind_space [] = []
 behind_space (b ∷ text) = cond (b == 32) text (behind_space text)
 
@@ -46,8 +46,8 @@ reply_of text =
     (cond (begins text == begins (codes "erased")) Erased
     (cond (begins text == begins (codes "stat mapped ")) (Stat (digits_value 10 (before_space (drop 12 text))) (number_at 7 (behind_space (drop 12 text))))
     (cond (begins text == begins (codes "seized pages ")) (Seized (digits_value 10 (before_space (drop 13 text)))
-        (digits_value 10 (before_space (drop 6 (behind_space (drop 13 text)))))
-        (number_at 7 (behind_space (drop 6 (behind_space (drop 13 text))))))
+    (digits_value 10 (before_space (drop 6 (behind_space (drop 13 text)))))
+    (number_at 7 (behind_space (drop 6 (behind_space (drop 13 text))))))
     (cond (begins text == begins (codes "bad")) Bad
     (cond (begins text == begins (codes "unmounted")) Unmounted
     (cond (begins text == begins (codes "already mounted")) AlreadyMounted
@@ -62,11 +62,11 @@ digits_back n h = (decimal_is_IsNumeral n h).1
 not_space : (b : ℕ) → b ≢ 32 → (b == 32) ≡ false
 not_space b other = grind arith
 
-before-space : (a b : List ℕ) → HasNone 32 a → before_space (a ++ 32 ∷ b) ≡ a
+pub before-space : (a b : List ℕ) → HasNone 32 a → before_space (a ++ 32 ∷ b) ≡ a
 before-space [] b h = refl
 before-space (x ∷ a) b h = rw (not_space x h.0, before-space a b h.1) refl
 
-behind-space : (a b : List ℕ) → HasNone 32 a → behind_space (a ++ 32 ∷ b) ≡ b
+pub behind-space : (a b : List ℕ) → HasNone 32 a → behind_space (a ++ 32 ∷ b) ≡ b
 behind-space [] b h = refl
 behind-space (x ∷ a) b h = rw (not_space x h.0) (behind-space a b h.1)
 
@@ -196,7 +196,7 @@ one_list [] (b ∷ second) p q e = absurd (ends (text_of b) (flat_map line_of se
 one_list (a ∷ first) [] p q e = absurd (ends (text_of a) (flat_map line_of first) (sym e ∙ line_then (text_of a) (flat_map line_of first)))
 one_list (a ∷ first) (b ∷ second) p q e =
     let parts = split_once 10 (text_of a) (flat_map line_of first) (text_of b) (flat_map line_of second) (text_has_no_feed a p.0) (text_has_no_feed b q.0)
-        (sym (line_then (text_of a) (flat_map line_of first)) ∙ e ∙ line_then (text_of b) (flat_map line_of second)) in
+    (sym (line_then (text_of a) (flat_map line_of first)) ∙ e ∙ line_then (text_of b) (flat_map line_of second)) in
     let heads : a ≡ b = one_reply a b p.0 q.0 parts.0 in
     let tails : first ≡ second = one_list first second p.1 q.1 parts.1 in
     cc

@@ -5,15 +5,13 @@ ghost use Rattle.script_lang.specs.Arrays.{State, in_limits, number_of, step, st
 ghost use Rattle.std.specs.Prelude.{take};
 ghost use Rattle.script_lang.specs.Replies.{CanWrite};
 
-use std::alloc::Global;
-use std::marker::Model;
-
-use arrayvec::ArrayVec;
-use sdbt_base::{BLOCK, MAX_BLOCKS, MAX_ORDER, Memory};
-
 use crate::commands::Command;
 use crate::devices::{Contents, Device, Session};
 use crate::replies::Reply;
+use arrayvec::ArrayVec;
+use sdbt_base::{BLOCK, MAX_BLOCKS, MAX_ORDER, Memory};
+use std::alloc::Global;
+use std::marker::Model;
 
 /// A device that is an array of blocks, and the session that is open on it.
 #[derive(Drop)]
@@ -59,6 +57,17 @@ impl Machine {
     /// The reply to a command, on a medium that is full or is not: `full` answers `Full` where a format, a
     /// write or a commit of changes would be accepted. After `Memory` the machine is as before.
     pub fn step(&mut self, command: &Command, full: bool) -> Result<Reply, Memory>
+        requires served { command.now ≢ Command.Seize }
+        requires counted { number_of self.old < 2 ^ 64 - 1 }
+        ensures step { IfOk result (λ reply. (reply, self.new) ≡ step_if full self.old command.now) }
+        ensures memory { OnErr result (self.new ≡ self.old) }
+        // The reply can be written.
+        ensures written { IfOk result (λ reply. CanWrite reply) }
+    {
+        self.answer(command, full)
+    }
+
+    fn answer(&mut self, command: &Command, full: bool) -> Result<Reply, Memory>
         requires served { command.now ≢ Command.Seize }
         requires counted { number_of self.old < 2 ^ 64 - 1 }
         ensures step { IfOk result (λ reply. (reply, self.new) ≡ step_if full self.old command.now) }

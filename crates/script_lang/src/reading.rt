@@ -8,12 +8,11 @@ ghost use Rattle.std.specs.Fmt.{decimal};
 ghost use Rattle.std.specs.List.{AllByRecursion};
 ghost use Rattle.std.specs.Bool.{OnTrue, OnFalse};
 
-use arrayvec::ArrayVec;
-use sdbt_base::BLOCK;
-
 use crate::replies::Reply;
 use crate::words::{number_before, parse_hex, parse_number};
 use crate::writing::is_hex_of;
+use arrayvec::ArrayVec;
+use sdbt_base::BLOCK;
 
 /// The reply that a line gives, without its line feed; None for a line that is no reply's text.
 pub fn read_reply(line: &[u8]) -> Option<Reply>
@@ -29,8 +28,7 @@ pub fn read_reply(line: &[u8]) -> Option<Reply>
 pub fn replies_are_determined()
     ensures { (first second : List Reply) → AllByRecursion IsReply first → AllByRecursion IsReply second
         → flat_map line_of first ≡ flat_map line_of second → first ≡ second }
-{
-}
+{}
 
 /// A reply whose text the line is.
 fn find_reply(line: &[u8]) -> Option<Reply>
