@@ -10,3 +10,4 @@ pub mod Trims
 pub mod ReplyLaws
 pub mod Steps
 pub mod CommandLaws
+pub mod AnswerLaws
