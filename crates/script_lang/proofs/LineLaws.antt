@@ -1,8 +1,8 @@
 -- The laws of lines, by which text may be read in pieces.
-use Rattle.std.proofs.Common.{◌≡◌, ◌≢◌, ℕ, Bool, true, false, ◌==◌, ◌||◌, cond, ◌⊎◌, inl, inr, List, [], ◌∷◌, ◌++◌, refl, sym, ap, ◌∙◌, subst}
+use Rattle.std.proofs.Common.{◌≡◌, ℕ, true, false, ◌==◌, ◌||◌, inl, inr, List, [], ◌∷◌, ◌++◌, refl, ap}
 use Rattle.std.proofs.lemmas.Bool.{cases_Bool}
 use Rattle.script_lang.specs.Grammar.{HasNone}
-use Rattle.script_lang.specs.Lines.{in_front, begun_by, has_feed, whole_lines_of, rest_of, last_line, lines_of}
+use Rattle.script_lang.specs.Lines.{begun_by, has_feed, whole_lines_of, rest_of, last_line, lines_of}
 
 -- with a line feed in it, a text has a first line
 first_line : (text : List ℕ) → has_feed text ≡ true → (line : List ℕ) × (lines : List (List ℕ)) × (whole_lines_of text ≡ line ∷ lines)

@@ -1,6 +1,5 @@
 -- Each reply of the array machine can be written.
-use Rattle.std.proofs.Common.{◌≡◌, ℕ, Bool, true, false, cond, ◌&&◌, ◌+◌, nat_lt, Option, Some, None, Result, sym, ap, subst}
-use Rattle.std.specs.FinMap as map
+use Rattle.std.proofs.Common.{◌≡◌, Bool, true, false, cond, ◌&&◌, ◌+◌, nat_lt, Option, Some, None, sym, ap, subst}
 use Rattle.script_lang.specs.Arrays.{State, content_of, content_reply, in_limits, new_device, with_session, written, unmapped, committed, session_on, step, step_if}
 use Rattle.script_lang.specs.Replies.{CanWrite}
 use Rattle.script_lang.specs.declared.commands.Command.{Command}

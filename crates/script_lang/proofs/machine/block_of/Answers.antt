@@ -1,6 +1,6 @@
-use Rattle.std.proofs.Common.{◌≡◌, ℕ, List, length, drop, replicate, ◌++◌, ◌-◌, refl, sym, ap, ◌∙◌}
+use Rattle.std.proofs.Common.{ℕ, List, length, drop, replicate, ◌++◌, ◌-◌, ap, ◌∙◌}
 use Rattle.std.proofs.lemmas.List.{drop-replicate}
-use Rattle.script_lang.specs.Arrays.{padded, zeros}
+use Rattle.script_lang.specs.Arrays.{zeros}
 use Rattle.script_lang.proofs.machine.block_of.Goals as goal
 
 pub returns : goal.returns

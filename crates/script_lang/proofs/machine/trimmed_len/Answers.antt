@@ -1,4 +1,4 @@
-use Rattle.std.proofs.Common.{◌≡◌, ℕ, ◌<◌, ◌≤◌, ◌-◌, List, [], length, take, sym, ap, ◌∙◌, arith}
+use Rattle.std.proofs.Common.{◌≡◌, ℕ, [], take, sym, ap, ◌∙◌, arith}
 use Rattle.script_lang.specs.Arrays.{trimmed}
 use Rattle.script_lang.proofs.Trims.{trim_step, trim_end, trimmed-nil}
 use Rattle.script_lang.proofs.machine.trimmed_len.Goals as goal

@@ -1,8 +1,6 @@
-use Rattle.std.proofs.Common.{◌≡◌, ◌≢◌, ℕ, ◌<◌, ◌^◌, List, Option, Some, None}
+use Rattle.std.proofs.Common.{◌≢◌, Option, Some, None}
 use Rattle.std.specs.Option.{IfNone}
-use Rattle.arrayvec.specs.ArrayVec.{ArrayVec}
 use Rattle.script_lang.specs.Replies.{IsReply, text_of}
-use Rattle.script_lang.specs.declared.replies.Reply.{Reply}
 use Rattle.script_lang.specs.declared.replies.Reply.TheVariants.{Formatted, Mounted, Content, Done, Committed, Dropped, Erased, Stat, Seized, Bad, Unmounted, AlreadyMounted, NotEmpty, NoDevice, Range, Full, Unbuilt}
 use Rattle.script_lang.proofs.reading.find_reply.Goals as goal
 
