@@ -1,0 +1,2 @@
+pub mod SeedKeys
+pub mod Parts

@@ -1,0 +1,81 @@
+//! A tape over the bytes of a source.
+ghost use Rattle.std.specs.Prelude.{◌≡◌, ℕ, ◌<◌, ◌≤◌, ◌⊎◌, List, length, take, OnOk, IfOk, OnErr, is_err, if◌then◌else◌};
+ghost use Rattle.sdbt_base.specs.Faults.{Rose, next_count};
+ghost use Rattle.sdbt_base.specs.Told.{Gave, Drew, IsAtEnd};
+ghost use Rattle.key_tape.specs.Parts.{source_of, faults_of, told_by};
+
+use sdbt_base::{FreshKey, KEY, Source, Tape, TapeFault};
+
+/// Draws each key from the next 32 bytes of a source. A take that fails, and an end before the 32nd byte,
+/// are faults of the tape, and the bytes taken until then are lost.
+///
+/// It keeps no key, so it tells none of those drawn: what a draw gave is told by what the source has left.
+#[derive(Drop)]
+pub struct SourceTape<S: Source> {
+    source: S,
+    faults: u64,
+}
+
+impl<S: Source> SourceTape<S> {
+    /// A tape over the bytes that this source has left.
+    pub fn new(source: S) -> SourceTape<S>
+        ensures source { source_of result ≡ source }
+        ensures faults { faults_of result ≡ 0 }
+    {
+        SourceTape { source, faults: 0 }
+    }
+}
+
+impl<S: Source> Tape for SourceTape<S> {
+    ghost drawn = { told_by };
+
+    ghost faults = { faults_of };
+
+    fn draw(&mut self) -> Result<FreshKey, TapeFault>
+        ensures drawn { IfOk result (λ key. Drew (told_by self.old) key (told_by self.new)) }
+        ensures undrawn { OnErr result (told_by self.new ≡ told_by self.old) }
+        ensures count { faults_of self.old ≤ faults_of self.new }
+        ensures cause { OnErr result (Rose (faults_of self.old) (faults_of self.new)) }
+
+        // A key is the next bytes of the source; a fault loses fewer than a key has.
+        ensures key { IfOk result (λ key. Gave (S.left (source_of self.old)) key (S.left (source_of self.new))) }
+        ensures size { IfOk result (λ key. length key ≡ KEY) }
+        ensures lost { OnErr result ((part : List ℕ) × (length part < KEY)
+            × Gave (S.left (source_of self.old)) part (S.left (source_of self.new))) }
+        // It fails only where the source failed or had nothing left.
+        ensures fails { OnErr result (Rose (S.faults (source_of self.old)) (S.faults (source_of self.new))
+            ⊎ IsAtEnd (S.left (source_of self.new))) }
+        ensures source_count { S.faults (source_of self.old) ≤ S.faults (source_of self.new) }
+        ensures faults { faults_of self.new
+            ≡ (if is_err result then next_count (faults_of self.old) else faults_of self.old) }
+    {
+        let mut bytes = [0; KEY];
+        let filled = fill(&mut self.source, &mut bytes);
+        if filled.is_err() {
+            self.faults = self.faults.saturating_add(1);
+            return Err(TapeFault);
+        }
+        Ok(FreshKey::from_bytes(bytes))
+    }
+}
+
+/// Fills `bytes` from the source, in as many takes as that needs.
+///
+/// It fails where a take fails or the source ends before; what it took until then is the front of `bytes`.
+fn fill<S: Source>(source: &mut S, bytes: &mut [u8]) -> Result<(), TapeFault>
+    ensures full { OnOk result (Gave (S.left source.old) bytes.new (S.left source.new)) }
+    ensures part { OnErr result ((n : ℕ) × (n < length bytes.old)
+        × Gave (S.left source.old) (take n bytes.new) (S.left source.new)) }
+    ensures cause { OnErr result (Rose (S.faults source.old) (S.faults source.new)
+        ⊎ IsAtEnd (S.left source.new)) }
+    ensures count { S.faults source.old ≤ S.faults source.new }
+{
+    let mut filled = 0;
+    'takes: while filled < bytes.len() {
+        match source.take(&mut bytes[filled..]) {
+            Ok(0) | Err(_) => return Err(TapeFault),
+            Ok(count) => filled += count,
+        }
+    }
+    Ok(())
+}

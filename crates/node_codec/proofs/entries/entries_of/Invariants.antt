@@ -1,0 +1,14 @@
+use Rattle.std.proofs.Common.{◌≡◌, ◌*◌, ◌+◌, length, take}
+use Rattle.std.specs.Prelude.{All}
+use Rattle.std.specs.List.{flat_map}
+use Rattle.node_codec.specs.Record.{entry_bytes}
+use Rattle.node_codec.specs.Parts.{IsEntry}
+use Rattle.node_codec.proofs.entries.entries_of.Given as goal
+
+-- the entries so far
+abbrev pub invariant-loop-i : goal.invariant-loop-i
+invariant-loop-i l = record {
+  count : length l.entries.items ≡ l.i;
+  spelled : take (48 * l.i) l.payload ≡ flat_map entry_bytes l.entries.items;
+  are : All IsEntry l.entries.items;
+}

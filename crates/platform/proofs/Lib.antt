@@ -1,0 +1,2 @@
+pub mod LogSteps
+pub mod Moments

@@ -1,0 +1,3 @@
+pub mod RootRecord
+pub mod Fields
+pub mod Laws

@@ -1,0 +1,30 @@
+-- What a root record says, and its one spelling.
+use Rattle.std.specs.Prelude.{◌≡◌, ℕ, ◌%◌, ◌^◌, ◌<◌, ◌≤◌, List, [], ◌∷◌, replicate, codes}
+use Rattle.std.specs.Int.{w16, w64, to_be_bytes}
+use Rattle.std.specs.List.{concat}
+use Rattle.root_codec.specs.declared.root.Root.{Root}
+
+-- the fields are in range
+pub record FitsRoot (root : Root) : Type 0 where
+  pub order_even : root.order % 2 ≡ 0
+  pub order_least : 4 ≤ root.order
+  pub order_most : root.order ≤ 64
+  pub level_least : 1 ≤ root.level
+  pub level_most : root.level ≤ 20
+  pub blocks_least : 1 ≤ root.blocks
+  pub blocks_most : root.blocks ≤ 1048576
+  pub commit : root.commit < root.head
+  pub addr : root.addr < root.head
+  pub mapped : root.mapped ≤ root.blocks
+  pub head : root.head ≤ 2 ^ 32
+
+-- the fields of a root record, in order
+unfoldable pub root_fields : Root → List (List ℕ)
+root_fields root =
+    codes "SDBTROOT" ∷ to_be_bytes w16 1 ∷ to_be_bytes w16 root.order ∷ (root.level ∷ []) ∷ replicate 3 0
+    ∷ to_be_bytes w64 root.blocks ∷ to_be_bytes w64 root.commit ∷ to_be_bytes w64 root.addr ∷ root.key
+    ∷ to_be_bytes w64 root.mapped ∷ to_be_bytes w64 root.head ∷ replicate 40 0 ∷ []
+
+-- the 128 bytes of a root record
+abbrev pub root_bytes : Root → List ℕ
+root_bytes root = concat (root_fields root)

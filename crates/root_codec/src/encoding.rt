@@ -1,0 +1,41 @@
+ghost use Rattle.std.specs.Prelude.{◌≡◌, length};
+ghost use Rattle.root_codec.specs.RootRecord.{FitsRoot, root_bytes};
+
+use crate::root::Root;
+
+/// The first bytes of each root record.
+pub(crate) const STAMP: [u8; 8] = *b"SDBTROOT";
+
+/// The version of the layout.
+pub(crate) const VERSION: u16 = 1;
+
+/// Writes the root record of `root` over the 128 bytes of `out`.
+pub fn encode_root(root: &Root, out: &mut [u8])
+    requires fits { FitsRoot root.now }
+    requires size { length out.old ≡ 128 }
+    ensures { out.new ≡ root_bytes root.now }
+{
+    let (field, rest) = out.split_at_mut(8);
+    field.copy_from_slice(&STAMP);
+    let (field, rest) = rest.split_at_mut(2);
+    field.copy_from_slice(&VERSION.to_be_bytes());
+    let (field, rest) = rest.split_at_mut(2);
+    field.copy_from_slice(&root.order.to_be_bytes());
+    let (field, rest) = rest.split_at_mut(1);
+    field.copy_from_slice(&[root.level]);
+    let (field, rest) = rest.split_at_mut(3);
+    field.copy_from_slice(&[0; 3]);
+    let (field, rest) = rest.split_at_mut(8);
+    field.copy_from_slice(&root.blocks.to_be_bytes());
+    let (field, rest) = rest.split_at_mut(8);
+    field.copy_from_slice(&root.commit.to_be_bytes());
+    let (field, rest) = rest.split_at_mut(8);
+    field.copy_from_slice(&root.addr.to_be_bytes());
+    let (field, rest) = rest.split_at_mut(32);
+    field.copy_from_slice(&root.key.bytes());
+    let (field, rest) = rest.split_at_mut(8);
+    field.copy_from_slice(&root.mapped.to_be_bytes());
+    let (field, rest) = rest.split_at_mut(8);
+    field.copy_from_slice(&root.head.to_be_bytes());
+    rest.copy_from_slice(&[0; 40]);
+}

@@ -1,0 +1,3 @@
+pub mod KeystreamLemmas
+pub mod XorLemmas
+pub mod SealingLaws

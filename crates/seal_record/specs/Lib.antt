@@ -1,0 +1,2 @@
+pub mod Keystream
+pub mod Sealing

@@ -1,0 +1,17 @@
+//! Seals records: a page is the record's body with the keystream of the record's own key mixed in.
+//!
+//! The keystream is that of ChaCha20 under the 32 bytes of the key as they stand: stream 0 from its first
+//! word, each word of 32 bits least byte first, 1,032 words in all. A [`sdbt_base::FreshKey`] is spent by
+//! [`seal`], so one key seals one record. [`unseal`] mixes the same keystream in once more, and [`stamped`]
+//! tells whether a key opens a page at an address.
+//!
+//! All three are total on pages of the right size, and refuse nothing.
+#![tactic(auto)]
+
+mod keystream;
+mod records;
+
+pub use records::{seal, stamped, unseal};
+
+#[cfg(test)]
+mod tests;
