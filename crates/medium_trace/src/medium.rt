@@ -30,7 +30,8 @@ impl Model for MediumTrace {
       synced = medium.synced;
     } };
 
-    ghost invariant = { λ medium. IsMarked medium.recorded medium.unmarked medium.torn.items medium.synced };
+    ghost invariant = { λ medium. IsMarked medium.recorded medium.unmarked medium.torn.items
+        medium.synced };
 }
 
 impl MediumTrace {
@@ -66,8 +67,10 @@ impl MediumTrace {
     pub fn push(&mut self, page: &[u8]) -> Result<u64, Memory>
         requires { length page.now ≡ PAGE }
         ensures address { IfOk result (λ addr. addr ≡ length self.old.recorded) }
-        ensures recorded { self.new.recorded ≡ (if is_ok result then self.old.recorded ++ page.now ∷ [] else self.old.recorded) }
-        ensures readable { self.new.readable ≡ (if is_ok result then self.old.readable ++ page.now ∷ [] else self.old.readable) }
+        ensures recorded { self.new.recorded
+            ≡ (if is_ok result then self.old.recorded ++ page.now ∷ [] else self.old.recorded) }
+        ensures readable { self.new.readable
+            ≡ (if is_ok result then self.old.readable ++ page.now ∷ [] else self.old.readable) }
         ensures synced { self.new.synced ≡ self.old.synced }
         ensures whole { IsWhole self.new }
     {
@@ -128,7 +131,8 @@ impl MediumTrace {
 
     /// From now on these pages, none of them synced, read as zero bytes.
     pub fn cut(&mut self, torn: &[u64])
-        requires { All (λ addr. (self.old.synced ≤ addr) × (addr < length self.old.recorded)) torn.now }
+        requires { All (λ addr. (self.old.synced ≤ addr) ×
+            (addr < length self.old.recorded)) torn.now }
         ensures recorded { self.new.recorded ≡ self.old.recorded }
         ensures readable { Tears torn.now self.old.readable self.new.readable }
         ensures synced { self.new.synced ≡ self.old.synced }
@@ -144,7 +148,8 @@ impl MediumTrace {
     fn tear(&mut self, addr: u64)
         requires unsynced { self.old.synced ≤ addr }
         requires within { addr < length self.old.recorded }
-        ensures changed { self.new ≡ record self.old { readable = slice_set self.old.readable addr zero_page } }
+        ensures changed { self.new
+            ≡ record self.old { readable = slice_set self.old.readable addr zero_page } }
         ensures torn { slice_get self.new.readable addr ≡ Some zero_page }
     {
         self.torn[addr as usize - self.unmarked] = true;

@@ -1,6 +1,6 @@
 -- The laws of records: the parts decide the bytes, and the bytes decide the parts.
-use Rattle.std.proofs.Common.{◌≡◌, ℕ, zero, suc, ◌+◌, ◌-◌, ◌*◌, ◌<◌, ◌≤◌, ◌^◌, Bool, true, false, List, [], ◌∷◌, ◌++◌, map, length, take, drop, replicate, get_or, refl, sym, ap, subst, ◌∙◌, arith, append_assoc, length-append, inl, inr}
-use Rattle.std.specs.Prelude.{IsTrue, All, Option, Some, None, IfSome, IfNone, IsSomeAnd, slice_index, slice_index_or}
+use Rattle.std.proofs.Common.{◌≡◌, ℕ, ◌+◌, ◌-◌, ◌*◌, ◌<◌, ◌≤◌, ◌^◌, List, [], ◌∷◌, ◌++◌, map, length, take, drop, replicate, refl, sym, ap, subst, ◌∙◌, arith, length-append, inl, inr, lit<}
+use Rattle.std.specs.Prelude.{All, Option, Some, None, IfSome, IfNone, IsSomeAnd, codes, slice_index, slice_index_or}
 use Rattle.std.specs.Int.{w16, w64, to_be_bytes}
 use Rattle.std.specs.List.{concat, flat_map}
 use Rattle.std.specs.List.Sorted.{IsStrictlyIncreasing}
@@ -8,7 +8,6 @@ use Rattle.std.proofs.lemmas.Bool.{cases_lt}
 use Rattle.std.proofs.lemmas.List.{take_at, drop_at, take-append-drop, length-drop, length-replicate, get_or-map, get_or_default, length-map, flat_map_more}
 use Rattle.std.proofs.Math.Seq.{take-add}
 use Rattle.std.proofs.lemmas.List.Elements.{All-head, All-tail}
-use Rattle.sdbt_base.specs.Bytes.{IsBytes}
 use Rattle.record_fields.specs.Fields.{fields_from, fields_whole, fields_again, pieces_same, append_same, number_same_2, number_same_8}
 use Rattle.node_codec.specs.declared.body.Entry.{Entry}
 use Rattle.node_codec.specs.declared.head.Head.{Head}
@@ -139,12 +138,12 @@ ascend_more entries a b i inside at-a at-b below before = λ k inside-k.
     elim (cases_lt (k + 1) i) [
       | inl lt ↦ before k lt
       | inr ge ↦
-        let is-k : k ≡ i - 1 = omega arith in
-        let here = low_at entries k (omega arith) in
-        let next = low_at entries (k + 1) (omega arith) in
-        let is-a : a ≡ slice_index_or entries k none = at-a ∙ get_or_default entries (i - 1) a none (omega arith) ∙ ap (λ (n : ℕ). slice_index_or entries n none) (sym is-k) in
-        let is-b : b ≡ slice_index_or entries (k + 1) none = at-b ∙ get_or_default entries i b none inside ∙ ap (λ (n : ℕ). slice_index_or entries n none) (omega arith) in
-        omega (arith, here, next, ap (λ (e : Entry). e.low) is-a, ap (λ (e : Entry). e.low) is-b, below)
+          let is-k : k ≡ i - 1 = omega arith in
+          let here = low_at entries k (omega arith) in
+          let next = low_at entries (k + 1) (omega arith) in
+          let is-a : a ≡ slice_index_or entries k none = at-a ∙ get_or_default entries (i - 1) a none (omega arith) ∙ ap (λ (n : ℕ). slice_index_or entries n none) (sym is-k) in
+          let is-b : b ≡ slice_index_or entries (k + 1) none = at-b ∙ get_or_default entries i b none inside ∙ ap (λ (n : ℕ). slice_index_or entries n none) (omega arith) in
+          omega (arith, here, next, ap (λ (e : Entry). e.low) is-a, ap (λ (e : Entry). e.low) is-b, below)
     ]
 
 -- two neighbours that are out of order
@@ -199,3 +198,109 @@ again_of_parts found addr body front payload is-front is-payload again value fit
 pub none_of_again : (found : Option Body) (addr : ℕ) (body : List ℕ) → Again found addr body → IfNone found ((value : Record) → FitsRecord addr value → body ≡ record_bytes addr value → ⊥)
 none_of_again None addr body again = again
 none_of_again (Some b) addr body again = tt
+
+-- the numbers of two heads with the same bytes are the same
+record SameHeads (addr kind level count block addr' kind' level' count' block' : ℕ) : Type 0 where
+  same_addr : addr ≡ addr'
+  same_kind : kind ≡ kind'
+  same_level : level ≡ level'
+  same_count : count ≡ count'
+  same_block : block ≡ block'
+
+heads_same : (addr kind level count block addr' kind' level' count' block' : ℕ) → addr < 2 ^ 64 → addr' < 2 ^ 64 → count < 2 ^ 16 → count' < 2 ^ 16 → block < 2 ^ 64 → block' < 2 ^ 64 → head_bytes addr kind level count block ≡ head_bytes addr' kind' level' count' block' → SameHeads addr kind level count block addr' kind' level' count' block'
+unfolding head_fields
+heads_same addr kind level count block addr' kind' level' count' block' below-addr below-addr' below-count below-count' below-block below-block' same =
+    let fields : head_fields addr kind level count block ≡ head_fields addr' kind' level' count' block' = pieces_same (head_fields addr kind level count block) (head_fields addr' kind' level' count' block') refl same in
+    record {
+      same_addr = number_same_8 addr addr' below-addr below-addr' cc;
+      same_kind = cc;
+      same_level = cc;
+      same_count = number_same_2 count count' below-count below-count' cc;
+      same_block = number_same_8 block block' below-block below-block' cc;
+    }
+
+-- the head of a value, at an address
+abbrev front_of : ℕ → Record → List ℕ
+front_of addr (DataRecord block content) = head_bytes addr 1 0 0 block
+front_of addr (NodeRecord level entries) = head_bytes addr 2 level (length entries) 0
+
+-- the bytes behind the head of a value
+abbrev payload_of : Record → List ℕ
+payload_of (DataRecord block content) = content
+payload_of (NodeRecord level entries) = entries_bytes entries
+
+record_is : (addr : ℕ) (value : Record) → record_bytes addr value ≡ front_of addr value ++ payload_of value
+unfolding record_bytes
+record_is addr (DataRecord block content) = refl
+record_is addr (NodeRecord level entries) = refl
+
+length-front : (addr : ℕ) (value : Record) → length (front_of addr value) ≡ 32
+length-front addr (DataRecord block content) = length-head_bytes addr 1 0 0 block
+length-front addr (NodeRecord level entries) = length-head_bytes addr 2 level (length entries) 0
+
+values_same : (addr other : ℕ) (a b : Record) → addr < 2 ^ 64 → other < 2 ^ 64 → FitsRecord addr a → FitsRecord other b → front_of addr a ≡ front_of other b → payload_of a ≡ payload_of b → (addr ≡ other) × (a ≡ b)
+values_same addr other (DataRecord block content) (DataRecord block' content') below below' fits fits' fronts payloads =
+    let heads = heads_same addr 1 0 0 block other 1 0 0 block' below below' (lit< tt) (lit< tt) (omega (arith, fits.0)) (omega (arith, fits'.0)) fronts in
+    let same-block : block ≡ block' = heads.same_block in
+    (heads.same_addr, cc)
+values_same addr other (DataRecord block content) (NodeRecord level entries) below below' fits fits' fronts payloads =
+    let heads = heads_same addr 1 0 0 block other 2 level (length entries) 0 below below' (lit< tt) (omega (arith, fits'.0.count)) (omega (arith, fits.0)) (lit< tt) fronts in
+    absurd (omega (arith, heads.same_kind))
+values_same addr other (NodeRecord level entries) (DataRecord block content) below below' fits fits' fronts payloads =
+    let heads = heads_same addr 2 level (length entries) 0 other 1 0 0 block below below' (omega (arith, fits.0.count)) (lit< tt) (lit< tt) (omega (arith, fits'.0)) fronts in
+    absurd (omega (arith, heads.same_kind))
+values_same addr other (NodeRecord level entries) (NodeRecord level' entries') below below' fits fits' fronts payloads =
+    let heads = heads_same addr 2 level (length entries) 0 other 2 level' (length entries') 0 below below' (omega (arith, fits.0.count)) (omega (arith, fits'.0.count)) (lit< tt) (lit< tt) fronts in
+    let same-level : level ≡ level' = heads.same_level in
+    let are = entries_fit addr entries below (record { ascend = fits.0.ascend; lows = fits.0.lows; below = fits.0.below; keys = fits.1 }) in
+    let are' = entries_fit other entries' below' (record { ascend = fits'.0.ascend; lows = fits'.0.lows; below = fits'.0.below; keys = fits'.1 }) in
+    let parts = append_same (flat_map entry_bytes entries) (replicate (4096 - 48 * length entries) 0) (flat_map entry_bytes entries') (replicate (4096 - 48 * length entries') 0) (omega (arith, length-entries entries are, length-entries entries' are', heads.same_count)) payloads in
+    let same-entries : entries ≡ entries' = entries_same entries entries' are are' heads.same_count parts.0 in
+    (heads.same_addr, cc)
+
+-- the bytes of a record decide its address and its value
+pub one_record : (addr other : ℕ) (a b : Record) → addr < 2 ^ 64 → other < 2 ^ 64 → FitsRecord addr a → FitsRecord other b → record_bytes addr a ≡ record_bytes other b → (addr ≡ other) × (a ≡ b)
+one_record addr other a b below below' fits fits' same =
+    let parts = append_same (front_of addr a) (payload_of a) (front_of other b) (payload_of b) (length-front addr a ∙ sym (length-front other b)) (sym (record_is addr a) ∙ same ∙ record_is other b) in
+    values_same addr other a b below below' fits fits' parts.0 parts.1
+
+-- ---- what a record's bytes begin with and end with
+
+-- a record begins with the stamp and its own address
+pub record_stamp : (addr : ℕ) (value : Record) → take 16 (record_bytes addr value) ≡ codes "SDBTREC1" ++ to_be_bytes w64 addr
+unfolding record_bytes head_fields
+record_stamp addr (DataRecord block content) = refl
+record_stamp addr (NodeRecord level entries) = refl
+
+-- the kind byte
+pub data_kind : (addr block : ℕ) (content : List ℕ) → slice_index (record_bytes addr (DataRecord block content)) 16 ≡ 1
+unfolding record_bytes head_fields
+data_kind addr block content = refl
+
+pub node_kind : (addr level : ℕ) (entries : List Entry) → slice_index (record_bytes addr (NodeRecord level entries)) 16 ≡ 2
+unfolding record_bytes head_fields
+node_kind addr level entries = refl
+
+-- the count of a node
+pub node_count : (addr level : ℕ) (entries : List Entry) → part 18 2 (record_bytes addr (NodeRecord level entries)) ≡ to_be_bytes w16 (length entries)
+unfolding record_bytes head_fields
+node_count addr level entries = refl
+
+-- the bytes behind the head
+pub data_payload : (addr block : ℕ) (content : List ℕ) → drop 32 (record_bytes addr (DataRecord block content)) ≡ content
+unfolding record_bytes
+data_payload addr block content = drop_at (head_bytes addr 1 0 0 block) content 32 (length-head_bytes addr 1 0 0 block)
+
+pub node_payload : (addr level : ℕ) (entries : List Entry) → drop 32 (record_bytes addr (NodeRecord level entries)) ≡ entries_bytes entries
+unfolding record_bytes
+node_payload addr level entries = drop_at (head_bytes addr 2 level (length entries) 0) (entries_bytes entries) 32 (length-head_bytes addr 2 level (length entries) 0)
+
+-- a record has 4,128 bytes
+pub record_length : (addr : ℕ) (value : Record) → addr < 2 ^ 64 → FitsRecord addr value → length (record_bytes addr value) ≡ 4128
+unfolding record_bytes
+record_length addr (DataRecord block content) below fits =
+    omega (arith, length-append (head_bytes addr 1 0 0 block) content, length-head_bytes addr 1 0 0 block, fits.1.0)
+record_length addr (NodeRecord level entries) below fits =
+    let are = entries_fit addr entries below (record { ascend = fits.0.ascend; lows = fits.0.lows; below = fits.0.below; keys = fits.1 }) in
+    let zeros : List ℕ = replicate (4096 - 48 * length entries) 0 in
+    omega (arith, length-append (head_bytes addr 2 level (length entries) 0) (entries_bytes entries), length-head_bytes addr 2 level (length entries) 0, length-append (flat_map entry_bytes entries) zeros, length-entries entries are, length-replicate {A = ℕ} (4096 - 48 * length entries) 0, fits.0.count)

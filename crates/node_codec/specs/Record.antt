@@ -1,5 +1,5 @@
 -- What a record says, and its one spelling.
-use Rattle.std.specs.Prelude.{◌≡◌, ℕ, ◌-◌, ◌*◌, ◌<◌, ◌≤◌, List, [], ◌∷◌, ◌++◌, All, length, map, replicate, codes}
+use Rattle.std.specs.Prelude.{ℕ, ◌-◌, ◌*◌, ◌<◌, ◌≤◌, List, [], ◌∷◌, ◌++◌, All, length, map, replicate, codes}
 use Rattle.std.specs.Int.{w16, w64, to_be_bytes}
 use Rattle.std.specs.List.{concat, flat_map}
 use Rattle.std.specs.List.Sorted.{IsStrictlyIncreasing}

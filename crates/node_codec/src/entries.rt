@@ -24,7 +24,8 @@ pub(crate) fn put_zeros(out: &mut [u8])
 /// Writes an entry over the 48 bytes of `out`.
 fn put_entry(entry: &Entry, out: &mut [u8])
     requires { length out.old ≡ 48 }
-    ensures { out.new ≡ entry_bytes entry.now }
+    ensures spelled { out.new ≡ entry_bytes entry.now }
+    ensures key { IsBytes 32 entry.now.key }
 {
     let (field, rest) = out.split_at_mut(8);
     field.copy_from_slice(&entry.low.to_be_bytes());
@@ -92,7 +93,8 @@ pub(crate) fn entries_in(payload: &[u8], count: usize, addr: u64) -> Option<Arra
 pub(crate) fn put_entries(entries: &[Entry], out: &mut [u8])
     requires count { length entries.now ≤ 64 }
     requires size { length out.old ≡ 4096 }
-    ensures { out.new ≡ entries_bytes entries.now }
+    ensures spelled { out.new ≡ entries_bytes entries.now }
+    ensures keys { All (λ e. IsBytes 32 e.key) entries.now }
 {
     for (i, entry) in entries.iter().enumerate() {
         put_entry(entry, &mut out[ENTRY * i..ENTRY * (i + 1)]);
@@ -116,7 +118,5 @@ pub(crate) fn are_ascending(entries: &[Entry]) -> bool
 pub(crate) fn are_within(entries: &[Entry], addr: u64) -> bool
     ensures { IsTrue result ↔ All (λ e. e.low < 1048576) entries.now × All (λ e. e.addr < addr) entries.now }
 {
-    entries
-        .iter()
-        .all(|e| e.low < MAX_BLOCKS && e.addr < addr)
+    entries.iter().all(|e| e.low < MAX_BLOCKS && e.addr < addr)
 }

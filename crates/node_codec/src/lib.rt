@@ -11,10 +11,12 @@ mod decoding;
 mod encoding;
 mod entries;
 mod head;
+mod laws;
 
 pub use body::{Body, Entry, NodeBody};
 pub use decoding::decode;
-pub use encoding::{encode_block, encode_node};
+pub use encoding::{encode_block, encode_node, fits_node};
+pub use laws::one_spelling;
 
 #[cfg(test)]
 mod tests;

@@ -1,3 +1,4 @@
 pub mod Cuts
 pub mod LogSteps
 pub mod Moments
+pub mod RunLaws

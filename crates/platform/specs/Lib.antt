@@ -5,4 +5,5 @@ pub mod Kept
 pub mod Log
 pub mod Logged
 pub mod Mem
+pub mod Runs
 pub mod Told

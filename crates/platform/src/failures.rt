@@ -75,7 +75,8 @@ impl Plan {
 
     /// Counts a call. Whether it fails, and whether it has its effect then.
     pub fn next(&mut self, call: CallKind) -> Option<bool>
-        ensures due { result ≡ listed self.old.failures.items call (next_count (slice_index self.old.made (place_of call))) }
+        ensures due { result ≡ listed self.old.failures.items call
+            (next_count (slice_index self.old.made (place_of call))) }
         ensures made { self.new.made ≡ counted self.old.made call }
         ensures failures { self.new.failures ≡ self.old.failures }
     {

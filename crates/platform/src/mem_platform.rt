@@ -58,7 +58,8 @@ impl MemPlatform {
     pub fn from_parts(alloc: Global, pages: Pages, cell: Option<[u8; ROOT]>, capacity: u64) -> Self
         requires pages { length pages ≤ capacity }
         requires capacity { capacity ≤ MAX_PAGES }
-        ensures image { image_of_now result ≡ record { cell = cell; recorded = pages; readable = pages; synced = length pages } }
+        ensures image { image_of_now result
+            ≡ record { cell = cell; recorded = pages; readable = pages; synced = length pages } }
         ensures past { (mem_history result).past ≡ [] }
         ensures capacity { capacity_of result ≡ capacity }
         ensures failures { failures_of result ≡ [] }
@@ -94,8 +95,10 @@ impl MemPlatform {
     /// The power is lost: these pages, none of them synced, read as zero bytes from now on. A new history
     /// begins with what is left; the moments from before are none of it.
     pub fn power_cut(&mut self, torn: &[u64])
-        requires { All (λ addr. ((image_of_now self.old).synced ≤ addr) × (addr < length (image_of_now self.old).recorded)) torn.now }
-        ensures torn { Tears torn.now (image_of_now self.old).readable (image_of_now self.new).readable }
+        requires { All (λ addr. ((image_of_now self.old).synced ≤ addr) ×
+            (addr < length (image_of_now self.old).recorded)) torn.now }
+        ensures torn { Tears torn.now (image_of_now self.old).readable
+            (image_of_now self.new).readable }
         ensures left { MayLeave (image_of_now self.old) (image_of_now self.new) }
         ensures past { (mem_history self.new).past ≡ [] }
         ensures failures { failures_of self.new ≡ failures_of self.old }
@@ -178,15 +181,21 @@ impl Platform for MemPlatform {
         requires size { length page.now ≡ RECORD }
         requires room { length (image_of_now self.old).recorded < capacity_of self.old }
 
-        ensures address { IfOk result (λ address. address ≡ length (image_of_now self.old).recorded) }
-        ensures appended { OnOk result (image_of_now self.new ≡ with_page (image_of_now self.old) page.now page.now) }
+        ensures address { IfOk result
+            (λ address. address ≡ length (image_of_now self.old).recorded) }
+        ensures appended { OnOk result
+            (image_of_now self.new ≡ with_page (image_of_now self.old) page.now page.now) }
         ensures either { MayHavePage (image_of_now self.old) page.now (image_of_now self.new) }
         ensures cell { (image_of_now self.new).cell ≡ (image_of_now self.old).cell }
         ensures time { Steps (mem_history self.old) (mem_history self.new) }
 
-        ensures head_ok { OnOk result (length (image_of_now self.new).recorded ≡ length (image_of_now self.old).recorded + 1) }
-        ensures head_rises { length (image_of_now self.old).recorded ≤ length (image_of_now self.new).recorded }
-        ensures head_by_one { length (image_of_now self.new).recorded ≤ length (image_of_now self.old).recorded + 1 }
+        ensures head_ok { OnOk result
+            (length (image_of_now self.new).recorded
+            ≡ length (image_of_now self.old).recorded + 1) }
+        ensures head_rises { length (image_of_now self.old).recorded
+            ≤ length (image_of_now self.new).recorded }
+        ensures head_by_one { length (image_of_now self.new).recorded
+            ≤ length (image_of_now self.old).recorded + 1 }
         ensures capacity { capacity_of self.new ≡ capacity_of self.old }
         ensures reads { reads_of self.new ≡ reads_of self.old }
         ensures faults { faults_of self.old ≤ faults_of self.new }
@@ -194,7 +203,8 @@ impl Platform for MemPlatform {
         ensures no_fault { OnOk result (faults_of self.new ≡ faults_of self.old) }
 
         ensures fails { FailsAsListed CallKind.Append self.old self.new result }
-        ensures effect { HasEffect CallKind.Append self.old self.new (with_page (image_of_now self.old) page.now page.now) }
+        ensures effect { HasEffect CallKind.Append self.old self.new
+            (with_page (image_of_now self.old) page.now page.now) }
         ensures counts { Counts CallKind.Append self.old self.new }
     {
         let due = self.plan.next(CallKind::Append);
@@ -215,11 +225,13 @@ impl Platform for MemPlatform {
         requires size { length into.old ≡ RECORD }
         requires within { addr < length (image_of_now self.old).recorded }
 
-        ensures page { OnOk result (slice_get (image_of_now self.old).readable addr ≡ Some into.new) }
+        ensures page { OnOk result
+            (slice_get (image_of_now self.old).readable addr ≡ Some into.new) }
         ensures image { image_of_now self.new ≡ image_of_now self.old }
         ensures time { Steps (mem_history self.old) (mem_history self.new) }
 
-        ensures head { length (image_of_now self.new).recorded ≡ length (image_of_now self.old).recorded }
+        ensures head { length (image_of_now self.new).recorded
+            ≡ length (image_of_now self.old).recorded }
         ensures capacity { capacity_of self.new ≡ capacity_of self.old }
         ensures reads_ok { OnOk result (reads_of self.new ≡ reads_of self.old + 1) }
         ensures reads_rise { reads_of self.old ≤ reads_of self.new }
@@ -229,11 +241,15 @@ impl Platform for MemPlatform {
         ensures no_fault { OnOk result (faults_of self.new ≡ faults_of self.old) }
 
         // A read fails too where its count has come to its end.
-        ensures fails { IsErr result ↔ (IsSome (due self.old CallKind.Read) ⊎ (Starved self.old self.new ⊎ (reads_of self.old ≡ 2 ^ 64 - 1))) }
+        ensures fails { IsErr result
+            ↔ (IsSome (due self.old CallKind.Read)
+            ⊎ (Starved self.old self.new ⊎ (reads_of self.old ≡ 2 ^ 64 - 1))) }
         // A read that is told to fail with its effect counts as read.
-        ensures with_effect { due self.old CallKind.Read ≡ Some true → ¬ (Starved self.old self.new) → reads_of self.old < 2 ^ 64 - 1
+        ensures with_effect { due self.old CallKind.Read ≡ Some true →
+            ¬ (Starved self.old self.new) → reads_of self.old < 2 ^ 64 - 1
             → reads_of self.new ≡ reads_of self.old + 1 }
-        ensures without_effect { due self.old CallKind.Read ≡ Some false → reads_of self.new ≡ reads_of self.old }
+        ensures without_effect { due self.old CallKind.Read ≡ Some false → reads_of self.new
+            ≡ reads_of self.old }
         ensures starved { starved_of self.new ≡ starved_of self.old }
         ensures counts { Counts CallKind.Read self.old self.new }
     {
@@ -251,11 +267,13 @@ impl Platform for MemPlatform {
 
     fn sync(&mut self) -> Result<(), PlatformFault>
         ensures synced { OnOk result (image_of_now self.new ≡ all_synced (image_of_now self.old)) }
-        ensures either { IsEither (image_of_now self.old) (all_synced (image_of_now self.old)) (image_of_now self.new) }
+        ensures either { IsEither (image_of_now self.old) (all_synced (image_of_now self.old))
+            (image_of_now self.new) }
         ensures cell { (image_of_now self.new).cell ≡ (image_of_now self.old).cell }
         ensures time { Steps (mem_history self.old) (mem_history self.new) }
 
-        ensures head { length (image_of_now self.new).recorded ≡ length (image_of_now self.old).recorded }
+        ensures head { length (image_of_now self.new).recorded
+            ≡ length (image_of_now self.old).recorded }
         ensures capacity { capacity_of self.new ≡ capacity_of self.old }
         ensures reads { reads_of self.new ≡ reads_of self.old }
         ensures faults { faults_of self.old ≤ faults_of self.new }
@@ -263,7 +281,8 @@ impl Platform for MemPlatform {
         ensures no_fault { OnOk result (faults_of self.new ≡ faults_of self.old) }
 
         ensures fails { FailsAsListed CallKind.Sync self.old self.new result }
-        ensures effect { HasEffect CallKind.Sync self.old self.new (all_synced (image_of_now self.old)) }
+        ensures effect { HasEffect CallKind.Sync self.old self.new
+            (all_synced (image_of_now self.old)) }
         ensures counts { Counts CallKind.Sync self.old self.new }
     {
         let due = self.plan.next(CallKind::Sync);
@@ -284,11 +303,13 @@ impl Platform for MemPlatform {
         requires size { length into.old ≡ ROOT }
 
         ensures full { IfOk result (λ full. IsTrue full ↔ IsSome (image_of_now self.old).cell) }
-        ensures bytes { IfOk result (λ full. IsTrue full → (image_of_now self.old).cell ≡ Some into.new) }
+        ensures bytes { IfOk result
+            (λ full. IsTrue full → (image_of_now self.old).cell ≡ Some into.new) }
         ensures image { image_of_now self.new ≡ image_of_now self.old }
         ensures time { Steps (mem_history self.old) (mem_history self.new) }
 
-        ensures head { length (image_of_now self.new).recorded ≡ length (image_of_now self.old).recorded }
+        ensures head { length (image_of_now self.new).recorded
+            ≡ length (image_of_now self.old).recorded }
         ensures capacity { capacity_of self.new ≡ capacity_of self.old }
         ensures reads { reads_of self.new ≡ reads_of self.old }
         ensures faults { faults_of self.old ≤ faults_of self.new }
@@ -309,11 +330,14 @@ impl Platform for MemPlatform {
     fn swap_root(&mut self, bytes: &[u8]) -> Result<(), PlatformFault>
         requires size { length bytes.now ≡ ROOT }
 
-        ensures swapped { OnOk result (image_of_now self.new ≡ with_cell (image_of_now self.old) (Some bytes.now)) }
-        ensures either { IsEither (image_of_now self.old) (with_cell (image_of_now self.old) (Some bytes.now)) (image_of_now self.new) }
+        ensures swapped { OnOk result
+            (image_of_now self.new ≡ with_cell (image_of_now self.old) (Some bytes.now)) }
+        ensures either { IsEither (image_of_now self.old)
+            (with_cell (image_of_now self.old) (Some bytes.now)) (image_of_now self.new) }
         ensures time { Steps (mem_history self.old) (mem_history self.new) }
 
-        ensures head { length (image_of_now self.new).recorded ≡ length (image_of_now self.old).recorded }
+        ensures head { length (image_of_now self.new).recorded
+            ≡ length (image_of_now self.old).recorded }
         ensures capacity { capacity_of self.new ≡ capacity_of self.old }
         ensures reads { reads_of self.new ≡ reads_of self.old }
         ensures faults { faults_of self.old ≤ faults_of self.new }
@@ -321,7 +345,8 @@ impl Platform for MemPlatform {
         ensures no_fault { OnOk result (faults_of self.new ≡ faults_of self.old) }
 
         ensures fails { FailsAsListed CallKind.Swap self.old self.new result }
-        ensures effect { HasEffect CallKind.Swap self.old self.new (with_cell (image_of_now self.old) (Some bytes.now)) }
+        ensures effect { HasEffect CallKind.Swap self.old self.new
+            (with_cell (image_of_now self.old) (Some bytes.now)) }
         ensures counts { Counts CallKind.Swap self.old self.new }
     {
         let due = self.plan.next(CallKind::Swap);
@@ -341,11 +366,14 @@ impl Platform for MemPlatform {
     }
 
     fn clear_root(&mut self) -> Result<(), PlatformFault>
-        ensures cleared { OnOk result (image_of_now self.new ≡ with_cell (image_of_now self.old) None) }
-        ensures either { IsEither (image_of_now self.old) (with_cell (image_of_now self.old) None) (image_of_now self.new) }
+        ensures cleared { OnOk result
+            (image_of_now self.new ≡ with_cell (image_of_now self.old) None) }
+        ensures either { IsEither (image_of_now self.old) (with_cell (image_of_now self.old) None)
+            (image_of_now self.new) }
         ensures time { Steps (mem_history self.old) (mem_history self.new) }
 
-        ensures head { length (image_of_now self.new).recorded ≡ length (image_of_now self.old).recorded }
+        ensures head { length (image_of_now self.new).recorded
+            ≡ length (image_of_now self.old).recorded }
         ensures capacity { capacity_of self.new ≡ capacity_of self.old }
         ensures reads { reads_of self.new ≡ reads_of self.old }
         ensures faults { faults_of self.old ≤ faults_of self.new }
@@ -353,7 +381,8 @@ impl Platform for MemPlatform {
         ensures no_fault { OnOk result (faults_of self.new ≡ faults_of self.old) }
 
         ensures fails { FailsAsListed CallKind.Clear self.old self.new result }
-        ensures effect { HasEffect CallKind.Clear self.old self.new (with_cell (image_of_now self.old) None) }
+        ensures effect { HasEffect CallKind.Clear self.old self.new
+            (with_cell (image_of_now self.old) None) }
         ensures counts { Counts CallKind.Clear self.old self.new }
     {
         let due = self.plan.next(CallKind::Clear);

@@ -47,8 +47,10 @@ pub trait Platform {
         requires room { head self.old < capacity self.old }
 
         ensures address { IfOk result (λ address. address ≡ head self.old) }
-        ensures appended { tells → OnOk result ((history self.new).present ≡ with_page (history self.old).present page.now page.now) }
-        ensures either { tells → MayHavePage (history self.old).present page.now (history self.new).present }
+        ensures appended { tells → OnOk result
+            ((history self.new).present ≡ with_page (history self.old).present page.now page.now) }
+        ensures either { tells → MayHavePage (history self.old).present page.now
+            (history self.new).present }
         ensures cell { tells → (history self.new).present.cell ≡ (history self.old).present.cell }
         ensures time { tells → Steps (history self.old) (history self.new) }
 
@@ -65,7 +67,8 @@ pub trait Platform {
         requires size { length into.old ≡ RECORD }
         requires within { addr < head self.old }
 
-        ensures page { tells → OnOk result (slice_get (history self.old).present.readable addr ≡ Some into.new) }
+        ensures page { tells → OnOk result
+            (slice_get (history self.old).present.readable addr ≡ Some into.new) }
         ensures image { tells → (history self.new).present ≡ (history self.old).present }
         ensures time { tells → Steps (history self.old) (history self.new) }
 
@@ -79,8 +82,10 @@ pub trait Platform {
 
     /// Makes every page that was handed over outlast a loss of power. After a fault all of that was done, or nothing.
     fn sync(&mut self) -> Result<(), PlatformFault>
-        ensures synced { tells → OnOk result ((history self.new).present ≡ all_synced (history self.old).present) }
-        ensures either { tells → IsEither (history self.old).present (all_synced (history self.old).present) (history self.new).present }
+        ensures synced { tells → OnOk result
+            ((history self.new).present ≡ all_synced (history self.old).present) }
+        ensures either { tells → IsEither (history self.old).present
+            (all_synced (history self.old).present) (history self.new).present }
         ensures cell { tells → (history self.new).present.cell ≡ (history self.old).present.cell }
         ensures time { tells → Steps (history self.old) (history self.new) }
 
@@ -94,8 +99,10 @@ pub trait Platform {
     fn load_root(&mut self, into: &mut [u8]) -> Result<bool, PlatformFault>
         requires size { length into.old ≡ ROOT }
 
-        ensures full { tells → IfOk result (λ full. IsTrue full ↔ IsSome (history self.old).present.cell) }
-        ensures bytes { tells → IfOk result (λ full. IsTrue full → (history self.old).present.cell ≡ Some into.new) }
+        ensures full { tells → IfOk result
+            (λ full. IsTrue full ↔ IsSome (history self.old).present.cell) }
+        ensures bytes { tells → IfOk result
+            (λ full. IsTrue full → (history self.old).present.cell ≡ Some into.new) }
         ensures image { tells → (history self.new).present ≡ (history self.old).present }
         ensures time { tells → Steps (history self.old) (history self.new) }
 
@@ -109,8 +116,10 @@ pub trait Platform {
     fn swap_root(&mut self, bytes: &[u8]) -> Result<(), PlatformFault>
         requires size { length bytes.now ≡ ROOT }
 
-        ensures swapped { tells → OnOk result ((history self.new).present ≡ with_cell (history self.old).present (Some bytes.now)) }
-        ensures either { tells → IsEither (history self.old).present (with_cell (history self.old).present (Some bytes.now)) (history self.new).present }
+        ensures swapped { tells → OnOk result
+            ((history self.new).present ≡ with_cell (history self.old).present (Some bytes.now)) }
+        ensures either { tells → IsEither (history self.old).present
+            (with_cell (history self.old).present (Some bytes.now)) (history self.new).present }
         ensures time { tells → Steps (history self.old) (history self.new) }
 
         ensures head { head self.new ≡ head self.old }
@@ -121,8 +130,10 @@ pub trait Platform {
 
     /// Empties the cell, without a trace of what it held. After a fault it holds that or nothing.
     fn clear_root(&mut self) -> Result<(), PlatformFault>
-        ensures cleared { tells → OnOk result ((history self.new).present ≡ with_cell (history self.old).present None) }
-        ensures either { tells → IsEither (history self.old).present (with_cell (history self.old).present None) (history self.new).present }
+        ensures cleared { tells → OnOk result
+            ((history self.new).present ≡ with_cell (history self.old).present None) }
+        ensures either { tells → IsEither (history self.old).present
+            (with_cell (history self.old).present None) (history self.new).present }
         ensures time { tells → Steps (history self.old) (history self.new) }
 
         ensures head { head self.new ≡ head self.old }

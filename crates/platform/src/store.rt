@@ -44,7 +44,8 @@ impl Store {
 
     /// These pages, all of them synced, and this cell, and no moment before this one.
     pub fn from_parts(alloc: Global, pages: Pages, held: Option<[u8; ROOT]>) -> Self
-        ensures present { (store_history result).present ≡ record { cell = held; recorded = pages; readable = pages; synced = length pages } }
+        ensures present { (store_history result).present
+            ≡ record { cell = held; recorded = pages; readable = pages; synced = length pages } }
         ensures past { (store_history result).past ≡ [] }
     {
         let mut cell = RootCell::empty();
@@ -61,8 +62,10 @@ impl Store {
 
     /// The power is lost: these pages, none of them synced, read as zero bytes, and the log begins anew.
     pub fn cut(&mut self, torn: &[u64])
-        requires { All (λ addr. ((store_history self.old).present.synced ≤ addr) × (addr < length (store_history self.old).present.recorded)) torn.now }
-        ensures torn { Tears torn.now (store_history self.old).present.readable (store_history self.new).present.readable }
+        requires { All (λ addr. ((store_history self.old).present.synced ≤ addr) ×
+            (addr < length (store_history self.old).present.recorded)) torn.now }
+        ensures torn { Tears torn.now (store_history self.old).present.readable
+            (store_history self.new).present.readable }
         ensures left { MayLeave (store_history self.old).present (store_history self.new).present }
         ensures past { (store_history self.new).past ≡ [] }
     {
@@ -112,7 +115,8 @@ impl Store {
     /// Adds a page, and answers its address.
     pub fn append(&mut self, page: &[u8]) -> Result<u64, Memory>
         requires { length page.now ≡ RECORD }
-        ensures address { IfOk result (λ addr. addr ≡ length (store_history self.old).present.recorded) }
+        ensures address { IfOk result
+            (λ addr. addr ≡ length (store_history self.old).present.recorded) }
         ensures present { (store_history self.new).present ≡ (if is_ok result
             then with_page (store_history self.old).present page.now page.now
             else (store_history self.old).present) }

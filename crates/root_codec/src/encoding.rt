@@ -1,4 +1,5 @@
 ghost use Rattle.std.specs.Prelude.{◌≡◌, length};
+ghost use Rattle.sdbt_base.specs.Bytes.{IsBytes};
 ghost use Rattle.root_codec.specs.RootRecord.{FitsRoot, root_bytes};
 
 use crate::root::Root;
@@ -13,7 +14,8 @@ pub(crate) const VERSION: u16 = 1;
 pub fn encode_root(root: &Root, out: &mut [u8])
     requires fits { FitsRoot root.now }
     requires size { length out.old ≡ 128 }
-    ensures { out.new ≡ root_bytes root.now }
+    ensures record { out.new ≡ root_bytes root.now }
+    ensures key { IsBytes 32 root.now.key }
 {
     let (field, rest) = out.split_at_mut(8);
     field.copy_from_slice(&STAMP);

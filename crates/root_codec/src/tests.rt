@@ -1,6 +1,5 @@
 use super::*;
 use sdbt_base::Key;
-use std::process::Abort;
 use std::test::*;
 
 /// The root record of a device of 8 blocks and order 4, after its first commit of one block.

@@ -8,3 +8,6 @@ pub mod LineLaws
 pub mod Blocks
 pub mod Trims
 pub mod ReplyLaws
+pub mod Steps
+pub mod CommandLaws
+pub mod AnswerLaws

@@ -1,8 +1,8 @@
 -- The laws of lines, by which text may be read in pieces.
-use Rattle.std.proofs.Common.{◌≡◌, ◌≢◌, ℕ, Bool, true, false, ◌==◌, ◌||◌, cond, ◌⊎◌, inl, inr, List, [], ◌∷◌, ◌++◌, refl, sym, ap, ◌∙◌, subst}
+use Rattle.std.proofs.Common.{◌≡◌, ℕ, true, false, ◌==◌, ◌||◌, inl, inr, List, [], ◌∷◌, ◌++◌, refl, ap}
 use Rattle.std.proofs.lemmas.Bool.{cases_Bool}
 use Rattle.script_lang.specs.Grammar.{HasNone}
-use Rattle.script_lang.specs.Lines.{in_front, begun_by, has_feed, whole_lines_of, rest_of, last_line, lines_of}
+use Rattle.script_lang.specs.Lines.{begun_by, has_feed, whole_lines_of, rest_of, last_line, lines_of}
 
 -- with a line feed in it, a text has a first line
 first_line : (text : List ℕ) → has_feed text ≡ true → (line : List ℕ) × (lines : List (List ℕ)) × (whole_lines_of text ≡ line ∷ lines)
@@ -49,9 +49,9 @@ whole_lines_of-append (byte ∷ text) more =
     elim (cases_Bool (byte == 10)) [
       | inl feed ↦ rw (feed, further) refl
       | inr other ↦ elim (cases_Bool (has_feed text)) [
-          | inl feeds ↦ let first = first_line text feeds in rw (other, feeds, further, first.2) refl
-          | inr none ↦ rw (other, none, no_line text none) (rw other refl)
-        ]
+        | inl feeds ↦ let first = first_line text feeds in rw (other, feeds, further, first.2) refl
+        | inr none ↦ rw (other, none, no_line text none) (rw other refl)
+      ]
     ]
 
 -- the rest of a text that grows is that of its rest with what is new
@@ -62,9 +62,9 @@ rest_of-append (byte ∷ text) more =
     elim (cases_Bool (byte == 10)) [
       | inl feed ↦ rw feed (rest_of-append text more)
       | inr other ↦ elim (cases_Bool (has_feed text)) [
-          | inl feeds ↦ rw (other, feeds, feed_in_front text more feeds) (rest_of-append text more)
-          | inr none ↦ rw (other, none) (rw other refl)
-        ]
+        | inl feeds ↦ rw (other, feeds, feed_in_front text more feeds) (rest_of-append text more)
+        | inr none ↦ rw (other, none) (rw other refl)
+      ]
     ]
 
 -- all lines are the whole ones, and the rest
@@ -76,14 +76,14 @@ lines_of-whole (byte ∷ text) =
     elim (cases_Bool (byte == 10)) [
       | inl feed ↦ rw (feed, further) refl
       | inr other ↦ elim (cases_Bool (has_feed text)) [
-          | inl feeds ↦ let first = first_line text feeds in rw (other, feeds, further, first.2) refl
-          | inr none ↦ rw (other, none, further, no_line text none, all_rest text none) (begun_last byte text)
-        ]
+        | inl feeds ↦ let first = first_line text feeds in rw (other, feeds, further, first.2) refl
+        | inr none ↦ rw (other, none, further, no_line text none, all_rest text none) (begun_last byte text)
+      ]
     ]
-    where
-      begun_last : (b : ℕ) (t : List ℕ) → begun_by b (last_line t) ≡ (b ∷ t) ∷ []
-      begun_last b [] = refl
-      begun_last b (c ∷ t) = refl
+  where
+    begun_last : (b : ℕ) (t : List ℕ) → begun_by b (last_line t) ≡ (b ∷ t) ∷ []
+    begun_last b [] = refl
+    begun_last b (c ∷ t) = refl
 
 no_feed : (text : List ℕ) → has_feed text ≡ false → HasNone 10 text
 unfolding has_feed

@@ -1,10 +1,8 @@
 -- How long a line of the grammar can be.
-use Rattle.std.proofs.Common.{◌≡◌, ℕ, ◌+◌, ◌*◌, ◌<◌, ◌≤◌, ◌^◌, List, [], ◌∷◌, ◌++◌, length, refl, sym, ap, ◌∙◌, arith, rules, length-append}
-use Rattle.std.specs.Fmt.{decimal}
+use Rattle.std.proofs.Common.{ℕ, ◌<◌, ◌≤◌, List, length, ap, arith, length-append}
 use Rattle.std.proofs.lemmas.Fmt.{length-decimal-le}
 use Rattle.hex.proofs.HexLemmas.{decode_of-ok}
-use Rattle.script_lang.specs.Grammar.{Spells, IsBad, IsNumber, IsHex}
-use Rattle.script_lang.specs.declared.commands.Command.{Command}
+use Rattle.script_lang.specs.Grammar.{IsBad, IsNumber, IsHex}
 use Rattle.script_lang.specs.declared.commands.Command.TheVariants.{Format, Mount, Read, Write, Trim, Commit, Drop, Erase, Stat, Seize}
 
 pub number_is_short : (text : List ℕ) (n : ℕ) → IsNumber text n → length text ≤ 20

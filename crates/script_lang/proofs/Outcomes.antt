@@ -1,5 +1,5 @@
 -- What `ok` of a `Result` tells of it.
-use Rattle.std.proofs.Common.{◌≡◌, Option, Some, None, Result, Ok, Err, refl, sym, ap, subst, ◌∙◌, unwrap_or}
+use Rattle.std.proofs.Common.{◌≡◌, Some, None, Result, Ok, Err, ap, subst}
 use Rattle.std.specs.Result.{MatchResult, result_ok}
 
 -- no value: it failed

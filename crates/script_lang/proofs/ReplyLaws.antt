@@ -1,27 +1,28 @@
 -- A reply is determined by its text, and replies by their lines.
-use Rattle.std.proofs.Common.{◌≡◌, ◌≢◌, ℕ, zero, suc, ◌+◌, ◌*◌, ◌<◌, ◌≤◌, ◌^◌, Bool, true, false, cond, ◌==◌, ◌⊎◌, inl, inr, List, [], ◌∷◌, ◌++◌, length, get_or, drop, Option, Some, None, Result, Ok, Err, refl, sym, ap, subst, ◌∙◌, arith, append_assoc}
+use Rattle.std.proofs.Common.{◌≡◌, ◌≢◌, ℕ, zero, suc, ◌+◌, ◌*◌, ◌<◌, ◌^◌, Bool, true, false, cond, ◌==◌, inl, inr, List, [], ◌∷◌, ◌++◌, length, get_or, drop, refl, sym, ap, ◌∙◌, arith, append_assoc, length-append, ◌/◌, ◌%◌}
 use Rattle.std.specs.Prelude.{codes, flat_map}
 use Rattle.std.specs.List.{AllByRecursion}
 use Rattle.std.specs.Result.{result_unwrap_or}
 use Rattle.std.specs.Fmt.{decimal}
 use Rattle.std.specs.Str.Parse.{digits_value}
 use Rattle.std.proofs.lemmas.Fmt.{decimal_is_IsNumeral}
-use Rattle.arrayvec.specs.ArrayVec.{ArrayVec}
-use Rattle.hex.specs.Hex.{decode_of, encode_lower}
+use Rattle.hex.specs.Hex.{decode_of, encode_lower, encode_with, lower_digits}
 use Rattle.hex.proofs.HexLemmas.{decode_of-encode_lower}
 use Rattle.script_lang.specs.Grammar.{HasNone}
 use Rattle.script_lang.specs.Replies.{text_of, line_of, hex_or_dash, IsReply, IsFront}
 use Rattle.script_lang.specs.declared.replies.Reply.{Reply}
 use Rattle.script_lang.specs.declared.replies.Reply.TheVariants.{Formatted, Mounted, Content, Done, Committed, Dropped, Erased, Stat, Seized, Bad, Unmounted, AlreadyMounted, NotEmpty, NoDevice, Range, Full, Unbuilt}
 use Rattle.script_lang.proofs.Spaces.{split_once, no_space}
+use Rattle.script_lang.proofs.Numbers.{number_has_none}
+use Rattle.std.proofs.lemmas.Bool.{cases_Bool, eqb-false}
 use Rattle.script_lang.proofs.Fronts.{small_at}
 
 -- what stands before the first space, and what behind it
-abbrev before_space : List ℕ → List ℕ
+abbrev pub before_space : List ℕ → List ℕ
 before_space [] = []
 before_space (b ∷ text) = cond (b == 32) [] (b ∷ before_space text)
 
-abbrev behind_space : List ℕ → List ℕ
+abbrev pub behind_space : List ℕ → List ℕ
 behind_space [] = []
 behind_space (b ∷ text) = cond (b == 32) text (behind_space text)
 
@@ -44,8 +45,8 @@ reply_of text =
     (cond (begins text == begins (codes "erased")) Erased
     (cond (begins text == begins (codes "stat mapped ")) (Stat (digits_value 10 (before_space (drop 12 text))) (number_at 7 (behind_space (drop 12 text))))
     (cond (begins text == begins (codes "seized pages ")) (Seized (digits_value 10 (before_space (drop 13 text)))
-        (digits_value 10 (before_space (drop 6 (behind_space (drop 13 text)))))
-        (number_at 7 (behind_space (drop 6 (behind_space (drop 13 text))))))
+    (digits_value 10 (before_space (drop 6 (behind_space (drop 13 text)))))
+    (number_at 7 (behind_space (drop 6 (behind_space (drop 13 text))))))
     (cond (begins text == begins (codes "bad")) Bad
     (cond (begins text == begins (codes "unmounted")) Unmounted
     (cond (begins text == begins (codes "already mounted")) AlreadyMounted
@@ -60,11 +61,11 @@ digits_back n h = (decimal_is_IsNumeral n h).1
 not_space : (b : ℕ) → b ≢ 32 → (b == 32) ≡ false
 not_space b other = grind arith
 
-before-space : (a b : List ℕ) → HasNone 32 a → before_space (a ++ 32 ∷ b) ≡ a
+pub before-space : (a b : List ℕ) → HasNone 32 a → before_space (a ++ 32 ∷ b) ≡ a
 before-space [] b h = refl
 before-space (x ∷ a) b h = rw (not_space x h.0, before-space a b h.1) refl
 
-behind-space : (a b : List ℕ) → HasNone 32 a → behind_space (a ++ 32 ∷ b) ≡ b
+pub behind-space : (a b : List ℕ) → HasNone 32 a → behind_space (a ++ 32 ∷ b) ≡ b
 behind-space [] b h = refl
 behind-space (x ∷ a) b h = rw (not_space x h.0) (behind-space a b h.1)
 
@@ -113,3 +114,88 @@ reply_back Unbuilt is = refl
 -- a text is one reply's
 pub one_reply : (a b : Reply) → IsReply a → IsReply b → text_of a ≡ text_of b → a ≡ b
 one_reply a b is also e = sym (reply_back a is) ∙ ap reply_of e ∙ reply_back b also
+
+-- whether the byte stands nowhere in the text
+abbrev lacks : ℕ → List ℕ → Bool
+lacks byte [] = true
+lacks byte (b ∷ text) = cond (b == byte) false (lacks byte text)
+
+none_from_test : (byte : ℕ) (text : List ℕ) → lacks byte text ≡ true → HasNone byte text
+none_from_test byte [] h = tt
+none_from_test byte (b ∷ text) h =
+    elim (cases_Bool (b == byte)) [
+      | inl same ↦ absurd (cc (rw same at h))
+      | inr other ↦ ((λ e. absurd (omega (arith, eqb-false b byte other, e))), none_from_test byte text (rw other at h))
+    ]
+
+none_in_both : (byte : ℕ) (a b : List ℕ) → HasNone byte a → HasNone byte b → HasNone byte (a ++ b)
+none_in_both byte [] b p q = q
+none_in_both byte (x ∷ a) b p q = (p.0, none_in_both byte a b p.1 q)
+
+no_feed_in_number : (n : ℕ) → n < 2 ^ 64 → HasNone 10 (decimal n)
+no_feed_in_number n h = number_has_none 10 (inl (omega arith)) (decimal n) n (h, refl)
+
+-- what stands at a place of a text without line feed is none
+at_place : (text : List ℕ) → HasNone 10 text → (i : ℕ) → get_or text i 0 ≢ 10
+at_place [] h i = λ e. absurd (omega (arith, e))
+at_place (b ∷ text) h zero = h.0
+at_place (b ∷ text) h (suc i) = at_place text h.1 i
+
+no_feed_in_hex : (bytes : List ℕ) → HasNone 10 (encode_lower bytes)
+unfolding encode_with
+no_feed_in_hex [] = tt
+no_feed_in_hex (b ∷ bytes) =
+    let digits : HasNone 10 lower_digits = none_from_test 10 lower_digits refl in
+    (at_place lower_digits digits (b / 16), (at_place lower_digits digits (b % 16), no_feed_in_hex bytes))
+
+no_feed_in_content : (bytes : List ℕ) → HasNone 10 (hex_or_dash bytes)
+no_feed_in_content [] = none_from_test 10 (codes "-") refl
+no_feed_in_content (b ∷ bytes) = no_feed_in_hex (b ∷ bytes)
+
+-- no line feed stands in a reply's text
+pub text_has_no_feed : (reply : Reply) → IsReply reply → HasNone 10 (text_of reply)
+unfolding text_of
+text_has_no_feed Formatted is = none_from_test 10 (codes "formatted") refl
+text_has_no_feed (Mounted number) is = none_in_both 10 (codes "mounted ") (decimal number) (none_from_test 10 (codes "mounted ") refl) (no_feed_in_number number is)
+text_has_no_feed (Content bytes) is = none_in_both 10 (codes "data ") (hex_or_dash bytes.items) (none_from_test 10 (codes "data ") refl) (no_feed_in_content bytes.items)
+text_has_no_feed Done is = none_from_test 10 (codes "ok") refl
+text_has_no_feed (Committed number) is = none_in_both 10 (codes "committed ") (decimal number) (none_from_test 10 (codes "committed ") refl) (no_feed_in_number number is)
+text_has_no_feed Dropped is = none_from_test 10 (codes "dropped") refl
+text_has_no_feed Erased is = none_from_test 10 (codes "erased") refl
+text_has_no_feed (Stat mapped number) is =
+    none_in_both 10 (codes "stat mapped ") (decimal mapped ++ (codes " commit " ++ decimal number)) (none_from_test 10 (codes "stat mapped ") refl)
+    (none_in_both 10 (decimal mapped) (codes " commit " ++ decimal number) (no_feed_in_number mapped is.0)
+    (none_in_both 10 (codes " commit ") (decimal number) (none_from_test 10 (codes " commit ") refl) (no_feed_in_number number is.1)))
+text_has_no_feed (Seized pages nodes blocks) is =
+    none_in_both 10 (codes "seized pages ") (decimal pages ++ (codes " nodes " ++ (decimal nodes ++ (codes " blocks " ++ decimal blocks)))) (none_from_test 10 (codes "seized pages ") refl)
+    (none_in_both 10 (decimal pages) (codes " nodes " ++ (decimal nodes ++ (codes " blocks " ++ decimal blocks))) (no_feed_in_number pages is.0)
+    (none_in_both 10 (codes " nodes ") (decimal nodes ++ (codes " blocks " ++ decimal blocks)) (none_from_test 10 (codes " nodes ") refl)
+    (none_in_both 10 (decimal nodes) (codes " blocks " ++ decimal blocks) (no_feed_in_number nodes is.1)
+    (none_in_both 10 (codes " blocks ") (decimal blocks) (none_from_test 10 (codes " blocks ") refl) (no_feed_in_number blocks is.2)))))
+text_has_no_feed Bad is = none_from_test 10 (codes "bad") refl
+text_has_no_feed Unmounted is = none_from_test 10 (codes "unmounted") refl
+text_has_no_feed AlreadyMounted is = none_from_test 10 (codes "already mounted") refl
+text_has_no_feed NotEmpty is = none_from_test 10 (codes "not empty") refl
+text_has_no_feed NoDevice is = none_from_test 10 (codes "no device") refl
+text_has_no_feed Range is = none_from_test 10 (codes "range") refl
+text_has_no_feed Full is = none_from_test 10 (codes "full") refl
+text_has_no_feed Unbuilt is = none_from_test 10 (codes "unbuilt") refl
+
+line_then : (text rest : List ℕ) → (text ++ 10 ∷ []) ++ rest ≡ text ++ 10 ∷ rest
+line_then text rest = append_assoc text (10 ∷ []) rest
+
+ends : (text rest : List ℕ) → [] ≡ text ++ 10 ∷ rest → ⊥
+ends text rest e = omega (arith, simp length-append at (ap length e))
+
+-- replies are determined by their lines
+pub one_list : (first second : List Reply) → AllByRecursion IsReply first → AllByRecursion IsReply second
+    → flat_map line_of first ≡ flat_map line_of second → first ≡ second
+one_list [] [] p q e = refl
+one_list [] (b ∷ second) p q e = absurd (ends (text_of b) (flat_map line_of second) (e ∙ line_then (text_of b) (flat_map line_of second)))
+one_list (a ∷ first) [] p q e = absurd (ends (text_of a) (flat_map line_of first) (sym e ∙ line_then (text_of a) (flat_map line_of first)))
+one_list (a ∷ first) (b ∷ second) p q e =
+    let parts = split_once 10 (text_of a) (flat_map line_of first) (text_of b) (flat_map line_of second) (text_has_no_feed a p.0) (text_has_no_feed b q.0)
+    (sym (line_then (text_of a) (flat_map line_of first)) ∙ e ∙ line_then (text_of b) (flat_map line_of second)) in
+    let heads : a ≡ b = one_reply a b p.0 q.0 parts.0 in
+    let tails : first ≡ second = one_list first second p.1 q.1 parts.1 in
+    cc

@@ -1,6 +1,5 @@
 -- A text falls into a word and a rest at its first space in one way.
-use Rattle.std.proofs.Common.{◌≡◌, ◌≢◌, ℕ, ◌<◌, inl, inr, List, [], ◌∷◌, ◌++◌, refl, sym, ap, subst, ◌∙◌, arith}
-use Rattle.std.specs.List.{AllByRecursion}
+use Rattle.std.proofs.Common.{◌≡◌, ℕ, inl, List, [], ◌∷◌, ◌++◌, refl, arith}
 use Rattle.script_lang.specs.Grammar.{HasNone, IsNumber}
 use Rattle.script_lang.proofs.Numbers.{number_has_none}
 

@@ -1,5 +1,5 @@
 -- Which replies belong to the lines of a script.
-use Rattle.std.specs.Prelude.{◌≡◌, ℕ, Bool, true, false, not, ◌&&◌, ◌||◌, ◌==◌, nat_lt, if◌then◌else◌, List, [], ◌∷◌, ◌⊎◌, Option, Some, None, ◌≤◌, length, take}
+use Rattle.std.specs.Prelude.{◌≡◌, ℕ, Bool, true, false, not, ◌&&◌, ◌||◌, ◌==◌, nat_lt, if◌then◌else◌, List, [], ◌∷◌, ◌⊎◌, Option, ◌≤◌, length, take}
 use Rattle.script_lang.specs.declared.commands.Command.{Command}
 use Rattle.script_lang.specs.declared.commands.Command.TheVariants.{Format, Mount, Read, Write, Trim, Commit, Drop, Erase, Stat, Seize}
 use Rattle.script_lang.specs.declared.replies.Reply.{Reply}

@@ -1,5 +1,5 @@
 -- How the array machine's state is told apart by proofs: as tuples of its parts.
-use Rattle.std.specs.Prelude.{ℕ, Bool, List, Option, refl}
+use Rattle.std.specs.Prelude.{ℕ, Bool, Option, refl}
 use Rattle.std.specs.Coded.{Coded, code_by, coded×, coded_ℕ, coded_list, coded_option, coded_bool}
 use Rattle.std.specs.FinMap as map
 use Rattle.script_lang.specs.declared.devices.Device.{Device}

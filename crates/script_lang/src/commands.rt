@@ -1,30 +1,37 @@
 //! The commands of a script, and the grammar of their lines.
 
-ghost use Rattle.std.specs.Prelude.{◌≡◌, ◌<◌, ℕ, List, length, IfSome, IfNone};
+ghost use Rattle.std.specs.Prelude.{◌≡◌, ◌<◌, ℕ, List, ◌++◌, length, IfSome, IfNone};
 ghost use Rattle.arrayvec.specs.ArrayVec.{ArrayVec as Bytes};
-ghost use Rattle.script_lang.specs.Grammar.{Spells, IsBad};
-
-use arrayvec::ArrayVec;
-use sdbt_base::BLOCK;
+ghost use Rattle.script_lang.specs.Grammar.{Spells, IsBad, HasNone};
+ghost use Rattle.script_lang.specs.Lines.{whole_lines_of, rest_of, lines_of, last_line};
 
 use crate::words::{number_before, parse_hex, parse_number};
+use arrayvec::ArrayVec;
+use sdbt_base::BLOCK;
 
 /// A line of a script, read.
 #[derive(Clone, Debug, PartialEq, Eq, Drop)]
 pub enum Command {
     /// Makes a device of so many blocks, with nodes of at most `order` entries.
-    Format { blocks: u64, order: u64 },
+    Format {
+        blocks: u64,
+        order: u64,
+    },
     /// Opens a session.
     Mount,
     /// Reads a block.
-    Read { block: u64 },
+    Read {
+        block: u64,
+    },
     /// Writes a block: these 1 to 4,096 bytes, and zeros up to its end.
     Write {
         block: u64,
         content: ArrayVec<u8, BLOCK>,
     },
     /// Unmaps a block, which is all zeros then.
-    Trim { block: u64 },
+    Trim {
+        block: u64,
+    },
     /// Makes the session's changes the device's.
     Commit,
     /// Gives the session and its changes up.
@@ -120,5 +127,18 @@ fn parse_trim(line: &[u8]) -> Option<Command>
 /// keeping it.
 pub fn long_lines_are_bad()
     ensures { (line : List ℕ) → 8300 < length line → IsBad line }
-{
-}
+{}
+
+/// The lines of a text may be found in pieces: of a text that grows, the lines that were whole stay, and the
+/// others are those of the rest with what is new; at its end the rest, if there is one, is the last line.
+pub fn lines_come_in_pieces()
+    ensures whole { (text more : List ℕ) → whole_lines_of (text ++ more) ≡ whole_lines_of text ++ whole_lines_of (rest_of text ++ more) }
+    ensures rest { (text more : List ℕ) → rest_of (text ++ more) ≡ rest_of (rest_of text ++ more) }
+    ensures all { (text : List ℕ) → lines_of text ≡ whole_lines_of text ++ last_line (rest_of text) }
+    ensures feed { (text : List ℕ) → HasNone 10 (rest_of text) }
+{}
+
+/// A line spells one command at most.
+pub fn lines_spell_one_command()
+    ensures { (line : List ℕ) (first second : Command) → Spells line first → Spells line second → first ≡ second }
+{}

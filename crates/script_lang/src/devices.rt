@@ -4,11 +4,10 @@ ghost use Rattle.std.specs.Prelude.{◌≡◌, ℕ, ◌<◌, nat_lt, if◌then�
 ghost use Rattle.std.specs.Option.{option_copied};
 ghost use Rattle.std.specs.FinMap as map;
 
+use sdbt_base::{BLOCK, Memory};
 use std::alloc::Global;
 use std::collections::BTreeMap;
 use std::marker::Model;
-
-use sdbt_base::{BLOCK, Memory};
 
 /// What each mapped block holds.
 #[derive(Drop)]

@@ -10,9 +10,14 @@ mod replies;
 mod words;
 mod writing;
 
-pub use commands::{Command, long_lines_are_bad, parse};
+pub use commands::{
+    Command, lines_come_in_pieces, lines_spell_one_command, long_lines_are_bad, parse,
+};
 pub use devices::{Contents, Device, Session};
-pub use machine::Machine;
-pub use reading::read_reply;
+pub use machine::{Machine, fill_block, reply_with_content};
+pub use reading::{read_reply, replies_are_determined};
 pub use replies::Reply;
 pub use writing::write_reply;
+
+#[cfg(test)]
+mod tests;

@@ -5,15 +5,13 @@ ghost use Rattle.script_lang.specs.Arrays.{State, in_limits, number_of, step, st
 ghost use Rattle.std.specs.Prelude.{take};
 ghost use Rattle.script_lang.specs.Replies.{CanWrite};
 
-use std::alloc::Global;
-use std::marker::Model;
-
-use arrayvec::ArrayVec;
-use sdbt_base::{BLOCK, MAX_BLOCKS, MAX_ORDER, Memory};
-
 use crate::commands::Command;
 use crate::devices::{Contents, Device, Session};
 use crate::replies::Reply;
+use arrayvec::ArrayVec;
+use sdbt_base::{BLOCK, MAX_BLOCKS, MAX_ORDER, Memory};
+use std::alloc::Global;
+use std::marker::Model;
 
 /// A device that is an array of blocks, and the session that is open on it.
 #[derive(Drop)]
@@ -59,6 +57,17 @@ impl Machine {
     /// The reply to a command, on a medium that is full or is not: `full` answers `Full` where a format, a
     /// write or a commit of changes would be accepted. After `Memory` the machine is as before.
     pub fn step(&mut self, command: &Command, full: bool) -> Result<Reply, Memory>
+        requires served { command.now ≢ Command.Seize }
+        requires counted { number_of self.old < 2 ^ 64 - 1 }
+        ensures step { IfOk result (λ reply. (reply, self.new) ≡ step_if full self.old command.now) }
+        ensures memory { OnErr result (self.new ≡ self.old) }
+        // The reply can be written.
+        ensures written { IfOk result (λ reply. CanWrite reply) }
+    {
+        self.answer(command, full)
+    }
+
+    fn answer(&mut self, command: &Command, full: bool) -> Result<Reply, Memory>
         requires served { command.now ≢ Command.Seize }
         requires counted { number_of self.old < 2 ^ 64 - 1 }
         ensures step { IfOk result (λ reply. (reply, self.new) ≡ step_if full self.old command.now) }
@@ -270,24 +279,44 @@ fn content(contents: &Contents, block: u64) -> Reply
         None => Reply::Content {
             bytes: ArrayVec::new(),
         },
-        Some(content) => Reply::Content {
-            bytes: front(content),
-        },
+        Some(content) => reply_with_content(whole(content)),
+    }
+}
+
+/// All bytes of a block.
+fn whole(content: &[u8; BLOCK]) -> &[u8]
+    ensures value { result.now ≡ content.now }
+    ensures len { length result.now ≡ 4096 }
+{
+    content
+}
+
+/// The reply that gives the content of a block, of at most 4,096 bytes: all of it but its trailing zeros.
+pub fn reply_with_content(content: &[u8]) -> Reply
+    requires { length content.now ≤ 4096 }
+    ensures value { result ≡ content_reply content.now }
+    // The reply can be written.
+    ensures written { CanWrite result }
+{
+    Reply::Content {
+        bytes: front(content),
     }
 }
 
 /// The bytes of a block without its trailing zeros.
-fn front(content: &[u8; BLOCK]) -> ArrayVec<u8, BLOCK>
+fn front(content: &[u8]) -> ArrayVec<u8, BLOCK>
+    requires { length content.now ≤ 4096 }
     ensures { result.items ≡ trimmed content.now }
 {
-    let mut bytes = ArrayVec::from(*content);
-    bytes.truncate(trimmed_len(content.as_slice()));
+    let mut bytes = ArrayVec::new();
+    let _ = bytes.try_extend_from_slice(&content[..trimmed_len(content)]);
     bytes
 }
 
 /// How many bytes stand before the trailing zeros.
 fn trimmed_len(bytes: &[u8]) -> usize
-    ensures { take result bytes.now ≡ trimmed bytes.now }
+    ensures within { result ≤ length bytes.now }
+    ensures trimmed { take result bytes.now ≡ trimmed bytes.now }
 {
     let mut len = bytes.len();
     while len > 0 {
@@ -299,15 +328,14 @@ fn trimmed_len(bytes: &[u8]) -> usize
     len
 }
 
-/// A block that begins with these bytes, and holds zeros up to its end.
-fn block_of(bytes: &[u8]) -> [u8; BLOCK]
-    requires { length bytes.now ≤ 4096 }
-    ensures { result ≡ padded bytes.now }
+/// Fills a block of 4,096 bytes: these bytes, and zeros up to its end.
+pub fn fill_block(bytes: &[u8], block: &mut [u8])
+    requires fits { length bytes.now ≤ 4096 }
+    requires size { length block.old ≡ 4096 }
+    ensures { block.new ≡ padded bytes.now }
 {
-    let mut block = [0; BLOCK];
     block.fill(0);
     block[..bytes.len()].copy_from_slice(bytes);
-    block
 }
 
 /// Maps a block of a session. After `Memory` the session is as before.
@@ -316,7 +344,9 @@ fn write_block(session: &mut Session, block: u64, bytes: &[u8]) -> Result<Reply,
     ensures ok { IfOk result (λ reply. (reply ≡ Reply.Done) × (session.new ≡ written session.old block bytes.now)) }
     ensures err { OnErr result (session.new ≡ session.old) }
 {
-    session.contents.insert(block, block_of(bytes))?;
+    let mut content = [0; BLOCK];
+    fill_block(bytes, &mut content);
+    session.contents.insert(block, content)?;
     session.touched = true;
     Ok(Reply::Done)
 }

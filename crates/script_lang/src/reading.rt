@@ -1,21 +1,37 @@
 //! Reading replies back.
 
-ghost use Rattle.std.specs.Prelude.{◌≡◌, ◌≢◌, ◌++◌, codes, ◌<◌, ◌↔◌, ◌^◌, ℕ, List, Some, length, IfSome, IfNone, IsTrue, OnSome};
+ghost use Rattle.std.specs.Prelude.{◌≡◌, ◌≢◌, ◌++◌, codes, flat_map, ◌<◌, ◌↔◌, ◌^◌, ℕ, List, Some, length, IfSome, IfNone, IsTrue, OnSome};
 ghost use Rattle.arrayvec.specs.ArrayVec.{ArrayVec as Bytes};
 ghost use Rattle.hex.specs.Hex.{encode_lower};
-ghost use Rattle.script_lang.specs.Replies.{text_of, IsReply, IsFront, IsTrimmed, hex_or_dash};
+ghost use Rattle.script_lang.specs.Replies.{text_of, line_of, IsReply, IsFront, IsTrimmed, hex_or_dash};
 ghost use Rattle.std.specs.Fmt.{decimal};
+ghost use Rattle.std.specs.List.{AllByRecursion};
 ghost use Rattle.std.specs.Bool.{OnTrue, OnFalse};
-
-use arrayvec::ArrayVec;
-use sdbt_base::BLOCK;
 
 use crate::replies::Reply;
 use crate::words::{number_before, parse_hex, parse_number};
 use crate::writing::is_hex_of;
+use arrayvec::ArrayVec;
+use sdbt_base::BLOCK;
 
 /// The reply that a line gives, without its line feed; None for a line that is no reply's text.
 pub fn read_reply(line: &[u8]) -> Option<Reply>
+    ensures found { IfSome result (λ reply. IsReply reply × (line.now ≡ text_of reply)) }
+    ensures none { IfNone result ((reply : Reply) → IsReply reply → line.now ≢ text_of reply) }
+    // A text is one reply's, so what was written is read back.
+    ensures same { (reply : Reply) → IsReply reply → line.now ≡ text_of reply → result ≡ Some reply }
+{
+    find_reply(line)
+}
+
+/// A list of replies is determined by its lines.
+pub fn replies_are_determined()
+    ensures { (first second : List Reply) → AllByRecursion IsReply first → AllByRecursion IsReply second
+        → flat_map line_of first ≡ flat_map line_of second → first ≡ second }
+{}
+
+/// A reply whose text the line is.
+fn find_reply(line: &[u8]) -> Option<Reply>
     ensures found { IfSome result (λ reply. IsReply reply × (line.now ≡ text_of reply)) }
     ensures none { IfNone result ((reply : Reply) → IsReply reply → line.now ≢ text_of reply) }
 {

@@ -8,10 +8,9 @@ ghost use Rattle.sdbt_base.specs.Faults.{Rose};
 ghost use Rattle.sdbt_base.specs.Told.{Got, GotPart};
 ghost use Rattle.script_lang.specs.Replies.{line_of, text_of, hex_or_dash, CanWrite};
 
+use crate::replies::Reply;
 use arrayvec::ArrayVec;
 use sdbt_base::{Sink, SinkFault};
-
-use crate::replies::Reply;
 
 /// Room for each line of a reply: the longest has `data `, two digits for each byte of a block, and
 /// a line feed.

@@ -2,6 +2,6 @@
 use Rattle.node_codec.specs.Record.{record_bytes}
 use Rattle.node_codec.proofs.encoding.encode_node.Goals as goal
 
-pub returns : goal.returns
+pub returns-clause-record : goal.returns-clause-record
 unfolding record_bytes
-returns c = simp (c.put_head.ensures, c.put_entries.ensures)
+returns-clause-record c = simp (c.put_head.ensures, c.put_entries.ensures.spelled)

@@ -1,7 +1,5 @@
 -- The entries that were read are the only ones that the payload can have.
-use Rattle.std.proofs.Common.{◌≡◌, ℕ, ◌*◌, ◌<◌, ◌^◌, arith, sym, subst, ap, ◌∙◌, length, drop, replicate, List}
-use Rattle.std.specs.Prelude.{IsTrue}
-use Rattle.node_codec.specs.declared.body.Entry.{Entry}
+use Rattle.std.proofs.Common.{arith, sym, subst}
 use Rattle.node_codec.specs.Parts.{FitsEntries}
 use Rattle.node_codec.specs.Laws.{entries_known, zeros_along}
 use Rattle.node_codec.proofs.entries.entries_in.Goals as goal
@@ -18,10 +16,10 @@ returns-else-are_zero-clause-only c = λ entries len same fits.
     let zero = c.are_zero.ensures.1 (zeros_along _ _ c.split_at.ensures.back known.1) in
     elim c.else-are_zero.branch [
       | else-are_zero-via-then-are_zero+then-are_ascending+else-are_within w ↦
-        let fits-slice : FitsEntries c.args.addr w.deref-then-are_ascending.result.now = subst (FitsEntries c.args.addr) (sym w.deref-then-are_ascending.ensures.0) fits-read in
-        grind (arith, w.are_within.ensures.1 (fits-slice.lows, fits-slice.below))
+          let fits-slice : FitsEntries c.args.addr w.deref-then-are_ascending.result.now = subst (FitsEntries c.args.addr) (sym w.deref-then-are_ascending.ensures.0) fits-read in
+          grind (arith, w.are_within.ensures.1 (fits-slice.lows, fits-slice.below))
       | else-are_zero-via-then-are_zero+else-are_ascending w ↦
-        let fits-slice : FitsEntries c.args.addr w.deref.result.now = subst (FitsEntries c.args.addr) (sym w.deref.ensures.0) fits-read in
-        grind (arith, w.are_ascending.ensures.1 fits-slice.ascend)
+          let fits-slice : FitsEntries c.args.addr w.deref.result.now = subst (FitsEntries c.args.addr) (sym w.deref.ensures.0) fits-read in
+          grind (arith, w.are_ascending.ensures.1 fits-slice.ascend)
       | else-are_zero-via-else-are_zero w ↦ grind (arith, zero)
     ]

@@ -1,5 +1,5 @@
 -- One entry more stands behind those that were read.
-use Rattle.std.proofs.Common.{rules, ◌≡◌, ◌*◌, ◌+◌, length, arith, take, sym, ap, ◌∙◌}
+use Rattle.std.proofs.Common.{rules, ◌≡◌, ◌*◌, ◌+◌, arith, take, sym, ap, ◌∙◌}
 use Rattle.std.specs.List.{flat_map}
 use Rattle.std.proofs.lemmas.List.Elements.{All-push}
 use Rattle.node_codec.specs.Record.{entry_bytes}

@@ -1,5 +1,5 @@
 -- Each field is the part of the bytes that was read.
-use Rattle.std.proofs.Common.{rules, sym}
+use Rattle.std.proofs.Common.{sym}
 use Rattle.node_codec.specs.Laws.{entry_spelled}
 use Rattle.node_codec.proofs.entries.entry_of.Goals as goal
 

@@ -1,5 +1,4 @@
 -- Each field is written in its place.
-use Rattle.std.proofs.Common.{append-nil}
 use Rattle.node_codec.specs.Record.{head_fields}
 use Rattle.node_codec.proofs.head.put_head.Goals as goal
 

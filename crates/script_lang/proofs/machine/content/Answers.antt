@@ -1,4 +1,4 @@
-use Rattle.std.proofs.Common.{◌≡◌, ℕ, List, Option, unwrap_or, sym, ap, ◌∙◌}
+use Rattle.std.proofs.Common.{ℕ, List, Option, unwrap_or, sym, ap, ◌∙◌}
 use Rattle.script_lang.specs.Arrays.{trimmed, zeros}
 use Rattle.script_lang.specs.declared.replies.Reply.TheVariants.{Content}
 use Rattle.script_lang.proofs.Trims.{trimmed-zeros}

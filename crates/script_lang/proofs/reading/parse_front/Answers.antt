@@ -1,7 +1,7 @@
-use Rattle.std.proofs.Common.{◌≡◌, ◌≢◌, ℕ, List, [], ◌∷◌, inl, inr, refl, sym, ap, ◌∙◌, subst}
+use Rattle.std.proofs.Common.{◌≡◌, ℕ, List, inl, inr, sym, ap, ◌∙◌, subst}
 use Rattle.hex.specs.Hex.{encode_lower}
 use Rattle.hex.proofs.HexLemmas.{decode_of-same}
-use Rattle.script_lang.specs.Replies.{IsFront, IsTrimmed, hex_or_dash}
+use Rattle.script_lang.specs.Replies.{IsTrimmed}
 use Rattle.script_lang.proofs.Fronts.{nothing_is_front, front_hex, found_front}
 use Rattle.script_lang.proofs.reading.parse_front.Goals as goal
 

@@ -1,33 +1,15 @@
-use Rattle.std.proofs.Common.{◌≡◌, ◌≢◌, ℕ, ◌<◌, ◌^◌, List, Option, Some, None}
-use Rattle.std.specs.Option.{IfNone}
-use Rattle.arrayvec.specs.ArrayVec.{ArrayVec}
+use Rattle.std.proofs.Common.{◌≡◌, ◌≢◌, ℕ, List, Option, Some, None, sym, ap, ◌∙◌}
+use Rattle.std.specs.Option.{IfSome, IfNone}
 use Rattle.script_lang.specs.Replies.{IsReply, text_of}
 use Rattle.script_lang.specs.declared.replies.Reply.{Reply}
-use Rattle.script_lang.specs.declared.replies.Reply.TheVariants.{Formatted, Mounted, Content, Done, Committed, Dropped, Erased, Stat, Seized, Bad, Unmounted, AlreadyMounted, NotEmpty, NoDevice, Range, Full, Unbuilt}
+use Rattle.script_lang.proofs.ReplyLaws.{one_reply}
 use Rattle.script_lang.proofs.reading.read_reply.Goals as goal
 
-weaker : {X : Type 0} (o : Option X) (P Q : Type 0) → (P → Q) → IfNone o P → IfNone o Q
-weaker None P Q leads p = leads p
-weaker (Some x) P Q leads p = p
+-- what is found is the reply whose text it is
+same_reply : (text : List ℕ) (found : Option Reply) → IfSome found (λ r. IsReply r × (text ≡ text_of r))
+    → IfNone found ((r : Reply) → IsReply r → text ≢ text_of r) → (reply : Reply) → IsReply reply → text ≡ text_of reply → found ≡ Some reply
+same_reply text (Some r) is none reply also e = ap Some (one_reply r reply is.0 also (sym is.1 ∙ e))
+same_reply text None is none reply also e = absurd (none reply also e)
 
-pub returns-clause-none : goal.returns-clause-none
-returns-clause-none c = weaker c.read_seized.result _ _ (λ seized reply.
-    elim reply as (λ r. IsReply r → c.args.line.now ≢ text_of r) [
-      | Formatted ↦ λ is. c.in_default.ensures.formatted
-      | Mounted number ↦ λ is. c.in_default-read_mounted.ensures.none number is
-      | Content bytes ↦ λ is. c.in_default-read_content.ensures.none bytes is
-      | Done ↦ λ is. c.in_default.ensures.done
-      | Committed number ↦ λ is. c.in_default-read_committed.ensures.none number is
-      | Dropped ↦ λ is. c.in_default.ensures.dropped
-      | Erased ↦ λ is. c.in_default.ensures.erased
-      | Stat mapped number ↦ λ is. c.in_default-read_stat.ensures.none mapped number is.0 is.1
-      | Seized pages nodes blocks ↦ λ is. seized pages nodes blocks is.0 is.1 is.2
-      | Bad ↦ λ is. c.in_default-read_refusal.ensures.bad
-      | Unmounted ↦ λ is. c.in_default-read_state_refusal.ensures.unmounted
-      | AlreadyMounted ↦ λ is. c.in_default-read_state_refusal.ensures.already_mounted
-      | NotEmpty ↦ λ is. c.in_default-read_state_refusal.ensures.not_empty
-      | NoDevice ↦ λ is. c.in_default-read_state_refusal.ensures.no_device
-      | Range ↦ λ is. c.in_default-read_refusal.ensures.range
-      | Full ↦ λ is. c.in_default-read_refusal.ensures.full
-      | Unbuilt ↦ λ is. c.in_default-read_refusal.ensures.unbuilt
-    ]) c.read_seized.ensures.none
+pub returns-clause-same : goal.returns-clause-same
+returns-clause-same c = same_reply c.args.line.now c.find_reply.result c.find_reply.ensures.found c.find_reply.ensures.none

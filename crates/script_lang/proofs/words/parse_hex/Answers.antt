@@ -1,7 +1,5 @@
-use Rattle.std.proofs.Common.{rules, ◌≡◌, ◌<◌, ◌≤◌, ◌+◌, ◌*◌, List, [], ◌++◌, length, take, drop, arith, refl, sym, ap, ◌∙◌, Ok}
-use Rattle.hex.specs.Hex.{decode_sized}
+use Rattle.std.proofs.Common.{arith, sym, ◌∙◌}
 use Rattle.hex.proofs.HexLemmas.{decode_of-ok}
-use Rattle.script_lang.specs.Grammar.{IsHex}
 use Rattle.script_lang.proofs.HexText.{decoded}
 use Rattle.script_lang.proofs.Outcomes.{succeeded}
 use Rattle.script_lang.proofs.words.parse_hex.Goals as goal

@@ -1,7 +1,5 @@
-use Rattle.std.proofs.Common.{◌≡◌, ℕ, List, Ok, Some, None, sym, ap, ◌∙◌, subst}
-use Rattle.std.specs.Cmp.Lexicographic.{pointwise}
+use Rattle.std.proofs.Common.{◌≡◌, Ok, sym, ◌∙◌}
 use Rattle.std.proofs.lemmas.Slice.Eq.{bytes_eq-Decides}
-use Rattle.script_lang.specs.Grammar.{IsNumber}
 use Rattle.script_lang.proofs.Numbers.{number_is_utf8, number_is_read}
 use Rattle.script_lang.proofs.Outcomes.{refused, accepted, only_value, succeeded}
 use Rattle.script_lang.proofs.words.parse_number.Goals as goal

@@ -1,4 +1,4 @@
-use Rattle.std.proofs.Common.{◌≡◌, sym, ap, ◌∙◌}
+use Rattle.std.proofs.Common.{sym, ap, ◌∙◌}
 use Rattle.std.specs.FinMap as map
 use Rattle.script_lang.proofs.Blocks.{get_block}
 use Rattle.script_lang.proofs.devices.Contents.get.Goals as goal

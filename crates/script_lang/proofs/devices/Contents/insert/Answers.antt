@@ -1,4 +1,4 @@
-use Rattle.std.proofs.Common.{◌≡◌, sym, ap, ◌∙◌}
+use Rattle.std.proofs.Common.{ap, ◌∙◌}
 use Rattle.std.specs.FinMap as map
 use Rattle.script_lang.proofs.Blocks.{one_put}
 use Rattle.script_lang.proofs.devices.Contents.insert.Goals as goal

@@ -1,4 +1,4 @@
-use Rattle.std.proofs.Common.{◌≡◌, sym, ap, ◌∙◌}
+use Rattle.std.proofs.Common.{sym, ap, ◌∙◌}
 use Rattle.std.specs.FinMap as map
 use Rattle.script_lang.proofs.Blocks.{as_many}
 use Rattle.script_lang.proofs.devices.Contents.len.Goals as goal
