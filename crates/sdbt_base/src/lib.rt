@@ -9,6 +9,7 @@ mod keys;
 mod limits;
 mod lines;
 mod list_tape;
+mod lists;
 mod mem_sink;
 mod mem_source;
 mod read_source;
@@ -24,6 +25,7 @@ pub use limits::{
 };
 pub use lines::Line;
 pub use list_tape::ListTape;
+pub use lists::{Addrs, Unkept, UnkeptList};
 pub use mem_sink::MemSink;
 pub use mem_source::MemSource;
 pub use read_source::ReadSource;

@@ -60,3 +60,16 @@ fn edges(rt: HostRuntime) -> Result<(), Fail> {
     assert!(rt; sink.put(b"cd").is_err());
     Ok(())
 }
+
+#[test]
+fn lists(rt: HostRuntime) -> Result<(), Fail> {
+    let mut addrs = Addrs::new(rt.alloc());
+    let mut pages = UnkeptList::new(rt.alloc());
+    assert!(rt; addrs.is_empty() && pages.is_empty());
+    addrs.push(7)?;
+    pages.push(Unkept { block: 3, addr: 1 })?;
+    assert!(rt; addrs.len() == 1 && pages.len() == 1);
+    assert_eq!(rt; *addrs.at(0), 7);
+    assert_eq!(rt; *pages.at(0), Unkept { block: 3, addr: 1 });
+    Ok(())
+}

@@ -1,0 +1,90 @@
+-- How a run ends, what it took from its input, and what its stops are due to.
+use Rattle.std.specs.Prelude.{◌≡◌, ℕ, ◌^◌, ◌<◌, ◌≤◌, ◌⊎◌, List, [], Option, Result, OnOk, IsErrOf, length}
+use Rattle.sdbt_base.specs.Faults.{Rose}
+use Rattle.sdbt_base.specs.Told.{IsAtEnd}
+use Rattle.device_cli.specs.declared.stop.Stop.{Stop}
+use Rattle.device_cli.specs.declared.stop.Stop.TheVariants as stops
+use Rattle.device_cli.specs.declared.stop.DeviceStop.TheVariants as device
+
+-- the counts of faults of what a run is handed
+pub record Counts : Type 0 where
+  pub platform : ℕ
+  pub tape : ℕ
+  pub input : ℕ
+  pub output : ℕ
+
+abbrev pub counts : ℕ → ℕ → ℕ → ℕ → Counts
+counts platform tape input output = record { platform = platform; tape = tape; input = input; output = output }
+
+-- no count fell
+pub record NoneFell (before now : Counts) : Type 0 where
+  pub platform : before.platform ≤ now.platform
+  pub tape : before.tape ≤ now.tape
+  pub input : before.input ≤ now.input
+  pub output : before.output ≤ now.output
+
+-- a stop that names a fault comes only where the count of that object rose
+abbrev pub HasCause : Counts → Counts → Stop → Type 0
+HasCause before now stops.Source = Rose before.input now.input
+HasCause before now stops.Sink = Rose before.output now.output
+HasCause before now (stops.Device device.Platform) = Rose before.platform now.platform
+HasCause before now (stops.Device device.Tape) = Rose before.tape now.tape
+HasCause before now (stops.Device device.BadRoot) = Unit {0}
+HasCause before now (stops.Device (device.BadRecord addr)) = Unit {0}
+HasCause before now (stops.Device device.Memory) = Unit {0}
+HasCause before now stops.FullCell = Unit {0}
+HasCause before now stops.Limit = Unit {0}
+
+-- the exit status of each stop
+abbrev pub status_of : Stop → ℕ
+status_of stops.Source = 3
+status_of stops.Sink = 4
+status_of (stops.Device device.Platform) = 5
+status_of (stops.Device device.Tape) = 6
+status_of stops.FullCell = 8
+status_of (stops.Device device.BadRoot) = 8
+status_of (stops.Device (device.BadRecord addr)) = 9
+status_of (stops.Device device.Memory) = 11
+status_of stops.Limit = 12
+
+-- what was taken when the serving of an input ended so, and what was left
+pub record TookUntil {T : Type 0} (result : Result T Stop) (taken : List ℕ) (left : Option (List ℕ)) : Type 0 where
+  pub most : length taken ≤ 2 ^ 32
+  -- the end was seen, or a take failed, before the limit
+  pub whole : OnOk result ((length taken < 2 ^ 32) × IsAtEnd left)
+  pub failed : IsErrOf result stops.Source → length taken < 2 ^ 32
+  pub limit : IsErrOf result stops.Limit → length taken ≡ 2 ^ 32
+  pub nothing : IsErrOf result stops.FullCell → taken ≡ []
+
+-- the same by the exit status
+pub record Took (status : ℕ) (taken : List ℕ) (left : Option (List ℕ)) : Type 0 where
+  pub most : length taken ≤ 2 ^ 32
+  pub whole : status ≡ 0 → (length taken < 2 ^ 32) × IsAtEnd left
+  pub failed : status ≡ 3 → length taken < 2 ^ 32
+  pub limit : status ≡ 12 → length taken ≡ 2 ^ 32
+  pub nothing : status ≡ 2 → taken ≡ []
+
+-- the statuses that there are
+abbrev pub IsStatus : ℕ → Type 0
+IsStatus status =
+    (status ≡ 0) ⊎ (status ≡ 2) ⊎ (status ≡ 3) ⊎ (status ≡ 4) ⊎ (status ≡ 5) ⊎ (status ≡ 6) ⊎ (status ≡ 8) ⊎ (status ≡ 9) ⊎ (status ≡ 11) ⊎ (status ≡ 12)
+
+-- a stop that a line may lead to: neither the input nor the start
+abbrev pub IsOfLine : Stop → Type 0
+IsOfLine stops.Source = ⊥
+IsOfLine stops.FullCell = ⊥
+IsOfLine stops.Limit = ⊥
+IsOfLine stops.Sink = Unit {0}
+IsOfLine (stops.Device stop) = Unit {0}
+
+-- a stop before the first line: the cell is full, or it was not even known
+abbrev pub IsRefusal : Stop → Type 0
+IsRefusal stops.FullCell = Unit {0}
+IsRefusal stops.Sink = Unit {0}
+IsRefusal (stops.Device device.Platform) = Unit {0}
+IsRefusal (stops.Device device.Tape) = ⊥
+IsRefusal (stops.Device device.BadRoot) = ⊥
+IsRefusal (stops.Device (device.BadRecord addr)) = ⊥
+IsRefusal (stops.Device device.Memory) = ⊥
+IsRefusal stops.Source = ⊥
+IsRefusal stops.Limit = ⊥

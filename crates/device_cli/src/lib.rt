@@ -1,0 +1,72 @@
+//! The top call: serves a script of block commands over a platform.
+//!
+//! [`run_main`] takes the words of a command line and the objects of the outside, and answers an exit status.
+#![tactic(auto)]
+
+ghost use Rattle.std.specs.Prelude.{◌≡◌, ℕ, List, ◌↔◌, ◌⊎◌, map, string_bytes, IsSome};
+ghost use Rattle.sdbt_base.specs.Faults.{Rose};
+ghost use Rattle.sdbt_base.specs.Told.{Gave};
+ghost use Rattle.device_cli.specs.Words.{AreRunWords};
+ghost use Rattle.device_cli.specs.Run.{IsStatus, Took, NoneFell, counts};
+
+mod buffers;
+mod desk;
+mod pending;
+mod run;
+mod session;
+mod stop;
+mod words;
+
+use platform::Platform;
+use run::run;
+use sdbt_base::{Sink, Source, Tape};
+use std::alloc::Global;
+use words::are_run_words;
+
+/// Serves what the words ask for, and answers the exit status.
+///
+/// With no words, or `run`, it serves the script that `input` gives: each whole line before more input is
+/// taken, one reply for each line, put to `output` in one put. Statuses: 0, the input was served to its end;
+/// 2, other words; 3, 4, 5 and 6, `input`, `output`, the platform or the tape failed; 8, the root cell was full
+/// at the start, which is not served yet; 9, a record was not what the tree wants there; 11, no memory;
+/// 12, the limit of 2^32 bytes of input was reached. Nothing is put to `ledger` yet.
+pub fn run_main<P: Platform, T: Tape, I: Source, O: Sink, L: Sink>(
+    alloc: Global,
+    words: &[String],
+    platform: &mut P,
+    tape: &mut T,
+    input: &mut I,
+    output: &mut O,
+    ledger: &mut L,
+) -> u8
+    ensures status { IsStatus result }
+    // 2 exactly where the words are none of the forms.
+    ensures words { (result ≡ 2) ↔ ¬ (AreRunWords (map string_bytes words.now)) }
+
+    // A fault only where the count of that object rose.
+    ensures input_fault { result ≡ 3 → Rose (I.faults input.old) (I.faults input.new) }
+    ensures output_fault { result ≡ 4 → Rose (O.faults output.old) (O.faults output.new) }
+    ensures platform_fault { result ≡ 5 → Rose (P.faults platform.old) (P.faults platform.new) }
+    ensures tape_fault { result ≡ 6 → Rose (T.faults tape.old) (T.faults tape.new) }
+    ensures counts { NoneFell (counts (P.faults platform.old) (T.faults tape.old) (I.faults input.old) (O.faults output.old))
+        (counts (P.faults platform.new) (T.faults tape.new) (I.faults input.new) (O.faults output.new)) }
+
+    // 8 exactly where the cell is full at the start, unless that could not be told or not be said.
+    ensures full_cell_only { P.tells → result ≡ 8 → IsSome (P.history platform.old).present.cell }
+    ensures full_cell { P.tells → IsSome (P.history platform.old).present.cell → AreRunWords (map string_bytes words.now)
+        → (result ≡ 8) ⊎ (result ≡ 4) ⊎ (result ≡ 5) }
+
+    // 0 and 3 before the limit of input, and 12 at it.
+    ensures taken { (taken : List ℕ) × Gave (I.left input.old) taken (I.left input.new) × Took result taken (I.left input.new) }
+    ensures nothing_put { result ≡ 2 → O.written output.new ≡ O.written output.old }
+    ensures ledger { L.written ledger.new ≡ L.written ledger.old }
+{
+    let _ = ledger;
+    if !are_run_words(words) {
+        return 2;
+    }
+    match run(alloc, platform, tape, input, output) {
+        Ok(()) => 0,
+        Err(stop) => stop.status(),
+    }
+}

@@ -1,0 +1,74 @@
+//! The bytes of a line whose line feed has not come yet.
+ghost use Rattle.std.specs.Prelude.{◌≡◌, ◌↔◌, ℕ, List, [], ◌++◌, None, Some, IsTrue, option_copied};
+ghost use Rattle.device_cli.specs.Kept.{IsKept};
+
+use arrayvec::ArrayVec;
+use std::marker::Model;
+
+/// The greatest length of a line that is kept. No longer line is in the grammar.
+pub(crate) const MAX_LINE: usize = 8300;
+
+/// What has come of a line: its bytes, or only that there are more than `MAX_LINE` of them.
+#[derive(Drop)]
+pub(crate) struct Pending {
+    bytes: ArrayVec<u8, MAX_LINE>,
+    is_overlong: bool,
+}
+
+impl Model for Pending {
+    ghost use Rattle.std.specs.Prelude.{◌≡◌, ◌≤◌, ℕ, List, [], None, Some, Option, IsTrue, if◌then◌else◌};
+    ghost use Rattle.arrayvec.specs.ArrayVec.{array_vec_len};
+
+    ghost Value = { Option (List ℕ) };
+
+    ghost view = { λ p. if p.is_overlong then None else Some p.bytes.items };
+
+    ghost invariant = { λ p. array_vec_len p.bytes ≤ 8300 };
+}
+
+impl Pending {
+    /// Nothing of a line.
+    pub(crate) fn new() -> Pending
+        ensures { IsKept result [] }
+    {
+        Pending {
+            bytes: ArrayVec::new(),
+            is_overlong: false,
+        }
+    }
+
+    /// Whether nothing of a line has come.
+    pub(crate) fn is_empty(&self) -> bool
+        ensures { (line : List ℕ) → IsKept self.now line → IsTrue result ↔ (line ≡ []) }
+    {
+        self.bytes.is_empty() && !self.is_overlong
+    }
+
+    /// More bytes of the line. Those of a line that grows past `MAX_LINE` are let go.
+    pub(crate) fn push(&mut self, piece: &[u8])
+        ensures { (line : List ℕ) → IsKept self.old line → IsKept self.new (line ++ piece.now) }
+    {
+        if self.is_overlong || self.bytes.try_extend_from_slice(piece).is_err() {
+            self.is_overlong = true;
+        }
+    }
+
+    /// The bytes of the line, or None where there are more than `MAX_LINE`.
+    pub(crate) fn line(&self) -> Option<&[u8]>
+        ensures { option_copied result ≡ self.now }
+    {
+        if self.is_overlong {
+            None
+        } else {
+            Some(&self.bytes)
+        }
+    }
+
+    /// Nothing of the next line yet.
+    pub(crate) fn clear(&mut self)
+        ensures { IsKept self.new [] }
+    {
+        self.bytes.clear();
+        self.is_overlong = false;
+    }
+}

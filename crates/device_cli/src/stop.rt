@@ -1,0 +1,53 @@
+//! Why a run stops before the end of its input.
+
+/// Why the device could not serve a line.
+#[derive(Clone, Copy, Debug, PartialEq, Eq)]
+pub(crate) enum DeviceStop {
+    /// The medium or the root cell failed.
+    Platform,
+    /// The tape gave no key.
+    Tape,
+    /// The cell holds no root record that is served.
+    BadRoot,
+    /// The page at this address holds no record that fits its place.
+    BadRecord { addr: u64 },
+    /// No memory was given.
+    Memory,
+}
+
+/// Why a run stops.
+#[derive(Clone, Copy, Debug, PartialEq, Eq)]
+pub(crate) enum Stop {
+    /// The input failed.
+    Source,
+    /// The output failed.
+    Sink,
+    /// The root cell was full at the start.
+    FullCell,
+    /// The limit of input was reached before its end was seen.
+    Limit,
+    /// The device could not serve a line.
+    Device(DeviceStop),
+}
+
+impl Stop {
+    ghost use Rattle.std.specs.Prelude.{◌≡◌};
+    ghost use Rattle.device_cli.specs.Run.{status_of};
+
+    /// The exit status.
+    pub(crate) fn status(self) -> u8
+        ensures { result ≡ status_of self }
+    {
+        match self {
+            Stop::Source => 3,
+            Stop::Sink => 4,
+            Stop::Device(DeviceStop::Platform) => 5,
+            Stop::Device(DeviceStop::Tape) => 6,
+            Stop::FullCell => 8,
+            Stop::Device(DeviceStop::BadRoot) => 8,
+            Stop::Device(DeviceStop::BadRecord { .. }) => 9,
+            Stop::Device(DeviceStop::Memory) => 11,
+            Stop::Limit => 12,
+        }
+    }
+}

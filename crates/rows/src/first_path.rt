@@ -1,0 +1,153 @@
+//! The rows of one script over one leaf of order 64.
+use crate::run::{Given, run_over};
+use platform::{CallKind, Failure, MemPlatform};
+use std::test::Fail;
+
+/// A script, and what is written for it. The status is 0.
+const ROWS: [(&str, &str, &str); 6] = [
+    ("empty-input", "", ""),
+    (
+        "one-block",
+        "format 8 64\nmount\nwrite 3 6869\nread 3\ncommit\nread 3\n",
+        "formatted\nmounted 0\nok\ndata 6869\ncommitted 1\ndata 6869\n",
+    ),
+    (
+        "first-path-refusals",
+        "read 0\nmount\nformat 0 64\nformat 8 4\nformat 65 64\nformat 8 64\nformat 8 64\nmount\nmount\n\
+         read 8\ntrim 1\nread 3\n",
+        "unmounted\nno device\nrange\nunbuilt\nunbuilt\nformatted\nnot empty\nmounted 0\nalready mounted\n\
+         range\nunbuilt\ndata -\n",
+    ),
+    (
+        "idle-commit",
+        "format 8 64\nmount\ncommit\nwrite 0 00\nread 0\ncommit\ncommit",
+        "formatted\nmounted 0\ncommitted 0\nok\ndata -\ncommitted 1\ncommitted 1\n",
+    ),
+    (
+        "grammar",
+        "format 8 64\nmount\nwrite 3 abc\n\nread 03\nREAD 3\nread  3\nread 18446744073709551616\n\
+         read 18446744073709551615\nread 3\r\nfrob\nwrite 3 Ff00\nread 3\nstat\n",
+        "formatted\nmounted 0\nbad\nbad\nbad\nbad\nbad\nbad\nrange\nbad\nbad\nok\ndata ff\nunbuilt\n",
+    ),
+    (
+        "last line without its line feed",
+        "mount\nread 0",
+        "no device\nunmounted\n",
+    ),
+];
+
+const ONE_BLOCK: &str = "format 8 64\nmount\nwrite 3 6869\nread 3\ncommit\nread 3\n";
+
+#[test]
+fn first_path(rt: HostRuntime) -> Result<(), Fail> {
+    for (row, script, want) in ROWS {
+        for step in [1, 7, 20, 4_096] {
+            let mut platform = MemPlatform::blank(rt.alloc(), 262_144);
+            let mut given = Given::script(script);
+            given.step = step;
+            let ran = run_over(rt.alloc(), &mut platform, &given)?;
+            assert_eq!(rt;
+                ran.output.bytes(),
+                want.as_bytes(),
+                "row {row}, {step} bytes a take"
+            );
+            assert_eq!(rt; ran.status, 0, "row {row}, {step} bytes a take");
+            assert_eq!(rt; platform.starved(), 0);
+        }
+    }
+    Ok(())
+}
+
+#[test]
+fn full_medium(rt: HostRuntime) -> Result<(), Fail> {
+    let script =
+        "format 8 64\nmount\nwrite 3 6869\ncommit\nwrite 3 00ff\ncommit\nread 3\nwrite 3 aa\n";
+    let want = "formatted\nmounted 0\nok\ncommitted 1\nok\nfull\ndata 00ff\nfull\n";
+    let mut platform = MemPlatform::blank(rt.alloc(), 4);
+    let ran = run_over(rt.alloc(), &mut platform, &Given::script(script))?;
+    assert_eq!(rt; ran.output.bytes(), want.as_bytes());
+    assert_eq!(rt; ran.status, 0);
+    Ok(())
+}
+
+#[test]
+fn long_lines(rt: HostRuntime) -> Result<(), Fail> {
+    let alloc = rt.alloc();
+    // `write 3` with so many hex digits, behind a device and a session; the last is a line past the limit.
+    for (digits, want) in [(8_192, "ok"), (8_194, "bad"), (8_400, "bad")] {
+        let mut script = String::from_str(alloc, "format 8 64\nmount\nwrite 3 ")?;
+        for _ in 0..digits {
+            script.push('a')?;
+        }
+        script.push_str("\nread 9\n")?;
+        let mut platform = MemPlatform::blank(alloc, 16);
+        let ran = run_over(alloc, &mut platform, &Given::script(script.as_str()))?;
+        let text = format!(in alloc; "formatted\nmounted 0\n{want}\nrange\n")?;
+        assert_eq!(rt; ran.output.bytes(), text.as_bytes(), "{digits} digits");
+    }
+    Ok(())
+}
+
+#[test]
+fn bad_words(rt: HostRuntime) -> Result<(), Fail> {
+    let alloc = rt.alloc();
+    for (words, status, want) in [
+        (["run"].as_slice(), 0, "no device\n"),
+        (["frob"].as_slice(), 2, ""),
+        (["run", "x"].as_slice(), 2, ""),
+        (["", "run"].as_slice(), 2, ""),
+    ] {
+        let mut all = Vec::new(alloc);
+        for word in words {
+            all.push(String::from_str(alloc, word)?)?;
+        }
+        let mut platform = MemPlatform::blank(alloc, 4);
+        let mut given = Given::script("mount\n");
+        given.words = &all;
+        let ran = run_over(alloc, &mut platform, &given)?;
+        assert_eq!(rt; ran.status, status);
+        assert_eq!(rt; ran.output.bytes(), want.as_bytes());
+    }
+    Ok(())
+}
+
+#[test]
+fn failed_ends(rt: HostRuntime) -> Result<(), Fail> {
+    let mut second_take = Given::script(ONE_BLOCK);
+    second_take.step = 20;
+    second_take.failing_takes = &[2];
+    let mut second_draw = Given::script(ONE_BLOCK);
+    second_draw.failing_draws = &[2];
+    let mut third_put = Given::script(ONE_BLOCK);
+    third_put.failing_puts = &[(3, 0)];
+    for (given, status) in [(second_take, 3), (second_draw, 6), (third_put, 4)] {
+        let mut platform = MemPlatform::blank(rt.alloc(), 262_144);
+        let ran = run_over(rt.alloc(), &mut platform, &given)?;
+        assert_eq!(rt; ran.output.bytes(), b"formatted\nmounted 0\n".as_slice());
+        assert_eq!(rt; ran.status, status);
+    }
+    Ok(())
+}
+
+#[test]
+fn failed_append(rt: HostRuntime) -> Result<(), Fail> {
+    let alloc = rt.alloc();
+    let mut platform = MemPlatform::blank(alloc, 262_144);
+    platform.set_failures(&[Failure {
+        call: CallKind::Append,
+        nth: 3,
+        effect: false,
+    }])?;
+    let ran = run_over(alloc, &mut platform, &Given::script(ONE_BLOCK))?;
+    assert_eq!(rt;
+        ran.output.bytes(),
+        b"formatted\nmounted 0\nok\ndata 6869\n".as_slice()
+    );
+    assert_eq!(rt; ran.status, 5);
+
+    // The cell is full now, which is not served yet.
+    let ran = run_over(alloc, &mut platform, &Given::script("mount\n"))?;
+    assert_eq!(rt; ran.output.bytes(), b"unbuilt\n".as_slice());
+    assert_eq!(rt; ran.status, 8);
+    Ok(())
+}

@@ -1,0 +1,7 @@
+//! The worked rows: scripts with their replies, run through the top call over objects in memory.
+#![tactic(auto)]
+
+#[cfg(test)]
+mod first_path;
+#[cfg(test)]
+mod run;
