@@ -1,5 +1,5 @@
 //! A platform in a folder.
-ghost use Rattle.std.specs.Prelude.{◌≡◌, ◌<◌, ◌≤◌, ◌+◌, ◌*◌, ◌^◌, ◌↔◌, IsSome, IfSome, IfOk, IfErr, IsErr};
+ghost use Rattle.std.specs.Prelude.{◌≡◌, ◌<◌, ◌≤◌, ◌+◌, ◌*◌, ◌^◌, ◌↔◌, IsSome, IfSome, IfOk, IfErr, IsErr, IsTrue, OnOk, false};
 ghost use Rattle.std.specs.Int.{div_ceil};
 ghost use Rattle.sdbt_base.specs.Faults.{Rose};
 ghost use Rattle.platform.specs.Refusals.{IsNotMemory};
@@ -14,6 +14,7 @@ use std::rt::Files;
 
 /// The bytes of a page, and those of the root record, as lengths of files.
 const PAGE_LEN: u64 = RECORD as u64;
+
 const ROOT_LEN: u64 = ROOT as u64;
 
 /// Who may read the files: their owner alone, since the root record is a key.
@@ -76,6 +77,7 @@ impl<R: Files + Alloc + Clone + Drop> FilePlatform<R> {
 
     // Moves to the end of the last page, once that is whole.
     fn go_to_end(&mut self) -> io::Result<()>
+        ensures whole { OnOk result (self.new.is_torn ≡ false) }
         ensures head { self.new.head ≡ self.old.head }
         ensures faults { self.new.faults ≡ self.old.faults }
     {
@@ -89,8 +91,10 @@ impl<R: Files + Alloc + Clone + Drop> FilePlatform<R> {
 
     // Writes a page. It counts as handed over whatever comes of it, since a part of it may be there.
     fn hand_over(&mut self, page: &[u8]) -> io::Result<()>
-        requires { self.old.head < MAX_PAGES }
+        requires room { self.old.head < MAX_PAGES }
+        requires whole { self.old.is_torn ≡ false }
         ensures head { self.new.head ≡ self.old.head + 1 }
+        ensures torn { IsTrue self.new.is_torn ↔ IsErr result }
         ensures faults { self.new.faults ≡ self.old.faults }
     {
         self.head += 1;
@@ -100,8 +104,25 @@ impl<R: Files + Alloc + Clone + Drop> FilePlatform<R> {
         Ok(())
     }
 
+    // Makes all pages outlast a loss of power. Once that failed, it is believed no more.
+    fn sync_media(&mut self) -> io::Result<()>
+        ensures believed { OnOk result (self.old.is_unsure ≡ false) }
+        ensures unsure { IsTrue self.new.is_unsure ↔ IsErr result }
+        ensures head { self.new.head ≡ self.old.head }
+        ensures faults { self.new.faults ≡ self.old.faults }
+    {
+        if self.is_unsure {
+            return Err(ErrorKind::Other.into());
+        }
+        self.is_unsure = true;
+        self.media.sync_data()?;
+        self.is_unsure = false;
+        Ok(())
+    }
+
     // The root record is in `root.new`, and then, in one step that outlasts a loss of power, in `root`.
     fn replace_root(&self, bytes: &[u8]) -> io::Result<()> {
+        forget(&self.rt, self.new_root.as_str())?;
         let mut file = OpenOptions::new()
             .write(true)
             .create_new(true)
@@ -168,8 +189,7 @@ impl<R: Files + Alloc + Clone + Drop> Platform for FilePlatform<R> {
     }
 
     fn sync(&mut self) -> Result<(), PlatformFault> {
-        if self.is_unsure || self.media.sync_data().is_err() {
-            self.is_unsure = true;
+        if self.sync_media().is_err() {
             return fault(&mut self.faults);
         }
         Ok(())

@@ -16,4 +16,6 @@ pub use platforms::Platform;
 pub use refusals::OpenRefusal;
 
 #[cfg(test)]
+mod file_tests;
+#[cfg(test)]
 mod tests;
