@@ -7,3 +7,5 @@ pub mod Logged
 pub mod Mem
 pub mod Runs
 pub mod Told
+pub mod Refusals
+pub mod Untold

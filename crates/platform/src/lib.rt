@@ -2,13 +2,20 @@
 #![tactic(auto)]
 
 mod failures;
+mod file_platform;
 mod mem_platform;
 mod platforms;
+mod refusals;
 mod store;
+mod transfers;
 
 pub use failures::{CallKind, Failure};
+pub use file_platform::FilePlatform;
 pub use mem_platform::MemPlatform;
 pub use platforms::Platform;
+pub use refusals::OpenRefusal;
 
+#[cfg(test)]
+mod file_tests;
 #[cfg(test)]
 mod tests;

@@ -6,7 +6,10 @@ use sdbt_base::{PlatformFault, RECORD, ROOT};
 use std::test::Fail;
 
 // The answer of an append, if there is room for it.
-fn append<P: Platform>(platform: &mut P, page: &[u8]) -> Option<Result<u64, PlatformFault>>
+pub(crate) fn append<P: Platform>(
+    platform: &mut P,
+    page: &[u8],
+) -> Option<Result<u64, PlatformFault>>
     requires { length page.now ≡ RECORD }
 {
     if platform.head() < platform.capacity() {
@@ -17,7 +20,7 @@ fn append<P: Platform>(platform: &mut P, page: &[u8]) -> Option<Result<u64, Plat
 }
 
 // The first and the last byte of a page, if there is one of that address and it can be read.
-fn read_ends<P: Platform>(platform: &mut P, addr: u64) -> Option<(u8, u8)> {
+pub(crate) fn read_ends<P: Platform>(platform: &mut P, addr: u64) -> Option<(u8, u8)> {
     let mut page = [9; RECORD];
     if addr < platform.head() && platform.read(addr, &mut page).is_ok() {
         Some((page[0], page[RECORD - 1]))

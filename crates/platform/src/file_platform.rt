@@ -1,0 +1,296 @@
+//! A platform in a folder.
+ghost use Rattle.std.specs.Prelude.{◌≡◌, ◌<◌, ◌≤◌, ◌+◌, ◌*◌, ◌^◌, ◌↔◌, IsSome, IfSome, IfOk, IfErr, IsErr, IsTrue, OnOk, false};
+ghost use Rattle.std.specs.Int.{div_ceil};
+ghost use Rattle.sdbt_base.specs.Faults.{Rose};
+ghost use Rattle.platform.specs.Refusals.{IsNotMemory};
+
+use crate::transfers::{read_whole, write_whole};
+use crate::{OpenRefusal, Platform};
+use sdbt_base::{MAX_PAGES, PlatformFault, RECORD, ROOT};
+use std::fs::{self, OpenFile, OpenOptions};
+use std::io::{self, ErrorKind, Read, Seek, SeekFrom, Write};
+use std::os::unix::fs::OpenOptionsExt;
+use std::rt::Files;
+
+/// The bytes of a page, and those of the root record, as lengths of files.
+const PAGE_LEN: u64 = RECORD as u64;
+
+const ROOT_LEN: u64 = ROOT as u64;
+
+/// Who may read the files: their owner alone, since the root record is a key.
+const OWNER_ALONE: u32 = 0o600;
+
+/// A medium and a root cell in a folder: the file `media` has the pages one behind the other, and `root` is the root record.
+///
+/// `root` absent or empty is an empty cell; of another length than a root record's it reads as zeros, which are no
+/// root record. The record is replaced by renaming the file `root.new`, which stands in the folder only meanwhile.
+///
+/// No contract knows what a file system gives back, so this platform tells its head and capacity alone.
+#[derive(Drop)]
+pub struct FilePlatform<R: Files + Alloc + Clone + Drop> {
+    rt: R,
+    root: String<R::A>,
+    new_root: String<R::A>,
+    folder: R::File,
+    media: R::File,
+    head: u64,
+    // The last page may be there in part.
+    is_torn: bool,
+    // A sync failed. The system may then count as written what it dropped, so that no later sync shows anything.
+    is_unsure: bool,
+    faults: u64,
+    ghost room: { head ≤ 2 ^ 32 },
+}
+
+impl<R: Files + Alloc + Clone + Drop> FilePlatform<R> {
+    /// The platform in a folder that exists. `media` is made where there is none, a last page that was torn is filled
+    /// up with zeros, and a `root.new` that was left behind goes: a key that nothing needs must not stay.
+    pub fn open(rt: R, folder: &str) -> Result<FilePlatform<R>, OpenRefusal>
+        ensures faults { IfOk result (λ platform. ⟦<FilePlatform<R> as Platform>⟧.faults platform ≡ 0) }
+        ensures memory { IfErr result IsNotMemory }
+    {
+        let root = format!(in rt.alloc(); "{folder}/root")?;
+        let new_root = format!(in rt.alloc(); "{folder}/root.new")?;
+        let media = format!(in rt.alloc(); "{folder}/media")?;
+        let folder = fs::open(&rt, folder)?;
+        forget(&rt, new_root.as_str())?;
+        let media = OpenOptions::new()
+            .read(true)
+            .write(true)
+            .create(true)
+            .mode(OWNER_ALONE)
+            .open(&rt, media.as_str())?;
+        let head = settle(&media)?;
+        folder.sync_all()?;
+        Ok(FilePlatform {
+            rt,
+            root,
+            new_root,
+            folder,
+            media,
+            head,
+            is_torn: false,
+            is_unsure: false,
+            faults: 0,
+        })
+    }
+
+    // Moves to the end of the last page, once that is whole.
+    fn go_to_end(&mut self) -> io::Result<()>
+        ensures whole { OnOk result (self.new.is_torn ≡ false) }
+        ensures head { self.new.head ≡ self.old.head }
+        ensures faults { self.new.faults ≡ self.old.faults }
+    {
+        if self.is_torn {
+            fill_up(&self.media, self.head * PAGE_LEN)?;
+            self.is_torn = false;
+        }
+        self.media.seek(SeekFrom::Start(self.head * PAGE_LEN))?;
+        Ok(())
+    }
+
+    // Writes a page. It counts as handed over whatever comes of it, since a part of it may be there.
+    fn hand_over(&mut self, page: &[u8]) -> io::Result<()>
+        requires room { self.old.head < MAX_PAGES }
+        requires whole { self.old.is_torn ≡ false }
+        ensures head { self.new.head ≡ self.old.head + 1 }
+        ensures torn { IsTrue self.new.is_torn ↔ IsErr result }
+        ensures faults { self.new.faults ≡ self.old.faults }
+    {
+        self.head += 1;
+        self.is_torn = true;
+        write_whole(&mut self.media, page)?;
+        self.is_torn = false;
+        Ok(())
+    }
+
+    // Makes all pages outlast a loss of power. Once that failed, it is believed no more.
+    fn sync_media(&mut self) -> io::Result<()>
+        ensures believed { OnOk result (self.old.is_unsure ≡ false) }
+        ensures unsure { IsTrue self.new.is_unsure ↔ IsErr result }
+        ensures head { self.new.head ≡ self.old.head }
+        ensures faults { self.new.faults ≡ self.old.faults }
+    {
+        if self.is_unsure {
+            return Err(ErrorKind::Other.into());
+        }
+        self.is_unsure = true;
+        self.media.sync_data()?;
+        self.is_unsure = false;
+        Ok(())
+    }
+
+    // The root record is in `root.new`, and then, in one step that outlasts a loss of power, in `root`.
+    fn replace_root(&self, bytes: &[u8]) -> io::Result<()> {
+        forget(&self.rt, self.new_root.as_str())?;
+        let mut file = OpenOptions::new()
+            .write(true)
+            .create_new(true)
+            .mode(OWNER_ALONE)
+            .open(&self.rt, self.new_root.as_str())?;
+        write_whole(&mut file, bytes)?;
+        file.sync_all()?;
+        fs::rename(&self.rt, self.new_root.as_str(), self.root.as_str())?;
+        self.folder.sync_all()
+    }
+
+    // Neither a root record nor one on its way to be it is in the folder.
+    fn remove_root(&self) -> io::Result<()> {
+        forget(&self.rt, self.new_root.as_str())?;
+        forget(&self.rt, self.root.as_str())?;
+        self.folder.sync_all()
+    }
+}
+
+impl<R: Files + Alloc + Clone + Drop> Platform for FilePlatform<R> {
+    ghost use Rattle.std.specs.Prelude.{◌≤◌, ◌^◌, ℕ};
+    ghost use Rattle.std.proofs.Common.{rules};
+    ghost use Rattle.platform.specs.Untold.{untold};
+
+    ghost tells = { ⊥ };
+
+    ghost history = { λ platform. untold };
+
+    ghost head = { λ platform. platform.head };
+
+    ghost capacity = { λ platform. 2 ^ 32 };
+
+    ghost reads = { λ platform. 0 };
+
+    ghost faults = { λ platform. platform.faults };
+
+    ghost counts_pages = { λ told platform. absurd told };
+
+    ghost has_room = { λ platform. platform.room };
+
+    ghost is_limited = { λ platform. Prim.search rules };
+
+    fn head(&self) -> u64 {
+        self.head
+    }
+
+    fn capacity(&self) -> u64 {
+        MAX_PAGES
+    }
+
+    fn append(&mut self, page: &[u8]) -> Result<u64, PlatformFault> {
+        let addr = self.head;
+        if self.go_to_end().is_err() || self.hand_over(page).is_err() {
+            return fault(&mut self.faults);
+        }
+        Ok(addr)
+    }
+
+    fn read(&mut self, addr: u64, into: &mut [u8]) -> Result<(), PlatformFault> {
+        if read_page(&mut self.media, addr, into).is_err() {
+            return fault(&mut self.faults);
+        }
+        Ok(())
+    }
+
+    fn sync(&mut self) -> Result<(), PlatformFault> {
+        if self.sync_media().is_err() {
+            return fault(&mut self.faults);
+        }
+        Ok(())
+    }
+
+    fn load_root(&mut self, into: &mut [u8]) -> Result<bool, PlatformFault> {
+        let Ok(full) = load(&self.rt, self.root.as_str(), into) else {
+            return fault(&mut self.faults);
+        };
+        Ok(full)
+    }
+
+    fn swap_root(&mut self, bytes: &[u8]) -> Result<(), PlatformFault> {
+        if self.replace_root(bytes).is_err() {
+            let _ = forget(&self.rt, self.new_root.as_str());
+            return fault(&mut self.faults);
+        }
+        Ok(())
+    }
+
+    fn clear_root(&mut self) -> Result<(), PlatformFault> {
+        if self.remove_root().is_err() {
+            return fault(&mut self.faults);
+        }
+        Ok(())
+    }
+}
+
+// Removes a file, if there is one of this name.
+fn forget(files: &impl Files, path: &str) -> io::Result<()> {
+    match fs::remove_file(files, path) {
+        Err(error) if error.kind() != ErrorKind::NotFound => Err(error),
+        _ => Ok(()),
+    }
+}
+
+// The pages of a file of so many bytes, where no medium has more: a last one that is there in part is one.
+fn pages_of(len: u64) -> Option<u64>
+    ensures limit { IsSome result ↔ (len ≤ MAX_PAGES * RECORD) }
+    ensures pages { IfSome result (λ pages. pages ≡ div_ceil len RECORD) }
+    ensures most { IfSome result (λ pages. pages ≤ MAX_PAGES) }
+{
+    Some(len.div_ceil(PAGE_LEN)).filter(|pages| *pages <= MAX_PAGES)
+}
+
+// How many pages the file has, all of them whole and synced.
+fn settle<F: OpenFile>(media: &F) -> Result<u64, OpenRefusal>
+    ensures limit { IfOk result (λ pages. pages ≤ MAX_PAGES) }
+    ensures memory { IfErr result IsNotMemory }
+{
+    let len = media.metadata()?.len();
+    let Some(pages) = pages_of(len) else {
+        return Err(OpenRefusal::TooLong);
+    };
+    fill_up(media, pages * PAGE_LEN)?;
+    media.sync_all()?;
+    Ok(pages)
+}
+
+// A file that is shorter gets this length, with zeros at its end. None is ever made shorter.
+fn fill_up<F: OpenFile>(file: &F, len: u64) -> io::Result<()> {
+    if file.metadata()?.len() < len {
+        file.set_len(len)?;
+    }
+    Ok(())
+}
+
+// Reads the page of an address.
+fn read_page<F: Read + Seek>(media: &mut F, addr: u64, into: &mut [u8]) -> io::Result<()>
+    requires { addr < MAX_PAGES }
+{
+    media.seek(SeekFrom::Start(addr * PAGE_LEN))?;
+    read_whole(media, into)
+}
+
+// Whether there is a root record, which is then in the buffer.
+fn load(files: &impl Files, path: &str, into: &mut [u8]) -> io::Result<bool> {
+    let mut file = match fs::open(files, path) {
+        Ok(file) => file,
+        Err(error) if error.kind() == ErrorKind::NotFound => return Ok(false),
+        Err(error) => return Err(error),
+    };
+    match file.metadata()?.len() {
+        0 => Ok(false),
+        ROOT_LEN => {
+            read_whole(&mut file, into)?;
+            Ok(true)
+        }
+        _ => {
+            into.fill(0);
+            Ok(true)
+        }
+    }
+}
+
+// A call that failed is counted.
+fn fault<T>(faults: &mut u64) -> Result<T, PlatformFault>
+    ensures rises { faults.old ≤ faults.new }
+    ensures rose { Rose faults.old faults.new }
+    ensures failed { IsErr result }
+{
+    *faults = faults.saturating_add(1);
+    Err(PlatformFault)
+}
