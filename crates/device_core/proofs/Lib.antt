@@ -1,0 +1,4 @@
+pub mod Ascending
+pub mod EntryLaws
+pub mod ArrayLaws
+pub mod HoldLaws
