@@ -1,26 +1,27 @@
 -- What keeps a session's hold on its device, and what a write, a trim and a commit make of it.
-use Rattle.std.proofs.Common.{◌≡◌, ◌≢◌, ◌⊎◌, inl, inr, ℕ, zero, suc, ◌+◌, ◌<◌, ◌≤◌, ◌^◌, Bool, true, false, cond, List, [], ◌∷◌, ◌++◌, All, map, take, drop, length, get_or, set, Result, Ok, Err, Option, Some, None, refl, sym, subst, ap, ◌∙◌, arith, length-append, is_ok}
-use Rattle.std.specs.Prelude.{AllPairs, insert, remove, slice_get, if◌then◌else◌, unwrap_or, replicate}
+use Rattle.std.proofs.Common.{◌≡◌, ◌≢◌, ◌⊎◌, inl, inr, ℕ, zero, suc, ◌+◌, ◌-◌, ◌%◌, ◌<◌, ◌≤◌, ◌^◌, IsErr, Bool, true, false, cond, List, [], ◌∷◌, ◌++◌, All, map, take, drop, length, get_or, set, Result, Ok, Err, Option, Some, None, refl, sym, subst, ap, ◌∙◌, arith, length-append, is_ok}
+use Rattle.std.specs.Prelude.{AllPairs, insert, remove, slice_get, if◌then◌else◌, unwrap_or, replicate, is_some, ◌||◌}
 use Rattle.std.specs.List.{AllZip, zip}
 use Rattle.std.specs.FinMap as maps
 use Rattle.std.specs.FinMap.{from_entries, same_map, nat_cmp-IsAntisymmetric, get-remove}
 use Rattle.std.specs.Cmp.{nat_cmp_total}
 use Rattle.std.specs.Ordering.{nat_cmp, eq_by_cmp}
 use Rattle.std.proofs.Math.Seq.{take-append_seam}
-use Rattle.std.proofs.lemmas.List.{length-set}
+use Rattle.std.proofs.lemmas.List.{length-set, length-replicate}
 use Rattle.std.proofs.lemmas.List.Edits.{length-insert, length-remove}
-use Rattle.std.proofs.lemmas.List.Elements.{All-nil, All-cons, All-head, All-tail, All-weaker, All-set}
+use Rattle.std.proofs.lemmas.List.Elements.{All-nil, All-cons, All-head, All-tail, All-weaker, All-set, All-append, All-replicate}
 use Rattle.std.proofs.lemmas.List.Quantifiers.{all_pairs_remove}
 use Rattle.sdbt_base.specs.Bytes.{IsBytes}
-use Rattle.platform.specs.Image.{Image, IsWhole, IsEarlier, LeavesOnly, with_page, with_cell, all_synced}
-use Rattle.platform.specs.History.{History, During, Turns, image_at, moment}
-use Rattle.platform.proofs.Moments.{image_at-now, Turns-not}
+use Rattle.platform.specs.Image.{Image, IsWhole, IsEarlier, LeavesOnly, IsEither, with_page, with_cell, all_synced}
+use Rattle.platform.specs.History.{History, Steps, During, Turns, image_at, moment}
+use Rattle.platform.proofs.Moments.{image_at-now, Turns-not, Turns-either, During-step}
 use Rattle.seal_record.specs.Sealing.{masked}
 use Rattle.node_codec.specs.declared.body.Entry.{Entry}
 use Rattle.node_codec.specs.Record.{Record, DataRecord, NodeRecord, FitsNode, FitsRecord, record_bytes, value_of}
 use Rattle.root_codec.specs.declared.root.Root.{Root}
 use Rattle.root_codec.specs.RootRecord.{FitsRoot, root_bytes}
 use Rattle.root_codec.specs.Laws.{one_root}
+use Rattle.page_store.specs.Buffer.{padded}
 use Rattle.page_store.specs.Device.{Device}
 use Rattle.page_store.specs.Places.{IsRecordAt, FitsAt, NothingFits, IsNodeWanted, root_want, block_want}
 use Rattle.page_store.specs.Leaf.{IsLeaf, StandsByLeaf, leaf_parts}
@@ -28,10 +29,13 @@ use Rattle.page_store.specs.Stands.{Stands, StandsBy}
 use Rattle.page_store.proofs.RecordLaws.{one_record, record_appended, slice_get-end}
 use Rattle.page_store.proofs.StandsLaws.{stands_later, stands_leaves, stands_during}
 use Rattle.page_store.proofs.LeafStandsLaws.{stands_by_leaf, leaf_of_stands, leaf_found, leaf_wanted, leaf_appended}
-use Rattle.device_core.specs.Leaf.{IsOneLeaf, IsServed, AreEntries, IsPlace, placed}
+use Rattle.device_core.specs.Leaf.{IsOneLeaf, IsServed, IsRefusedCell, AreEntries, IsPlace, placed}
 use Rattle.device_core.specs.Blocks.{Blocks, block_content}
+use Rattle.device_core.specs.Replies.{committed_device}
 use Rattle.device_core.specs.Holding.{AreMapped, blocks_of_entries, HoldsBy}
-use Rattle.device_core.proofs.EntryLaws.{All-insert, All-remove}
+use Rattle.page_store.specs.Roots.{IsRootWithin, IsBadCell}
+use Rattle.device_core.specs.Open.{IsOpenBy}
+use Rattle.device_core.proofs.EntryLaws.{room_where_none, All-insert, All-remove, AreEntries-none}
 use Rattle.device_core.proofs.ArrayLaws.{same_means, IsWithin, is_within, length-AllZip, AllZip-placed, AllZip-remove, apart_placed, array_placed, array_removed, array_without, array_at}
 
 -- ---- a later image
@@ -185,9 +189,9 @@ leaf_fits root count loaded touched known image device contents h nothing = noth
 -- ---- a read
 
 -- the data record of an entry is there
-pub block_fits : (root : Root) (count : ℕ) (touched : Bool) (known : List Entry) (image : Image) (device : Device) (contents : Blocks) (at block : ℕ) (entry : Entry) → HoldsBy root count true touched known image device contents → IsPlace known block (Ok at) → entry ≡ get_or known at entry → NothingFits image.readable (block_want entry.addr block) entry.key → ⊥
-block_fits root count touched known image device contents at block entry h place is nothing =
-    let same = h.read refl in
+pub block_fits : (root : Root) (count : ℕ) (loaded touched : Bool) (known : List Entry) (image : Image) (device : Device) (contents : Blocks) (at block : ℕ) (entry : Entry) → loaded ≡ true → HoldsBy root count loaded touched known image device contents → IsPlace known block (Ok at) → entry ≡ get_or known at entry → NothingFits image.readable (block_want entry.addr block) entry.key → ⊥
+block_fits root count loaded touched known image device contents at block entry ready h place is nothing =
+    let same = h.read ready in
     let there = subst (λ (es : List Entry). IsPlace es block (Ok at)) same place in
     let here = array_at (λ (e : Entry) (c : List ℕ). IsRecordAt image.readable e.addr e.key (DataRecord e.low c)) h.entries h.texts at block h.mapped_there.records there in
     let entry_is : get_or h.entries at entry ≡ entry = ap (λ (es : List Entry). get_or es at entry) (sym same) ∙ sym is in
@@ -196,9 +200,9 @@ block_fits root count touched known image device contents at block entry h place
     nothing (DataRecord block here.0) (subst (λ (n : ℕ). IsRecordAt image.readable entry.addr entry.key (DataRecord n here.0)) low at_entry, (refl, refl))
 
 -- what is read at an entry is what the array has
-pub content_read : (root : Root) (count : ℕ) (touched : Bool) (known : List Entry) (image : Image) (device : Device) (contents : Blocks) (at block pages : ℕ) (entry : Entry) (value : Record) (content : List ℕ) → HoldsBy root count true touched known image device contents → IsPlace known block (Ok at) → entry ≡ get_or known at entry → entry.addr < pages → pages ≤ 2 ^ 32 → FitsAt image.readable (block_want entry.addr block) entry.key value → ((n : ℕ) (c : List ℕ) → value ≡ DataRecord n c → content ≡ c) → content ≡ block_content contents block
-content_read root count touched known image device contents at block pages entry value content h place is small most fits content_is =
-    let same = h.read refl in
+pub content_read : (root : Root) (count : ℕ) (loaded touched : Bool) (known : List Entry) (image : Image) (device : Device) (contents : Blocks) (at block pages : ℕ) (entry : Entry) (value : Record) (content : List ℕ) → loaded ≡ true → HoldsBy root count loaded touched known image device contents → IsPlace known block (Ok at) → entry ≡ get_or known at entry → entry.addr < pages → pages ≤ 2 ^ 32 → FitsAt image.readable (block_want entry.addr block) entry.key value → ((n : ℕ) (c : List ℕ) → value ≡ DataRecord n c → content ≡ c) → content ≡ block_content contents block
+content_read root count loaded touched known image device contents at block pages entry value content ready h place is small most fits content_is =
+    let same = h.read ready in
     let there = subst (λ (es : List Entry). IsPlace es block (Ok at)) same place in
     let here = array_at (λ (e : Entry) (c : List ℕ). IsRecordAt image.readable e.addr e.key (DataRecord e.low c)) h.entries h.texts at block h.mapped_there.records there in
     let entry_is : get_or h.entries at entry ≡ entry = ap (λ (es : List Entry). get_or es at entry) (sym same) ∙ sym is in
@@ -208,9 +212,9 @@ content_read root count touched known image device contents at block pages entry
     content_is entry.low here.0 value_is ∙ sym (ap (λ (o : Option (List ℕ)). unwrap_or o (replicate 4096 0)) found)
 
 -- a block without an entry holds zeros
-pub content_none : (root : Root) (count : ℕ) (touched : Bool) (known : List Entry) (image : Image) (device : Device) (contents : Blocks) (at block : ℕ) → HoldsBy root count true touched known image device contents → IsPlace known block (Err at) → maps.get contents block ≡ None
-content_none root count touched known image device contents at block h place =
-    let there = subst (λ (es : List Entry). IsPlace es block (Err at)) (h.read refl) place in
+pub content_none : (root : Root) (count : ℕ) (loaded touched : Bool) (known : List Entry) (image : Image) (device : Device) (contents : Blocks) (at block : ℕ) → loaded ≡ true → HoldsBy root count loaded touched known image device contents → IsPlace known block (Err at) → maps.get contents block ≡ None
+content_none root count loaded touched known image device contents at block ready h place =
+    let there = subst (λ (es : List Entry). IsPlace es block (Err at)) (h.read ready) place in
     ap (λ (m : Blocks). maps.get m block) h.contents_are ∙ array_without h.entries h.texts at block there
 
 -- what isn't mapped is no less mapped without it
@@ -240,10 +244,10 @@ end_recorded image page addr as_many at =
 abbrev pub data_page : ℕ → ℕ → List ℕ → List ℕ → List ℕ
 data_page addr block key content = masked key (record_bytes addr (DataRecord block content))
 
-pub written : (root : Root) (count now : ℕ) (touched : Bool) (known : List Entry) (image later : Image) (device : Device) (contents : Blocks) (block addr : ℕ) (place : Result ℕ ℕ) (key content : List ℕ) → HoldsBy root count true touched known image device contents → IsWhole image → addr ≡ length image.recorded → addr < 2 ^ 64 → AreEntries known root.blocks addr → IsPlace known block place → block < 1048576 → IsBytes 4096 content → now ≡ (if is_ok place then count else count + 1) → IsEarlier image later → later ≡ with_page image (data_page addr block key content) (data_page addr block key content) → HoldsBy root now true true (placed known place (record { low = block; addr = addr; key = key })) later device (maps.insert contents block content)
-written root count now touched known image later device contents block addr place key content h whole at small are is_place low sized next earlier later_is =
+pub written : (root : Root) (count now : ℕ) (loaded touched : Bool) (known : List Entry) (image later : Image) (device : Device) (contents : Blocks) (block addr : ℕ) (place : Result ℕ ℕ) (key content : List ℕ) → loaded ≡ true → HoldsBy root count loaded touched known image device contents → IsWhole image → addr ≡ length image.recorded → addr < 2 ^ 64 → AreEntries known root.blocks addr → IsPlace known block place → block < 1048576 → IsBytes 4096 content → now ≡ (if is_ok place then count else count + 1) → IsEarlier image later → later ≡ with_page image (data_page addr block key content) (data_page addr block key content) → HoldsBy root now loaded true (placed known place (record { low = block; addr = addr; key = key })) later device (maps.insert contents block content)
+written root count now loaded touched known image later device contents block addr place key content ready h whole at small are is_place low sized next earlier later_is =
     let entry : Entry = record { low = block; addr = addr; key = key } in
-    let same : known ≡ h.entries = h.read refl in
+    let same : known ≡ h.entries = h.read ready in
     let there = subst (λ (es : List Entry). IsPlace es block place) same is_place in
     let below = subst (λ (es : List Entry). All (λ (e : Entry). e.addr < addr) es) same are.below in
     let page = data_page addr block key content in
@@ -271,9 +275,9 @@ written root count now touched known image later device contents block addr plac
       untouched = λ never. absurd cc;
     }
 
-pub trimmed : (root : Root) (count now : ℕ) (touched : Bool) (known : List Entry) (image : Image) (device : Device) (contents : Blocks) (block at : ℕ) → HoldsBy root count true touched known image device contents → IsPlace known block (Ok at) → now + 1 ≡ count → HoldsBy root now true true (remove known at) image device (maps.remove contents block)
-trimmed root count now touched known image device contents block at h is_place next =
-    let same : known ≡ h.entries = h.read refl in
+pub trimmed : (root : Root) (count now : ℕ) (loaded touched : Bool) (known : List Entry) (image : Image) (device : Device) (contents : Blocks) (block at : ℕ) → loaded ≡ true → HoldsBy root count loaded touched known image device contents → IsPlace known block (Ok at) → now + 1 ≡ count → HoldsBy root now loaded true (remove known at) image device (maps.remove contents block)
+trimmed root count now loaded touched known image device contents block at ready h is_place next =
+    let same : known ≡ h.entries = h.read ready in
     let there = subst (λ (es : List Entry). IsPlace es block (Ok at)) same is_place in
     let len = length-AllZip (λ (e : Entry) (c : List ℕ). IsRecordAt image.readable e.addr e.key (DataRecord e.low c)) h.entries h.texts h.mapped_there.records in
     record {
@@ -378,3 +382,133 @@ turns_stands old new X before after was next turns = record {
 pub during_stands : (old new : History) (before after : Option Device) → Stands old.present before → During old new (λ image. image.cell ≡ old.present.cell) → Turns old new (LeavesOnly (λ left. Stands left before)) (LeavesOnly (λ left. Stands left after))
 during_stands old new before after was during =
     Turns-not old new (LeavesOnly (λ left. Stands left before)) (LeavesOnly (λ left. Stands left after)) (stands_during old new before was during)
+
+-- ---- cells that can't be served
+
+pub refused_bad : (cell : Option (List ℕ)) (pages : ℕ) → IsBadCell pages cell → IsRefusedCell cell pages
+refused_bad cell pages bad = record {
+  full = bad.full;
+  bad = λ root served. bad.bad root (record { in_range = served.fits; key = served.key; within = served.within });
+}
+
+pub refused_levels : (cell : Option (List ℕ)) (pages : ℕ) (root : Root) → cell ≡ Some (root_bytes root) → IsRootWithin pages root → (IsOneLeaf root → ⊥) → IsRefusedCell cell pages
+refused_levels cell pages root is within never = record {
+  full = λ none. cc;
+  bad = λ other served same.
+      let roots : other ≡ root = one_root other root served.fits within.in_range served.key.0 (same_some _ _ (sym same ∙ is)) in
+      never (subst IsOneLeaf roots served.leaf);
+}
+
+pub opened : (root : Root) (known : List Entry) (pages now : ℕ) → IsRootWithin pages root → IsOneLeaf root → known ≡ [] → now ≡ pages → IsOpenBy root root.mapped false false known now
+opened root known pages now within one none same = record {
+  served = record { fits = within.in_range; key = within.key; leaf = one; within = omega (arith, within.within) };
+  mapped = within.in_range.mapped;
+  entries = subst (λ (es : List Entry). AreEntries es root.blocks now) (sym none) (AreEntries-none root.blocks now);
+  loaded = λ never. absurd cc;
+}
+
+-- ---- a forged count
+
+-- where a block has an entry the count isn't 0
+pub some_mapped : (root : Root) (count : ℕ) (loaded touched : Bool) (known : List Entry) (image : Image) (device : Device) (contents : Blocks) (at block : ℕ) → loaded ≡ true → HoldsBy root count loaded touched known image device contents → IsPlace known block (Ok at) → count ≡ 0 → ⊥
+some_mapped root count loaded touched known image device contents at block ready h place none =
+    omega (arith, ap (λ (es : List Entry). length es) (h.read ready), h.count, place.0, none)
+
+-- where a block has no entry not every block is mapped
+pub some_unmapped : (root : Root) (count : ℕ) (loaded touched : Bool) (known : List Entry) (image : Image) (device : Device) (contents : Blocks) (block blocks pages : ℕ) (place : Result ℕ ℕ) → loaded ≡ true → HoldsBy root count loaded touched known image device contents → AreEntries known blocks pages → IsPlace known block place → block < blocks → IsErr place → count ≡ blocks → ⊥
+some_unmapped root count loaded touched known image device contents block blocks pages place ready h are is_place low none all =
+    omega (arith, ap (λ (es : List Entry). length es) (h.read ready), h.count, all, room_where_none known place block blocks pages none are is_place low)
+
+pub touched_none : (was now : Bool) (o : Option (List ℕ)) → now ≡ was → o ≡ None → now ≡ (was || is_some o)
+touched_none false now o same none = same ∙ sym (ap is_some none)
+touched_none true now o same none = same
+
+pub touched_some : (was : Bool) (o : Option (List ℕ)) (c : List ℕ) → o ≡ Some c → true ≡ (was || is_some o)
+touched_some false o c some = sym (ap is_some some)
+touched_some true o c some = refl
+
+pub padded_bytes : (content : List ℕ) → length content ≤ 4096 → All (λ b. b < 256) content → IsBytes 4096 (padded content)
+padded_bytes content most bytes = (
+  omega (arith, length-append content (replicate (4096 - length content) 0), length-replicate {A = ℕ} (4096 - length content) 0),
+  All-append (λ (b : ℕ). b < 256) content (replicate (4096 - length content) 0) bytes (All-replicate (λ (b : ℕ). b < 256) (4096 - length content) 0 (omega arith)),
+)
+
+-- what the array has for a block with an entry
+pub is_mapped : (root : Root) (count : ℕ) (loaded touched : Bool) (known : List Entry) (image : Image) (device : Device) (contents : Blocks) (at block : ℕ) → loaded ≡ true → HoldsBy root count loaded touched known image device contents → IsPlace known block (Ok at) → (c : List ℕ) × (maps.get contents block ≡ Some c)
+is_mapped root count loaded touched known image device contents at block ready h place =
+    let there = subst (λ (es : List Entry). IsPlace es block (Ok at)) (h.read ready) place in
+    let here = array_at (λ (e : Entry) (c : List ℕ). IsRecordAt image.readable e.addr e.key (DataRecord e.low c)) h.entries h.texts at block h.mapped_there.records there in
+    (here.0, ap (λ (m : Blocks). maps.get m block) h.contents_are ∙ here.1)
+
+-- a look at the cell, and then the one step that may empty it
+pub erased : (old mid new : History) (device : Option Device) → Steps old mid → mid.present ≡ old.present → Steps mid new → IsEither mid.present (with_cell mid.present None) new.present → Stands old.present device → Turns old new (LeavesOnly (λ left. Stands left device)) (LeavesOnly (λ left. Stands left None))
+erased old mid new device first same second either stands =
+    let P : Image → Type 0 = LeavesOnly (λ left. Stands left device) in
+    let Q : Image → Type 0 = LeavesOnly (λ left. Stands left None) in
+    let here = stands_leaves old.present device stands in
+    let there = subst P (sym same) here in
+    Turns-either old mid new P Q (During-step old mid P first here there) second
+    (elim either as (λ e. P new.present ⊎ Q new.present) [
+      | inl still ↦ inl (subst P (sym still) there)
+      | inr empty ↦ inr (subst Q (sym empty) (stands_leaves (with_cell mid.present None) None refl))
+    ])
+
+-- what a held image stands for
+pub held_stands : (root : Root) (count : ℕ) (loaded touched : Bool) (known : List Entry) (image : Image) (device : Device) (contents : Blocks) → HoldsBy root count loaded touched known image device contents → Stands image (Some device)
+held_stands root count loaded touched known image device contents h =
+    (root, leaf_parts root.addr root.key h.leaf h.leaf_texts, stands_by_leaf image device root h.leaf h.leaf_texts h.stands)
+
+-- ---- a commit of a session's array
+
+-- the root record that follows another one: the next number, and a leaf of so many entries at the end of so many pages
+pub record IsNext (old new : Root) (count pages : ℕ) : Type 0 where
+  pub order : new.order ≡ old.order
+  pub level : new.level ≡ old.level
+  pub blocks : new.blocks ≡ old.blocks
+  pub commit : new.commit ≡ old.commit + 1
+  pub addr : new.addr ≡ pages
+  pub mapped : new.mapped ≡ count
+  pub head : new.head ≡ pages + 1
+
+pub next_fits : (old new : Root) (count pages : ℕ) → IsNext old new count pages → IsServed old pages → count ≤ old.blocks → pages < 2 ^ 32 → FitsRoot new
+next_fits old new count pages next served most room =
+    let fits = served.fits in
+    record {
+      order_even = ap (λ (n : ℕ). n % 2) next.order ∙ fits.order_even;
+      order_least = omega (arith, fits.order_least, next.order);
+      order_most = omega (arith, fits.order_most, next.order);
+      level_least = omega (arith, fits.level_least, next.level);
+      level_most = omega (arith, fits.level_most, next.level);
+      blocks_least = omega (arith, fits.blocks_least, next.blocks);
+      blocks_most = omega (arith, fits.blocks_most, next.blocks);
+      commit = omega (arith, fits.commit, served.within, next.commit, next.head);
+      addr = omega (arith, next.addr, next.head);
+      mapped = omega (arith, next.mapped, next.blocks, most);
+      head = omega (arith, next.head, room);
+    }
+
+pub next_leaf : (old new : Root) (count pages : ℕ) → IsNext old new count pages → IsOneLeaf old → IsOneLeaf new
+next_leaf old new count pages next one = record { order = next.order ∙ one.order; level = next.level ∙ one.level; blocks = omega (arith, next.blocks, one.blocks) }
+
+-- the image after a commit stands for the device with the session's array
+pub raised_leaf : (old new : Root) (count pages : ℕ) (loaded touched : Bool) (known : List Entry) (image : Image) (device : Device) (contents : Blocks) → loaded ≡ true → (h : HoldsBy old count loaded touched known image device contents) → IsNext old new count pages → IsServed old pages → count ≤ old.blocks → pages < 2 ^ 32 → IsBytes 32 new.key → IsWhole image → pages ≡ length image.recorded → AreEntries known old.blocks pages → StandsByLeaf (with_leaf image new known) (committed_device device contents) new known h.texts
+raised_leaf old new count pages loaded touched known image device contents ready h next served most room key whole at are =
+    let same = h.read ready in
+    committed image new (committed_device device contents) known h.texts whole (next_fits old new count pages next served most room) key (next_leaf old new count pages next served.leaf)
+    (next.addr ∙ at) (omega (arith, next.addr, next.head)) (ap length same ∙ sym h.count ∙ sym next.mapped)
+    (subst (λ (n : ℕ). AreEntries known n new.addr) (sym next.blocks) (subst (λ (n : ℕ). AreEntries known old.blocks n) (sym next.addr) are))
+    (subst (λ (es : List Entry). AreMapped image es h.texts) (sym same) h.mapped_there)
+    (next.order ∙ h.stands.order) (next.blocks ∙ h.stands.blocks) (next.commit ∙ ap (λ (n : ℕ). n + 1) h.stands.number)
+    (h.contents_are ∙ ap (λ (es : List Entry). blocks_of_entries es h.texts) (sym same))
+
+pub raised_stands : (old new : Root) (count pages : ℕ) (loaded touched : Bool) (known : List Entry) (image : Image) (device : Device) (contents : Blocks) → loaded ≡ true → HoldsBy old count loaded touched known image device contents → IsNext old new count pages → IsServed old pages → count ≤ old.blocks → pages < 2 ^ 32 → IsBytes 32 new.key → IsWhole image → pages ≡ length image.recorded → AreEntries known old.blocks pages → Stands (with_leaf image new known) (Some (committed_device device contents))
+raised_stands old new count pages loaded touched known image device contents ready h next served most room key whole at are =
+    (new, leaf_parts new.addr new.key known h.texts, stands_by_leaf (with_leaf image new known) (committed_device device contents) new known h.texts
+    (raised_leaf old new count pages loaded touched known image device contents ready h next served most room key whole at are))
+
+pub raised_held : (old new : Root) (count pages : ℕ) (loaded touched : Bool) (known : List Entry) (image later : Image) (device : Device) (contents : Blocks) → loaded ≡ true → HoldsBy old count loaded touched known image device contents → IsNext old new count pages → IsServed old pages → count ≤ old.blocks → pages < 2 ^ 32 → IsBytes 32 new.key → IsWhole image → pages ≡ length image.recorded → AreEntries known old.blocks pages → later ≡ with_leaf image new known → HoldsBy new count loaded false known later (committed_device device contents) contents
+raised_held old new count pages loaded touched known image later device contents ready h next served most room key whole at are later_is =
+    let leaf = raised_leaf old new count pages loaded touched known image device contents ready h next served most room key whole at are in
+    let held = leaf_held (with_leaf image new known) (committed_device device contents) new loaded known h.texts known (λ yes. refl) leaf in
+    subst (λ (n : ℕ). HoldsBy new n loaded false known later (committed_device device contents) contents) next.mapped
+    (subst (λ (i : Image). HoldsBy new new.mapped loaded false known i (committed_device device contents) contents) (sym later_is) held)

@@ -2,3 +2,4 @@ pub mod Ascending
 pub mod EntryLaws
 pub mod ArrayLaws
 pub mod HoldLaws
+pub mod MomentLaws

@@ -94,7 +94,10 @@ fn fetch_block<P: Platform>(
     ensures cause { IsErrOf result FetchRefusal.PlatformFault → Rose (P.faults platform.old) (P.faults platform.new) }
 {
     let want = Want::of_block(entry.addr, block);
-    fetch(platform, &want, &entry.key, buffers)?;
+    match fetch(platform, &want, &entry.key, buffers) {
+        Ok(_) => {}
+        Err(refusal) => return Err(refusal),
+    }
     out.copy_from_slice(buffers.content());
     Ok(())
 }

@@ -137,7 +137,11 @@ impl Session {
         }
         let want = Want::of_root(&self.root);
         let key = self.root.key;
-        match fetch(platform, &want, &key, &mut self.buffers)? {
+        let body = match fetch(platform, &want, &key, &mut self.buffers) {
+            Ok(body) => body,
+            Err(refusal) => return Err(refusal),
+        };
+        match body {
             Body::Node { node } => {
                 self.entries = node.entries;
                 self.is_loaded = true;

@@ -1,4 +1,4 @@
-ghost use Rattle.std.specs.Prelude.{◌≡◌, ◌≢◌, ◌↔◌, ◌<◌, ◌≤◌, ◌+◌, ◌⊎◌, ◌||◌, ℕ, true, None, OnOk, OnErr, IsErrOf, length};
+ghost use Rattle.std.specs.Prelude.{◌≡◌, ◌≢◌, ◌↔◌, ◌<◌, ◌≤◌, ◌+◌, ◌⊎◌, ◌||◌, ℕ, true, None, All, OnOk, OnErr, IsErrOf, length};
 ghost use Rattle.std.specs.FinMap as map;
 ghost use Rattle.sdbt_base.specs.Faults.{Rose};
 ghost use Rattle.platform.specs.History.{During};
@@ -74,7 +74,9 @@ impl Session {
                 addr: self.root.addr,
             });
         };
-        self.buffers.put_block(platform.head(), block, content);
+        are_bytes(content);
+        let addr = platform.head();
+        self.buffers.put_block(addr, block, content);
         let placed = match self.buffers.append(platform, tape) {
             Ok(placed) => placed,
             Err(AppendFault::TapeFault) => return Err(WriteRefusal::TapeFault),
@@ -141,3 +143,8 @@ impl Session {
         Ok(())
     }
 }
+
+/// A fact: each is below 256.
+fn are_bytes(bytes: &[u8])
+    ensures { All (λ b. b < 256) bytes.now }
+{}

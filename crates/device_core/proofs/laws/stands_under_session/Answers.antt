@@ -2,6 +2,7 @@ use Rattle.page_store.proofs.LeafStandsLaws.{stands_by_leaf}
 use Rattle.page_store.specs.Leaf.{leaf_parts}
 use Rattle.device_core.proofs.ArrayLaws.{array_at}
 use Rattle.device_core.proofs.HoldLaws.{mounted}
+use Rattle.device_core.proofs.MomentLaws.{still}
 use Rattle.device_core.proofs.EntryLaws.{room_where_none}
 use Rattle.device_core.proofs.laws.stands_under_session.Goals as goal
 

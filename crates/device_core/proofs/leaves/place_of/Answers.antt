@@ -1,5 +1,5 @@
-use Rattle.std.proofs.Common.{◌≡◌, ◌+◌, ◌<◌, ℕ, suc, drop, List, [], ◌∷◌, All, take, length, get_or, subst, arith, length-drop}
-use Rattle.std.proofs.lemmas.List.{take_more}
+use Rattle.std.proofs.Common.{◌≡◌, ◌∙◌, sym, ap, ◌+◌, ◌<◌, ℕ, suc, drop, List, [], ◌∷◌, All, take, length, get_or, subst, arith, length-drop}
+use Rattle.std.proofs.lemmas.List.{take_more, get_or_default}
 use Rattle.std.proofs.lemmas.List.Elements.{All-append, All-cons, All-nil}
 use Rattle.node_codec.specs.declared.body.Entry.{Entry}
 use Rattle.device_core.proofs.EntryLaws.{above_after, above_next}
@@ -17,7 +17,7 @@ returns-then-entry-block-2 c =
     let is : entry.low ≡ c.args.block = c.if-entry-block-2.true in
     let at : entry ≡ get_or entries c.loop-at.at entry = c.index-entries-at.is in (
       omega arith,
-      λ d. grind (arith, at, is),
+      λ d. ap (λ (e : Entry). e.low) (get_or_default entries c.loop-at.at d entry (omega arith) ∙ sym at) ∙ is,
       c.loop-at.invariant,
       subst (λ (n : ℕ). All (λ (e : Entry). n < e.low) (drop (suc c.loop-at.at) entries)) is (above_next entries c.loop-at.at entry c.requires (omega arith) at),
     )
