@@ -146,3 +146,9 @@ room_for entries at block blocks head h place low =
 pub room_where_none : (entries : List Entry) (place : Result ℕ ℕ) (block blocks head : ℕ) → IsErr place → AreEntries entries blocks head → IsPlace entries block place → block < blocks → length entries < blocks
 room_where_none entries (Ok at) block blocks head none h place low = grind (arith, none)
 room_where_none entries (Err at) block blocks head none h place low = room_for entries at block blocks head h place low
+
+-- there are no more entries than blocks
+pub length-entries : (entries : List Entry) (blocks head : ℕ) → AreEntries entries blocks head → length entries ≤ blocks
+length-entries entries blocks head h =
+    let len = length-map entries (λ (x : Entry). x.low) in
+    omega (arith, len, length-ascending (lows entries) blocks h.ascend (λ k within. lows_below entries blocks (length entries) (All-take (λ x. x.low < blocks) (length entries) entries h.lows) k (omega (arith, len)) (omega (arith, len))))

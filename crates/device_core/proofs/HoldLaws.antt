@@ -14,7 +14,7 @@ use Rattle.std.proofs.lemmas.List.Quantifiers.{all_pairs_remove}
 use Rattle.sdbt_base.specs.Bytes.{IsBytes}
 use Rattle.platform.specs.Image.{Image, IsWhole, IsEarlier, LeavesOnly, IsEither, with_page, with_cell, all_synced}
 use Rattle.platform.specs.History.{History, Steps, During, Turns, image_at, moment}
-use Rattle.platform.proofs.Moments.{image_at-now, Turns-not, Turns-either, During-step}
+use Rattle.platform.proofs.Moments.{whole-now, image_at-now, Turns-not, Turns-either, During-step}
 use Rattle.seal_record.specs.Sealing.{masked}
 use Rattle.node_codec.specs.declared.body.Entry.{Entry}
 use Rattle.node_codec.specs.Record.{Record, DataRecord, NodeRecord, FitsNode, FitsRecord, record_bytes, value_of}
@@ -30,12 +30,13 @@ use Rattle.page_store.proofs.RecordLaws.{one_record, record_appended, slice_get-
 use Rattle.page_store.proofs.StandsLaws.{stands_later, stands_leaves, stands_during}
 use Rattle.page_store.proofs.LeafStandsLaws.{stands_by_leaf, leaf_of_stands, leaf_found, leaf_wanted, leaf_appended}
 use Rattle.device_core.specs.Leaf.{IsOneLeaf, IsServed, IsRefusedCell, AreEntries, IsPlace, placed}
-use Rattle.device_core.specs.Blocks.{Blocks, block_content}
+use Rattle.device_core.specs.Blocks.{Blocks, block_content, new_device}
+use Rattle.device_core.proofs.MomentLaws.{one_call, one_look, call_more, then_published}
 use Rattle.device_core.specs.Replies.{committed_device}
 use Rattle.device_core.specs.Holding.{AreMapped, blocks_of_entries, HoldsBy}
 use Rattle.page_store.specs.Roots.{IsRootWithin, IsBadCell}
 use Rattle.device_core.specs.Open.{IsOpenBy}
-use Rattle.device_core.proofs.EntryLaws.{room_where_none, All-insert, All-remove, AreEntries-none}
+use Rattle.device_core.proofs.EntryLaws.{length-entries, room_where_none, All-insert, All-remove, AreEntries-none}
 use Rattle.device_core.proofs.ArrayLaws.{same_means, IsWithin, is_within, length-AllZip, AllZip-placed, AllZip-remove, apart_placed, array_placed, array_removed, array_without, array_at}
 
 -- ---- a later image
@@ -512,3 +513,94 @@ raised_held old new count pages loaded touched known image later device contents
     let held = leaf_held (with_leaf image new known) (committed_device device contents) new loaded known h.texts known (λ yes. refl) leaf in
     subst (λ (n : ℕ). HoldsBy new n loaded false known later (committed_device device contents) contents) next.mapped
     (subst (λ (i : Image). HoldsBy new new.mapped loaded false known i (committed_device device contents) contents) (sym later_is) held)
+
+-- the leaf is appended, the medium synced, and the root record replaced
+pub raise_turns : (old mid new : History) (first next : Root) (count pages : ℕ) (loaded touched : Bool) (known : List Entry) (device : Device) (contents : Blocks) → loaded ≡ true → HoldsBy first count loaded touched known old.present device contents → IsNext first next count pages → IsServed first pages → count ≤ first.blocks → pages < 2 ^ 32 → IsBytes 32 next.key → pages ≡ length old.present.recorded → AreEntries known first.blocks pages → Steps old mid → mid.present.cell ≡ old.present.cell → mid.present ≡ with_page old.present (leaf_page next known) (leaf_page next known) → Turns mid new (λ image. image.cell ≡ mid.present.cell) (λ image. image ≡ with_cell (all_synced mid.present) (Some (root_bytes next))) → Turns old new (LeavesOnly (λ left. Stands left (Some device))) (LeavesOnly (λ left. Stands left (Some (committed_device device contents))))
+raise_turns old mid new first next count pages loaded touched known device contents ready h follows served most room key at are steps cell appended published =
+    let X = with_leaf old.present next known in
+    let same : with_cell (all_synced mid.present) (Some (root_bytes next)) ≡ X = ap (λ (i : Image). with_cell (all_synced i) (Some (root_bytes next))) appended in
+    let turns = subst (λ (x : Image). Turns mid new (λ image. image.cell ≡ mid.present.cell) (λ image. image ≡ x)) same published in
+    turns_stands old new X (Some device) (Some (committed_device device contents)) (held_stands first count loaded touched known old.present device contents h)
+    (raised_stands first next count pages loaded touched known old.present device contents ready h follows served most room key (whole-now old) at are)
+    (then_published old mid new X (one_call old mid steps cell) turns)
+
+pub raise_held : (old mid new : History) (first next : Root) (count pages : ℕ) (loaded touched : Bool) (known : List Entry) (device : Device) (contents : Blocks) → loaded ≡ true → HoldsBy first count loaded touched known old.present device contents → IsNext first next count pages → IsServed first pages → count ≤ first.blocks → pages < 2 ^ 32 → IsBytes 32 next.key → pages ≡ length old.present.recorded → AreEntries known first.blocks pages → mid.present ≡ with_page old.present (leaf_page next known) (leaf_page next known) → new.present ≡ with_cell (all_synced mid.present) (Some (root_bytes next)) → HoldsBy next count loaded false known new.present (committed_device device contents) contents
+raise_held old mid new first next count pages loaded touched known device contents ready h follows served most room key at are appended published =
+    raised_held first next count pages loaded touched known old.present new.present device contents ready h follows served most room key (whole-now old) at are
+    (published ∙ ap (λ (i : Image). with_cell (all_synced i) (Some (root_bytes next))) appended)
+
+-- a leaf's entries can stand in a record
+pub entries_fit : (root : Root) (addr : ℕ) (entries : List Entry) → IsOneLeaf root → AreEntries entries root.blocks addr → FitsNode addr 1 entries
+entries_fit root addr entries one are = record {
+  level_least = omega arith;
+  level_most = omega arith;
+  count = omega (arith, one.blocks, length-entries entries root.blocks addr are);
+  ascend = are.ascend;
+  lows = All-weaker (λ (e : Entry). e.low < root.blocks) (λ (e : Entry). e.low < 1048576) (λ e less. omega (arith, less, one.blocks)) entries are.lows;
+  below = are.below;
+}
+
+-- without a change the device with its own number and the session's array is the device
+pub untouched_after : (root : Root) (count : ℕ) (loaded touched : Bool) (known : List Entry) (image : Image) (device : Device) (contents : Blocks) (number : ℕ) → touched ≡ false → number ≡ root.commit → HoldsBy root count loaded touched known image device contents → HoldsBy root count loaded touched known image (record device { number = number; contents = contents }) contents
+untouched_after root count loaded touched known image device contents number still is h =
+    let numbers : device.number ≡ number = sym (is ∙ h.stands.number) in
+    let maps : device.contents ≡ contents = sym (h.untouched still) in
+    let same : device ≡ record { blocks = device.blocks; order = device.order; number = number; contents = contents } = λ i. record { blocks = device.blocks; order = device.order; number = numbers i; contents = maps i } in
+    subst (λ (d : Device). HoldsBy root count loaded touched known image d contents) same h
+
+-- ---- the first root record of a device
+
+-- a leaf without entries at this address
+abbrev pub first_root : ℕ → ℕ → ℕ → List ℕ → Root
+first_root blocks order addr key = record { order = order; level = 1; blocks = blocks; commit = 0; addr = addr; key = key; mapped = 0; head = addr + 1 }
+
+pub first_fits : (blocks order addr : ℕ) (key : List ℕ) → 1 ≤ blocks → blocks ≤ 64 → order ≡ 64 → addr < 2 ^ 32 → FitsRoot (first_root blocks order addr key)
+first_fits blocks order addr key least most is room = record {
+  order_even = ap (λ (n : ℕ). n % 2) is;
+  order_least = omega (arith, is);
+  order_most = omega (arith, is);
+  level_least = omega arith;
+  level_most = omega arith;
+  blocks_least = least;
+  blocks_most = omega arith;
+  commit = omega arith;
+  addr = omega arith;
+  mapped = omega arith;
+  head = omega arith;
+}
+
+pub first_one : (blocks order addr : ℕ) (key : List ℕ) → blocks ≤ 64 → order ≡ 64 → IsOneLeaf (first_root blocks order addr key)
+first_one blocks order addr key most is = record { order = is; level = refl; blocks = most }
+
+pub no_entries_fit : (addr : ℕ) → FitsNode addr 1 []
+no_entries_fit addr = record {
+  level_least = omega arith;
+  level_most = omega arith;
+  count = omega arith;
+  ascend = λ k inside. absurd (omega (arith, inside));
+  lows = All-nil (λ (e : Entry). e.low < 1048576);
+  below = All-nil (λ (e : Entry). e.addr < addr);
+}
+
+pub first_stands : (image : Image) (blocks order addr : ℕ) (key : List ℕ) → IsWhole image → 1 ≤ blocks → blocks ≤ 64 → order ≡ 64 → addr < 2 ^ 32 → IsBytes 32 key → addr ≡ length image.recorded → Stands (with_leaf image (first_root blocks order addr key) []) (Some (new_device blocks order))
+first_stands image blocks order addr key whole least most is room sized at =
+    let root = first_root blocks order addr key in
+    (root, leaf_parts root.addr root.key [] [], stands_by_leaf (with_leaf image root []) (new_device blocks order) root [] []
+    (committed image root (new_device blocks order) [] [] whole (first_fits blocks order addr key least most is room) sized (first_one blocks order addr key most is) at refl refl
+    (AreEntries-none blocks addr) (none_mapped image) refl refl refl refl))
+
+pub format_turns : (old looked mid new : History) (blocks order addr : ℕ) (key : List ℕ) (device : Option Device) → Stands old.present device → Steps old looked → looked.present ≡ old.present → Steps looked mid → mid.present.cell ≡ looked.present.cell → mid.present ≡ with_page looked.present (leaf_page (first_root blocks order addr key) []) (leaf_page (first_root blocks order addr key) []) → Turns mid new (λ image. image.cell ≡ mid.present.cell) (λ image. image ≡ with_cell (all_synced mid.present) (Some (root_bytes (first_root blocks order addr key)))) → 1 ≤ blocks → blocks ≤ 64 → order ≡ 64 → addr < 2 ^ 32 → IsBytes 32 key → addr ≡ length looked.present.recorded → Turns old new (LeavesOnly (λ left. Stands left device)) (LeavesOnly (λ left. Stands left (Some (new_device blocks order))))
+format_turns old looked mid new blocks order addr key device stands look same steps cell appended published least most is room sized at =
+    let root = first_root blocks order addr key in
+    let X = with_leaf looked.present root [] in
+    let target : with_cell (all_synced mid.present) (Some (root_bytes root)) ≡ X = ap (λ (i : Image). with_cell (all_synced i) (Some (root_bytes root))) appended in
+    let turns = subst (λ (x : Image). Turns mid new (λ image. image.cell ≡ mid.present.cell) (λ image. image ≡ x)) target published in
+    turns_stands old new X device (Some (new_device blocks order)) stands
+    (first_stands looked.present blocks order addr key (whole-now looked) least most is room sized at)
+    (then_published old mid new X (call_more old looked mid (one_look old looked look same) steps cell) turns)
+
+pub format_made : (looked mid new : History) (blocks order addr : ℕ) (key : List ℕ) → mid.present ≡ with_page looked.present (leaf_page (first_root blocks order addr key) []) (leaf_page (first_root blocks order addr key) []) → new.present ≡ with_cell (all_synced mid.present) (Some (root_bytes (first_root blocks order addr key))) → 1 ≤ blocks → blocks ≤ 64 → order ≡ 64 → addr < 2 ^ 32 → IsBytes 32 key → addr ≡ length looked.present.recorded → Stands new.present (Some (new_device blocks order))
+format_made looked mid new blocks order addr key appended published least most is room sized at =
+    let root = first_root blocks order addr key in
+    let target : new.present ≡ with_leaf looked.present root [] = published ∙ ap (λ (i : Image). with_cell (all_synced i) (Some (root_bytes root))) appended in
+    subst (λ (i : Image). Stands i (Some (new_device blocks order))) (sym target) (first_stands looked.present blocks order addr key (whole-now looked) least most is room sized at)

@@ -84,7 +84,7 @@ impl Session {
 
         ensures raised { IfOk result (λ answer. (answer.1 ≡ CommitReply.Committed (number_of self + 1)) × (number_of answer.0 ≡ number_of self + 1) × (is_touched answer.0 ≡ false)) }
         ensures holds { P.tells → (device : Device) (contents : Blocks) → Holds self (P.history platform.old).present device contents
-            → IfOk result (λ answer. Holds answer.0 (P.history platform.new).present (committed_device device contents) contents) }
+            → IfOk result (λ answer. Holds answer.0 (P.history platform.new).present (device_after answer.1 device contents) contents) }
         ensures open { IfOk result (λ answer. IsOpen answer.0 (P.head platform.new)) }
         ensures same { IfOk result (λ answer. (blocks_of answer.0 ≡ blocks_of self) × (mapped_of answer.0 ≡ mapped_of self)) }
         ensures time { P.tells → (device : Device) (contents : Blocks) → Holds self (P.history platform.old).present device contents
@@ -117,9 +117,9 @@ impl Session {
             level: self.root.level,
             blocks: self.root.blocks,
         };
-        if publish(platform, &root).is_err() {
+        let Ok(()) = publish(platform, &root) else {
             return Err(CommitFault::PlatformFault);
-        }
+        };
         let number = root.commit;
         self.root = root;
         self.is_touched = false;
