@@ -503,9 +503,12 @@ raised_leaf old new count pages loaded touched known image device contents ready
     (h.contents_are ∙ ap (λ (es : List Entry). blocks_of_entries es h.texts) (sym same))
 
 pub raised_stands : (old new : Root) (count pages : ℕ) (loaded touched : Bool) (known : List Entry) (image : Image) (device : Device) (contents : Blocks) → loaded ≡ true → HoldsBy old count loaded touched known image device contents → IsNext old new count pages → IsServed old pages → count ≤ old.blocks → pages < 2 ^ 32 → IsBytes 32 new.key → IsWhole image → pages ≡ length image.recorded → AreEntries known old.blocks pages → Stands (with_leaf image new known) (Some (committed_device device contents))
-raised_stands old new count pages loaded touched known image device contents ready h next served most room key whole at are =
-    (new, leaf_parts new.addr new.key known h.texts, stands_by_leaf (with_leaf image new known) (committed_device device contents) new known h.texts
-    (raised_leaf old new count pages loaded touched known image device contents ready h next served most room key whole at are))
+raised_stands old new count pages loaded touched known image device contents ready h next served most room key whole at are = (
+  new,
+  leaf_parts new.addr new.key known h.texts,
+  stands_by_leaf (with_leaf image new known) (committed_device device contents) new known h.texts
+      (raised_leaf old new count pages loaded touched known image device contents ready h next served most room key whole at are),
+)
 
 pub raised_held : (old new : Root) (count pages : ℕ) (loaded touched : Bool) (known : List Entry) (image later : Image) (device : Device) (contents : Blocks) → loaded ≡ true → HoldsBy old count loaded touched known image device contents → IsNext old new count pages → IsServed old pages → count ≤ old.blocks → pages < 2 ^ 32 → IsBytes 32 new.key → IsWhole image → pages ≡ length image.recorded → AreEntries known old.blocks pages → later ≡ with_leaf image new known → HoldsBy new count loaded false known later (committed_device device contents) contents
 raised_held old new count pages loaded touched known image later device contents ready h next served most room key whole at are later_is =
@@ -584,10 +587,13 @@ no_entries_fit addr = record {
 
 pub first_stands : (image : Image) (blocks order addr : ℕ) (key : List ℕ) → IsWhole image → 1 ≤ blocks → blocks ≤ 64 → order ≡ 64 → addr < 2 ^ 32 → IsBytes 32 key → addr ≡ length image.recorded → Stands (with_leaf image (first_root blocks order addr key) []) (Some (new_device blocks order))
 first_stands image blocks order addr key whole least most is room sized at =
-    let root = first_root blocks order addr key in
-    (root, leaf_parts root.addr root.key [] [], stands_by_leaf (with_leaf image root []) (new_device blocks order) root [] []
-    (committed image root (new_device blocks order) [] [] whole (first_fits blocks order addr key least most is room) sized (first_one blocks order addr key most is) at refl refl
-    (AreEntries-none blocks addr) (none_mapped image) refl refl refl refl))
+    let root = first_root blocks order addr key in (
+      root,
+      leaf_parts root.addr root.key [] [],
+      stands_by_leaf (with_leaf image root []) (new_device blocks order) root [] []
+          (committed image root (new_device blocks order) [] [] whole (first_fits blocks order addr key least most is room) sized (first_one blocks order addr key most is) at refl refl
+          (AreEntries-none blocks addr) (none_mapped image) refl refl refl refl),
+    )
 
 pub format_turns : (old looked mid new : History) (blocks order addr : ℕ) (key : List ℕ) (device : Option Device) → Stands old.present device → Steps old looked → looked.present ≡ old.present → Steps looked mid → mid.present.cell ≡ looked.present.cell → mid.present ≡ with_page looked.present (leaf_page (first_root blocks order addr key) []) (leaf_page (first_root blocks order addr key) []) → Turns mid new (λ image. image.cell ≡ mid.present.cell) (λ image. image ≡ with_cell (all_synced mid.present) (Some (root_bytes (first_root blocks order addr key)))) → 1 ≤ blocks → blocks ≤ 64 → order ≡ 64 → addr < 2 ^ 32 → IsBytes 32 key → addr ≡ length looked.present.recorded → Turns old new (LeavesOnly (λ left. Stands left device)) (LeavesOnly (λ left. Stands left (Some (new_device blocks order))))
 format_turns old looked mid new blocks order addr key device stands look same steps cell appended published least most is room sized at =

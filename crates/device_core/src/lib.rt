@@ -24,3 +24,6 @@ pub use refusals::{
     WriteRefusal,
 };
 pub use session::Session;
+
+#[cfg(test)]
+mod tests;

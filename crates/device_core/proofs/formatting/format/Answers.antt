@@ -58,7 +58,7 @@ returns-in-Ok-publish-clause-made g c = λ told.
     let room : addr < 2 ^ 32 = omega (arith, address, c.head.ensures.value, c.capacity.ensures.value, c.head.ensures.room, c.head.ensures.limit, c.if-head-capacity.false) in
     let pages = g.met.P.Platform.counts_pages told c.load_root.new.self in
     let body : c.put_node.new.self.body ≡ record_bytes addr (NodeRecord 1 []) =
-        ap (λ (b : Held). b.body) c.put_node.ensures ∙ ap (λ (n : ℕ). record_bytes n (NodeRecord 1 [])) (c.head-2.ensures.value ∙ sym address) in
+    ap (λ (b : Held). b.body) c.put_node.ensures ∙ ap (λ (n : ℕ). record_bytes n (NodeRecord 1 [])) (c.head-2.ensures.value ∙ sym address) in
     let appended = c.in-Ok-append.ensures.appended told ∙ ap (λ (b : List ℕ). with_page (history c.load_root.new.self).present (masked key b) (masked key b)) body in
     format_made (history c.load_root.new.self) (history c.append.new.platform) (history c.publish.new.platform) c.args.blocks c.args.order addr key appended (c.in-Ok-publish.ensures.published told)
     c.requires.least c.requires.most c.requires.order room c.in-Ok-append.ensures.key (address ∙ sym pages)
@@ -73,13 +73,16 @@ returns-in-Ok-publish-clause-served g c = λ told.
     let room : addr < 2 ^ 32 = omega (arith, address, c.head.ensures.value, c.capacity.ensures.value, c.head.ensures.room, c.head.ensures.limit, c.if-head-capacity.false) in
     let root = first_root c.args.blocks c.args.order addr key in
     let cell = ap (λ (i : Image). i.cell) (c.in-Ok-publish.ensures.published told) in
-    subst (λ (held : Option (List ℕ)). IsServedCell held (head c.publish.new.platform)) (sym cell)
-    (root, record {
-      fits = first_fits c.args.blocks c.args.order addr key c.requires.least c.requires.most c.requires.order room;
-      key = c.in-Ok-append.ensures.key;
-      leaf = first_one c.args.blocks c.args.order addr key c.requires.most c.requires.order;
-      within = omega (arith, address, c.in-Ok-append.ensures.head_ok, c.publish.ensures.head);
-    }, refl)
+    subst (λ (held : Option (List ℕ)). IsServedCell held (head c.publish.new.platform)) (sym cell) (
+      root,
+      record {
+        fits = first_fits c.args.blocks c.args.order addr key c.requires.least c.requires.most c.requires.order room;
+        key = c.in-Ok-append.ensures.key;
+        leaf = first_one c.args.blocks c.args.order addr key c.requires.most c.requires.order;
+        within = omega (arith, address, c.in-Ok-append.ensures.head_ok, c.publish.ensures.head);
+      },
+      refl,
+    )
 
 pub returns-in-Ok-publish-clause-time : goal.returns-in-Ok-publish-clause-time
 returns-in-Ok-publish-clause-time g c = λ told device stands.
@@ -91,7 +94,7 @@ returns-in-Ok-publish-clause-time g c = λ told device stands.
     let room : addr < 2 ^ 32 = omega (arith, address, c.head.ensures.value, c.capacity.ensures.value, c.head.ensures.room, c.head.ensures.limit, c.if-head-capacity.false) in
     let pages = g.met.P.Platform.counts_pages told c.load_root.new.self in
     let body : c.put_node.new.self.body ≡ record_bytes addr (NodeRecord 1 []) =
-        ap (λ (b : Held). b.body) c.put_node.ensures ∙ ap (λ (n : ℕ). record_bytes n (NodeRecord 1 [])) (c.head-2.ensures.value ∙ sym address) in
+    ap (λ (b : Held). b.body) c.put_node.ensures ∙ ap (λ (n : ℕ). record_bytes n (NodeRecord 1 [])) (c.head-2.ensures.value ∙ sym address) in
     let appended = c.in-Ok-append.ensures.appended told ∙ ap (λ (b : List ℕ). with_page (history c.load_root.new.self).present (masked key b) (masked key b)) body in
     format_turns (history c.args.platform.now) (history c.load_root.new.self) (history c.append.new.platform) (history c.publish.new.platform) c.args.blocks c.args.order addr key device stands
     (c.load_root.ensures.time told) (c.load_root.ensures.image told) (c.append.ensures.time told) (c.append.ensures.cell told) appended (c.publish.ensures.time told)
@@ -107,7 +110,7 @@ returns-clause-time g c = λ told device stands.
     let room : addr < 2 ^ 32 = omega (arith, address, c.head.ensures.value, c.capacity.ensures.value, c.head.ensures.room, c.head.ensures.limit, c.if-head-capacity.false) in
     let pages = g.met.P.Platform.counts_pages told c.load_root.new.self in
     let body : c.put_node.new.self.body ≡ record_bytes addr (NodeRecord 1 []) =
-        ap (λ (b : Held). b.body) c.put_node.ensures ∙ ap (λ (n : ℕ). record_bytes n (NodeRecord 1 [])) (c.head-2.ensures.value ∙ sym address) in
+    ap (λ (b : Held). b.body) c.put_node.ensures ∙ ap (λ (n : ℕ). record_bytes n (NodeRecord 1 [])) (c.head-2.ensures.value ∙ sym address) in
     let appended = c.in-Ok-append.ensures.appended told ∙ ap (λ (b : List ℕ). with_page (history c.load_root.new.self).present (masked key b) (masked key b)) body in
     format_turns (history c.args.platform.now) (history c.load_root.new.self) (history c.append.new.platform) (history c.publish.new.platform) c.args.blocks c.args.order addr key device stands
     (c.load_root.ensures.time told) (c.load_root.ensures.image told) (c.append.ensures.time told) (c.append.ensures.cell told) appended (c.publish.ensures.time told)

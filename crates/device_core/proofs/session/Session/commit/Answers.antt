@@ -14,4 +14,3 @@ returns-then-not-self-clause-time g c = λ told device contents h.
 pub returns-then-head-capacity-clause-time : goal.returns-then-head-capacity-clause-time
 returns-then-head-capacity-clause-time g c = λ told device contents h.
     during_stands _ _ (Some device) (Some (committed_device device contents)) (held_stands _ _ _ _ _ _ device contents h) (still _)
-

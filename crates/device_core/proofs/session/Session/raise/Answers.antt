@@ -67,7 +67,7 @@ returns-in_default-clause-time g c = λ told device contents h.
     let pages = g.met.P.Platform.counts_pages told c.args.platform.now in
     let room : head c.args.platform.now < 2 ^ 32 = omega (arith, c.requires.room, g.met.P.Platform.is_limited c.args.platform.now) in
     let appended = c.in-Ok.ensures.appended told ∙ ap (λ (bytes : List ℕ). with_page (history c.args.platform.now).present bytes bytes)
-        (page_is addr c.head.result c.in-Ok.placed.key c.put_node.new.self.body c.deref.result.now self.entries.items (ap (λ (b : Held). b.body) c.put_node.ensures) c.deref.ensures.0 (c.head.ensures.value ∙ sym address)) in
+    (page_is addr c.head.result c.in-Ok.placed.key c.put_node.new.self.body c.deref.result.now self.entries.items (ap (λ (b : Held). b.body) c.put_node.ensures) c.deref.ensures.0 (c.head.ensures.value ∙ sym address)) in
     raise_turns (history c.args.platform.now) (history c.append.new.platform) (history c.publish.new.platform) self.root root self.mapped (head c.args.platform.now) self.is_loaded self.is_touched self.entries.items device contents
     (c.requires.open.loaded c.requires.touched) h (is_next self.root self.mapped addr _ c.in-Ok.placed.key address) c.requires.open.served c.requires.open.mapped room c.in-Ok.ensures.key (sym pages) c.requires.open.entries
     (c.append.ensures.time told) (c.append.ensures.cell told) appended (c.publish.ensures.time told)
@@ -83,7 +83,7 @@ returns-clause-time g c = λ told device contents h.
     let pages = g.met.P.Platform.counts_pages told c.args.platform.now in
     let room : head c.args.platform.now < 2 ^ 32 = omega (arith, c.requires.room, g.met.P.Platform.is_limited c.args.platform.now) in
     let appended = c.in-Ok.ensures.appended told ∙ ap (λ (bytes : List ℕ). with_page (history c.args.platform.now).present bytes bytes)
-        (page_is addr c.head.result c.in-Ok.placed.key c.put_node.new.self.body c.deref.result.now self.entries.items (ap (λ (b : Held). b.body) c.put_node.ensures) c.deref.ensures.0 (c.head.ensures.value ∙ sym address)) in
+    (page_is addr c.head.result c.in-Ok.placed.key c.put_node.new.self.body c.deref.result.now self.entries.items (ap (λ (b : Held). b.body) c.put_node.ensures) c.deref.ensures.0 (c.head.ensures.value ∙ sym address)) in
     raise_turns (history c.args.platform.now) (history c.append.new.platform) (history c.publish.new.platform) self.root root self.mapped (head c.args.platform.now) self.is_loaded self.is_touched self.entries.items device contents
     (c.requires.open.loaded c.requires.touched) h (is_next self.root self.mapped addr _ c.in-Ok.placed.key address) c.requires.open.served c.requires.open.mapped room c.in-Ok.ensures.key (sym pages) c.requires.open.entries
     (c.append.ensures.time told) (c.append.ensures.cell told) appended (c.publish.ensures.time told)
@@ -99,7 +99,7 @@ returns-clause-holds g c = λ told device contents h.
     let pages = g.met.P.Platform.counts_pages told c.args.platform.now in
     let room : head c.args.platform.now < 2 ^ 32 = omega (arith, c.requires.room, g.met.P.Platform.is_limited c.args.platform.now) in
     let appended = c.in-Ok.ensures.appended told ∙ ap (λ (bytes : List ℕ). with_page (history c.args.platform.now).present bytes bytes)
-        (page_is addr c.head.result c.in-Ok.placed.key c.put_node.new.self.body c.deref.result.now self.entries.items (ap (λ (b : Held). b.body) c.put_node.ensures) c.deref.ensures.0 (c.head.ensures.value ∙ sym address)) in
+    (page_is addr c.head.result c.in-Ok.placed.key c.put_node.new.self.body c.deref.result.now self.entries.items (ap (λ (b : Held). b.body) c.put_node.ensures) c.deref.ensures.0 (c.head.ensures.value ∙ sym address)) in
     committed_with (history c.publish.new.platform).present self.root root self.mapped self.is_loaded self.entries.items device contents (self.root.commit + 1) (ap (λ (n : ℕ). n + 1) h.stands.number)
     (raise_held (history c.args.platform.now) (history c.append.new.platform) (history c.publish.new.platform) self.root root self.mapped (head c.args.platform.now) self.is_loaded self.is_touched self.entries.items device contents
     (c.requires.open.loaded c.requires.touched) h (is_next self.root self.mapped addr _ c.in-Ok.placed.key address) c.requires.open.served c.requires.open.mapped room c.in-Ok.ensures.key (sym pages) c.requires.open.entries

@@ -92,7 +92,7 @@ returns-clause-written g c = λ told device contents h.
     let address : addr ≡ g.P.Platform.head c.load.new.platform = c.in-Ok-append.ensures.address in
     let are = subst (λ (n : ℕ). AreEntries session.entries.items session.root.blocks n) (sym address) opened.entries in
     let body : c.put_block.new.self.body ≡ record_bytes addr (DataRecord c.args.block text) =
-        ap (λ (b : Held). b.body) c.put_block.ensures ∙ ap (λ (n : ℕ). record_bytes n (DataRecord c.args.block text)) (c.head-addr.ensures.value ∙ sym address) in
+    ap (λ (b : Held). b.body) c.put_block.ensures ∙ ap (λ (n : ℕ). record_bytes n (DataRecord c.args.block text)) (c.head-addr.ensures.value ∙ sym address) in
     let page : masked key c.put_block.new.self.body ≡ data_page addr c.args.block key text = ap (masked key) body in
     let later = c.in-Ok-append.ensures.appended told ∙ ap (λ (bytes : List ℕ). with_page (history c.load.new.platform).present bytes bytes) page in
     let place = rw c.as_slice.ensures.value at c.place_of-place.ensures in
