@@ -1,5 +1,5 @@
 -- The history of a platform that tells none: one moment, with nothing on it.
-use Rattle.std.proofs.Common.{◌≡◌, ℕ, zero, suc, ◌≤◌, List, [], refl, arith}
+use Rattle.std.proofs.Common.{[], refl, arith}
 use Rattle.platform.specs.Image.{IsWhole, IsEarlier, blank}
 use Rattle.platform.specs.History.{History}
 
