@@ -228,7 +228,7 @@ remove_none contents block none = same_map nat_cmp_total nat_cmp-IsAntisymmetric
 
 -- ---- a write and a trim
 
-All-placed : {A : Type 0} (P : A → Type 0) (xs : List A) (place : Result ℕ ℕ) (x : A) → All P xs → P x → All P (placed xs place x)
+pub All-placed : {A : Type 0} (P : A → Type 0) (xs : List A) (place : Result ℕ ℕ) (x : A) → All P xs → P x → All P (placed xs place x)
 All-placed P xs (Ok at) x all p = All-set P xs at x p all
 All-placed P xs (Err at) x all p = All-insert P xs at x all p
 

@@ -3,3 +3,4 @@ pub mod EntryLaws
 pub mod ArrayLaws
 pub mod HoldLaws
 pub mod MomentLaws
+pub mod FollowLaws

@@ -1,13 +1,14 @@
 -- When a session's entries over an image are an array of blocks.
-use Rattle.std.specs.Prelude.{◌≡◌, ◌≢◌, ℕ, Bool, true, false, List, All, AllPairs, length, map, slice_get}
+use Rattle.std.specs.Prelude.{◌≡◌, ◌≢◌, ◌<◌, ◌⊎◌, ℕ, Bool, true, false, List, All, AllPairs, length, map, slice_get}
+use Rattle.std.specs.List.{Contains}
 use Rattle.std.specs.List.{AllZip, zip}
 use Rattle.std.specs.FinMap.{from_entries}
 use Rattle.platform.specs.Image.{Image}
 use Rattle.node_codec.specs.declared.body.Entry.{Entry}
-use Rattle.node_codec.specs.Record.{DataRecord}
+use Rattle.node_codec.specs.Record.{DataRecord, NodeRecord}
 use Rattle.root_codec.specs.declared.root.Root.{Root}
 use Rattle.page_store.specs.Device.{Device}
-use Rattle.page_store.specs.Places.{IsRecordAt}
+use Rattle.page_store.specs.Places.{IsRecordAt, FitsAt, root_want}
 use Rattle.page_store.specs.Leaf.{StandsByLeaf}
 use Rattle.device_core.specs.Blocks.{Blocks}
 
@@ -35,3 +36,14 @@ pub record HoldsBy (root : Root) (mapped : ℕ) (is_loaded is_touched : Bool) (k
   pub read : is_loaded ≡ true → known ≡ entries
   pub unread : is_loaded ≡ false → entries ≡ leaf
   pub untouched : is_touched ≡ false → contents ≡ device.contents
+
+-- an entry of the leaf, or one whose data record is there
+abbrev pub IsOfLeaf : List (List ℕ) → List Entry → Entry → Type 0
+IsOfLeaf pages leaf e = Contains leaf e ⊎ ((c : List ℕ) × IsRecordAt pages e.addr e.key (DataRecord e.low c))
+
+-- a session on any pages, forged ones too: the leaf of its root fits where it was read, and each entry is one of that
+-- leaf, or was written by the session
+pub record FollowsBy (root : Root) (is_loaded : Bool) (known : List Entry) (pages : List (List ℕ)) : Type 0 where
+  pub leaf : List Entry
+  pub fits : is_loaded ≡ true → FitsAt pages (root_want root) root.key (NodeRecord 1 leaf)
+  pub each : is_loaded ≡ true → All (IsOfLeaf pages leaf) known

@@ -2,7 +2,7 @@
 use Rattle.platform.specs.Image.{Image}
 use Rattle.page_store.specs.Device.{Device}
 use Rattle.device_core.specs.Blocks.{Blocks}
-use Rattle.device_core.specs.Holding.{HoldsBy}
+use Rattle.device_core.specs.Holding.{HoldsBy, FollowsBy}
 use Rattle.device_core.specs.declared.session.Session.{Session}
 
 -- the image stands for the device that the session was opened on, or that its last commit made; each place of the
@@ -10,3 +10,7 @@ use Rattle.device_core.specs.declared.session.Session.{Session}
 abbrev pub Holds : Session → Image → Device → Blocks → Type 0
 Holds session image device contents =
     HoldsBy session.root session.mapped session.is_loaded session.is_touched session.entries.items image device contents
+
+-- the session was opened on these pages, forged ones too, and what it read of them fits
+abbrev pub Follows : Session → Image → Type 0
+Follows session image = FollowsBy session.root session.is_loaded session.entries.items image.readable

@@ -1,5 +1,5 @@
 -- What contracts see of a session, and that it is open on a medium of so many pages.
-use Rattle.std.specs.Prelude.{◌≡◌, ℕ, ◌≤◌, Bool, true, List}
+use Rattle.std.specs.Prelude.{◌≡◌, ◌≢◌, ℕ, ◌≤◌, Bool, true, List, All, slice_index_or}
 use Rattle.node_codec.specs.declared.body.Entry.{Entry}
 use Rattle.root_codec.specs.declared.root.Root.{Root}
 use Rattle.device_core.specs.Leaf.{IsServed, AreEntries}
@@ -24,6 +24,22 @@ level_of session = session.root.level
 -- whether something was changed since
 abbrev pub is_touched : Session → Bool
 is_touched session = session.is_touched
+
+-- the address of the root node, by the root record
+abbrev pub root_node : Session → ℕ
+root_node session = session.root.addr
+
+-- the root record
+abbrev pub root_of : Session → Root
+root_of session = session.root
+
+-- the session's tree has no entry for the block
+abbrev pub IsUnmapped : Session → ℕ → Type 0
+IsUnmapped session block = All (λ e. e.low ≢ block) session.entries.items
+
+-- the session's tree has an entry for the block
+abbrev pub IsMapped : Session → ℕ → Type 0
+IsMapped session block = (at : ℕ) × ((d : Entry) → (slice_index_or session.entries.items at d).low ≡ block)
 
 -- the root can be served, and the entries are those of a leaf of that device, each page of them handed over
 pub record IsOpenBy (root : Root) (count : ℕ) (is_loaded is_touched : Bool) (known : List Entry) (head : ℕ) : Type 0 where

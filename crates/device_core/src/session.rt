@@ -4,6 +4,7 @@ ghost use Rattle.platform.specs.History.{During};
 ghost use Rattle.root_codec.specs.RootRecord.{root_bytes};
 ghost use Rattle.page_store.specs.Device.{Device};
 ghost use Rattle.page_store.specs.Stands.{Stands};
+ghost use Rattle.page_store.specs.Tree.{Wrong};
 ghost use Rattle.page_store.specs.Places.{NothingFits, root_want};
 ghost use Rattle.device_core.specs.Leaf.{IsRefusedCell};
 ghost use Rattle.device_core.specs.Blocks.{Blocks};
@@ -36,7 +37,7 @@ pub struct Session {
 
 impl Session {
     ghost use Rattle.device_core.specs.Open.{IsOpen, blocks_of, number_of, mapped_of, level_of, is_touched};
-    ghost use Rattle.device_core.specs.Holds.{Holds};
+    ghost use Rattle.device_core.specs.Holds.{Holds, Follows};
 
     /// Opens a session on the device. It reads no page.
     ///
@@ -54,6 +55,7 @@ impl Session {
         ensures untouched { IfOk result (λ session. is_touched session ≡ false) }
         ensures holds { P.tells → (device : Device) → Stands (P.history platform.old).present (Some device)
             → IfOk result (λ session. Holds session (P.history platform.new).present device device.contents) }
+        ensures follows { P.tells → IfOk result (λ session. Follows session (P.history platform.new).present) }
         ensures found { P.tells → IfOk result (λ session. (P.history platform.old).present.cell ≡ Some (root_bytes session.root)) }
         ensures no_device { P.tells → IsErrOf result MountRefusal.NoDevice → (P.history platform.old).present.cell ≡ None }
         ensures bad_root { P.tells → IsErrOf result MountRefusal.BadRoot → IsRefusedCell (P.history platform.old).present.cell (P.head platform.old) }
@@ -121,6 +123,8 @@ impl Session {
         ensures same { (self.new.root ≡ self.old.root) × (self.new.mapped ≡ self.old.mapped) × (self.new.is_touched ≡ self.old.is_touched) }
         ensures holds { P.tells → (device : Device) (contents : Blocks) → Holds self.old (P.history platform.old).present device contents
             → Holds self.new (P.history platform.new).present device contents }
+        ensures follows { P.tells → Follows self.old (P.history platform.old).present → Follows self.new (P.history platform.new).present }
+        ensures wrong { P.tells → (addr : ℕ) → IsErrOf result (FetchRefusal.BadRecord addr) → Wrong (P.history platform.old).present.readable self.old.root addr }
         ensures bad { P.tells → (device : Device) (contents : Blocks) → Holds self.old (P.history platform.old).present device contents
             → (addr : ℕ) → IsErrOf result (FetchRefusal.BadRecord addr) → ⊥ }
 

@@ -12,8 +12,8 @@ fn look(alloc: Global, platform: &mut MemPlatform, block: u64) -> Option<([u8; 2
     Some(([content[0], content[1]], session.mapped()))
 }
 
-/// Writes a block, or trims it where there are no bytes, and commits; none where anything is refused.
-fn change(
+/// Writes a block and commits; none where anything is refused.
+fn written(
     alloc: Global,
     platform: &mut MemPlatform,
     tape: &mut ListTape,
@@ -21,12 +21,25 @@ fn change(
     block: u64,
     content: &[u8],
 ) -> Option<CommitReply> {
-    let mut session = Session::mount(alloc, platform, 0).ok()?;
-    if content.is_empty() {
-        session.trim(platform, block).ok()?;
-    } else if content.len() <= BLOCK {
-        session.write(platform, tape, block, content).ok()?;
+    if content.len() > BLOCK {
+        return None;
     }
+    let mut session = Session::mount(alloc, platform, 0).ok()?;
+    session.write(platform, tape, block, content).ok()?;
+    let (_, reply) = session.commit(platform, tape, ledger).ok()?;
+    Some(reply)
+}
+
+/// Trims a block and commits; none where anything is refused.
+fn trimmed(
+    alloc: Global,
+    platform: &mut MemPlatform,
+    tape: &mut ListTape,
+    ledger: &mut MemSink,
+    block: u64,
+) -> Option<CommitReply> {
+    let mut session = Session::mount(alloc, platform, 0).ok()?;
+    session.trim(platform, block).ok()?;
     let (_, reply) = session.commit(platform, tape, ledger).ok()?;
     Some(reply)
 }
@@ -51,19 +64,24 @@ fn changes_outlast_a_remount(rt: HostRuntime) -> Result<(), Fail> {
         (3, "", 2, ([0, 0], 0)),
         (7, "a", 3, ([97, 0], 1)),
     ] {
-        let reply = change(
-            rt.alloc(),
-            &mut platform,
-            &mut tape,
-            &mut ledger,
-            block,
-            content.as_bytes(),
-        );
+        let reply = if content.is_empty() {
+            trimmed(rt.alloc(), &mut platform, &mut tape, &mut ledger, block)
+        } else {
+            let bytes = content.as_bytes();
+            written(
+                rt.alloc(),
+                &mut platform,
+                &mut tape,
+                &mut ledger,
+                block,
+                bytes,
+            )
+        };
         assert!(rt; reply == Some(CommitReply::Committed { number }));
         assert!(rt; look(rt.alloc(), &mut platform, block) == Some(found));
     }
     assert!(rt; platform.head() == 6);
-    let full = change(rt.alloc(), &mut platform, &mut tape, &mut ledger, 7, b"b");
+    let full = written(rt.alloc(), &mut platform, &mut tape, &mut ledger, 7, b"b");
     assert!(rt; full == None);
     assert!(rt; erase(&mut platform) == Ok(()));
     assert!(rt; look(rt.alloc(), &mut platform, 7) == None);

@@ -4,12 +4,16 @@ use Rattle.page_store.specs.Places.{FitsAt, NothingFits, IsWantedRecord, root_wa
 use Rattle.node_codec.specs.Record.{Record, NodeRecord, DataRecord, value_of}
 use Rattle.root_codec.specs.declared.root.Root.{Root}
 use Rattle.node_codec.specs.declared.body.Entry.{Entry}
+use Rattle.platform.specs.Image.{Image}
+use Rattle.page_store.specs.Tree.{Wrong}
 use Rattle.page_store.specs.Buffer.{content_of}
 use Rattle.device_core.specs.Leaf.{AreEntries}
 use Rattle.device_core.specs.Holding.{HoldsBy}
 use Rattle.device_core.proofs.MomentLaws.{still, one_look}
 use Rattle.device_core.proofs.EntryLaws.{AreEntries-read}
 use Rattle.device_core.proofs.HoldLaws.{holds_same, loaded, leaf_fits}
+use Rattle.page_store.proofs.WrongLaws.{wrong_root}
+use Rattle.device_core.proofs.FollowLaws.{follows_same, follows_read}
 use Rattle.device_core.proofs.session.Session.load.Goals as goal
 
 -- a node that is wanted at the root of one leaf is a leaf
@@ -83,3 +87,35 @@ returns-in-Block-clause-bad g c = λ told device contents h addr is.
 
 pub returns-in-Block-clause-time : goal.returns-in-Block-clause-time
 returns-in-Block-clause-time g c = λ told. one_look _ _ (c.fetch.ensures.time told) (c.fetch.ensures.image told)
+
+pub returns-in-Err-clause-follows : goal.returns-in-Err-clause-follows
+returns-in-Err-clause-follows g c = λ told follows. follows_same _ _ _ _ _ (c.fetch.ensures.image told) follows
+
+pub returns-in-Err-clause-wrong : goal.returns-in-Err-clause-wrong
+returns-in-Err-clause-wrong g c = λ told addr is.
+    let pages = (g.P.Platform.history c.args.platform.now).present.readable in
+    let self = c.args.self.now in
+    let nothing = subst (λ (w : Want). NothingFits pages w self.root.key) c.of_root-want.ensures (c.in-Err.ensures.nothing_fits told addr (cc)) in
+    let at : addr ≡ self.root.addr = c.in-Err.ensures.bad addr (cc) ∙ ap (λ (w : Want). w.addr) c.of_root-want.ensures in
+    subst (λ (n : ℕ). Wrong pages self.root n) (sym at) (wrong_root pages self.root nothing)
+
+pub returns-in-Node-clause-follows : goal.returns-in-Node-clause-follows
+returns-in-Node-clause-follows g c = λ told follows.
+    let history = g.P.Platform.history in
+    let head = g.P.Platform.head in
+    let self = c.args.self.now in
+    let pages = (history c.args.platform.now).present.readable in
+    let wanted = rw c.in-Node.is at c.in-Ok.ensures.wanted in
+    let read = leaf_wanted_read c.of_root-want.result self.root c.in-Node.node.level (head c.args.platform.now) c.in-Node.node.entries.items _ c.of_root-want.ensures c.requires.served.leaf.level (omega (arith, c.requires.served.fits.addr, c.requires.served.within)) wanted in
+    let fits = rw c.in-Node.is at (c.in-Ok.ensures.fits told) in
+    let of_root = subst (λ (w : Want). FitsAt pages w self.root.key (NodeRecord c.in-Node.node.level c.in-Node.node.entries.items)) c.of_root-want.ensures fits in
+    let at_one = subst (λ (n : ℕ). FitsAt pages (root_want self.root) self.root.key (NodeRecord n c.in-Node.node.entries.items)) read.0 of_root in
+    follows_read self.root c.in-Node.node.entries.items pages _ (ap (λ (i : Image). i.readable) (c.fetch.ensures.image told)) at_one
+
+pub returns-in-Block-clause-follows : goal.returns-in-Block-clause-follows
+returns-in-Block-clause-follows g c = λ told follows. follows_same _ _ _ _ _ (c.fetch.ensures.image told) follows
+
+pub returns-in-Block-clause-wrong : goal.returns-in-Block-clause-wrong
+returns-in-Block-clause-wrong g c = λ told addr is.
+    let wanted = rw c.in-Block.is at c.in-Ok.ensures.wanted in
+    absurd (no_block c.of_root-want.result c.args.self.now.root _ _ _ c.of_root-want.ensures c.requires.served.leaf.level wanted)

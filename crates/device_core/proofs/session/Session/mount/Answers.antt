@@ -1,6 +1,7 @@
 use Rattle.std.proofs.Common.{refl, arith}
 use Rattle.device_core.proofs.MomentLaws.{one_look}
 use Rattle.device_core.proofs.HoldLaws.{refused_bad, refused_levels, opened, mounted, holds_same}
+use Rattle.device_core.proofs.FollowLaws.{follows_none}
 use Rattle.device_core.proofs.session.Session.mount.Goals as goal
 
 pub returns-in-Err-BadRoot-clause-bad_root : goal.returns-in-Err-BadRoot-clause-bad_root
@@ -45,3 +46,6 @@ returns-clause-holds g c = λ told device stands.
     let opens = opened c.in-Some.root c.new-2.result.items (g.P.Platform.head c.args.platform.now) (g.P.Platform.head c.args.platform.now) within one c.new-2.ensures refl in
     holds_same _ _ _ _ _ (history c.args.platform.now).present _ _ _ (c.current.ensures.image told)
     (mounted (history c.args.platform.now).present device c.in-Some.root _ c.new-2.result.items opens.served found stands)
+
+pub returns-clause-follows : goal.returns-clause-follows
+returns-clause-follows g c = λ told. follows_none c.in-Some.root c.new-2.result.items _
