@@ -41,7 +41,7 @@ Serves a script of block commands from standard input, one reply a line on stand
   -       a device in memory, which is gone when the program ends; so is it without a word
   run     serves the script, as is done without this word
 
-Lines of a script: format BLOCKS ORDER, mount, read BLOCK, write BLOCK HEX, commit.
+Lines of a script: format BLOCKS ORDER, mount, read BLOCK, write BLOCK HEX, trim BLOCK, commit, drop, erase, stat.
 ";
 
 const VERSION: &str = "sdbt 0.1.0\n";
