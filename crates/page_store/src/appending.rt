@@ -41,10 +41,13 @@ impl Buffers {
 
         ensures undrawn { IsErrOf result AppendFault.TapeFault → T.drawn tape.new ≡ T.drawn tape.old }
         ensures untouched { IsErrOf result AppendFault.TapeFault → P.head platform.new ≡ P.head platform.old }
-        ensures unchanged { P.tells → IsErrOf result AppendFault.TapeFault → (P.history platform.new).present ≡ (P.history platform.old).present }
+        ensures unchanged { P.tells → IsErrOf result AppendFault.TapeFault →
+            (P.history platform.new).present ≡ (P.history platform.old).present }
         // The page that may have been handed over is sealed under a key that was drawn for it.
-        ensures spent { IsErrOf result AppendFault.PlatformFault → (key : List ℕ) × IsBytes 32 key × Drew (T.drawn tape.old) key (T.drawn tape.new)
-            × (P.tells → MayHavePage (P.history platform.old).present (masked key self.old.body) (P.history platform.new).present) }
+        ensures spent { IsErrOf result AppendFault.PlatformFault →
+            (key : List ℕ) × IsBytes 32 key × Drew (T.drawn tape.old) key (T.drawn tape.new)
+            × (P.tells → MayHavePage (P.history platform.old).present (masked key self.old.body)
+            (P.history platform.new).present) }
 
         ensures cell { P.tells → (P.history platform.new).present.cell ≡ (P.history platform.old).present.cell }
         ensures time { P.tells → Steps (P.history platform.old) (P.history platform.new) }
@@ -56,9 +59,11 @@ impl Buffers {
         ensures body { self.new.body ≡ self.old.body }
 
         ensures platform_faults { P.faults platform.old ≤ P.faults platform.new }
-        ensures platform_cause { IsErrOf result AppendFault.PlatformFault → Rose (P.faults platform.old) (P.faults platform.new) }
+        ensures platform_cause { IsErrOf result AppendFault.PlatformFault →
+            Rose (P.faults platform.old) (P.faults platform.new) }
         ensures tape_faults { T.faults tape.old ≤ T.faults tape.new }
-        ensures tape_cause { IsErrOf result AppendFault.TapeFault → Rose (T.faults tape.old) (T.faults tape.new) }
+        ensures tape_cause { IsErrOf result AppendFault.TapeFault →
+            Rose (T.faults tape.old) (T.faults tape.new) }
     {
         let Ok(fresh) = tape.draw() else {
             return Err(AppendFault::TapeFault);

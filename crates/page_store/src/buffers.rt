@@ -61,7 +61,9 @@ impl Buffers {
     pub fn put_block(&mut self, addr: u64, block: u64, content: &[u8])
         requires block { block < 1048576 }
         requires content { length content.now ≤ 4096 }
-        ensures { self.new ≡ record self.old { body = record_bytes addr (DataRecord block (padded content.now)) } }
+        ensures { self.new ≡ record self.old {
+          body = record_bytes addr (DataRecord block (padded content.now));
+        } }
     {
         encode_block(addr, block, content, &mut self.body);
     }
@@ -69,7 +71,9 @@ impl Buffers {
     /// Makes the body the node of `level` with these entries at `addr`.
     pub fn put_node(&mut self, addr: u64, level: u8, entries: &[Entry])
         requires { FitsNode addr level entries.now }
-        ensures { self.new ≡ record self.old { body = record_bytes addr (NodeRecord level entries.now) } }
+        ensures { self.new ≡ record self.old {
+          body = record_bytes addr (NodeRecord level entries.now);
+        } }
     {
         encode_node(addr, level, entries, &mut self.body);
     }
@@ -82,7 +86,8 @@ impl Buffers {
         key: &Key,
     ) -> Result<(), PlatformFault>
         requires { addr < P.head platform.old }
-        ensures page { P.tells → OnOk result (slice_get (P.history platform.old).present.readable addr ≡ Some self.new.page) }
+        ensures page { P.tells → OnOk result
+            (slice_get (P.history platform.old).present.readable addr ≡ Some self.new.page) }
         ensures body { OnOk result (self.new.body ≡ masked key.now self.new.page) }
         ensures size { OnOk result (length self.new.body ≡ 4128) }
         ensures image { P.tells → (P.history platform.new).present ≡ (P.history platform.old).present }

@@ -25,10 +25,13 @@ pub fn fetch<P: Platform>(
 ) -> Result<Body, FetchRefusal>
     requires { want.now.addr < P.head platform.old }
 
-    ensures fits { P.tells → IfOk result (λ body. FitsAt (P.history platform.old).present.readable want.now key.now (value_of body (content_of buf.new))) }
+    ensures fits { P.tells → IfOk result (λ body.
+        FitsAt (P.history platform.old).present.readable want.now key.now (value_of body (content_of buf.new))) }
     // What is answered is what the buffer spells, whatever the platform tells.
-    ensures wanted { IfOk result (λ body. IsWantedRecord want.now buf.new.body (value_of body (content_of buf.new))) }
-    ensures nothing_fits { P.tells → (addr : ℕ) → IsErrOf result (FetchRefusal.BadRecord addr) → NothingFits (P.history platform.old).present.readable want.now key.now }
+    ensures wanted { IfOk result (λ body.
+        IsWantedRecord want.now buf.new.body (value_of body (content_of buf.new))) }
+    ensures nothing_fits { P.tells → (addr : ℕ) → IsErrOf result (FetchRefusal.BadRecord addr) →
+        NothingFits (P.history platform.old).present.readable want.now key.now }
     ensures bad { (addr : ℕ) → IsErrOf result (FetchRefusal.BadRecord addr) → addr ≡ want.now.addr }
 
     ensures image { P.tells → (P.history platform.new).present ≡ (P.history platform.old).present }
@@ -36,11 +39,13 @@ pub fn fetch<P: Platform>(
     ensures head { P.head platform.new ≡ P.head platform.old }
     ensures capacity { P.capacity platform.new ≡ P.capacity platform.old }
     ensures reads_ok { P.tells → OnOk result (P.reads platform.new ≡ P.reads platform.old + 1) }
-    ensures reads_bad { P.tells → (addr : ℕ) → IsErrOf result (FetchRefusal.BadRecord addr) → P.reads platform.new ≡ P.reads platform.old + 1 }
+    ensures reads_bad { P.tells → (addr : ℕ) → IsErrOf result (FetchRefusal.BadRecord addr) →
+        P.reads platform.new ≡ P.reads platform.old + 1 }
     ensures reads_rise { P.tells → P.reads platform.old ≤ P.reads platform.new }
     ensures reads_by_one { P.tells → P.reads platform.new ≤ P.reads platform.old + 1 }
     ensures faults { P.faults platform.old ≤ P.faults platform.new }
-    ensures cause { IsErrOf result FetchRefusal.PlatformFault → Rose (P.faults platform.old) (P.faults platform.new) }
+    ensures cause { IsErrOf result FetchRefusal.PlatformFault →
+        Rose (P.faults platform.old) (P.faults platform.new) }
 {
     let Ok(()) = buf.load(platform, want.addr, key) else {
         return Err(FetchRefusal::PlatformFault);

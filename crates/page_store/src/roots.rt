@@ -15,10 +15,13 @@ use sdbt_base::ROOT;
 /// `BadRoot` comes exactly where the cell is full and holds no root record, or one whose head field is
 /// above the platform's head: it speaks of pages that are not there.
 pub fn current<P: Platform>(platform: &mut P) -> Result<Option<Root>, CurrentRefusal>
-    ensures found { P.tells → IfOk result (λ found. IfSome found (λ root. (P.history platform.old).present.cell ≡ Some (root_bytes root))) }
+    ensures found { P.tells → IfOk result (λ found. IfSome found (λ root.
+        (P.history platform.old).present.cell ≡ Some (root_bytes root))) }
     ensures within { IfOk result (λ found. IfSome found (λ root. IsRootWithin (P.head platform.old) root)) }
-    ensures none { P.tells → IfOk result (λ found. IfNone found ((P.history platform.old).present.cell ≡ None)) }
-    ensures bad { P.tells → IsErrOf result CurrentRefusal.BadRoot → IsBadCell (P.head platform.old) (P.history platform.old).present.cell }
+    ensures none { P.tells → IfOk result (λ found. IfNone found
+        ((P.history platform.old).present.cell ≡ None)) }
+    ensures bad { P.tells → IsErrOf result CurrentRefusal.BadRoot →
+        IsBadCell (P.head platform.old) (P.history platform.old).present.cell }
 
     ensures image { P.tells → (P.history platform.new).present ≡ (P.history platform.old).present }
     ensures time { P.tells → Steps (P.history platform.old) (P.history platform.new) }
@@ -26,7 +29,8 @@ pub fn current<P: Platform>(platform: &mut P) -> Result<Option<Root>, CurrentRef
     ensures capacity { P.capacity platform.new ≡ P.capacity platform.old }
     ensures reads { P.tells → P.reads platform.new ≡ P.reads platform.old }
     ensures faults { P.faults platform.old ≤ P.faults platform.new }
-    ensures cause { IsErrOf result CurrentRefusal.PlatformFault → Rose (P.faults platform.old) (P.faults platform.new) }
+    ensures cause { IsErrOf result CurrentRefusal.PlatformFault →
+        Rose (P.faults platform.old) (P.faults platform.new) }
 {
     let mut bytes = [0; ROOT];
     let Ok(is_full) = platform.load_root(&mut bytes) else {

@@ -93,7 +93,8 @@ impl Want {
 
     /// Whether each low is within the bounds.
     fn bounds(&self, entries: &[Entry]) -> bool
-        ensures { IsTrue result ↔ (All (λ e. self.now.low ≤ e.low) entries.now × All (λ e. e.low < self.now.high) entries.now) }
+        ensures { IsTrue result ↔
+            (All (λ e. self.now.low ≤ e.low) entries.now × All (λ e. e.low < self.now.high) entries.now) }
     {
         entries
             .iter()
