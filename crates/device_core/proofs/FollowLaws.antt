@@ -1,5 +1,5 @@
 -- What a session on any pages, forged ones too, has read and written, and which places it finds wrong.
-use Rattle.std.proofs.Common.{◌≡◌, ◌≢◌, ◌⊎◌, inl, inr, ℕ, ◌+◌, ◌<◌, ◌≤◌, ◌^◌, Bool, true, false, List, [], ◌∷◌, ◌++◌, All, map, take, drop, length, get_or, Result, Ok, Err, Some, refl, sym, subst, ap, ◌∙◌, arith}
+use Rattle.std.proofs.Common.{◌≡◌, ◌≢◌, ◌⊎◌, inl, inr, ℕ, ◌+◌, ◌<◌, ◌≤◌, ◌^◌, Bool, true, false, List, [], ◌∷◌, ◌++◌, All, map, take, drop, length, get_or, Result, Ok, Err, IsErr, Some, refl, sym, subst, ap, ◌∙◌, arith}
 use Rattle.std.specs.Prelude.{remove, slice_get}
 use Rattle.std.proofs.lemmas.List.{take-append-drop}
 use Rattle.std.proofs.lemmas.List.Elements.{All-weaker, All-append, All-contains_itself}
@@ -93,9 +93,9 @@ wrong_found root loaded known pages at block entry ready follows level place is 
     wrong_entry pages root follows.leaf entry level (follows.fits ready) of_leaf (subst (λ (n : ℕ). NothingFits pages (block_want entry.addr n) entry.key) (sym low) nothing)
 
 -- a block whose place is a new one is not mapped
-pub unmapped_at : (known : List Entry) (place : Result ℕ ℕ) (block : ℕ) → IsPlace known block place → (place ≡ place) → (at : ℕ) → place ≡ Err at → All (λ e. e.low ≢ block) known
-unmapped_at known (Ok other) block place same at is = absurd cc
-unmapped_at known (Err other) block place same at is =
+pub unmapped_place : (known : List Entry) (place : Result ℕ ℕ) (block : ℕ) → IsPlace known block place → IsErr place → All (λ e. e.low ≢ block) known
+unmapped_place known (Ok other) block place none = grind (arith, none)
+unmapped_place known (Err other) block place none =
     let P : Entry → Type 0 = λ (x : Entry). x.low ≢ block in
     let front = All-weaker (λ (x : Entry). x.low < block) P (λ x less e. omega (arith, less, e)) (take other known) place.1 in
     let back = All-weaker (λ (x : Entry). block < x.low) P (λ x more e. omega (arith, more, e)) (drop other known) place.2 in

@@ -17,7 +17,7 @@ use sdbt_base::{Sink, Tape};
 
 impl Session {
     ghost use Rattle.device_core.specs.Open.{IsOpen, blocks_of, number_of, mapped_of, is_touched};
-    ghost use Rattle.device_core.specs.Holds.{Holds};
+    ghost use Rattle.device_core.specs.Holds.{Holds, Follows};
 
     /// Makes the session's changes the device's: one new leaf, and then the root record that names it.
     ///
@@ -43,6 +43,7 @@ impl Session {
             → IfOk result (λ answer. (answer.1 ≡ CommitReply.Committed (number_of self + 1)) × (number_of answer.0 ≡ number_of self + 1) × (is_touched answer.0 ≡ false)) }
         ensures holds { P.tells → (device : Device) (contents : Blocks) → Holds self (P.history platform.old).present device contents
             → IfOk result (λ answer. Holds answer.0 (P.history platform.new).present (device_after answer.1 device contents) contents) }
+        ensures follows { P.tells → Follows self (P.history platform.old).present → IfOk result (λ answer. Follows answer.0 (P.history platform.new).present) }
         ensures open { IfOk result (λ answer. IsOpen answer.0 (P.head platform.new)) }
         ensures same { IfOk result (λ answer. (blocks_of answer.0 ≡ blocks_of self) × (mapped_of answer.0 ≡ mapped_of self)) }
         // At each moment a loss of power leaves the device, until one from which on it leaves the one with the session's array.
@@ -85,6 +86,7 @@ impl Session {
         ensures raised { IfOk result (λ answer. (answer.1 ≡ CommitReply.Committed (number_of self + 1)) × (number_of answer.0 ≡ number_of self + 1) × (is_touched answer.0 ≡ false)) }
         ensures holds { P.tells → (device : Device) (contents : Blocks) → Holds self (P.history platform.old).present device contents
             → IfOk result (λ answer. Holds answer.0 (P.history platform.new).present (device_after answer.1 device contents) contents) }
+        ensures follows { P.tells → IfOk result (λ answer. Follows answer.0 (P.history platform.new).present) }
         ensures open { IfOk result (λ answer. IsOpen answer.0 (P.head platform.new)) }
         ensures same { IfOk result (λ answer. (blocks_of answer.0 ≡ blocks_of self) × (mapped_of answer.0 ≡ mapped_of self)) }
         ensures time { P.tells → (device : Device) (contents : Blocks) → Holds self (P.history platform.old).present device contents

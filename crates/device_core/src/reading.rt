@@ -3,6 +3,7 @@ ghost use Rattle.sdbt_base.specs.Faults.{Rose};
 ghost use Rattle.platform.specs.History.{During, Steps};
 ghost use Rattle.page_store.specs.Device.{Device};
 ghost use Rattle.page_store.specs.Places.{NothingFits, FitsAt, block_want};
+ghost use Rattle.page_store.specs.Tree.{Wrong};
 ghost use Rattle.node_codec.specs.Record.{Record, DataRecord};
 ghost use Rattle.device_core.specs.Blocks.{Blocks, block_content};
 
@@ -14,8 +15,8 @@ use page_store::{Buffers, FetchRefusal, Want, fetch};
 use platform::Platform;
 
 impl Session {
-    ghost use Rattle.device_core.specs.Open.{IsOpen, blocks_of, level_of, is_touched};
-    ghost use Rattle.device_core.specs.Holds.{Holds};
+    ghost use Rattle.device_core.specs.Open.{IsOpen, blocks_of, level_of, root_of, is_touched};
+    ghost use Rattle.device_core.specs.Holds.{Holds, Follows};
 
     /// Puts the content of a block into the 4,096 bytes of `out`: zeros where it is not mapped.
     ///
@@ -36,6 +37,10 @@ impl Session {
             → Holds self.new (P.history platform.new).present device contents }
         ensures sound { P.tells → (device : Device) (contents : Blocks) → Holds self.old (P.history platform.old).present device contents
             → (addr : ℕ) → IsErrOf result (ReadRefusal.BadRecord addr) → ⊥ }
+        // On any pages: what is named is a place of the root's tree that doesn't fit.
+        ensures follows { P.tells → Follows self.old (P.history platform.old).present → Follows self.new (P.history platform.new).present }
+        ensures wrong { P.tells → Follows self.old (P.history platform.old).present → (addr : ℕ) → IsErrOf result (ReadRefusal.BadRecord addr)
+            → Wrong (P.history platform.old).present.readable (root_of self.old) addr }
         ensures range { IsErrOf result ReadRefusal.Range ↔ (blocks_of self.old ≤ block) }
         ensures open { IsOpen self.new (P.head platform.new) }
         ensures same { (self.new.root ≡ self.old.root) × (self.new.mapped ≡ self.old.mapped) × (is_touched self.new ≡ is_touched self.old) }

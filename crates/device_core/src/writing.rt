@@ -4,6 +4,7 @@ ghost use Rattle.sdbt_base.specs.Faults.{Rose};
 ghost use Rattle.platform.specs.History.{During};
 ghost use Rattle.page_store.specs.Buffer.{padded};
 ghost use Rattle.page_store.specs.Device.{Device};
+ghost use Rattle.page_store.specs.Tree.{Wrong};
 ghost use Rattle.device_core.specs.Blocks.{Blocks};
 
 use crate::leaves::{mapped_with, place_of, put_entry};
@@ -15,8 +16,8 @@ use platform::Platform;
 use sdbt_base::Tape;
 
 impl Session {
-    ghost use Rattle.device_core.specs.Open.{IsOpen, blocks_of, mapped_of, is_touched};
-    ghost use Rattle.device_core.specs.Holds.{Holds};
+    ghost use Rattle.device_core.specs.Open.{IsOpen, IsMapped, IsUnmapped, blocks_of, mapped_of, root_of, root_node, is_touched};
+    ghost use Rattle.device_core.specs.Holds.{Holds, Follows};
 
     /// Writes a block: at most 4,096 bytes, and zeros up to its end. It is the session's alone until a commit.
     ///
@@ -41,6 +42,12 @@ impl Session {
         ensures untouched { OnErr result (is_touched self.new ≡ is_touched self.old) }
         ensures sound { P.tells → (device : Device) (contents : Blocks) → Holds self.old (P.history platform.old).present device contents
             → (addr : ℕ) → IsErrOf result (WriteRefusal.BadRecord addr) → ⊥ }
+        // On any pages: what is named is a place of the root's tree that doesn't fit, or the root node, where
+        // the block has no entry and as many blocks are mapped as there are.
+        ensures follows { P.tells → Follows self.old (P.history platform.old).present → Follows self.new (P.history platform.new).present }
+        ensures wrong { P.tells → (addr : ℕ) → IsErrOf result (WriteRefusal.BadRecord addr)
+            → Wrong (P.history platform.old).present.readable (root_of self.old) addr
+            ⊎ ((addr ≡ root_node self.old) × (mapped_of self.old ≡ blocks_of self.old) × IsUnmapped self.new block) }
         ensures range { IsErrOf result WriteRefusal.Range ↔ (blocks_of self.old ≤ block) }
         ensures full { IsErrOf result WriteRefusal.Full ↔ ((block < blocks_of self.old) × (P.head platform.old ≡ P.capacity platform.old)) }
         ensures open { IsOpen self.new (P.head platform.new) }
@@ -110,6 +117,12 @@ impl Session {
         ensures untouched { OnErr result (is_touched self.new ≡ is_touched self.old) }
         ensures sound { P.tells → (device : Device) (contents : Blocks) → Holds self.old (P.history platform.old).present device contents
             → (addr : ℕ) → IsErrOf result (TrimRefusal.BadRecord addr) → ⊥ }
+        // On any pages: what is named is a place of the root's tree that doesn't fit, or the root node, where
+        // the block has an entry and no block is mapped.
+        ensures follows { P.tells → Follows self.old (P.history platform.old).present → Follows self.new (P.history platform.new).present }
+        ensures wrong { P.tells → (addr : ℕ) → IsErrOf result (TrimRefusal.BadRecord addr)
+            → Wrong (P.history platform.old).present.readable (root_of self.old) addr
+            ⊎ ((addr ≡ root_node self.old) × (mapped_of self.old ≡ 0) × IsMapped self.new block) }
         ensures range { IsErrOf result TrimRefusal.Range ↔ (blocks_of self.old ≤ block) }
         ensures open { IsOpen self.new (P.head platform.new) }
         ensures same { self.new.root ≡ self.old.root }

@@ -13,6 +13,9 @@ use Rattle.device_core.specs.Replies.{committed_device}
 use Rattle.device_core.proofs.MomentLaws.{one_call}
 use Rattle.device_core.proofs.EntryLaws.{AreEntries-later}
 use Rattle.device_core.proofs.HoldLaws.{during_stands, entries_fit, IsNext, next_fits, next_leaf, raise_turns, raise_held, held_stands}
+use Rattle.platform.proofs.Moments.{whole-now}
+use Rattle.root_codec.specs.RootRecord.{root_bytes}
+use Rattle.device_core.proofs.FollowLaws.{follows_committed}
 use Rattle.device_core.proofs.session.Session.raise.Goals as goal
 
 -- the root record that a commit writes
@@ -125,3 +128,22 @@ returns-clause-open g c =
       entries = AreEntries-later self.entries.items self.root.blocks (head c.args.platform.now) _ c.requires.open.entries (omega (arith, c.in-Ok.ensures.head_ok, c.publish.ensures.head));
       loaded = λ never. c.requires.open.loaded c.requires.touched;
     }
+
+pub returns-clause-follows : goal.returns-clause-follows
+returns-clause-follows g c = λ told.
+    let history = g.P.Platform.history in
+    let head = g.P.Platform.head in
+    let self = c.args.self in
+    let addr = c.in-Ok.placed.addr in
+    let root = next_root self.root self.mapped addr c.in-Ok.placed.key in
+    let address : addr ≡ head c.args.platform.now = c.in-Ok.ensures.address in
+    let pages = g.met.P.Platform.counts_pages told c.args.platform.now in
+    let room : head c.args.platform.now < 2 ^ 32 = omega (arith, c.requires.room, g.met.P.Platform.is_limited c.args.platform.now) in
+    let appended = c.in-Ok.ensures.appended told ∙ ap (λ (bytes : List ℕ). with_page (history c.args.platform.now).present bytes bytes)
+    (page_is addr c.head.result c.in-Ok.placed.key c.put_node.new.self.body c.deref.result.now self.entries.items (ap (λ (b : Held). b.body) c.put_node.ensures) c.deref.ensures.0 (c.head.ensures.value ∙ sym address)) in
+    let next = is_next self.root self.mapped addr (head c.args.platform.now) c.in-Ok.placed.key address in
+    let follows = next_fits self.root root self.mapped (head c.args.platform.now) next c.requires.open.served c.requires.open.mapped room in
+    follows_committed root self.is_loaded self.entries.items (history c.args.platform.now).present (history c.publish.new.platform).present (whole-now (history c.args.platform.now)) follows
+    (next_leaf self.root root self.mapped (head c.args.platform.now) next c.requires.open.served.leaf) (address ∙ sym pages)
+    (subst (λ (n : ℕ). AreEntries self.entries.items self.root.blocks n) (sym address) c.requires.open.entries)
+    (c.in-Ok-publish.ensures.published told ∙ ap (λ (i : Image). with_cell (all_synced i) (Some (root_bytes root))) appended)

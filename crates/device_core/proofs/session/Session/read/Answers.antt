@@ -5,6 +5,10 @@ use Rattle.std.specs.Prelude.{unwrap_or, replicate}
 use Rattle.device_core.specs.Blocks.{Blocks, block_content}
 use Rattle.device_core.proofs.MomentLaws.{still, look_more}
 use Rattle.device_core.proofs.HoldLaws.{holds_same, content_none, content_read, block_fits}
+use Rattle.root_codec.specs.declared.root.Root.{Root}
+use Rattle.platform.specs.Image.{Image}
+use Rattle.page_store.specs.Tree.{Wrong}
+use Rattle.device_core.proofs.FollowLaws.{follows_same, wrong_found}
 use Rattle.device_core.proofs.session.Session.read.Goals as goal
 
 pub returns-then-block-self-clause-time : goal.returns-then-block-self-clause-time
@@ -63,3 +67,28 @@ returns-in-Err-PlatformFault-fetch_block-clause-time g c = λ told. look_more _ 
 
 pub returns-in-Err-BadRecord-clause-sound : goal.returns-in-Err-BadRecord-clause-sound
 returns-in-Err-BadRecord-clause-sound g c = λ told device contents h addr is. c.load.ensures.bad told device contents h c.in-Err-BadRecord.addr (cc)
+
+pub returns-in-Ok-fetch_block-clause-follows : goal.returns-in-Ok-fetch_block-clause-follows
+returns-in-Ok-fetch_block-clause-follows g c = λ told follows. follows_same _ _ _ _ _ (c.fetch_block.ensures.image told) (c.load.ensures.follows told follows)
+
+pub returns-in-Err-BadRecord-fetch_block-clause-follows : goal.returns-in-Err-BadRecord-fetch_block-clause-follows
+returns-in-Err-BadRecord-fetch_block-clause-follows g c = λ told follows. follows_same _ _ _ _ _ (c.fetch_block.ensures.image told) (c.load.ensures.follows told follows)
+
+pub returns-in-Err-PlatformFault-fetch_block-clause-follows : goal.returns-in-Err-PlatformFault-fetch_block-clause-follows
+returns-in-Err-PlatformFault-fetch_block-clause-follows g c = λ told follows. follows_same _ _ _ _ _ (c.fetch_block.ensures.image told) (c.load.ensures.follows told follows)
+
+pub returns-in-Err-BadRecord-clause-wrong : goal.returns-in-Err-BadRecord-clause-wrong
+returns-in-Err-BadRecord-clause-wrong g c = λ told follows addr is. c.load.ensures.wrong told addr (cc)
+
+pub returns-in-Err-BadRecord-fetch_block-clause-wrong : goal.returns-in-Err-BadRecord-fetch_block-clause-wrong
+returns-in-Err-BadRecord-fetch_block-clause-wrong g c = λ told follows addr is.
+    let history = g.P.Platform.history in
+    let place = rw c.as_slice.ensures.value at c.in-Ok-place_of.ensures in
+    let at : c.index-deref-place.result ≡ get_or c.load.new.self.entries.items c.in-Ok-place_of.place c.index-deref-place.result = rw c.deref.ensures.0 at c.index-deref-place.is in
+    let nothing = c.fetch_block.ensures.nothing_fits told c.in-Err-BadRecord-fetch_block.addr (cc) in
+    let named : addr ≡ c.index-deref-place.result.addr = let same : c.in-Err-BadRecord-fetch_block.addr ≡ addr = cc in sym same ∙ c.fetch_block.ensures.bad c.in-Err-BadRecord-fetch_block.addr (cc) in
+    let found = wrong_found c.load.new.self.root c.load.new.self.is_loaded c.load.new.self.entries.items (history c.load.new.platform).present.readable _ c.args.block c.index-deref-place.result c.in-Ok.ensures.loaded
+    (c.load.ensures.follows told follows) c.load.ensures.open.served.leaf.level place at nothing in
+    let before = subst (λ (i : Image). Wrong i.readable c.load.new.self.root c.index-deref-place.result.addr) (c.load.ensures.image told) found in
+    let of_root = subst (λ (r : Root). Wrong (history c.args.platform.now).present.readable r c.index-deref-place.result.addr) c.load.ensures.same.0 before in
+    subst (λ (n : ℕ). Wrong (history c.args.platform.now).present.readable c.args.self.now.root n) (sym named) of_root

@@ -6,6 +6,9 @@ use Rattle.device_core.specs.Holding.{HoldsBy}
 use Rattle.device_core.proofs.MomentLaws.{still}
 use Rattle.device_core.proofs.EntryLaws.{AreEntries-removed}
 use Rattle.device_core.proofs.HoldLaws.{content_none, remove_none, trimmed, some_mapped, touched_none, touched_some, is_mapped}
+use Rattle.std.proofs.Common.{inl, inr}
+use Rattle.root_codec.specs.declared.root.Root.{Root}
+use Rattle.device_core.proofs.FollowLaws.{follows_removed}
 use Rattle.device_core.proofs.session.Session.trim.Goals as goal
 
 pub returns-then-block-self-clause-time : goal.returns-then-block-self-clause-time
@@ -55,3 +58,15 @@ returns-clause-open g c =
       entries = rw c.remove.ensures.items (AreEntries-removed c.load.new.self.entries.items c.in-Ok-place_of.place _ _ opened.entries place.0);
       loaded = λ yes. c.in-Ok.ensures.loaded;
     }
+
+pub returns-in-Err-BadRecord-clause-wrong : goal.returns-in-Err-BadRecord-clause-wrong
+returns-in-Err-BadRecord-clause-wrong g c = λ told addr is. inl (c.load.ensures.wrong told addr (cc))
+
+pub returns-then-self-eq0-clause-wrong : goal.returns-then-self-eq0-clause-wrong
+returns-then-self-eq0-clause-wrong g c = λ told addr is.
+    let place = rw c.as_slice.ensures.value at c.in-Ok-place_of.ensures in
+    let named : c.load.new.self.root.addr ≡ addr = cc in
+    inr (sym named ∙ ap (λ (r : Root). r.addr) c.load.ensures.same.0, sym c.load.ensures.same.1 ∙ c.if-self-eq0.true, (c.in-Ok-place_of.place, place.1))
+
+pub returns-clause-follows : goal.returns-clause-follows
+returns-clause-follows g c = λ told follows. rw c.remove.ensures.items (follows_removed _ _ _ _ c.in-Ok-place_of.place (c.load.ensures.follows told follows))

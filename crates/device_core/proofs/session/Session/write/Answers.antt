@@ -12,6 +12,8 @@ use Rattle.device_core.specs.Holding.{HoldsBy}
 use Rattle.device_core.proofs.MomentLaws.{still, call_more}
 use Rattle.device_core.proofs.EntryLaws.{AreEntries-placed, AreEntries-later, room_where_none}
 use Rattle.device_core.proofs.HoldLaws.{holds_same, holds_later, some_unmapped, padded_bytes, written, data_page}
+use Rattle.std.proofs.Common.{inl, inr}
+use Rattle.device_core.proofs.FollowLaws.{follows_same, follows_later, follows_written, unmapped_place}
 use Rattle.device_core.proofs.session.Session.write.Goals as goal
 
 pub returns-then-block-self-clause-time : goal.returns-then-block-self-clause-time
@@ -100,3 +102,42 @@ returns-clause-written g c = λ told device contents h.
     c.place_of-place.result key text c.in-Ok.ensures.loaded (c.load.ensures.holds told device contents h) (whole-now (history c.load.new.platform)) (address ∙ sym pages)
     (omega (arith, address, g.met.P.Platform.has_room c.load.new.platform, g.met.P.Platform.is_limited c.load.new.platform)) are place (omega (arith, c.requires.open.served.leaf.blocks))
     (padded_bytes c.args.content.now c.requires.size c.are_bytes.ensures) c.in-Some.ensures.found.1 (Extends-earlier _ _ (c.append.ensures.time told).extends) later)
+
+pub returns-in-Err-BadRecord-clause-wrong : goal.returns-in-Err-BadRecord-clause-wrong
+returns-in-Err-BadRecord-clause-wrong g c = λ told addr is. inl (c.load.ensures.wrong told addr (cc))
+
+pub returns-in_default-clause-wrong : goal.returns-in_default-clause-wrong
+returns-in_default-clause-wrong g c = λ told addr is.
+    let place = rw c.as_slice.ensures.value at c.place_of-place.ensures in
+    let counter = c.mapped_with.ensures.none.0 (grind (arith, c.in_default.is)) in
+    let named : c.load.new.self.root.addr ≡ addr = cc in
+    inr (
+      sym named ∙ ap (λ (r : Root). r.addr) c.load.ensures.same.0,
+      sym c.load.ensures.same.1 ∙ counter.1 ∙ ap (λ (r : Root). r.blocks) c.load.ensures.same.0,
+      unmapped_place _ c.place_of-place.result c.args.block place counter.0,
+    )
+
+pub returns-in-Err-TapeFault-clause-follows : goal.returns-in-Err-TapeFault-clause-follows
+returns-in-Err-TapeFault-clause-follows g c = λ told follows. follows_same _ _ _ _ _ (c.append.ensures.unchanged told (cc)) (c.load.ensures.follows told follows)
+
+pub returns-in-Err-PlatformFault-append-clause-follows : goal.returns-in-Err-PlatformFault-append-clause-follows
+returns-in-Err-PlatformFault-append-clause-follows g c = λ told follows.
+    follows_later _ _ _ _ _ (Extends-earlier _ _ (c.append.ensures.time told).extends) (c.load.ensures.follows told follows)
+
+pub returns-clause-follows : goal.returns-clause-follows
+returns-clause-follows g c = λ told follows.
+    let history = g.P.Platform.history in
+    let session = c.load.new.self in
+    let addr = c.in-Ok-append.placed.addr in
+    let key = c.in-Ok-append.placed.key in
+    let text = padded c.args.content.now in
+    let pages = g.met.P.Platform.counts_pages told c.load.new.platform in
+    let address : addr ≡ g.P.Platform.head c.load.new.platform = c.in-Ok-append.ensures.address in
+    let body : c.put_block.new.self.body ≡ record_bytes addr (DataRecord c.args.block text) =
+    ap (λ (b : Held). b.body) c.put_block.ensures ∙ ap (λ (n : ℕ). record_bytes n (DataRecord c.args.block text)) (c.head-addr.ensures.value ∙ sym address) in
+    let page : masked key c.put_block.new.self.body ≡ data_page addr c.args.block key text = ap (masked key) body in
+    let later = c.in-Ok-append.ensures.appended told ∙ ap (λ (bytes : List ℕ). with_page (history c.load.new.platform).present bytes bytes) page in
+    rw c.put_entry.ensures (follows_written session.root session.is_loaded session.entries.items (history c.load.new.platform).present (history c.append.new.platform).present c.args.block addr c.place_of-place.result key text
+    (c.load.ensures.follows told follows) (whole-now (history c.load.new.platform)) (address ∙ sym pages)
+    (omega (arith, address, g.met.P.Platform.has_room c.load.new.platform, g.met.P.Platform.is_limited c.load.new.platform)) (omega (arith, c.requires.open.served.leaf.blocks))
+    (padded_bytes c.args.content.now c.requires.size c.are_bytes.ensures) (Extends-earlier _ _ (c.append.ensures.time told).extends) later)
