@@ -1,0 +1,102 @@
+ghost use Rattle.std.specs.Prelude.{◌≡◌, ◌<◌, ◌≤◌, ◌+◌, ℕ, List, Some, IfOk, OnOk, OnErr, length, slice_get};
+ghost use Rattle.sdbt_base.specs.Faults.{Rose};
+ghost use Rattle.platform.specs.History.{Steps};
+ghost use Rattle.seal_record.specs.Sealing.{masked};
+ghost use Rattle.node_codec.specs.Record.{DataRecord, NodeRecord, FitsNode, record_bytes};
+ghost use Rattle.page_store.specs.Buffer.{Held, content_of, padded, IsBlank};
+
+use node_codec::{Entry, encode_block, encode_node};
+use platform::Platform;
+use sdbt_base::{Key, Memory, PlatformFault, RECORD};
+use seal_record::unseal;
+use std::alloc::Global;
+use std::marker::Model;
+
+/// The bytes of a record's head.
+const HEAD: usize = 32;
+
+/// Room for a page and for its body, on the heap, that is used again and again.
+#[derive(Drop)]
+pub struct Buffers {
+    pub(crate) page: Vec<u8>,
+    pub(crate) body: Vec<u8>,
+}
+
+impl Model for Buffers {
+    ghost Value = { Held };
+
+    ghost view = { λ b. record { page = b.page.items; body = b.body.items } };
+
+    ghost invariant = { λ b. (length b.page.items ≡ 4128) × (length b.body.items ≡ 4128) };
+}
+
+impl Buffers {
+    /// Buffers of zeros.
+    pub fn new(alloc: Global) -> Result<Buffers, Memory>
+        ensures { IfOk result IsBlank }
+    {
+        let page = vec![in alloc; 0; RECORD]?;
+        let body = vec![in alloc; 0; RECORD]?;
+        Ok(Buffers { page, body })
+    }
+
+    /// The 4,096 bytes behind the head of the last body: of a data record, its content.
+    pub fn content(&self) -> &[u8]
+        ensures value { result.now ≡ content_of self.now }
+        ensures size { length result.now ≡ 4096 }
+    {
+        let (_, content) = self.body.split_at(HEAD);
+        content
+    }
+
+    /// Makes all bytes zero, so that nothing that was read or sealed stays here.
+    pub fn wipe(&mut self)
+        ensures { IsBlank self.new }
+    {
+        self.page.fill(0);
+        self.body.fill(0);
+    }
+
+    /// Makes the body the data record of `block` at `addr`: at most 4,096 bytes of content, and zeros behind.
+    pub fn put_block(&mut self, addr: u64, block: u64, content: &[u8])
+        requires block { block < 1048576 }
+        requires content { length content.now ≤ 4096 }
+        ensures { self.new ≡ record self.old { body = record_bytes addr (DataRecord block (padded content.now)) } }
+    {
+        encode_block(addr, block, content, &mut self.body);
+    }
+
+    /// Makes the body the node of `level` with these entries at `addr`.
+    pub fn put_node(&mut self, addr: u64, level: u8, entries: &[Entry])
+        requires { FitsNode addr level entries.now }
+        ensures { self.new ≡ record self.old { body = record_bytes addr (NodeRecord level entries.now) } }
+    {
+        encode_node(addr, level, entries, &mut self.body);
+    }
+
+    /// Reads the page at `addr` and unseals it under the key. After a fault the buffers may hold anything.
+    pub(crate) fn load<P: Platform>(
+        &mut self,
+        platform: &mut P,
+        addr: u64,
+        key: &Key,
+    ) -> Result<(), PlatformFault>
+        requires { addr < P.head platform.old }
+        ensures page { P.tells → OnOk result (slice_get (P.history platform.old).present.readable addr ≡ Some self.new.page) }
+        ensures body { OnOk result (self.new.body ≡ masked key.now self.new.page) }
+        ensures size { OnOk result (length self.new.body ≡ 4128) }
+        ensures image { P.tells → (P.history platform.new).present ≡ (P.history platform.old).present }
+        ensures time { P.tells → Steps (P.history platform.old) (P.history platform.new) }
+        ensures head { P.head platform.new ≡ P.head platform.old }
+        ensures capacity { P.capacity platform.new ≡ P.capacity platform.old }
+        ensures reads_ok { P.tells → OnOk result (P.reads platform.new ≡ P.reads platform.old + 1) }
+        ensures reads_rise { P.tells → P.reads platform.old ≤ P.reads platform.new }
+        ensures reads_by_one { P.tells → P.reads platform.new ≤ P.reads platform.old + 1 }
+        ensures faults { P.faults platform.old ≤ P.faults platform.new }
+        ensures cause { OnErr result (Rose (P.faults platform.old) (P.faults platform.new)) }
+    {
+        platform.read(addr, &mut self.page)?;
+        unseal(key, &self.page, &mut self.body);
+        Ok(())
+    }
+}

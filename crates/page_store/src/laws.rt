@@ -1,0 +1,28 @@
+//! Laws of trees and of what images stand for. The functions do nothing: each has its law as its contract.
+ghost use Rattle.std.specs.Prelude.{◌≡◌, ℕ, List, Option};
+ghost use Rattle.platform.specs.Image.{Image, IsEarlier, LeavesOnly};
+ghost use Rattle.root_codec.specs.declared.root.Root.{Root};
+ghost use Rattle.root_codec.specs.RootRecord.{FitsRoot};
+ghost use Rattle.page_store.specs.Device.{Device};
+ghost use Rattle.page_store.specs.Tree.{Parts, Tree, Wrong};
+ghost use Rattle.page_store.specs.Stands.{Stands};
+
+/// Over the same pages a root has one tree at most.
+pub fn one_tree()
+    ensures { (pages : List (List ℕ)) (root : Root) (one other : Parts) → FitsRoot root → Tree pages root one → Tree pages root other → one ≡ other }
+{}
+
+/// Where a root has a tree, none of its places is wrong.
+pub fn no_wrong_place()
+    ensures { (pages : List (List ℕ)) (root : Root) (parts : Parts) (addr : ℕ) → FitsRoot root → Tree pages root parts → ¬ (Wrong pages root addr) }
+{}
+
+/// An image stands for one device at most.
+pub fn one_device()
+    ensures { (image : Image) (one other : Option Device) → Stands image one → Stands image other → one ≡ other }
+{}
+
+/// As long as the cell stays as it is, a later image, and what a loss of power leaves of it, stands for the same device.
+pub fn outlasts_loss_of_power()
+    ensures { (image later : Image) (device : Option Device) → IsEarlier image later → later.cell ≡ image.cell → Stands image device → LeavesOnly (λ left. Stands left device) later }
+{}

@@ -1,0 +1,25 @@
+//! Records on the medium: what is wanted at a place of the tree, and whether what stands there fits.
+//!
+//! A device's tree begins at the node that its root record names. A node's entries name the places below
+//! it, each by address, key and lower bound, down to the data records. Each page is read as it is needed,
+//! unsealed under the key that led to it, and refused where it is not the record that was wanted there.
+#![tactic(auto)]
+
+mod appending;
+mod buffers;
+mod fetching;
+mod laws;
+mod refusals;
+mod roots;
+mod wants;
+
+pub use appending::Placed;
+pub use buffers::Buffers;
+pub use fetching::fetch;
+pub use laws::{no_wrong_place, one_device, one_tree, outlasts_loss_of_power};
+pub use refusals::{AppendFault, CurrentRefusal, FetchRefusal};
+pub use roots::current;
+pub use wants::Want;
+
+#[cfg(test)]
+mod tests;

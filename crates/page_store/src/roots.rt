@@ -1,0 +1,52 @@
+ghost use Rattle.std.specs.Prelude.{◌≡◌, ◌≢◌, ◌≤◌, None, Some, IfOk, IfSome, IfNone, IsErrOf, length};
+ghost use Rattle.sdbt_base.specs.Faults.{Rose};
+ghost use Rattle.platform.specs.History.{Steps};
+ghost use Rattle.root_codec.specs.RootRecord.{root_bytes};
+ghost use Rattle.page_store.specs.Roots.{IsRootWithin, IsBadCell};
+ghost use Rattle.root_codec.specs.declared.root.Root.{Root};
+
+use crate::refusals::CurrentRefusal;
+use platform::Platform;
+use root_codec::{Root, decode_root};
+use sdbt_base::ROOT;
+
+/// The root record in the cell, or none where the cell is empty.
+///
+/// `BadRoot` comes exactly where the cell is full and holds no root record, or one whose head field is
+/// above the platform's head: it speaks of pages that are not there.
+pub fn current<P: Platform>(platform: &mut P) -> Result<Option<Root>, CurrentRefusal>
+    ensures found { P.tells → IfOk result (λ found. IfSome found (λ root. (P.history platform.old).present.cell ≡ Some (root_bytes root))) }
+    ensures within { IfOk result (λ found. IfSome found (λ root. IsRootWithin (P.head platform.old) root)) }
+    ensures none { P.tells → IfOk result (λ found. IfNone found ((P.history platform.old).present.cell ≡ None)) }
+    ensures bad { P.tells → IsErrOf result CurrentRefusal.BadRoot → IsBadCell (P.head platform.old) (P.history platform.old).present.cell }
+
+    ensures image { P.tells → (P.history platform.new).present ≡ (P.history platform.old).present }
+    ensures time { P.tells → Steps (P.history platform.old) (P.history platform.new) }
+    ensures head { P.head platform.new ≡ P.head platform.old }
+    ensures capacity { P.capacity platform.new ≡ P.capacity platform.old }
+    ensures reads { P.tells → P.reads platform.new ≡ P.reads platform.old }
+    ensures faults { P.faults platform.old ≤ P.faults platform.new }
+    ensures cause { IsErrOf result CurrentRefusal.PlatformFault → Rose (P.faults platform.old) (P.faults platform.new) }
+{
+    let mut bytes = [0; ROOT];
+    let Ok(is_full) = platform.load_root(&mut bytes) else {
+        return Err(CurrentRefusal::PlatformFault);
+    };
+    if !is_full {
+        return Ok(None);
+    }
+    match root_within(&bytes, platform.head()) {
+        Some(root) => Ok(Some(root)),
+        None => Err(CurrentRefusal::BadRoot),
+    }
+}
+
+/// The root whose root record the 128 bytes are, where its head field is not above `head`.
+fn root_within(bytes: &[u8], head: u64) -> Option<Root>
+    requires { length bytes.now ≡ 128 }
+    ensures found { IfSome result (λ root. IsRootWithin head root × (bytes.now ≡ root_bytes root)) }
+    ensures none { IfNone result ((root : Root) → IsRootWithin head root → bytes.now ≢ root_bytes root) }
+{
+    let root = decode_root(bytes)?;
+    if root.head <= head { Some(root) } else { None }
+}

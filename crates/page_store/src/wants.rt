@@ -1,0 +1,109 @@
+ghost use Rattle.std.specs.Prelude.{◌≡◌, ◌↔◌, ◌<◌, ◌≤◌, ℕ, List, All, IfSome, IsTrue, slice_get};
+ghost use Rattle.page_store.specs.Places.{root_want, child_want, block_want, IsWanted, IsNodeWanted};
+ghost use Rattle.node_codec.specs.Record.{value_of};
+
+use node_codec::{Body, Entry, NodeBody};
+use root_codec::Root;
+
+/// Which record is wanted at a place of the tree.
+///
+/// At level 0 it is the data record of block `low`. Else it is a node of that level with `least` to `most`
+/// entries, whose lows are at least `low` and below `high`; the first low of an inner node, one above
+/// level 1, is `low`.
+#[derive(Clone, Copy, Debug, PartialEq, Eq)]
+pub struct Want {
+    /// The address of its page.
+    pub addr: u64,
+    /// Its level: 0 for a data record, 1 for a leaf, up to 20.
+    pub level: u8,
+    /// The block, or the lower bound of a node.
+    pub low: u64,
+    /// The upper bound of a node, which its lows don't reach.
+    pub high: u64,
+    /// The least number of entries.
+    pub least: u16,
+    /// The greatest number of entries.
+    pub most: u16,
+}
+
+impl Want {
+    /// The root node of a tree: a leaf may be empty, an inner node has two entries at least.
+    pub fn of_root(root: &Root) -> Want
+        ensures { result ≡ root_want root.now }
+    {
+        Want {
+            addr: root.addr,
+            level: root.level,
+            low: 0,
+            high: root.blocks,
+            least: if root.level == 1 { 0 } else { 2 },
+            most: root.order,
+        }
+    }
+
+    /// What stands below an entry, at this level: its bounds are the entry's low and `high`, and it has
+    /// half as many entries as the order says, at least.
+    pub fn of_child(order: u16, level: u8, entry: &Entry, high: u64) -> Want
+        ensures { result ≡ child_want order level entry.now high }
+    {
+        Want {
+            addr: entry.addr,
+            level,
+            low: entry.low,
+            high,
+            least: order / 2,
+            most: order,
+        }
+    }
+
+    /// The data record of a block.
+    pub fn of_block(addr: u64, block: u64) -> Want
+        ensures { result ≡ block_want addr block }
+    {
+        Want {
+            addr,
+            level: 0,
+            low: block,
+            high: 0,
+            least: 0,
+            most: 0,
+        }
+    }
+
+    /// Whether a record is the one that is wanted, whatever the content of a data record.
+    pub(crate) fn is_met_by(&self, body: &Body) -> bool
+        ensures { (payload : List ℕ) → IsTrue result ↔ IsWanted self.now (value_of body.now payload) }
+    {
+        match body {
+            Body::Block { block } => self.level == 0 && *block == self.low,
+            Body::Node { node } => self.is_met_by_node(node),
+        }
+    }
+
+    fn is_met_by_node(&self, node: &NodeBody) -> bool
+        ensures { IsTrue result ↔ IsNodeWanted self.now node.now.level node.now.entries.items }
+    {
+        let count = node.entries.len();
+        node.level == self.level
+            && self.least as usize <= count
+            && count <= self.most as usize
+            && self.bounds(&node.entries)
+            && (node.level < 2 || self.begins(&node.entries))
+    }
+
+    /// Whether each low is within the bounds.
+    fn bounds(&self, entries: &[Entry]) -> bool
+        ensures { IsTrue result ↔ (All (λ e. self.now.low ≤ e.low) entries.now × All (λ e. e.low < self.now.high) entries.now) }
+    {
+        entries
+            .iter()
+            .all(|e| self.low <= e.low && e.low < self.high)
+    }
+
+    /// Whether the first low, if there is one, is the lower bound.
+    fn begins(&self, entries: &[Entry]) -> bool
+        ensures { IsTrue result ↔ IfSome (slice_get entries.now 0) (λ e. e.low ≡ self.now.low) }
+    {
+        entries.first().is_none_or(|e| e.low == self.low)
+    }
+}
