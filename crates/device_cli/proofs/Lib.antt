@@ -1,3 +1,6 @@
 pub mod Ascending
 pub mod EntryLaws
 pub mod RunLaws
+pub mod RepliedLaws
+pub mod PieceLaws
+pub mod Serving

@@ -4,3 +4,6 @@ pub mod Open
 pub mod Desk
 pub mod Kept
 pub mod Run
+pub mod Replied
+pub mod Ran
+pub mod Represents

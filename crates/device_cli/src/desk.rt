@@ -1,9 +1,11 @@
 //! What a run keeps between lines, and the answer to each command.
-ghost use Rattle.std.specs.Prelude.{◌≡◌, ◌≤◌, ℕ, IfOk, OnOk, IfErr, IsErrOf, length};
+ghost use Rattle.std.specs.Prelude.{◌≡◌, ◌≤◌, ℕ, IfOk, OnOk, IfErr, IsErrOf, None, length};
 ghost use Rattle.sdbt_base.specs.Faults.{Rose};
 ghost use Rattle.script_lang.specs.Replies.{CanWrite};
 ghost use Rattle.device_cli.specs.Leaf.{IsServedCell};
+ghost use Rattle.script_lang.specs.Arrays.{State};
 ghost use Rattle.device_cli.specs.Run.{counts, NoneFell, HasCause};
+ghost use Rattle.device_cli.specs.Replied.{IsOfBlock, Serves};
 
 use crate::buffers::DeviceFault;
 use crate::session::{
@@ -24,10 +26,12 @@ pub(crate) struct Desk {
 
 impl Desk {
     ghost use Rattle.device_cli.specs.Desk.{IsReady};
+    ghost use Rattle.device_cli.specs.Represents.{Represents};
 
     /// No session.
     pub(crate) fn new(alloc: Global) -> Desk
-        ensures { (head : ℕ) → IsReady result head }
+        ensures ready { (head : ℕ) → IsReady result head }
+        ensures session { result.session ≡ None }
     {
         Desk {
             alloc,
@@ -50,6 +54,9 @@ impl Desk {
         ensures bad_root { P.tells → IsErrOf result DeviceStop.BadRoot → ⊥ }
         ensures counts { NoneFell (counts (P.faults platform.old) (T.faults tape.old) 0 0) (counts (P.faults platform.new) (T.faults tape.new) 0 0) }
         ensures cause { IfErr result (λ stop. HasCause (counts (P.faults platform.old) (T.faults tape.old) 0 0) (counts (P.faults platform.new) (T.faults tape.new) 0 0) (Stop.Device stop)) }
+        ensures bad_record { (addr : ℕ) → IsErrOf result (DeviceStop.BadRecord addr) → IsOfBlock command.now }
+        ensures answered { P.tells → (entry : State) → Represents self.old (P.history platform.old).present entry
+            → Serves (Represents self.new (P.history platform.new).present) entry command.now result }
     {
         match command {
             Command::Format { blocks, order } => format(

@@ -3,10 +3,11 @@
 //! [`run_main`] takes the words of a command line and the objects of the outside, and answers an exit status.
 #![tactic(auto)]
 
-ghost use Rattle.std.specs.Prelude.{◌≡◌, ℕ, List, ◌↔◌, ◌⊎◌, map, string_bytes, IsSome};
+ghost use Rattle.std.specs.Prelude.{◌≡◌, ℕ, List, ◌↔◌, ◌⊎◌, map, string_bytes};
 ghost use Rattle.sdbt_base.specs.Faults.{Rose};
 ghost use Rattle.sdbt_base.specs.Told.{Gave};
 ghost use Rattle.device_cli.specs.Words.{AreRunWords};
+ghost use Rattle.device_cli.specs.Leaf.{IsServedCell};
 ghost use Rattle.device_cli.specs.Run.{IsStatus, Took, NoneFell, counts};
 
 mod buffers;
@@ -27,8 +28,8 @@ use words::are_run_words;
 ///
 /// With no words, or `run`, it serves the script that `input` gives: each whole line before more input is
 /// taken, one reply for each line, put to `output` in one put. Statuses: 0, the input was served to its end;
-/// 2, other words; 3, 4, 5 and 6, `input`, `output`, the platform or the tape failed; 8, the root cell was full
-/// at the start, which is not served yet; 9, a record was not what the tree wants there; 11, no memory;
+/// 2, other words; 3, 4, 5 and 6, `input`, `output`, the platform or the tape failed; 8, the root cell is full and
+/// its root record can't be served; 9, a record was not what the tree wants there; 11, no memory;
 /// 12, the limit of 2^32 bytes of input was reached. Nothing is put to `ledger` yet.
 pub fn run_main<P: Platform, T: Tape, I: Source, O: Sink, L: Sink>(
     alloc: Global,
@@ -51,9 +52,9 @@ pub fn run_main<P: Platform, T: Tape, I: Source, O: Sink, L: Sink>(
     ensures counts { NoneFell (counts (P.faults platform.old) (T.faults tape.old) (I.faults input.old) (O.faults output.old))
         (counts (P.faults platform.new) (T.faults tape.new) (I.faults input.new) (O.faults output.new)) }
 
-    // 8 exactly where the cell is full at the start, unless that could not be told or not be said.
-    ensures full_cell_only { P.tells → result ≡ 8 → IsSome (P.history platform.old).present.cell }
-    ensures full_cell { P.tells → IsSome (P.history platform.old).present.cell → AreRunWords (map string_bytes words.now)
+    // 8 exactly where the cell at the start is full and can't be served, unless that could not be told or not be said.
+    ensures bad_root_only { P.tells → result ≡ 8 → IsServedCell (P.history platform.old).present.cell (P.head platform.old) → ⊥ }
+    ensures bad_root { P.tells → (IsServedCell (P.history platform.old).present.cell (P.head platform.old) → ⊥) → AreRunWords (map string_bytes words.now)
         → (result ≡ 8) ⊎ (result ≡ 4) ⊎ (result ≡ 5) }
 
     // 0 and 3 before the limit of input, and 12 at it.

@@ -1,17 +1,25 @@
 //! Serves a script line by line.
-ghost use Rattle.std.specs.Prelude.{◌≡◌, ◌≤◌, ◌⊎◌, ℕ, List, IfErr, OnOk, IsOk, IsErrOf, IsSome};
+ghost use Rattle.std.specs.Prelude.{◌≡◌, ◌≤◌, ◌⊎◌, ◌∷◌, [], ◌++◌, ℕ, List, IfErr, OnOk, IsOk, IsErrOf, IfSome, IfNone, option_copied};
 ghost use Rattle.sdbt_base.specs.Faults.{Rose};
-ghost use Rattle.sdbt_base.specs.Told.{Gave};
+ghost use Rattle.sdbt_base.specs.Told.{Got, GotPart};
+ghost use Rattle.script_lang.specs.Grammar.{Spells, IsBad, HasNone};
+ghost use Rattle.script_lang.specs.Lines.{whole_lines_of, rest_of, last_line as line_at_end};
+ghost use Rattle.script_lang.specs.Replies.{CanWrite, line_of};
 ghost use Rattle.device_cli.specs.Leaf.{IsServedCell};
 ghost use Rattle.device_cli.specs.Desk.{IsReady};
-ghost use Rattle.device_cli.specs.Run.{counts, NoneFell, HasCause, IsOfLine, IsRefusal, TookUntil, status_of};
+ghost use Rattle.device_cli.specs.Run.{counts, NoneFell, HasCause, IsOfLine, IsRefusal, status_of};
+ghost use Rattle.device_cli.specs.Kept.{IsKept, IsPending};
+ghost use Rattle.device_cli.specs.Represents.{Stood, StoodAlone, StoodBy};
+ghost use Rattle.device_cli.specs.Replied.{Handled, HasPut, IsSound, no_line, damage_line};
+ghost use Rattle.device_cli.specs.Ran.{Ran};
 
 use crate::desk::Desk;
 use crate::pending::Pending;
+use crate::session::served_root;
 use crate::stop::{DeviceStop, Stop};
 use arrayvec::ArrayString;
 use platform::Platform;
-use script_lang::{Reply, parse, write_reply};
+use script_lang::{Command, Reply, parse, write_reply};
 use sdbt_base::{MAX_INPUT, ROOT, Sink, Source, Tape};
 use std::alloc::Global;
 use std::fmt::Write;
@@ -19,7 +27,7 @@ use std::fmt::Write;
 /// The most that one take asks for.
 const PIECE: usize = 4096;
 
-/// Serves the script that the input gives, where the root cell is empty at the start.
+/// Serves the script that the input gives, where the root cell is empty or its record can be served.
 pub(crate) fn run<P: Platform, T: Tape, I: Source, O: Sink>(
     alloc: Global,
     platform: &mut P,
@@ -27,23 +35,43 @@ pub(crate) fn run<P: Platform, T: Tape, I: Source, O: Sink>(
     input: &mut I,
     output: &mut O,
 ) -> Result<(), Stop>
-    ensures full_cell_only { P.tells → IfErr result (λ stop. status_of stop ≡ 8 → IsSome (P.history platform.old).present.cell) }
-    ensures full_cell { P.tells → IsSome (P.history platform.old).present.cell → IfErr result (λ stop. IsRefusal stop) × (IsOk result → ⊥) }
+    ensures refused_only { P.tells → IfErr result (λ stop. status_of stop ≡ 8 → IsServedCell (P.history platform.old).present.cell (P.head platform.old) → ⊥) }
+    ensures refused { P.tells → (IsServedCell (P.history platform.old).present.cell (P.head platform.old) → ⊥) → IfErr result (λ stop. IsRefusal stop) × (IsOk result → ⊥) }
     ensures counts { NoneFell (counts (P.faults platform.old) (T.faults tape.old) (I.faults input.old) (O.faults output.old)) (counts (P.faults platform.new) (T.faults tape.new) (I.faults input.new) (O.faults output.new)) }
     ensures cause { IfErr result (HasCause (counts (P.faults platform.old) (T.faults tape.old) (I.faults input.old) (O.faults output.old)) (counts (P.faults platform.new) (T.faults tape.new) (I.faults input.new) (O.faults output.new))) }
-    ensures taken { (taken : List ℕ) × Gave (I.left input.old) taken (I.left input.new) × TookUntil result taken (I.left input.new) }
+    ensures ran { Ran (λ state. StoodAlone P.tells (P.history platform.old).present state × IsServedCell (P.history platform.old).present.cell (P.head platform.old))
+        (StoodBy P.tells (P.history platform.new).present) damage_line result (I.left input.old) (I.left input.new) (O.written output.old) (O.written output.new) }
 {
-    let mut cell = [0; ROOT];
-    match platform.load_root(&mut cell) {
-        Ok(false) => {}
-        Ok(true) => return Err(refuse_full_cell(output)),
-        Err(_) => return Err(Stop::Device(DeviceStop::Platform)),
+    match check_cell(platform) {
+        Ok(()) => {}
+        Err(stop) => return Err(last_line(stop, output)),
     }
     let mut desk = Desk::new(alloc);
     match serve_input(&mut desk, platform, tape, input, output) {
         Ok(()) => Ok(()),
         Err(Stop::Device(stop)) => Err(last_line(stop, output)),
         Err(stop) => Err(stop),
+    }
+}
+
+/// Whether the root cell is empty, or holds a root record that can be served.
+fn check_cell<P: Platform>(platform: &mut P) -> Result<(), DeviceStop>
+    ensures served { P.tells → OnOk result (IsServedCell (P.history platform.old).present.cell (P.head platform.old)) }
+    ensures bad_root { P.tells → IsErrOf result DeviceStop.BadRoot → IsServedCell (P.history platform.old).present.cell (P.head platform.old) → ⊥ }
+    ensures stops { IfErr result (λ stop. (stop ≡ DeviceStop.BadRoot) ⊎ ((stop ≡ DeviceStop.Platform) × Rose (P.faults platform.old) (P.faults platform.new))) }
+    ensures image { P.tells → (P.history platform.new).present ≡ (P.history platform.old).present }
+    ensures head { P.head platform.new ≡ P.head platform.old }
+    ensures count { P.faults platform.old ≤ P.faults platform.new }
+{
+    let mut cell = [0; ROOT];
+    match platform.load_root(&mut cell) {
+        Ok(true) => {}
+        Ok(false) => return Ok(()),
+        Err(_) => return Err(DeviceStop::Platform),
+    }
+    match served_root(&cell, platform.head()) {
+        Some(_) => Ok(()),
+        None => Err(DeviceStop::BadRoot),
     }
 }
 
@@ -60,8 +88,8 @@ fn serve_input<P: Platform, T: Tape, I: Source, O: Sink>(
     ensures bad_root { P.tells → IsErrOf result (Stop.Device DeviceStop.BadRoot) → ⊥ }
     ensures counts { NoneFell (counts (P.faults platform.old) (T.faults tape.old) (I.faults input.old) (O.faults output.old)) (counts (P.faults platform.new) (T.faults tape.new) (I.faults input.new) (O.faults output.new)) }
     ensures cause { IfErr result (HasCause (counts (P.faults platform.old) (T.faults tape.old) (I.faults input.old) (O.faults output.old)) (counts (P.faults platform.new) (T.faults tape.new) (I.faults input.new) (O.faults output.new))) }
-    ensures taken { (taken : List ℕ) × Gave (I.left input.old) taken (I.left input.new) × TookUntil result taken (I.left input.new) }
-    ensures full_cell { IsErrOf result Stop.FullCell → ⊥ }
+    ensures ran { Ran (Stood P.tells desk.old (P.history platform.old).present) (Stood P.tells desk.new (P.history platform.new).present)
+        no_line result (I.left input.old) (I.left input.new) (O.written output.old) (O.written output.new) }
 {
     let mut piece = [0; PIECE];
     let mut pending = Pending::new();
@@ -100,19 +128,31 @@ fn serve_piece<P: Platform, T: Tape, O: Sink>(
     ensures counts { NoneFell (counts (P.faults platform.old) (T.faults tape.old) 0 (O.faults output.old)) (counts (P.faults platform.new) (T.faults tape.new) 0 (O.faults output.new)) }
     ensures cause { IfErr result (HasCause (counts (P.faults platform.old) (T.faults tape.old) 0 (O.faults output.old)) (counts (P.faults platform.new) (T.faults tape.new) 0 (O.faults output.new))) }
     ensures stops { IfErr result IsOfLine }
+    ensures pending { (rest : List ℕ) → IsPending pending.old rest → OnOk result (IsPending pending.new (rest_of (rest ++ piece.now))) }
+    ensures handled { (rest : List ℕ) → IsPending pending.old rest → Handled (Stood P.tells desk.old (P.history platform.old).present) (Stood P.tells desk.new (P.history platform.new).present)
+        no_line result (whole_lines_of (rest ++ piece.now)) (O.written output.old) (O.written output.new) }
 {
     let mut rest = piece;
-    while let Some(at) = rest.iter().position(|byte| *byte == b'\n') {
-        let (front, behind) = rest.split_at(at);
+    while let Some((front, behind)) = split_line(rest) {
         pending.push(front);
         if let Err(stop) = answer(desk, pending.line(), platform, tape, output) {
             return Err(stop);
         }
         pending.clear();
-        rest = &behind[1..];
+        rest = behind;
     }
     pending.push(rest);
     Ok(())
+}
+
+/// What stands before the first line feed of a text, and what stands behind it; None where there is none.
+fn split_line(text: &[u8]) -> Option<(&[u8], &[u8])>
+    ensures found { IfSome result (λ parts. HasNone 10 parts.0.now × (text.now ≡ parts.0.now ++ 10 ∷ parts.1.now)) }
+    ensures none { IfNone result (HasNone 10 text.now) }
+{
+    let feed = text.iter().position(|byte| *byte == b'\n')?;
+    let (line, behind) = text.split_at(feed);
+    Some((line, &behind[1..]))
 }
 
 /// Serves a last line that lacks its line feed.
@@ -131,6 +171,8 @@ fn serve_end<P: Platform, T: Tape, O: Sink>(
     ensures counts { NoneFell (counts (P.faults platform.old) (T.faults tape.old) 0 (O.faults output.old)) (counts (P.faults platform.new) (T.faults tape.new) 0 (O.faults output.new)) }
     ensures cause { IfErr result (HasCause (counts (P.faults platform.old) (T.faults tape.old) 0 (O.faults output.old)) (counts (P.faults platform.new) (T.faults tape.new) 0 (O.faults output.new))) }
     ensures stops { IfErr result IsOfLine }
+    ensures handled { (rest : List ℕ) → IsPending pending.now rest → Handled (Stood P.tells desk.old (P.history platform.old).present) (Stood P.tells desk.new (P.history platform.new).present)
+        no_line result (line_at_end rest) (O.written output.old) (O.written output.new) }
 {
     if pending.is_empty() {
         return Ok(());
@@ -154,38 +196,46 @@ fn answer<P: Platform, T: Tape, O: Sink>(
     ensures counts { NoneFell (counts (P.faults platform.old) (T.faults tape.old) 0 (O.faults output.old)) (counts (P.faults platform.new) (T.faults tape.new) 0 (O.faults output.new)) }
     ensures cause { IfErr result (HasCause (counts (P.faults platform.old) (T.faults tape.old) 0 (O.faults output.old)) (counts (P.faults platform.new) (T.faults tape.new) 0 (O.faults output.new))) }
     ensures stops { IfErr result IsOfLine }
+    ensures handled { (text : List ℕ) → IsKept (option_copied line.entry) text → Handled (Stood P.tells desk.old (P.history platform.old).present) (Stood P.tells desk.new (P.history platform.new).present)
+        no_line result (text ∷ []) (O.written output.old) (O.written output.new) }
 {
-    let command = match line {
+    let Some(command) = read_line(line) else {
+        return put_reply(&Reply::Bad, output);
+    };
+    match desk.serve(platform, tape, &command) {
+        Ok(reply) => put_reply(&reply, output),
+        Err(stop) => Err(Stop::Device(stop)),
+    }
+}
+
+/// The command that a line spells. None is a line that is too long for the grammar.
+fn read_line(line: Option<&[u8]>) -> Option<Command>
+    ensures found { IfSome result (λ command. (text : List ℕ) → IsKept (option_copied line.entry) text → Spells text command) }
+    ensures none { IfNone result ((text : List ℕ) → IsKept (option_copied line.entry) text → IsBad text) }
+{
+    match line {
         Some(line) => parse(line),
         None => None,
-    };
-    let reply = match command {
-        Some(command) => match desk.serve(platform, tape, &command) {
-            Ok(reply) => reply,
-            Err(stop) => return Err(Stop::Device(stop)),
-        },
-        None => Reply::Bad,
-    };
-    match write_reply(&reply, output) {
+    }
+}
+
+/// Puts a reply's line.
+fn put_reply<O: Sink>(reply: &Reply, output: &mut O) -> Result<(), Stop>
+    requires { CanWrite reply.now }
+    ensures put { HasPut (line_of reply.now) result (O.written output.old) (O.written output.new) }
+    ensures stop { IfErr result (λ stop. (stop ≡ Stop.Sink) × Rose (O.faults output.old) (O.faults output.new)) }
+    ensures count { O.faults output.old ≤ O.faults output.new }
+{
+    match write_reply(reply, output) {
         Ok(()) => Ok(()),
         Err(_) => Err(Stop::Sink),
     }
 }
 
-/// Puts the one line of a run that finds the cell full, which is not served yet.
-fn refuse_full_cell<O: Sink>(output: &mut O) -> Stop
-    ensures stop { (result ≡ Stop.FullCell) ⊎ ((result ≡ Stop.Sink) × Rose (O.faults output.old) (O.faults output.new)) }
-    ensures count { O.faults output.old ≤ O.faults output.new }
-{
-    match write_reply(&Reply::Unbuilt, output) {
-        Ok(()) => Stop::FullCell,
-        Err(_) => Stop::Sink,
-    }
-}
-
 /// Puts the last line of a run that met a record or a root record which does not fit.
 fn last_line<O: Sink>(stop: DeviceStop, output: &mut O) -> Stop
-    ensures stop { (result ≡ Stop.Device stop) ⊎ ((result ≡ Stop.Sink) × Rose (O.faults output.old) (O.faults output.new)) }
+    ensures stop { ((result ≡ Stop.Device stop) × Got (O.written output.old) (damage_line stop) (O.written output.new))
+        ⊎ ((result ≡ Stop.Sink) × Rose (O.faults output.old) (O.faults output.new) × GotPart (O.written output.old) (damage_line stop) (O.written output.new) × (IsSound stop → ⊥)) }
     ensures count { O.faults output.old ≤ O.faults output.new }
 {
     let mut line = ArrayString::<40>::new();

@@ -368,7 +368,7 @@ impl Session {
 }
 
 /// The root whose record the bytes are, where it can be served with so many pages on the medium.
-fn served_root(bytes: &[u8], head: u64) -> Option<Root>
+pub(crate) fn served_root(bytes: &[u8], head: u64) -> Option<Root>
     requires { length bytes.now ≡ 128 }
     ensures found { IfSome result (λ root. IsServed root head × (bytes.now ≡ root_bytes root)) }
     ensures none { IfNone result ((root : Root) → IsServed root head → bytes.now ≡ root_bytes root → ⊥) }
