@@ -4,3 +4,4 @@ pub mod RunLaws
 pub mod RepliedLaws
 pub mod PieceLaws
 pub mod Serving
+pub mod Reading
