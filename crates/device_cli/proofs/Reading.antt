@@ -1,6 +1,6 @@
 -- How far the serving of an input has come.
 use Rattle.std.proofs.Common.{◌≡◌, ℕ, ◌+◌, ◌-◌, ◌<◌, ◌≤◌, ◌^◌, List, [], ◌++◌, Option, None, Ok, Err, length, inl, inr, refl, sym, subst, arith, length-append}
-use Rattle.std.specs.Prelude.{OnOk}
+use Rattle.std.specs.Prelude.{IfErr}
 use Rattle.sdbt_base.specs.Told.{Gave, IsAtEnd}
 use Rattle.sdbt_base.proofs.ToldLaws.{Gave-nothing, Gave-then}
 use Rattle.script_lang.specs.Lines.{whole_lines_of, rest_of, lines_of, last_line as line_at_end}
@@ -74,14 +74,9 @@ IsReading-stop Old Mid New left mid left_now a b c kept room piece stop r gave l
   handled = IsReading-lines Old Mid New (Err stop) left mid a b c kept room piece r handled;
 }
 
--- all went well, or a line led to the stop
-abbrev pub IfEnds : Ending → Type 0
-IfEnds (Ok done) = Unit {0}
-IfEnds (Err stop) = IsOfLine stop
-
 -- the end of the input
 pub IsReading-end : (Old Mid New : State → Type 0) (ending : Ending) (left left_now a b c kept : Option (List ℕ)) (room : ℕ)
-    → (r : IsReading Old Mid left left_now a b kept room) → 0 < room → IsAtEnd left_now → IfEnds ending
+    → (r : IsReading Old Mid left left_now a b kept room) → 0 < room → IsAtEnd left_now → IfErr ending IsOfLine
     → Handled Mid New no_line ending (line_at_end (rest_of r.taken)) b c → Ran Old New no_line ending left left_now a c
 IsReading-end Old Mid New ending left left_now a b c kept room r some end ends handled = record {
   taken = r.taken;
@@ -93,10 +88,10 @@ IsReading-end Old Mid New ending left left_now a b c kept room r some end ends h
     (Handled-then Old Mid New no_line ending (whole_lines_of r.taken) (line_at_end (rest_of r.taken)) a b c r.handled handled);
 }
   where
-    took : (e : Ending) (t : List ℕ) (l : Option (List ℕ)) → IfEnds e → length t < 2 ^ 32 → IsAtEnd l → TookUntil e t l
+    took : (e : Ending) (t : List ℕ) (l : Option (List ℕ)) → IfErr e IsOfLine → length t < 2 ^ 32 → IsAtEnd l → TookUntil e t l
     took (Ok done) t l h below e = record { most = omega (arith, below); whole = (below, e); failed = λ p. cc; limit = λ p. cc }
     took (Err stop) t l h below e = TookUntil-line stop t l h (omega (arith, below))
-    come : (e : Ending) (t : List ℕ) (l : Option (List ℕ)) → IfEnds e → IsAtEnd l → AreLines e t l (lines_of t)
+    come : (e : Ending) (t : List ℕ) (l : Option (List ℕ)) → IfErr e IsOfLine → IsAtEnd l → AreLines e t l (lines_of t)
     come (Ok done) t l h e = (e, refl)
     come (Err stop) t l h e = AreLines-line stop t l (lines_of t) h (inr (e, refl))
 
