@@ -5,3 +5,4 @@ pub mod RepliedLaws
 pub mod PieceLaws
 pub mod Serving
 pub mod Reading
+pub mod RanLaws
