@@ -6,3 +6,4 @@ pub mod PieceLaws
 pub mod Serving
 pub mod Reading
 pub mod RanLaws
+pub mod RepresentsLaws

@@ -175,3 +175,18 @@ Took-of (Err (stops.Device device.Tape)) taken left t = record { most = t.most; 
 Took-of (Err (stops.Device device.Memory)) taken left t = record { most = t.most; whole = λ e. absurd (omega (arith, e)); failed = λ e. absurd (omega (arith, e)); limit = λ e. absurd (omega (arith, e)); nothing = λ e. absurd (omega (arith, e)) }
 Took-of (Err (stops.Device device.BadRoot)) taken left t = record { most = t.most; whole = λ e. absurd (omega (arith, e)); failed = λ e. absurd (omega (arith, e)); limit = λ e. absurd (omega (arith, e)); nothing = λ e. absurd (omega (arith, e)) }
 Took-of (Err (stops.Device (device.BadRecord addr))) taken left t = record { most = t.most; whole = λ e. absurd (omega (arith, e)); failed = λ e. absurd (omega (arith, e)); limit = λ e. absurd (omega (arith, e)); nothing = λ e. absurd (omega (arith, e)) }
+
+-- a stop of the device, and what the putting of its last line ended with
+pub Ran-ended : (Old Mid New : State → Type 0) (Risen : Type 0) (stop : DeviceStop) (ended : Stop) (left left_now a b c : Option (List ℕ))
+    → Ran Old Mid no_line (Err (stops.Device stop)) left left_now a b
+    → ((ended ≡ stops.Device stop) × Got b (damage_line stop) c) ⊎ ((ended ≡ stops.Sink) × Risen × GotPart b (damage_line stop) c × (IsSound stop → ⊥))
+    → Ran Old New damage_line (Err ended) left left_now a c
+Ran-ended Old Mid New Risen stop ended left left_now a b c r (inl (e, got)) =
+    subst (λ (s : Stop). Ran Old New damage_line (Err s) left left_now a c) (sym e) (Ran-last Old Mid New stop left left_now a b c r got)
+Ran-ended Old Mid New Risen stop ended left left_now a b c r (inr (e, risen, got, damaged)) =
+    subst (λ (s : Stop). Ran Old New damage_line (Err s) left left_now a c) (sym e) (Ran-cut Old Mid New stop left left_now a b c r got damaged)
+
+-- a stop before the first line is one without damage, where the cell can be served
+pub sound_of : (stop : DeviceStop) → (stop ≡ device.BadRoot) ⊎ (stop ≡ device.Platform) → (stop ≡ device.BadRoot → ⊥) → IsSound stop
+sound_of stop (inl e) served = absurd (served e)
+sound_of stop (inr e) served = subst IsSound (sym e) tt

@@ -1,5 +1,6 @@
 //! Serves a script line by line.
-ghost use Rattle.std.specs.Prelude.{◌≡◌, ◌≤◌, ◌⊎◌, ◌∷◌, [], ◌++◌, ℕ, List, IfErr, OnOk, IsOk, IsErrOf, IfSome, IfNone, option_copied};
+ghost use Rattle.std.specs.Prelude.{◌≡◌, ◌≤◌, ◌⊎◌, ◌∷◌, [], ◌++◌, ℕ, List, IfErr, OnOk, IsOk, IsErrOf, ◌+◌, length, IfSome, IfNone, option_copied};
+ghost use Rattle.arrayvec.specs.ArrayVec.{array_vec_len};
 ghost use Rattle.sdbt_base.specs.Faults.{Rose};
 ghost use Rattle.sdbt_base.specs.Told.{Got, GotPart};
 ghost use Rattle.script_lang.specs.Grammar.{Spells, IsBad, HasNone};
@@ -17,12 +18,11 @@ use crate::desk::Desk;
 use crate::pending::Pending;
 use crate::session::served_root;
 use crate::stop::{DeviceStop, Stop};
-use arrayvec::ArrayString;
+use arrayvec::ArrayVec;
 use platform::Platform;
 use script_lang::{Command, Reply, parse, write_reply};
 use sdbt_base::{MAX_INPUT, ROOT, Sink, Source, Tape};
 use std::alloc::Global;
-use std::fmt::Write;
 
 /// The most that one take asks for.
 const PIECE: usize = 4096;
@@ -47,10 +47,12 @@ pub(crate) fn run<P: Platform, T: Tape, I: Source, O: Sink>(
         Err(stop) => return Err(last_line(stop, output)),
     }
     let mut desk = Desk::new(alloc);
-    match serve_input(&mut desk, platform, tape, input, output) {
-        Ok(()) => Ok(()),
-        Err(Stop::Device(stop)) => Err(last_line(stop, output)),
-        Err(stop) => Err(stop),
+    let Err(stop) = serve_input(&mut desk, platform, tape, input, output) else {
+        return Ok(());
+    };
+    match stop {
+        Stop::Device(stop) => Err(last_line(stop, output)),
+        _ => Err(stop),
     }
 }
 
@@ -238,15 +240,38 @@ fn last_line<O: Sink>(stop: DeviceStop, output: &mut O) -> Stop
         ⊎ ((result ≡ Stop.Sink) × Rose (O.faults output.old) (O.faults output.new) × GotPart (O.written output.old) (damage_line stop) (O.written output.new) × (IsSound stop → ⊥)) }
     ensures count { O.faults output.old ≤ O.faults output.new }
 {
-    let mut line = ArrayString::<40>::new();
-    // The longest line has 32 bytes.
-    let _ = match stop {
-        DeviceStop::BadRecord { addr } => writeln!(line, "bad record {addr}"),
-        DeviceStop::BadRoot => writeln!(line, "bad root"),
-        DeviceStop::Platform | DeviceStop::Tape | DeviceStop::Memory => return Stop::Device(stop),
-    };
-    match output.put(line.as_str().as_bytes()) {
+    let line = damage_text(stop);
+    if line.is_empty() {
+        return Stop::Device(stop);
+    }
+    match output.put(line.as_slice()) {
         Ok(()) => Stop::Device(stop),
         Err(_) => Stop::Sink,
     }
+}
+
+/// What a run says last that met damage, and nothing for other stops. The longest such line has 32 bytes.
+#[tactic(auto, unfolding(crate::specs::Replied::damage_line))]
+fn damage_text(stop: DeviceStop) -> ArrayVec<u8, 40>
+    ensures { result.items ≡ damage_line stop }
+{
+    let mut line = ArrayVec::new();
+    match stop {
+        DeviceStop::BadRoot => push_text(&mut line, b"bad root\n"),
+        DeviceStop::BadRecord { addr } => {
+            push_text(&mut line, b"bad record ");
+            push_text(&mut line, itoa::Buffer::new().format(addr).as_bytes());
+            push_text(&mut line, b"\n");
+        }
+        DeviceStop::Platform | DeviceStop::Tape | DeviceStop::Memory => {}
+    }
+    line
+}
+
+/// Puts a text at the end of a line that has room for it.
+fn push_text(line: &mut ArrayVec<u8, 40>, text: &[u8])
+    requires { array_vec_len line.old + length text.now ≤ 40 }
+    ensures { line.new.items ≡ line.old.items ++ text.now }
+{
+    let _ = line.try_extend_from_slice(text);
 }
