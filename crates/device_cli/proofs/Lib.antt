@@ -7,3 +7,4 @@ pub mod Serving
 pub mod Reading
 pub mod RanLaws
 pub mod RepresentsLaws
+pub mod ScriptLaws

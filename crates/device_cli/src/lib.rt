@@ -8,6 +8,8 @@ ghost use Rattle.sdbt_base.specs.Faults.{Rose};
 ghost use Rattle.sdbt_base.specs.Told.{Gave};
 ghost use Rattle.device_cli.specs.Words.{AreRunWords};
 ghost use Rattle.device_cli.specs.Leaf.{IsServedCell};
+ghost use Rattle.device_cli.specs.Represents.{StoodAlone, StoodBy};
+ghost use Rattle.device_cli.specs.Ran.{AnswersScript};
 ghost use Rattle.device_cli.specs.Run.{IsStatus, Took, NoneFell, counts};
 
 mod buffers;
@@ -56,6 +58,11 @@ pub fn run_main<P: Platform, T: Tape, I: Source, O: Sink, L: Sink>(
     ensures bad_root_only { P.tells → result ≡ 8 → IsServedCell (P.history platform.old).present.cell (P.head platform.old) → ⊥ }
     ensures bad_root { P.tells → (IsServedCell (P.history platform.old).present.cell (P.head platform.old) → ⊥) → AreRunWords (map string_bytes words.now)
         → (result ≡ 8) ⊎ (result ≡ 4) ⊎ (result ≡ 5) }
+
+    // The bytes put are the lines of replies, one for each line in turn, and perhaps a part behind them; on a device that
+    // stands they are the replies of an array of blocks.
+    ensures answers { AnswersScript (λ state. StoodAlone P.tells (P.history platform.old).present state × IsServedCell (P.history platform.old).present.cell (P.head platform.old))
+        (StoodBy P.tells (P.history platform.new).present) result (I.left input.old) (I.left input.new) (O.written output.old) (O.written output.new) }
 
     // 0 and 3 before the limit of input, and 12 at it.
     ensures taken { (taken : List ℕ) × Gave (I.left input.old) taken (I.left input.new) × Took result taken (I.left input.new) }

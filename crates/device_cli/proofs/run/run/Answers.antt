@@ -65,7 +65,7 @@ returns-clause-ran g c =
     let Mid : State → Type 0 = Stood P.tells c.serve_input.new.desk exit in
     let New : State → Type 0 = StoodBy P.tells exit in
     Ran-other Before New (Err c.in-Err-serve_input.stop) (left c.args.input.now) (left c.serve_input.new.input) (written c.args.output.now) (written c.serve_input.new.output)
-    (λ stop e. c.in_default-stop.not-Device (other c.in-Err-serve_input.stop stop (cc)))
+    (λ stop e. c.in_default-stop.not-Device stop (cc))
     (Ran-adapt Before Old Mid New no_line (Err c.in-Err-serve_input.stop) (left c.args.input.now) (left c.serve_input.new.input) (written c.args.output.now) (written c.serve_input.new.output)
       (λ state before. Stood-alone P.tells c.new-desk.result image entry state c.new-desk.ensures.session c.check_cell.ensures.image before.0)
       (λ state mid. Stood-by P.tells c.serve_input.new.desk exit state mid)
