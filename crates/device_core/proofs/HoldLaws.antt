@@ -1,0 +1,606 @@
+-- What keeps a session's hold on its device, and what a write, a trim and a commit make of it.
+use Rattle.std.proofs.Common.{◌≡◌, ◌≢◌, ◌⊎◌, inl, inr, ℕ, zero, suc, ◌+◌, ◌-◌, ◌%◌, ◌<◌, ◌≤◌, ◌^◌, IsErr, Bool, true, false, cond, List, [], ◌∷◌, ◌++◌, All, map, take, drop, length, get_or, set, Result, Ok, Err, Option, Some, None, refl, sym, subst, ap, ◌∙◌, arith, length-append, is_ok}
+use Rattle.std.specs.Prelude.{AllPairs, insert, remove, slice_get, if◌then◌else◌, unwrap_or, replicate, is_some, ◌||◌}
+use Rattle.std.specs.List.{AllZip, zip}
+use Rattle.std.specs.FinMap as maps
+use Rattle.std.specs.FinMap.{from_entries, same_map, nat_cmp-IsAntisymmetric, get-remove}
+use Rattle.std.specs.Cmp.{nat_cmp_total}
+use Rattle.std.specs.Ordering.{nat_cmp, eq_by_cmp}
+use Rattle.std.proofs.Math.Seq.{take-append_seam}
+use Rattle.std.proofs.lemmas.List.{length-set, length-replicate}
+use Rattle.std.proofs.lemmas.List.Edits.{length-insert, length-remove}
+use Rattle.std.proofs.lemmas.List.Elements.{All-nil, All-cons, All-head, All-tail, All-weaker, All-set, All-append, All-replicate}
+use Rattle.std.proofs.lemmas.List.Quantifiers.{all_pairs_remove}
+use Rattle.sdbt_base.specs.Bytes.{IsBytes}
+use Rattle.platform.specs.Image.{Image, IsWhole, IsEarlier, LeavesOnly, IsEither, with_page, with_cell, all_synced}
+use Rattle.platform.specs.History.{History, Steps, During, Turns, image_at, moment}
+use Rattle.platform.proofs.Moments.{whole-now, image_at-now, Turns-not, Turns-either, During-step}
+use Rattle.seal_record.specs.Sealing.{masked}
+use Rattle.node_codec.specs.declared.body.Entry.{Entry}
+use Rattle.node_codec.specs.Record.{Record, DataRecord, NodeRecord, FitsNode, FitsRecord, record_bytes, value_of}
+use Rattle.root_codec.specs.declared.root.Root.{Root}
+use Rattle.root_codec.specs.RootRecord.{FitsRoot, root_bytes}
+use Rattle.root_codec.specs.Laws.{one_root}
+use Rattle.page_store.specs.Buffer.{padded}
+use Rattle.page_store.specs.Device.{Device}
+use Rattle.page_store.specs.Places.{IsRecordAt, FitsAt, NothingFits, IsNodeWanted, root_want, block_want}
+use Rattle.page_store.specs.Leaf.{IsLeaf, StandsByLeaf, leaf_parts}
+use Rattle.page_store.specs.Stands.{Stands, StandsBy}
+use Rattle.page_store.proofs.RecordLaws.{one_record, record_appended, slice_get-end}
+use Rattle.page_store.proofs.StandsLaws.{stands_later, stands_leaves, stands_during}
+use Rattle.page_store.proofs.LeafStandsLaws.{stands_by_leaf, leaf_of_stands, leaf_found, leaf_wanted, leaf_appended}
+use Rattle.device_core.specs.Leaf.{IsOneLeaf, IsServed, IsRefusedCell, AreEntries, IsPlace, placed}
+use Rattle.device_core.specs.Blocks.{Blocks, block_content, new_device}
+use Rattle.device_core.proofs.MomentLaws.{one_call, one_look, call_more, then_published}
+use Rattle.device_core.specs.Replies.{committed_device}
+use Rattle.device_core.specs.Holding.{AreMapped, blocks_of_entries, HoldsBy}
+use Rattle.page_store.specs.Roots.{IsRootWithin, IsBadCell}
+use Rattle.device_core.specs.Open.{IsOpenBy}
+use Rattle.device_core.proofs.EntryLaws.{length-entries, room_where_none, All-insert, All-remove, AreEntries-none}
+use Rattle.device_core.proofs.ArrayLaws.{same_means, IsWithin, is_within, length-AllZip, AllZip-placed, AllZip-remove, apart_placed, array_placed, array_removed, array_without, array_at}
+
+-- ---- a later image
+
+slice_get-taken : (n : ℕ) (pages : List (List ℕ)) (addr : ℕ) (page : List ℕ) → slice_get (take n pages) addr ≡ Some page → slice_get pages addr ≡ Some page
+slice_get-taken zero pages addr page reads = absurd cc
+slice_get-taken (suc n) [] addr page reads = absurd cc
+slice_get-taken (suc n) (first ∷ pages) zero page reads = reads
+slice_get-taken (suc n) (first ∷ pages) (suc addr) page reads = slice_get-taken n pages addr page reads
+
+-- a page that was there is there later
+page_later : (pages later : List (List ℕ)) (n addr : ℕ) (page : List ℕ) → take n later ≡ pages → slice_get pages addr ≡ Some page → slice_get later addr ≡ Some page
+page_later pages later n addr page front reads = slice_get-taken n later addr page (ap (λ (ps : List (List ℕ)). slice_get ps addr) front ∙ reads)
+
+pub record_later : (image later : Image) (addr : ℕ) (key : List ℕ) (value : Record) → IsEarlier image later → IsRecordAt image.readable addr key value → IsRecordAt later.readable addr key value
+record_later image later addr key value earlier is = record {
+  page = is.page;
+  reads = page_later image.readable later.readable (length image.recorded) addr is.page earlier.readable is.reads;
+  in_range = is.in_range;
+  spelled = is.spelled;
+}
+
+recorded_later : (image later : Image) (addr : ℕ) (key : List ℕ) (value : Record) → IsEarlier image later → IsRecordAt image.readable addr key value → slice_get image.readable addr ≡ slice_get image.recorded addr → slice_get later.readable addr ≡ slice_get later.recorded addr
+recorded_later image later addr key value earlier is recorded =
+    page_later image.readable later.readable (length image.recorded) addr is.page earlier.readable is.reads
+    ∙ sym (page_later image.recorded later.recorded (length image.recorded) addr is.page earlier.recorded (sym recorded ∙ is.reads))
+
+abbrev AreRecords : Image → List Entry → List (List ℕ) → Type 0
+AreRecords image entries texts = AllZip (λ (e : Entry) (c : List ℕ). IsRecordAt image.readable e.addr e.key (DataRecord e.low c)) entries texts
+
+abbrev IsRecorded : Image → Entry → Type 0
+IsRecorded image e = slice_get image.readable e.addr ≡ slice_get image.recorded e.addr
+
+records_later : (image later : Image) (entries : List Entry) (texts : List (List ℕ)) → IsEarlier image later → AreRecords image entries texts → AreRecords later entries texts
+records_later image later [] [] earlier are = are
+records_later image later [] (t ∷ texts) earlier are = absurd are
+records_later image later (e ∷ entries) [] earlier are = absurd are
+records_later image later (e ∷ entries) (t ∷ texts) earlier are =
+    (record_later image later e.addr e.key (DataRecord e.low t) earlier are.0, records_later image later entries texts earlier are.1)
+
+all_recorded_later : (image later : Image) (entries : List Entry) (texts : List (List ℕ)) → IsEarlier image later → AreRecords image entries texts → All (IsRecorded image) entries → All (IsRecorded later) entries
+all_recorded_later image later [] texts earlier are recorded = All-nil (IsRecorded later)
+all_recorded_later image later (e ∷ entries) [] earlier are recorded = absurd are
+all_recorded_later image later (e ∷ entries) (t ∷ texts) earlier are recorded =
+    All-cons (IsRecorded later) e entries
+    (recorded_later image later e.addr e.key (DataRecord e.low t) earlier are.0 (All-head (IsRecorded image) e entries recorded))
+    (all_recorded_later image later entries texts earlier are.1 (All-tail (IsRecorded image) e entries recorded))
+
+pub mapped_later : (image later : Image) (entries : List Entry) (texts : List (List ℕ)) → IsEarlier image later → AreMapped image entries texts → AreMapped later entries texts
+mapped_later image later entries texts earlier is = record {
+  records = records_later image later entries texts earlier is.records;
+  recorded = all_recorded_later image later entries texts earlier is.records is.recorded;
+  apart = is.apart;
+}
+
+leaf_later : (image later : Image) (device : Device) (root : Root) (entries : List Entry) (texts : List (List ℕ)) → IsEarlier image later → later.cell ≡ image.cell → StandsByLeaf image device root entries texts → StandsByLeaf later device root entries texts
+leaf_later image later device root entries texts earlier cell stands = record {
+  cell = cell ∙ stands.cell;
+  in_range = stands.in_range;
+  key = stands.key;
+  level = stands.level;
+  order = stands.order;
+  blocks = stands.blocks;
+  number = stands.number;
+  head = omega (arith, stands.head, earlier.synced);
+  tree = record {
+    leaf = (record_later image later root.addr root.key (NodeRecord 1 entries) earlier stands.tree.leaf.0, stands.tree.leaf.1);
+    records = records_later image later entries texts earlier stands.tree.records;
+  };
+  apart = stands.apart;
+  count = stands.count;
+  leaf_recorded = recorded_later image later root.addr root.key (NodeRecord 1 entries) earlier stands.tree.leaf.0 stands.leaf_recorded;
+  recorded = all_recorded_later image later entries texts earlier stands.tree.records stands.recorded;
+  holds = stands.holds;
+}
+
+-- a later image with the same cell
+pub holds_later : (root : Root) (count : ℕ) (loaded touched : Bool) (known : List Entry) (image later : Image) (device : Device) (contents : Blocks) → IsEarlier image later → later.cell ≡ image.cell → HoldsBy root count loaded touched known image device contents → HoldsBy root count loaded touched known later device contents
+holds_later root count loaded touched known image later device contents earlier cell h = record {
+  leaf = h.leaf;
+  leaf_texts = h.leaf_texts;
+  stands = leaf_later image later device root h.leaf h.leaf_texts earlier cell h.stands;
+  entries = h.entries;
+  texts = h.texts;
+  mapped_there = mapped_later image later h.entries h.texts earlier h.mapped_there;
+  contents_are = h.contents_are;
+  count = h.count;
+  read = h.read;
+  unread = h.unread;
+  untouched = h.untouched;
+}
+
+-- the same image
+pub holds_same : (root : Root) (count : ℕ) (loaded touched : Bool) (known : List Entry) (image other : Image) (device : Device) (contents : Blocks) → other ≡ image → HoldsBy root count loaded touched known image device contents → HoldsBy root count loaded touched known other device contents
+holds_same root count loaded touched known image other device contents same h =
+    subst (λ (i : Image). HoldsBy root count loaded touched known i device contents) (sym same) h
+
+-- ---- a mount, and the reading of the leaf
+
+leaf_mapped : (image : Image) (device : Device) (root : Root) (entries : List Entry) (texts : List (List ℕ)) → StandsByLeaf image device root entries texts → AreMapped image entries texts
+leaf_mapped image device root entries texts stands = record { records = stands.tree.records; recorded = stands.recorded; apart = stands.apart }
+
+-- an image that stands by the root is held by a session without changes
+pub leaf_held : (image : Image) (device : Device) (root : Root) (loaded : Bool) (entries : List Entry) (texts : List (List ℕ)) (known : List Entry) → (loaded ≡ true → known ≡ entries) → StandsByLeaf image device root entries texts → HoldsBy root root.mapped loaded false known image device device.contents
+leaf_held image device root loaded entries texts known read stands = record {
+  leaf = entries;
+  leaf_texts = texts;
+  stands = stands;
+  entries = entries;
+  texts = texts;
+  mapped_there = leaf_mapped image device root entries texts stands;
+  contents_are = stands.holds;
+  count = sym stands.count;
+  read = read;
+  unread = λ yes. refl;
+  untouched = λ yes. refl;
+}
+
+same_some : {A : Type 0} (x y : A) → Some x ≡ Some y → x ≡ y
+same_some x y same = cc
+
+pub mounted : (image : Image) (device : Device) (root : Root) (pages : ℕ) (known : List Entry) → IsServed root pages → image.cell ≡ Some (root_bytes root) → Stands image (Some device) → HoldsBy root root.mapped false false known image device device.contents
+mounted image device root pages known served cell (other, parts, stands) =
+    let roots : other ≡ root = one_root other root stands.in_range served.fits stands.key.0 (same_some _ _ (sym stands.cell ∙ cell)) in
+    let by_root = subst (λ (r : Root). StandsBy image device r parts) roots stands in
+    let (entries, texts, leaf, parts_are) = leaf_of_stands image device root parts served.leaf.level by_root in
+    leaf_held image device root false entries texts known (λ never. absurd cc) leaf
+
+-- the leaf that is read is the session's array
+pub loaded : (root : Root) (count : ℕ) (touched : Bool) (known read : List Entry) (image : Image) (device : Device) (contents : Blocks) → HoldsBy root count false touched known image device contents → FitsAt image.readable (root_want root) root.key (NodeRecord 1 read) → HoldsBy root count true touched read image device contents
+loaded root count touched known read image device contents h fits =
+    let is : read ≡ h.leaf = leaf_found image.readable root h.leaf read h.leaf_texts h.stands.in_range h.stands.tree fits in
+    record {
+      leaf = h.leaf;
+      leaf_texts = h.leaf_texts;
+      stands = h.stands;
+      entries = h.entries;
+      texts = h.texts;
+      mapped_there = h.mapped_there;
+      contents_are = h.contents_are;
+      count = h.count;
+      read = λ yes. is ∙ sym (h.unread refl);
+      unread = λ never. absurd cc;
+      untouched = h.untouched;
+    }
+
+-- the leaf is there
+pub leaf_fits : (root : Root) (count : ℕ) (loaded touched : Bool) (known : List Entry) (image : Image) (device : Device) (contents : Blocks) → HoldsBy root count loaded touched known image device contents → NothingFits image.readable (root_want root) root.key → ⊥
+leaf_fits root count loaded touched known image device contents h nothing = nothing (NodeRecord 1 h.leaf) h.stands.tree.leaf
+
+-- ---- a read
+
+-- the data record of an entry is there
+pub block_fits : (root : Root) (count : ℕ) (loaded touched : Bool) (known : List Entry) (image : Image) (device : Device) (contents : Blocks) (at block : ℕ) (entry : Entry) → loaded ≡ true → HoldsBy root count loaded touched known image device contents → IsPlace known block (Ok at) → entry ≡ get_or known at entry → NothingFits image.readable (block_want entry.addr block) entry.key → ⊥
+block_fits root count loaded touched known image device contents at block entry ready h place is nothing =
+    let same = h.read ready in
+    let there = subst (λ (es : List Entry). IsPlace es block (Ok at)) same place in
+    let here = array_at (λ (e : Entry) (c : List ℕ). IsRecordAt image.readable e.addr e.key (DataRecord e.low c)) h.entries h.texts at block h.mapped_there.records there in
+    let entry_is : get_or h.entries at entry ≡ entry = ap (λ (es : List Entry). get_or es at entry) (sym same) ∙ sym is in
+    let at_entry = subst (λ (e : Entry). IsRecordAt image.readable e.addr e.key (DataRecord e.low here.0)) entry_is (here.2 entry) in
+    let low : entry.low ≡ block = ap (λ (e : Entry). e.low) is ∙ place.1 entry in
+    nothing (DataRecord block here.0) (subst (λ (n : ℕ). IsRecordAt image.readable entry.addr entry.key (DataRecord n here.0)) low at_entry, (refl, refl))
+
+-- what is read at an entry is what the array has
+pub content_read : (root : Root) (count : ℕ) (loaded touched : Bool) (known : List Entry) (image : Image) (device : Device) (contents : Blocks) (at block pages : ℕ) (entry : Entry) (value : Record) (content : List ℕ) → loaded ≡ true → HoldsBy root count loaded touched known image device contents → IsPlace known block (Ok at) → entry ≡ get_or known at entry → entry.addr < pages → pages ≤ 2 ^ 32 → FitsAt image.readable (block_want entry.addr block) entry.key value → ((n : ℕ) (c : List ℕ) → value ≡ DataRecord n c → content ≡ c) → content ≡ block_content contents block
+content_read root count loaded touched known image device contents at block pages entry value content ready h place is small most fits content_is =
+    let same = h.read ready in
+    let there = subst (λ (es : List Entry). IsPlace es block (Ok at)) same place in
+    let here = array_at (λ (e : Entry) (c : List ℕ). IsRecordAt image.readable e.addr e.key (DataRecord e.low c)) h.entries h.texts at block h.mapped_there.records there in
+    let entry_is : get_or h.entries at entry ≡ entry = ap (λ (es : List Entry). get_or es at entry) (sym same) ∙ sym is in
+    let at_entry = subst (λ (e : Entry). IsRecordAt image.readable e.addr e.key (DataRecord e.low here.0)) entry_is (here.2 entry) in
+    let value_is : value ≡ DataRecord entry.low here.0 = one_record image.readable entry.addr entry.key value (DataRecord entry.low here.0) (omega arith) fits.0 at_entry in
+    let found : maps.get contents block ≡ Some here.0 = ap (λ (m : Blocks). maps.get m block) h.contents_are ∙ here.1 in
+    content_is entry.low here.0 value_is ∙ sym (ap (λ (o : Option (List ℕ)). unwrap_or o (replicate 4096 0)) found)
+
+-- a block without an entry holds zeros
+pub content_none : (root : Root) (count : ℕ) (loaded touched : Bool) (known : List Entry) (image : Image) (device : Device) (contents : Blocks) (at block : ℕ) → loaded ≡ true → HoldsBy root count loaded touched known image device contents → IsPlace known block (Err at) → maps.get contents block ≡ None
+content_none root count loaded touched known image device contents at block ready h place =
+    let there = subst (λ (es : List Entry). IsPlace es block (Err at)) (h.read ready) place in
+    ap (λ (m : Blocks). maps.get m block) h.contents_are ∙ array_without h.entries h.texts at block there
+
+-- what isn't mapped is no less mapped without it
+pub remove_none : (contents : Blocks) (block : ℕ) → maps.get contents block ≡ None → contents ≡ maps.remove contents block
+remove_none contents block none = same_map nat_cmp_total nat_cmp-IsAntisymmetric contents (maps.remove contents block) (λ q.
+    elim (eq_by_cmp nat_cmp q block) as (λ b. eq_by_cmp nat_cmp q block ≡ b → maps.get contents q ≡ cond b None (maps.get contents q)) [
+      | true ↦ λ is. ap (maps.get contents) (same_means q block is) ∙ none
+      | false ↦ λ is. refl
+    ] refl ∙ sym (get-remove nat_cmp_total contents block q))
+
+-- ---- a write and a trim
+
+All-placed : {A : Type 0} (P : A → Type 0) (xs : List A) (place : Result ℕ ℕ) (x : A) → All P xs → P x → All P (placed xs place x)
+All-placed P xs (Ok at) x all p = All-set P xs at x p all
+All-placed P xs (Err at) x all p = All-insert P xs at x all p
+
+length-placed : (entries : List Entry) (place : Result ℕ ℕ) (block : ℕ) (x : Entry) (now count : ℕ) → IsPlace entries block place → count ≡ length entries → now ≡ (if is_ok place then count else count + 1) → now ≡ length (placed entries place x)
+length-placed entries (Ok at) block x now count place is next = omega (arith, length-set {A = Entry} entries at x, is, next)
+length-placed entries (Err at) block x now count place is next = omega (arith, length-insert entries at x place.0, is, next)
+
+-- a record that was appended reads as it was recorded
+end_recorded : (image : Image) (page : List ℕ) (addr : ℕ) → length image.readable ≡ length image.recorded → addr ≡ length image.recorded → slice_get (image.readable ++ page ∷ []) addr ≡ slice_get (image.recorded ++ page ∷ []) addr
+end_recorded image page addr as_many at =
+    slice_get-end image.readable page addr (at ∙ sym as_many) ∙ sym (slice_get-end image.recorded page addr at)
+
+-- the page of a data record, appended
+abbrev pub data_page : ℕ → ℕ → List ℕ → List ℕ → List ℕ
+data_page addr block key content = masked key (record_bytes addr (DataRecord block content))
+
+pub written : (root : Root) (count now : ℕ) (loaded touched : Bool) (known : List Entry) (image later : Image) (device : Device) (contents : Blocks) (block addr : ℕ) (place : Result ℕ ℕ) (key content : List ℕ) → loaded ≡ true → HoldsBy root count loaded touched known image device contents → IsWhole image → addr ≡ length image.recorded → addr < 2 ^ 64 → AreEntries known root.blocks addr → IsPlace known block place → block < 1048576 → IsBytes 4096 content → now ≡ (if is_ok place then count else count + 1) → IsEarlier image later → later ≡ with_page image (data_page addr block key content) (data_page addr block key content) → HoldsBy root now loaded true (placed known place (record { low = block; addr = addr; key = key })) later device (maps.insert contents block content)
+written root count now loaded touched known image later device contents block addr place key content ready h whole at small are is_place low sized next earlier later_is =
+    let entry : Entry = record { low = block; addr = addr; key = key } in
+    let same : known ≡ h.entries = h.read ready in
+    let there = subst (λ (es : List Entry). IsPlace es block place) same is_place in
+    let below = subst (λ (es : List Entry). All (λ (e : Entry). e.addr < addr) es) same are.below in
+    let page = data_page addr block key content in
+    let new_record : IsRecordAt later.readable addr key (DataRecord block content) = subst (λ (i : Image). IsRecordAt i.readable addr key (DataRecord block content)) (sym later_is)
+    (record_appended image.readable addr key (DataRecord block content) small (at ∙ sym whole.as_many) (low, sized)) in
+    let new_recorded : slice_get later.readable addr ≡ slice_get later.recorded addr = subst (λ (i : Image). slice_get i.readable addr ≡ slice_get i.recorded addr) (sym later_is) (end_recorded image page addr whole.as_many at) in
+    let old = mapped_later image later h.entries h.texts earlier h.mapped_there in
+    let len = length-AllZip (λ (e : Entry) (c : List ℕ). IsRecordAt image.readable e.addr e.key (DataRecord e.low c)) h.entries h.texts h.mapped_there.records in
+    record {
+      leaf = h.leaf;
+      leaf_texts = h.leaf_texts;
+      stands = leaf_later image later device root h.leaf h.leaf_texts earlier (ap (λ (i : Image). i.cell) later_is) h.stands;
+      entries = placed h.entries place entry;
+      texts = placed h.texts place content;
+      mapped_there = record {
+        records = AllZip-placed (λ (e : Entry) (c : List ℕ). IsRecordAt later.readable e.addr e.key (DataRecord e.low c)) h.entries h.texts place entry content old.records new_record (is_within h.entries place block there);
+        recorded = All-placed (IsRecorded later) h.entries place entry old.recorded new_recorded;
+        apart = apart_placed (λ (a : Entry) (b : Entry). a.addr ≢ b.addr) h.entries place entry (λ a apart e. apart (sym e)) (is_within h.entries place block there)
+            (All-weaker (λ (e : Entry). e.addr < addr) (λ (e : Entry). addr ≢ e.addr) (λ e less. omega (arith, less)) h.entries below) h.mapped_there.apart;
+      };
+      contents_are = ap (λ (m : Blocks). maps.insert m block content) h.contents_are ∙ sym (array_placed h.entries h.texts place entry content len there);
+      count = length-placed h.entries place block entry now count there h.count next;
+      read = λ yes. ap (λ (es : List Entry). placed es place entry) same;
+      unread = λ never. absurd cc;
+      untouched = λ never. absurd cc;
+    }
+
+pub trimmed : (root : Root) (count now : ℕ) (loaded touched : Bool) (known : List Entry) (image : Image) (device : Device) (contents : Blocks) (block at : ℕ) → loaded ≡ true → HoldsBy root count loaded touched known image device contents → IsPlace known block (Ok at) → now + 1 ≡ count → HoldsBy root now loaded true (remove known at) image device (maps.remove contents block)
+trimmed root count now loaded touched known image device contents block at ready h is_place next =
+    let same : known ≡ h.entries = h.read ready in
+    let there = subst (λ (es : List Entry). IsPlace es block (Ok at)) same is_place in
+    let len = length-AllZip (λ (e : Entry) (c : List ℕ). IsRecordAt image.readable e.addr e.key (DataRecord e.low c)) h.entries h.texts h.mapped_there.records in
+    record {
+      leaf = h.leaf;
+      leaf_texts = h.leaf_texts;
+      stands = h.stands;
+      entries = remove h.entries at;
+      texts = remove h.texts at;
+      mapped_there = record {
+        records = AllZip-remove (λ (e : Entry) (c : List ℕ). IsRecordAt image.readable e.addr e.key (DataRecord e.low c)) h.entries h.texts at h.mapped_there.records;
+        recorded = All-remove (IsRecorded image) h.entries at h.mapped_there.recorded;
+        apart = all_pairs_remove (λ (a : Entry) (b : Entry). a.addr ≢ b.addr) h.entries at there.0 h.mapped_there.apart;
+      };
+      contents_are = ap (λ (m : Blocks). maps.remove m block) h.contents_are ∙ sym (array_removed h.entries h.texts at block len there);
+      count = omega (arith, length-remove h.entries at there.0, h.count, next);
+      read = λ yes. ap (λ (es : List Entry). remove es at) same;
+      unread = λ never. absurd cc;
+      untouched = λ never. absurd cc;
+    }
+
+-- ---- a commit
+
+-- the page of a leaf, appended
+abbrev pub leaf_page : Root → List Entry → List ℕ
+leaf_page root entries = masked root.key (record_bytes root.addr (NodeRecord 1 entries))
+
+-- the image with a leaf appended and synced, and the root record that names it
+abbrev pub with_leaf : Image → Root → List Entry → Image
+with_leaf image root entries = with_cell (all_synced (with_page image (leaf_page root entries) (leaf_page root entries))) (Some (root_bytes root))
+
+take_front : (pages : List (List ℕ)) (page : List ℕ) (n : ℕ) → n ≡ length pages → take n (pages ++ page ∷ []) ≡ pages
+take_front pages page n is = ap (λ (k : ℕ). take k (pages ++ page ∷ [])) is ∙ take-append_seam pages (page ∷ [])
+
+pub with_leaf-later : (image : Image) (root : Root) (entries : List Entry) → IsWhole image → IsEarlier image (with_leaf image root entries)
+with_leaf-later image root entries whole = record {
+  recorded = take_front image.recorded (leaf_page root entries) (length image.recorded) refl;
+  readable = take_front image.readable (leaf_page root entries) (length image.recorded) (sym whole.as_many);
+  pages = omega (arith, length-append image.recorded (leaf_page root entries ∷ []));
+  synced = omega (arith, whole.synced, length-append image.recorded (leaf_page root entries ∷ []));
+}
+
+pub leaf_in_range : (root : Root) (entries : List Entry) → IsOneLeaf root → FitsRoot root → length entries ≤ 64 → AreEntries entries root.blocks root.addr → FitsRecord root.addr (NodeRecord 1 entries)
+leaf_in_range root entries one fits most are = (
+  record {
+    level_least = omega arith;
+    level_most = omega arith;
+    count = most;
+    ascend = are.ascend;
+    lows = All-weaker (λ (e : Entry). e.low < root.blocks) (λ (e : Entry). e.low < 1048576) (λ e less. omega (arith, less, one.blocks)) entries are.lows;
+    below = are.below;
+  },
+  are.keys,
+)
+
+pub committed : (image : Image) (root : Root) (device : Device) (entries : List Entry) (texts : List (List ℕ)) → IsWhole image → FitsRoot root → IsBytes 32 root.key → IsOneLeaf root → root.addr ≡ length image.recorded → root.head ≡ root.addr + 1 → length entries ≡ root.mapped → AreEntries entries root.blocks root.addr → AreMapped image entries texts → root.order ≡ device.order → root.blocks ≡ device.blocks → root.commit ≡ device.number → device.contents ≡ blocks_of_entries entries texts → StandsByLeaf (with_leaf image root entries) device root entries texts
+committed image root device entries texts whole fits key one at head count are there order blocks number contents =
+    let most : length entries ≤ 64 = omega (arith, count, fits.mapped, one.blocks) in
+    let in_range = leaf_in_range root entries one fits most are in
+    let wanted = leaf_wanted root entries one.level (omega (arith, one.order)) are.lows in
+    let page = leaf_page root entries in
+    let later = mapped_later image (with_leaf image root entries) entries texts (with_leaf-later image root entries whole) there in
+    record {
+      cell = refl;
+      in_range = fits;
+      key = key;
+      level = one.level;
+      order = order;
+      blocks = blocks;
+      number = number;
+      head = omega (arith, length-append image.recorded (page ∷ []), at, head);
+      tree = leaf_appended image.readable root entries texts fits (at ∙ sym whole.as_many) in_range wanted there.records;
+      apart = there.apart;
+      count = count;
+      leaf_recorded = end_recorded image page root.addr whole.as_many at;
+      recorded = later.recorded;
+      holds = contents;
+    }
+
+-- nothing is mapped by no entries
+pub none_mapped : (image : Image) → AreMapped image [] []
+none_mapped image = record {
+  records = tt;
+  recorded = All-nil (IsRecorded image);
+  apart = λ i j d before within. absurd (omega (arith, within));
+}
+
+-- ---- moments
+
+-- while the cell is as it was a loss of power leaves the device from before, and then the one of an image that stands for the one after
+pub turns_stands : (old new : History) (X : Image) (before after : Option Device) → Stands old.present before → Stands X after → Turns old new (λ image. image.cell ≡ old.present.cell) (λ image. image ≡ X) → Turns old new (LeavesOnly (λ left. Stands left before)) (LeavesOnly (λ left. Stands left after))
+turns_stands old new X before after was next turns = record {
+  extends = turns.extends;
+  turn = turns.turn;
+  before = λ i from to early.
+      let first : image_at new (moment old) ≡ old.present = turns.extends.same (moment old) (omega arith) ∙ image_at-now old (moment old) (omega arith) in
+      let earlier = subst (λ (image : Image). IsEarlier image (image_at new i)) first (new.ascends (moment old) i from) in
+      stands_leaves (image_at new i) before (stands_later old.present (image_at new i) before earlier (turns.before i from to early) was);
+  after = λ i from to late. subst (LeavesOnly (λ left. Stands left after)) (sym (turns.after i from to late)) (stands_leaves X after next);
+}
+
+-- as long as the cell is as it was a loss of power leaves the device from before
+pub during_stands : (old new : History) (before after : Option Device) → Stands old.present before → During old new (λ image. image.cell ≡ old.present.cell) → Turns old new (LeavesOnly (λ left. Stands left before)) (LeavesOnly (λ left. Stands left after))
+during_stands old new before after was during =
+    Turns-not old new (LeavesOnly (λ left. Stands left before)) (LeavesOnly (λ left. Stands left after)) (stands_during old new before was during)
+
+-- ---- cells that can't be served
+
+pub refused_bad : (cell : Option (List ℕ)) (pages : ℕ) → IsBadCell pages cell → IsRefusedCell cell pages
+refused_bad cell pages bad = record {
+  full = bad.full;
+  bad = λ root served. bad.bad root (record { in_range = served.fits; key = served.key; within = served.within });
+}
+
+pub refused_levels : (cell : Option (List ℕ)) (pages : ℕ) (root : Root) → cell ≡ Some (root_bytes root) → IsRootWithin pages root → (IsOneLeaf root → ⊥) → IsRefusedCell cell pages
+refused_levels cell pages root is within never = record {
+  full = λ none. cc;
+  bad = λ other served same.
+      let roots : other ≡ root = one_root other root served.fits within.in_range served.key.0 (same_some _ _ (sym same ∙ is)) in
+      never (subst IsOneLeaf roots served.leaf);
+}
+
+pub opened : (root : Root) (known : List Entry) (pages now : ℕ) → IsRootWithin pages root → IsOneLeaf root → known ≡ [] → now ≡ pages → IsOpenBy root root.mapped false false known now
+opened root known pages now within one none same = record {
+  served = record { fits = within.in_range; key = within.key; leaf = one; within = omega (arith, within.within) };
+  mapped = within.in_range.mapped;
+  entries = subst (λ (es : List Entry). AreEntries es root.blocks now) (sym none) (AreEntries-none root.blocks now);
+  loaded = λ never. absurd cc;
+}
+
+-- ---- a forged count
+
+-- where a block has an entry the count isn't 0
+pub some_mapped : (root : Root) (count : ℕ) (loaded touched : Bool) (known : List Entry) (image : Image) (device : Device) (contents : Blocks) (at block : ℕ) → loaded ≡ true → HoldsBy root count loaded touched known image device contents → IsPlace known block (Ok at) → count ≡ 0 → ⊥
+some_mapped root count loaded touched known image device contents at block ready h place none =
+    omega (arith, ap (λ (es : List Entry). length es) (h.read ready), h.count, place.0, none)
+
+-- where a block has no entry not every block is mapped
+pub some_unmapped : (root : Root) (count : ℕ) (loaded touched : Bool) (known : List Entry) (image : Image) (device : Device) (contents : Blocks) (block blocks pages : ℕ) (place : Result ℕ ℕ) → loaded ≡ true → HoldsBy root count loaded touched known image device contents → AreEntries known blocks pages → IsPlace known block place → block < blocks → IsErr place → count ≡ blocks → ⊥
+some_unmapped root count loaded touched known image device contents block blocks pages place ready h are is_place low none all =
+    omega (arith, ap (λ (es : List Entry). length es) (h.read ready), h.count, all, room_where_none known place block blocks pages none are is_place low)
+
+pub touched_none : (was now : Bool) (o : Option (List ℕ)) → now ≡ was → o ≡ None → now ≡ (was || is_some o)
+touched_none false now o same none = same ∙ sym (ap is_some none)
+touched_none true now o same none = same
+
+pub touched_some : (was : Bool) (o : Option (List ℕ)) (c : List ℕ) → o ≡ Some c → true ≡ (was || is_some o)
+touched_some false o c some = sym (ap is_some some)
+touched_some true o c some = refl
+
+pub padded_bytes : (content : List ℕ) → length content ≤ 4096 → All (λ b. b < 256) content → IsBytes 4096 (padded content)
+padded_bytes content most bytes = (
+  omega (arith, length-append content (replicate (4096 - length content) 0), length-replicate {A = ℕ} (4096 - length content) 0),
+  All-append (λ (b : ℕ). b < 256) content (replicate (4096 - length content) 0) bytes (All-replicate (λ (b : ℕ). b < 256) (4096 - length content) 0 (omega arith)),
+)
+
+-- what the array has for a block with an entry
+pub is_mapped : (root : Root) (count : ℕ) (loaded touched : Bool) (known : List Entry) (image : Image) (device : Device) (contents : Blocks) (at block : ℕ) → loaded ≡ true → HoldsBy root count loaded touched known image device contents → IsPlace known block (Ok at) → (c : List ℕ) × (maps.get contents block ≡ Some c)
+is_mapped root count loaded touched known image device contents at block ready h place =
+    let there = subst (λ (es : List Entry). IsPlace es block (Ok at)) (h.read ready) place in
+    let here = array_at (λ (e : Entry) (c : List ℕ). IsRecordAt image.readable e.addr e.key (DataRecord e.low c)) h.entries h.texts at block h.mapped_there.records there in
+    (here.0, ap (λ (m : Blocks). maps.get m block) h.contents_are ∙ here.1)
+
+-- a look at the cell, and then the one step that may empty it
+pub erased : (old mid new : History) (device : Option Device) → Steps old mid → mid.present ≡ old.present → Steps mid new → IsEither mid.present (with_cell mid.present None) new.present → Stands old.present device → Turns old new (LeavesOnly (λ left. Stands left device)) (LeavesOnly (λ left. Stands left None))
+erased old mid new device first same second either stands =
+    let P : Image → Type 0 = LeavesOnly (λ left. Stands left device) in
+    let Q : Image → Type 0 = LeavesOnly (λ left. Stands left None) in
+    let here = stands_leaves old.present device stands in
+    let there = subst P (sym same) here in
+    Turns-either old mid new P Q (During-step old mid P first here there) second
+    (elim either as (λ e. P new.present ⊎ Q new.present) [
+      | inl still ↦ inl (subst P (sym still) there)
+      | inr empty ↦ inr (subst Q (sym empty) (stands_leaves (with_cell mid.present None) None refl))
+    ])
+
+-- what a held image stands for
+pub held_stands : (root : Root) (count : ℕ) (loaded touched : Bool) (known : List Entry) (image : Image) (device : Device) (contents : Blocks) → HoldsBy root count loaded touched known image device contents → Stands image (Some device)
+held_stands root count loaded touched known image device contents h =
+    (root, leaf_parts root.addr root.key h.leaf h.leaf_texts, stands_by_leaf image device root h.leaf h.leaf_texts h.stands)
+
+-- ---- a commit of a session's array
+
+-- the root record that follows another one: the next number, and a leaf of so many entries at the end of so many pages
+pub record IsNext (old new : Root) (count pages : ℕ) : Type 0 where
+  pub order : new.order ≡ old.order
+  pub level : new.level ≡ old.level
+  pub blocks : new.blocks ≡ old.blocks
+  pub commit : new.commit ≡ old.commit + 1
+  pub addr : new.addr ≡ pages
+  pub mapped : new.mapped ≡ count
+  pub head : new.head ≡ pages + 1
+
+pub next_fits : (old new : Root) (count pages : ℕ) → IsNext old new count pages → IsServed old pages → count ≤ old.blocks → pages < 2 ^ 32 → FitsRoot new
+next_fits old new count pages next served most room =
+    let fits = served.fits in
+    record {
+      order_even = ap (λ (n : ℕ). n % 2) next.order ∙ fits.order_even;
+      order_least = omega (arith, fits.order_least, next.order);
+      order_most = omega (arith, fits.order_most, next.order);
+      level_least = omega (arith, fits.level_least, next.level);
+      level_most = omega (arith, fits.level_most, next.level);
+      blocks_least = omega (arith, fits.blocks_least, next.blocks);
+      blocks_most = omega (arith, fits.blocks_most, next.blocks);
+      commit = omega (arith, fits.commit, served.within, next.commit, next.head);
+      addr = omega (arith, next.addr, next.head);
+      mapped = omega (arith, next.mapped, next.blocks, most);
+      head = omega (arith, next.head, room);
+    }
+
+pub next_leaf : (old new : Root) (count pages : ℕ) → IsNext old new count pages → IsOneLeaf old → IsOneLeaf new
+next_leaf old new count pages next one = record { order = next.order ∙ one.order; level = next.level ∙ one.level; blocks = omega (arith, next.blocks, one.blocks) }
+
+-- the image after a commit stands for the device with the session's array
+pub raised_leaf : (old new : Root) (count pages : ℕ) (loaded touched : Bool) (known : List Entry) (image : Image) (device : Device) (contents : Blocks) → loaded ≡ true → (h : HoldsBy old count loaded touched known image device contents) → IsNext old new count pages → IsServed old pages → count ≤ old.blocks → pages < 2 ^ 32 → IsBytes 32 new.key → IsWhole image → pages ≡ length image.recorded → AreEntries known old.blocks pages → StandsByLeaf (with_leaf image new known) (committed_device device contents) new known h.texts
+raised_leaf old new count pages loaded touched known image device contents ready h next served most room key whole at are =
+    let same = h.read ready in
+    committed image new (committed_device device contents) known h.texts whole (next_fits old new count pages next served most room) key (next_leaf old new count pages next served.leaf)
+    (next.addr ∙ at) (omega (arith, next.addr, next.head)) (ap length same ∙ sym h.count ∙ sym next.mapped)
+    (subst (λ (n : ℕ). AreEntries known n new.addr) (sym next.blocks) (subst (λ (n : ℕ). AreEntries known old.blocks n) (sym next.addr) are))
+    (subst (λ (es : List Entry). AreMapped image es h.texts) (sym same) h.mapped_there)
+    (next.order ∙ h.stands.order) (next.blocks ∙ h.stands.blocks) (next.commit ∙ ap (λ (n : ℕ). n + 1) h.stands.number)
+    (h.contents_are ∙ ap (λ (es : List Entry). blocks_of_entries es h.texts) (sym same))
+
+pub raised_stands : (old new : Root) (count pages : ℕ) (loaded touched : Bool) (known : List Entry) (image : Image) (device : Device) (contents : Blocks) → loaded ≡ true → HoldsBy old count loaded touched known image device contents → IsNext old new count pages → IsServed old pages → count ≤ old.blocks → pages < 2 ^ 32 → IsBytes 32 new.key → IsWhole image → pages ≡ length image.recorded → AreEntries known old.blocks pages → Stands (with_leaf image new known) (Some (committed_device device contents))
+raised_stands old new count pages loaded touched known image device contents ready h next served most room key whole at are =
+    (new, leaf_parts new.addr new.key known h.texts, stands_by_leaf (with_leaf image new known) (committed_device device contents) new known h.texts
+    (raised_leaf old new count pages loaded touched known image device contents ready h next served most room key whole at are))
+
+pub raised_held : (old new : Root) (count pages : ℕ) (loaded touched : Bool) (known : List Entry) (image later : Image) (device : Device) (contents : Blocks) → loaded ≡ true → HoldsBy old count loaded touched known image device contents → IsNext old new count pages → IsServed old pages → count ≤ old.blocks → pages < 2 ^ 32 → IsBytes 32 new.key → IsWhole image → pages ≡ length image.recorded → AreEntries known old.blocks pages → later ≡ with_leaf image new known → HoldsBy new count loaded false known later (committed_device device contents) contents
+raised_held old new count pages loaded touched known image later device contents ready h next served most room key whole at are later_is =
+    let leaf = raised_leaf old new count pages loaded touched known image device contents ready h next served most room key whole at are in
+    let held = leaf_held (with_leaf image new known) (committed_device device contents) new loaded known h.texts known (λ yes. refl) leaf in
+    subst (λ (n : ℕ). HoldsBy new n loaded false known later (committed_device device contents) contents) next.mapped
+    (subst (λ (i : Image). HoldsBy new new.mapped loaded false known i (committed_device device contents) contents) (sym later_is) held)
+
+-- the leaf is appended, the medium synced, and the root record replaced
+pub raise_turns : (old mid new : History) (first next : Root) (count pages : ℕ) (loaded touched : Bool) (known : List Entry) (device : Device) (contents : Blocks) → loaded ≡ true → HoldsBy first count loaded touched known old.present device contents → IsNext first next count pages → IsServed first pages → count ≤ first.blocks → pages < 2 ^ 32 → IsBytes 32 next.key → pages ≡ length old.present.recorded → AreEntries known first.blocks pages → Steps old mid → mid.present.cell ≡ old.present.cell → mid.present ≡ with_page old.present (leaf_page next known) (leaf_page next known) → Turns mid new (λ image. image.cell ≡ mid.present.cell) (λ image. image ≡ with_cell (all_synced mid.present) (Some (root_bytes next))) → Turns old new (LeavesOnly (λ left. Stands left (Some device))) (LeavesOnly (λ left. Stands left (Some (committed_device device contents))))
+raise_turns old mid new first next count pages loaded touched known device contents ready h follows served most room key at are steps cell appended published =
+    let X = with_leaf old.present next known in
+    let same : with_cell (all_synced mid.present) (Some (root_bytes next)) ≡ X = ap (λ (i : Image). with_cell (all_synced i) (Some (root_bytes next))) appended in
+    let turns = subst (λ (x : Image). Turns mid new (λ image. image.cell ≡ mid.present.cell) (λ image. image ≡ x)) same published in
+    turns_stands old new X (Some device) (Some (committed_device device contents)) (held_stands first count loaded touched known old.present device contents h)
+    (raised_stands first next count pages loaded touched known old.present device contents ready h follows served most room key (whole-now old) at are)
+    (then_published old mid new X (one_call old mid steps cell) turns)
+
+pub raise_held : (old mid new : History) (first next : Root) (count pages : ℕ) (loaded touched : Bool) (known : List Entry) (device : Device) (contents : Blocks) → loaded ≡ true → HoldsBy first count loaded touched known old.present device contents → IsNext first next count pages → IsServed first pages → count ≤ first.blocks → pages < 2 ^ 32 → IsBytes 32 next.key → pages ≡ length old.present.recorded → AreEntries known first.blocks pages → mid.present ≡ with_page old.present (leaf_page next known) (leaf_page next known) → new.present ≡ with_cell (all_synced mid.present) (Some (root_bytes next)) → HoldsBy next count loaded false known new.present (committed_device device contents) contents
+raise_held old mid new first next count pages loaded touched known device contents ready h follows served most room key at are appended published =
+    raised_held first next count pages loaded touched known old.present new.present device contents ready h follows served most room key (whole-now old) at are
+    (published ∙ ap (λ (i : Image). with_cell (all_synced i) (Some (root_bytes next))) appended)
+
+-- a leaf's entries can stand in a record
+pub entries_fit : (root : Root) (addr : ℕ) (entries : List Entry) → IsOneLeaf root → AreEntries entries root.blocks addr → FitsNode addr 1 entries
+entries_fit root addr entries one are = record {
+  level_least = omega arith;
+  level_most = omega arith;
+  count = omega (arith, one.blocks, length-entries entries root.blocks addr are);
+  ascend = are.ascend;
+  lows = All-weaker (λ (e : Entry). e.low < root.blocks) (λ (e : Entry). e.low < 1048576) (λ e less. omega (arith, less, one.blocks)) entries are.lows;
+  below = are.below;
+}
+
+-- without a change the device with its own number and the session's array is the device
+pub untouched_after : (root : Root) (count : ℕ) (loaded touched : Bool) (known : List Entry) (image : Image) (device : Device) (contents : Blocks) (number : ℕ) → touched ≡ false → number ≡ root.commit → HoldsBy root count loaded touched known image device contents → HoldsBy root count loaded touched known image (record device { number = number; contents = contents }) contents
+untouched_after root count loaded touched known image device contents number still is h =
+    let numbers : device.number ≡ number = sym (is ∙ h.stands.number) in
+    let maps : device.contents ≡ contents = sym (h.untouched still) in
+    let same : device ≡ record { blocks = device.blocks; order = device.order; number = number; contents = contents } = λ i. record { blocks = device.blocks; order = device.order; number = numbers i; contents = maps i } in
+    subst (λ (d : Device). HoldsBy root count loaded touched known image d contents) same h
+
+-- ---- the first root record of a device
+
+-- a leaf without entries at this address
+abbrev pub first_root : ℕ → ℕ → ℕ → List ℕ → Root
+first_root blocks order addr key = record { order = order; level = 1; blocks = blocks; commit = 0; addr = addr; key = key; mapped = 0; head = addr + 1 }
+
+pub first_fits : (blocks order addr : ℕ) (key : List ℕ) → 1 ≤ blocks → blocks ≤ 64 → order ≡ 64 → addr < 2 ^ 32 → FitsRoot (first_root blocks order addr key)
+first_fits blocks order addr key least most is room = record {
+  order_even = ap (λ (n : ℕ). n % 2) is;
+  order_least = omega (arith, is);
+  order_most = omega (arith, is);
+  level_least = omega arith;
+  level_most = omega arith;
+  blocks_least = least;
+  blocks_most = omega arith;
+  commit = omega arith;
+  addr = omega arith;
+  mapped = omega arith;
+  head = omega arith;
+}
+
+pub first_one : (blocks order addr : ℕ) (key : List ℕ) → blocks ≤ 64 → order ≡ 64 → IsOneLeaf (first_root blocks order addr key)
+first_one blocks order addr key most is = record { order = is; level = refl; blocks = most }
+
+pub no_entries_fit : (addr : ℕ) → FitsNode addr 1 []
+no_entries_fit addr = record {
+  level_least = omega arith;
+  level_most = omega arith;
+  count = omega arith;
+  ascend = λ k inside. absurd (omega (arith, inside));
+  lows = All-nil (λ (e : Entry). e.low < 1048576);
+  below = All-nil (λ (e : Entry). e.addr < addr);
+}
+
+pub first_stands : (image : Image) (blocks order addr : ℕ) (key : List ℕ) → IsWhole image → 1 ≤ blocks → blocks ≤ 64 → order ≡ 64 → addr < 2 ^ 32 → IsBytes 32 key → addr ≡ length image.recorded → Stands (with_leaf image (first_root blocks order addr key) []) (Some (new_device blocks order))
+first_stands image blocks order addr key whole least most is room sized at =
+    let root = first_root blocks order addr key in
+    (root, leaf_parts root.addr root.key [] [], stands_by_leaf (with_leaf image root []) (new_device blocks order) root [] []
+    (committed image root (new_device blocks order) [] [] whole (first_fits blocks order addr key least most is room) sized (first_one blocks order addr key most is) at refl refl
+    (AreEntries-none blocks addr) (none_mapped image) refl refl refl refl))
+
+pub format_turns : (old looked mid new : History) (blocks order addr : ℕ) (key : List ℕ) (device : Option Device) → Stands old.present device → Steps old looked → looked.present ≡ old.present → Steps looked mid → mid.present.cell ≡ looked.present.cell → mid.present ≡ with_page looked.present (leaf_page (first_root blocks order addr key) []) (leaf_page (first_root blocks order addr key) []) → Turns mid new (λ image. image.cell ≡ mid.present.cell) (λ image. image ≡ with_cell (all_synced mid.present) (Some (root_bytes (first_root blocks order addr key)))) → 1 ≤ blocks → blocks ≤ 64 → order ≡ 64 → addr < 2 ^ 32 → IsBytes 32 key → addr ≡ length looked.present.recorded → Turns old new (LeavesOnly (λ left. Stands left device)) (LeavesOnly (λ left. Stands left (Some (new_device blocks order))))
+format_turns old looked mid new blocks order addr key device stands look same steps cell appended published least most is room sized at =
+    let root = first_root blocks order addr key in
+    let X = with_leaf looked.present root [] in
+    let target : with_cell (all_synced mid.present) (Some (root_bytes root)) ≡ X = ap (λ (i : Image). with_cell (all_synced i) (Some (root_bytes root))) appended in
+    let turns = subst (λ (x : Image). Turns mid new (λ image. image.cell ≡ mid.present.cell) (λ image. image ≡ x)) target published in
+    turns_stands old new X device (Some (new_device blocks order)) stands
+    (first_stands looked.present blocks order addr key (whole-now looked) least most is room sized at)
+    (then_published old mid new X (call_more old looked mid (one_look old looked look same) steps cell) turns)
+
+pub format_made : (looked mid new : History) (blocks order addr : ℕ) (key : List ℕ) → mid.present ≡ with_page looked.present (leaf_page (first_root blocks order addr key) []) (leaf_page (first_root blocks order addr key) []) → new.present ≡ with_cell (all_synced mid.present) (Some (root_bytes (first_root blocks order addr key))) → 1 ≤ blocks → blocks ≤ 64 → order ≡ 64 → addr < 2 ^ 32 → IsBytes 32 key → addr ≡ length looked.present.recorded → Stands new.present (Some (new_device blocks order))
+format_made looked mid new blocks order addr key appended published least most is room sized at =
+    let root = first_root blocks order addr key in
+    let target : new.present ≡ with_leaf looked.present root [] = published ∙ ap (λ (i : Image). with_cell (all_synced i) (Some (root_bytes root))) appended in
+    subst (λ (i : Image). Stands i (Some (new_device blocks order))) (sym target) (first_stands looked.present blocks order addr key (whole-now looked) least most is room sized at)

@@ -1,0 +1,5 @@
+pub mod Ascending
+pub mod EntryLaws
+pub mod ArrayLaws
+pub mod HoldLaws
+pub mod MomentLaws

@@ -1,0 +1,114 @@
+use Rattle.std.proofs.Common.{◌≡◌, ◌∙◌, ◌+◌, ◌-◌, ◌≤◌, ◌<◌, ◌^◌, ℕ, List, [], Option, Some, None, length, Bool, true, false, refl, ap, sym, subst, arith}
+use Rattle.platform.specs.Image.{Image, with_page}
+use Rattle.seal_record.specs.Sealing.{masked}
+use Rattle.node_codec.specs.Record.{NodeRecord, record_bytes}
+use Rattle.root_codec.specs.declared.root.Root.{Root}
+use Rattle.page_store.specs.Buffer.{Held}
+use Rattle.device_core.specs.Leaf.{IsServedCell}
+use Rattle.device_core.specs.Blocks.{new_device}
+use Rattle.device_core.proofs.MomentLaws.{one_look, look_more, call_more}
+use Rattle.device_core.proofs.HoldLaws.{during_stands, first_root, first_fits, first_one, no_entries_fit, format_turns, format_made, leaf_page}
+use Rattle.device_core.proofs.formatting.format.Goals as goal
+
+pub returns-in_default-clause-time : goal.returns-in_default-clause-time
+returns-in_default-clause-time g c = λ told device stands.
+    during_stands _ _ device (Some (new_device c.args.blocks c.args.order)) stands (one_look _ _ (c.load_root.ensures.time told) (c.load_root.ensures.image told))
+
+pub returns-then-is_full-clause-time : goal.returns-then-is_full-clause-time
+returns-then-is_full-clause-time g c = λ told device stands.
+    during_stands _ _ device (Some (new_device c.args.blocks c.args.order)) stands (one_look _ _ (c.load_root.ensures.time told) (c.load_root.ensures.image told))
+
+pub returns-then-head-capacity-clause-time : goal.returns-then-head-capacity-clause-time
+returns-then-head-capacity-clause-time g c = λ told device stands.
+    during_stands _ _ device (Some (new_device c.args.blocks c.args.order)) stands (one_look _ _ (c.load_root.ensures.time told) (c.load_root.ensures.image told))
+
+pub returns-in_default-new-clause-time : goal.returns-in_default-new-clause-time
+returns-in_default-new-clause-time g c = λ told device stands.
+    during_stands _ _ device (Some (new_device c.args.blocks c.args.order)) stands (one_look _ _ (c.load_root.ensures.time told) (c.load_root.ensures.image told))
+
+pub put_node-requires : goal.put_node-requires
+put_node-requires g c = no_entries_fit c.head-2.result
+
+pub returns-in-Err-TapeFault-clause-time : goal.returns-in-Err-TapeFault-clause-time
+returns-in-Err-TapeFault-clause-time g c = λ told device stands.
+    during_stands _ _ device (Some (new_device c.args.blocks c.args.order)) stands
+    (call_more _ _ _ (one_look _ _ (c.load_root.ensures.time told) (c.load_root.ensures.image told)) (c.append.ensures.time told) (c.append.ensures.cell told))
+
+pub returns-in-Err-PlatformFault-clause-time : goal.returns-in-Err-PlatformFault-clause-time
+returns-in-Err-PlatformFault-clause-time g c = λ told device stands.
+    during_stands _ _ device (Some (new_device c.args.blocks c.args.order)) stands
+    (call_more _ _ _ (one_look _ _ (c.load_root.ensures.time told) (c.load_root.ensures.image told)) (c.append.ensures.time told) (c.append.ensures.cell told))
+
+pub publish-requires : goal.publish-requires
+publish-requires g c =
+    let head = g.P.Platform.head in
+    let addr = c.in-Ok-append.placed.addr in
+    let key = c.in-Ok-append.placed.key in
+    let address : addr ≡ head c.load_root.new.self = c.in-Ok-append.ensures.address in
+    let room : addr < 2 ^ 32 = omega (arith, address, c.head.ensures.value, c.capacity.ensures.value, c.head.ensures.room, c.head.ensures.limit, c.if-head-capacity.false) in
+    first_fits c.args.blocks c.args.order addr key c.requires.least c.requires.most c.requires.order room
+
+pub returns-in-Ok-publish-clause-made : goal.returns-in-Ok-publish-clause-made
+returns-in-Ok-publish-clause-made g c = λ told.
+    let history = g.P.Platform.history in
+    let head = g.P.Platform.head in
+    let addr = c.in-Ok-append.placed.addr in
+    let key = c.in-Ok-append.placed.key in
+    let address : addr ≡ head c.load_root.new.self = c.in-Ok-append.ensures.address in
+    let room : addr < 2 ^ 32 = omega (arith, address, c.head.ensures.value, c.capacity.ensures.value, c.head.ensures.room, c.head.ensures.limit, c.if-head-capacity.false) in
+    let pages = g.met.P.Platform.counts_pages told c.load_root.new.self in
+    let body : c.put_node.new.self.body ≡ record_bytes addr (NodeRecord 1 []) =
+        ap (λ (b : Held). b.body) c.put_node.ensures ∙ ap (λ (n : ℕ). record_bytes n (NodeRecord 1 [])) (c.head-2.ensures.value ∙ sym address) in
+    let appended = c.in-Ok-append.ensures.appended told ∙ ap (λ (b : List ℕ). with_page (history c.load_root.new.self).present (masked key b) (masked key b)) body in
+    format_made (history c.load_root.new.self) (history c.append.new.platform) (history c.publish.new.platform) c.args.blocks c.args.order addr key appended (c.in-Ok-publish.ensures.published told)
+    c.requires.least c.requires.most c.requires.order room c.in-Ok-append.ensures.key (address ∙ sym pages)
+
+pub returns-in-Ok-publish-clause-served : goal.returns-in-Ok-publish-clause-served
+returns-in-Ok-publish-clause-served g c = λ told.
+    let history = g.P.Platform.history in
+    let head = g.P.Platform.head in
+    let addr = c.in-Ok-append.placed.addr in
+    let key = c.in-Ok-append.placed.key in
+    let address : addr ≡ head c.load_root.new.self = c.in-Ok-append.ensures.address in
+    let room : addr < 2 ^ 32 = omega (arith, address, c.head.ensures.value, c.capacity.ensures.value, c.head.ensures.room, c.head.ensures.limit, c.if-head-capacity.false) in
+    let root = first_root c.args.blocks c.args.order addr key in
+    let cell = ap (λ (i : Image). i.cell) (c.in-Ok-publish.ensures.published told) in
+    subst (λ (held : Option (List ℕ)). IsServedCell held (head c.publish.new.platform)) (sym cell)
+    (root, record {
+      fits = first_fits c.args.blocks c.args.order addr key c.requires.least c.requires.most c.requires.order room;
+      key = c.in-Ok-append.ensures.key;
+      leaf = first_one c.args.blocks c.args.order addr key c.requires.most c.requires.order;
+      within = omega (arith, address, c.in-Ok-append.ensures.head_ok, c.publish.ensures.head);
+    }, refl)
+
+pub returns-in-Ok-publish-clause-time : goal.returns-in-Ok-publish-clause-time
+returns-in-Ok-publish-clause-time g c = λ told device stands.
+    let history = g.P.Platform.history in
+    let head = g.P.Platform.head in
+    let addr = c.in-Ok-append.placed.addr in
+    let key = c.in-Ok-append.placed.key in
+    let address : addr ≡ head c.load_root.new.self = c.in-Ok-append.ensures.address in
+    let room : addr < 2 ^ 32 = omega (arith, address, c.head.ensures.value, c.capacity.ensures.value, c.head.ensures.room, c.head.ensures.limit, c.if-head-capacity.false) in
+    let pages = g.met.P.Platform.counts_pages told c.load_root.new.self in
+    let body : c.put_node.new.self.body ≡ record_bytes addr (NodeRecord 1 []) =
+        ap (λ (b : Held). b.body) c.put_node.ensures ∙ ap (λ (n : ℕ). record_bytes n (NodeRecord 1 [])) (c.head-2.ensures.value ∙ sym address) in
+    let appended = c.in-Ok-append.ensures.appended told ∙ ap (λ (b : List ℕ). with_page (history c.load_root.new.self).present (masked key b) (masked key b)) body in
+    format_turns (history c.args.platform.now) (history c.load_root.new.self) (history c.append.new.platform) (history c.publish.new.platform) c.args.blocks c.args.order addr key device stands
+    (c.load_root.ensures.time told) (c.load_root.ensures.image told) (c.append.ensures.time told) (c.append.ensures.cell told) appended (c.publish.ensures.time told)
+    c.requires.least c.requires.most c.requires.order room c.in-Ok-append.ensures.key (address ∙ sym pages)
+
+pub returns-clause-time : goal.returns-clause-time
+returns-clause-time g c = λ told device stands.
+    let history = g.P.Platform.history in
+    let head = g.P.Platform.head in
+    let addr = c.in-Ok-append.placed.addr in
+    let key = c.in-Ok-append.placed.key in
+    let address : addr ≡ head c.load_root.new.self = c.in-Ok-append.ensures.address in
+    let room : addr < 2 ^ 32 = omega (arith, address, c.head.ensures.value, c.capacity.ensures.value, c.head.ensures.room, c.head.ensures.limit, c.if-head-capacity.false) in
+    let pages = g.met.P.Platform.counts_pages told c.load_root.new.self in
+    let body : c.put_node.new.self.body ≡ record_bytes addr (NodeRecord 1 []) =
+        ap (λ (b : Held). b.body) c.put_node.ensures ∙ ap (λ (n : ℕ). record_bytes n (NodeRecord 1 [])) (c.head-2.ensures.value ∙ sym address) in
+    let appended = c.in-Ok-append.ensures.appended told ∙ ap (λ (b : List ℕ). with_page (history c.load_root.new.self).present (masked key b) (masked key b)) body in
+    format_turns (history c.args.platform.now) (history c.load_root.new.self) (history c.append.new.platform) (history c.publish.new.platform) c.args.blocks c.args.order addr key device stands
+    (c.load_root.ensures.time told) (c.load_root.ensures.image told) (c.append.ensures.time told) (c.append.ensures.cell told) appended (c.publish.ensures.time told)
+    c.requires.least c.requires.most c.requires.order room c.in-Ok-append.ensures.key (address ∙ sym pages)

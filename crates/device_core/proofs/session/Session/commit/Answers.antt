@@ -1,0 +1,17 @@
+use Rattle.std.proofs.Common.{◌≡◌, ◌∙◌, ◌+◌, Some, refl, ap, sym, subst, arith}
+use Rattle.device_core.specs.Replies.{committed_device}
+use Rattle.device_core.proofs.MomentLaws.{still}
+use Rattle.device_core.proofs.HoldLaws.{during_stands, held_stands, untouched_after}
+use Rattle.device_core.proofs.session.Session.commit.Goals as goal
+
+pub returns-then-not-self-clause-holds : goal.returns-then-not-self-clause-holds
+returns-then-not-self-clause-holds g c = λ told device contents h. untouched_after _ _ _ _ _ _ device contents _ (grind (arith, c.if-not-self.true)) refl h
+
+pub returns-then-not-self-clause-time : goal.returns-then-not-self-clause-time
+returns-then-not-self-clause-time g c = λ told device contents h.
+    during_stands _ _ (Some device) (Some (committed_device device contents)) (held_stands _ _ _ _ _ _ device contents h) (still _)
+
+pub returns-then-head-capacity-clause-time : goal.returns-then-head-capacity-clause-time
+returns-then-head-capacity-clause-time g c = λ told device contents h.
+    during_stands _ _ (Some device) (Some (committed_device device contents)) (held_stands _ _ _ _ _ _ device contents h) (still _)
+

@@ -1,0 +1,85 @@
+use Rattle.std.proofs.Common.{◌≡◌, ◌∙◌, ◌+◌, ◌≤◌, ℕ, List, Bool, true, false, refl, ap, sym, subst, arith}
+use Rattle.page_store.specs.declared.wants.Want.{Want}
+use Rattle.page_store.specs.Places.{FitsAt, NothingFits, IsWantedRecord, root_want}
+use Rattle.node_codec.specs.Record.{Record, NodeRecord, DataRecord, value_of}
+use Rattle.root_codec.specs.declared.root.Root.{Root}
+use Rattle.node_codec.specs.declared.body.Entry.{Entry}
+use Rattle.page_store.specs.Buffer.{content_of}
+use Rattle.device_core.specs.Leaf.{AreEntries}
+use Rattle.device_core.specs.Holding.{HoldsBy}
+use Rattle.device_core.proofs.MomentLaws.{still, one_look}
+use Rattle.device_core.proofs.EntryLaws.{AreEntries-read}
+use Rattle.device_core.proofs.HoldLaws.{holds_same, loaded, leaf_fits}
+use Rattle.device_core.proofs.session.Session.load.Goals as goal
+
+-- a node that is wanted at the root of one leaf is a leaf
+leaf_wanted_read : (want : Want) (root : Root) (level head : ℕ) (entries : List Entry) (body : List ℕ) → want ≡ root_want root → root.level ≡ 1 → root.addr ≤ head → IsWantedRecord want body (NodeRecord level entries) → (level ≡ 1) × AreEntries entries root.blocks head
+leaf_wanted_read want root level head entries body want_is one within is =
+    let of_root = subst (λ (w : Want). IsWantedRecord w body (NodeRecord level entries)) want_is is in
+    let same : level ≡ 1 = of_root.wanted.same_level ∙ one in
+    let at_one = subst (λ (n : ℕ). IsWantedRecord (root_want root) body (NodeRecord n entries)) same of_root in
+    (same, AreEntries-read root entries head within at_one.in_range at_one.wanted)
+
+-- it is no data record
+no_block : (want : Want) (root : Root) (block : ℕ) (content body : List ℕ) → want ≡ root_want root → root.level ≡ 1 → IsWantedRecord want body (DataRecord block content) → ⊥
+no_block want root block content body want_is one is =
+    let of_root = subst (λ (w : Want). IsWantedRecord w body (DataRecord block content)) want_is is in
+    omega (arith, of_root.wanted.0, one)
+
+pub returns-then-self-clause-time : goal.returns-then-self-clause-time
+returns-then-self-clause-time g c = λ told. still _
+
+pub fetch-requires : goal.fetch-requires
+fetch-requires g c = let addr = ap (λ (w : Want). w.addr) c.of_root-want.ensures in omega (arith, addr, c.requires.served.fits.addr, c.requires.served.within)
+
+pub returns-in-Err-clause-holds : goal.returns-in-Err-clause-holds
+returns-in-Err-clause-holds g c = λ told device contents h. holds_same _ _ _ _ _ _ _ _ _ (c.fetch.ensures.image told) h
+
+pub returns-in-Err-clause-bad : goal.returns-in-Err-clause-bad
+returns-in-Err-clause-bad g c = λ told device contents h addr is.
+    leaf_fits _ _ _ _ _ _ device contents h
+    (subst (λ (w : Want). NothingFits (g.P.Platform.history c.args.platform.now).present.readable w c.args.self.now.root.key) c.of_root-want.ensures (c.in-Err.ensures.nothing_fits told addr (cc)))
+
+pub returns-in-Err-clause-time : goal.returns-in-Err-clause-time
+returns-in-Err-clause-time g c = λ told. one_look _ _ (c.fetch.ensures.time told) (c.fetch.ensures.image told)
+
+pub returns-in-Node-clause-open : goal.returns-in-Node-clause-open
+returns-in-Node-clause-open g c =
+    let head = g.P.Platform.head in
+    let wanted = rw c.in-Node.is at c.in-Ok.ensures.wanted in
+    let read = leaf_wanted_read c.of_root-want.result c.args.self.now.root c.in-Node.node.level (head c.fetch.new.platform) c.in-Node.node.entries.items _ c.of_root-want.ensures c.requires.served.leaf.level (omega (arith, c.requires.served.fits.addr, c.requires.served.within, c.fetch.ensures.head)) wanted in
+    record {
+      served = record { fits = c.requires.served.fits; key = c.requires.served.key; leaf = c.requires.served.leaf; within = omega (arith, c.requires.served.within, c.fetch.ensures.head) };
+      mapped = c.requires.mapped;
+      entries = read.1;
+      loaded = λ yes. refl;
+    }
+
+pub returns-in-Node-clause-holds : goal.returns-in-Node-clause-holds
+returns-in-Node-clause-holds g c = λ told device contents h.
+    let history = g.P.Platform.history in
+    let head = g.P.Platform.head in
+    let self = c.args.self.now in
+    let pages = (history c.args.platform.now).present.readable in
+    let wanted = rw c.in-Node.is at c.in-Ok.ensures.wanted in
+    let read = leaf_wanted_read c.of_root-want.result self.root c.in-Node.node.level (head c.args.platform.now) c.in-Node.node.entries.items _ c.of_root-want.ensures c.requires.served.leaf.level (omega (arith, c.requires.served.fits.addr, c.requires.served.within)) wanted in
+    let fits = rw c.in-Node.is at (c.in-Ok.ensures.fits told) in
+    let of_root = subst (λ (w : Want). FitsAt pages w self.root.key (NodeRecord c.in-Node.node.level c.in-Node.node.entries.items)) c.of_root-want.ensures fits in
+    let at_one = subst (λ (n : ℕ). FitsAt pages (root_want self.root) self.root.key (NodeRecord n c.in-Node.node.entries.items)) read.0 of_root in
+    let unread = subst (λ (b : Bool). HoldsBy self.root self.mapped b self.is_touched self.entries.items (history c.args.platform.now).present device contents) c.if-self.false h in
+    holds_same _ _ _ _ _ (history c.args.platform.now).present _ _ _ (c.fetch.ensures.image told)
+    (loaded self.root self.mapped self.is_touched self.entries.items c.in-Node.node.entries.items (history c.args.platform.now).present device contents unread at_one)
+
+pub returns-in-Node-clause-time : goal.returns-in-Node-clause-time
+returns-in-Node-clause-time g c = λ told. one_look _ _ (c.fetch.ensures.time told) (c.fetch.ensures.image told)
+
+pub returns-in-Block-clause-holds : goal.returns-in-Block-clause-holds
+returns-in-Block-clause-holds g c = λ told device contents h. holds_same _ _ _ _ _ _ _ _ _ (c.fetch.ensures.image told) h
+
+pub returns-in-Block-clause-bad : goal.returns-in-Block-clause-bad
+returns-in-Block-clause-bad g c = λ told device contents h addr is.
+    let wanted = rw c.in-Block.is at c.in-Ok.ensures.wanted in
+    no_block c.of_root-want.result c.args.self.now.root _ _ _ c.of_root-want.ensures c.requires.served.leaf.level wanted
+
+pub returns-in-Block-clause-time : goal.returns-in-Block-clause-time
+returns-in-Block-clause-time g c = λ told. one_look _ _ (c.fetch.ensures.time told) (c.fetch.ensures.image told)

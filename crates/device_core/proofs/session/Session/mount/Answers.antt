@@ -1,0 +1,47 @@
+use Rattle.std.proofs.Common.{refl, arith}
+use Rattle.device_core.proofs.MomentLaws.{one_look}
+use Rattle.device_core.proofs.HoldLaws.{refused_bad, refused_levels, opened, mounted, holds_same}
+use Rattle.device_core.proofs.session.Session.mount.Goals as goal
+
+pub returns-in-Err-BadRoot-clause-bad_root : goal.returns-in-Err-BadRoot-clause-bad_root
+returns-in-Err-BadRoot-clause-bad_root g c = λ told is. refused_bad _ _ (c.in-Err-BadRoot.ensures.bad told (cc))
+
+pub returns-in-Err-BadRoot-clause-time : goal.returns-in-Err-BadRoot-clause-time
+returns-in-Err-BadRoot-clause-time g c = λ told. one_look _ _ (c.current.ensures.time told) (c.current.ensures.image told)
+
+pub returns-in-Err-PlatformFault-clause-time : goal.returns-in-Err-PlatformFault-clause-time
+returns-in-Err-PlatformFault-clause-time g c = λ told. one_look _ _ (c.current.ensures.time told) (c.current.ensures.image told)
+
+pub returns-in_default-clause-time : goal.returns-in_default-clause-time
+returns-in_default-clause-time g c = λ told. one_look _ _ (c.current.ensures.time told) (c.current.ensures.image told)
+
+pub returns-then-not-is_one_leaf-clause-time : goal.returns-then-not-is_one_leaf-clause-time
+returns-then-not-is_one_leaf-clause-time g c = λ told. one_look _ _ (c.current.ensures.time told) (c.current.ensures.image told)
+
+pub returns-in_default-new-clause-time : goal.returns-in_default-new-clause-time
+returns-in_default-new-clause-time g c = λ told. one_look _ _ (c.current.ensures.time told) (c.current.ensures.image told)
+
+pub returns-clause-time : goal.returns-clause-time
+returns-clause-time g c = λ told. one_look _ _ (c.current.ensures.time told) (c.current.ensures.image told)
+
+pub returns-then-not-is_one_leaf-clause-bad_root : goal.returns-then-not-is_one_leaf-clause-bad_root
+returns-then-not-is_one_leaf-clause-bad_root g c = λ told is.
+    let found = rw c.in-Some.is at c.in-Ok.ensures.found told in
+    let within = rw c.in-Some.is at c.in-Ok.ensures.within in
+    refused_levels _ _ c.in-Some.root found within (λ one. let no = c.is_one_leaf.ensures.1 one in grind (arith, no, c.if-not-is_one_leaf.true))
+
+pub returns-clause-open : goal.returns-clause-open
+returns-clause-open g c =
+    let within = rw c.in-Some.is at c.in-Ok.ensures.within in
+    let one = c.is_one_leaf.ensures.0 (grind (arith, c.if-not-is_one_leaf.false)) in
+    opened c.in-Some.root _ (g.P.Platform.head c.args.platform.now) _ within one c.new-2.ensures c.current.ensures.head
+
+pub returns-clause-holds : goal.returns-clause-holds
+returns-clause-holds g c = λ told device stands.
+    let history = g.P.Platform.history in
+    let found = rw c.in-Some.is at c.in-Ok.ensures.found told in
+    let within = rw c.in-Some.is at c.in-Ok.ensures.within in
+    let one = c.is_one_leaf.ensures.0 (grind (arith, c.if-not-is_one_leaf.false)) in
+    let opens = opened c.in-Some.root c.new-2.result.items (g.P.Platform.head c.args.platform.now) (g.P.Platform.head c.args.platform.now) within one c.new-2.ensures refl in
+    holds_same _ _ _ _ _ (history c.args.platform.now).present _ _ _ (c.current.ensures.image told)
+    (mounted (history c.args.platform.now).present device c.in-Some.root _ c.new-2.result.items opens.served found stands)

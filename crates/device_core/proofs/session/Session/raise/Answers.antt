@@ -1,0 +1,127 @@
+use Rattle.std.proofs.Common.{◌≡◌, ◌∙◌, ◌+◌, ◌-◌, ◌≤◌, ◌<◌, ◌^◌, ℕ, List, Option, Some, length, Bool, true, false, refl, ap, sym, subst, arith}
+use Rattle.platform.specs.Image.{Image, with_page, with_cell, all_synced}
+use Rattle.seal_record.specs.Sealing.{masked}
+use Rattle.node_codec.specs.declared.body.Entry.{Entry}
+use Rattle.node_codec.specs.Record.{NodeRecord, FitsNode, record_bytes}
+use Rattle.root_codec.specs.declared.root.Root.{Root}
+use Rattle.page_store.specs.Buffer.{Held}
+use Rattle.device_core.specs.Leaf.{AreEntries}
+use Rattle.page_store.specs.Device.{Device}
+use Rattle.device_core.specs.Blocks.{Blocks}
+use Rattle.device_core.specs.Holding.{HoldsBy}
+use Rattle.device_core.specs.Replies.{committed_device}
+use Rattle.device_core.proofs.MomentLaws.{one_call}
+use Rattle.device_core.proofs.EntryLaws.{AreEntries-later}
+use Rattle.device_core.proofs.HoldLaws.{during_stands, entries_fit, IsNext, next_fits, next_leaf, raise_turns, raise_held, held_stands}
+use Rattle.device_core.proofs.session.Session.raise.Goals as goal
+
+-- the root record that a commit writes
+abbrev next_root : Root → ℕ → ℕ → List ℕ → Root
+next_root root count addr key = record { order = root.order; level = root.level; blocks = root.blocks; commit = root.commit + 1; addr = addr; key = key; mapped = count; head = addr + 1 }
+
+is_next : (root : Root) (count addr pages : ℕ) (key : List ℕ) → addr ≡ pages → IsNext root (next_root root count addr key) count pages
+is_next root count addr pages key at = record { order = refl; level = refl; blocks = refl; commit = refl; addr = at; mapped = refl; head = ap (λ (n : ℕ). n + 1) at }
+
+-- the page that was appended is that of the leaf
+page_is : (addr head : ℕ) (key body : List ℕ) (given known : List Entry) → body ≡ record_bytes head (NodeRecord 1 given) → given ≡ known → head ≡ addr → masked key body ≡ masked key (record_bytes addr (NodeRecord 1 known))
+page_is addr head key body given known is same at =
+    ap (masked key) is ∙ ap (λ (es : List Entry). masked key (record_bytes head (NodeRecord 1 es))) same ∙ ap (λ (n : ℕ). masked key (record_bytes n (NodeRecord 1 known))) at
+
+-- the device after a commit, by the number that is answered
+committed_with : (image : Image) (first next : Root) (count : ℕ) (loaded : Bool) (known : List Entry) (device : Device) (contents : Blocks) (number : ℕ) → number ≡ device.number + 1 → HoldsBy next count loaded false known image (committed_device device contents) contents → HoldsBy next count loaded false known image (record device { number = number; contents = contents }) contents
+committed_with image first next count loaded known device contents number is h =
+    subst (λ (n : ℕ). HoldsBy next count loaded false known image (record { blocks = device.blocks; order = device.order; number = n; contents = contents }) contents) (sym is) h
+
+pub put_node-requires : goal.put_node-requires
+put_node-requires g c =
+    let are = subst (λ (n : ℕ). AreEntries c.args.self.entries.items c.args.self.root.blocks n) (sym c.head.ensures.value) c.requires.open.entries in
+    rw c.deref.ensures.0 (entries_fit c.args.self.root c.head.result c.args.self.entries.items c.requires.open.served.leaf are)
+
+pub publish-requires : goal.publish-requires
+publish-requires g c =
+    let history = g.P.Platform.history in
+    let head = g.P.Platform.head in
+    let self = c.args.self in
+    let addr = c.in-Ok.placed.addr in
+    let root = next_root self.root self.mapped addr c.in-Ok.placed.key in
+    let address : addr ≡ head c.args.platform.now = c.in-Ok.ensures.address in
+    next_fits self.root root self.mapped (head c.args.platform.now) (is_next self.root self.mapped addr _ c.in-Ok.placed.key address) c.requires.open.served c.requires.open.mapped
+    (omega (arith, c.requires.room, g.met.P.Platform.is_limited c.args.platform.now))
+
+pub returns-in-Err-TapeFault-clause-time : goal.returns-in-Err-TapeFault-clause-time
+returns-in-Err-TapeFault-clause-time g c = λ told device contents h.
+    during_stands _ _ (Some device) (Some (committed_device device contents)) (held_stands _ _ _ _ _ _ device contents h) (one_call _ _ (c.append.ensures.time told) (c.append.ensures.cell told))
+
+pub returns-in-Err-PlatformFault-clause-time : goal.returns-in-Err-PlatformFault-clause-time
+returns-in-Err-PlatformFault-clause-time g c = λ told device contents h.
+    during_stands _ _ (Some device) (Some (committed_device device contents)) (held_stands _ _ _ _ _ _ device contents h) (one_call _ _ (c.append.ensures.time told) (c.append.ensures.cell told))
+
+pub returns-in_default-clause-time : goal.returns-in_default-clause-time
+returns-in_default-clause-time g c = λ told device contents h.
+    let history = g.P.Platform.history in
+    let head = g.P.Platform.head in
+    let self = c.args.self in
+    let addr = c.in-Ok.placed.addr in
+    let root = next_root self.root self.mapped addr c.in-Ok.placed.key in
+    let address : addr ≡ head c.args.platform.now = c.in-Ok.ensures.address in
+    let pages = g.met.P.Platform.counts_pages told c.args.platform.now in
+    let room : head c.args.platform.now < 2 ^ 32 = omega (arith, c.requires.room, g.met.P.Platform.is_limited c.args.platform.now) in
+    let appended = c.in-Ok.ensures.appended told ∙ ap (λ (bytes : List ℕ). with_page (history c.args.platform.now).present bytes bytes)
+        (page_is addr c.head.result c.in-Ok.placed.key c.put_node.new.self.body c.deref.result.now self.entries.items (ap (λ (b : Held). b.body) c.put_node.ensures) c.deref.ensures.0 (c.head.ensures.value ∙ sym address)) in
+    raise_turns (history c.args.platform.now) (history c.append.new.platform) (history c.publish.new.platform) self.root root self.mapped (head c.args.platform.now) self.is_loaded self.is_touched self.entries.items device contents
+    (c.requires.open.loaded c.requires.touched) h (is_next self.root self.mapped addr _ c.in-Ok.placed.key address) c.requires.open.served c.requires.open.mapped room c.in-Ok.ensures.key (sym pages) c.requires.open.entries
+    (c.append.ensures.time told) (c.append.ensures.cell told) appended (c.publish.ensures.time told)
+
+pub returns-clause-time : goal.returns-clause-time
+returns-clause-time g c = λ told device contents h.
+    let history = g.P.Platform.history in
+    let head = g.P.Platform.head in
+    let self = c.args.self in
+    let addr = c.in-Ok.placed.addr in
+    let root = next_root self.root self.mapped addr c.in-Ok.placed.key in
+    let address : addr ≡ head c.args.platform.now = c.in-Ok.ensures.address in
+    let pages = g.met.P.Platform.counts_pages told c.args.platform.now in
+    let room : head c.args.platform.now < 2 ^ 32 = omega (arith, c.requires.room, g.met.P.Platform.is_limited c.args.platform.now) in
+    let appended = c.in-Ok.ensures.appended told ∙ ap (λ (bytes : List ℕ). with_page (history c.args.platform.now).present bytes bytes)
+        (page_is addr c.head.result c.in-Ok.placed.key c.put_node.new.self.body c.deref.result.now self.entries.items (ap (λ (b : Held). b.body) c.put_node.ensures) c.deref.ensures.0 (c.head.ensures.value ∙ sym address)) in
+    raise_turns (history c.args.platform.now) (history c.append.new.platform) (history c.publish.new.platform) self.root root self.mapped (head c.args.platform.now) self.is_loaded self.is_touched self.entries.items device contents
+    (c.requires.open.loaded c.requires.touched) h (is_next self.root self.mapped addr _ c.in-Ok.placed.key address) c.requires.open.served c.requires.open.mapped room c.in-Ok.ensures.key (sym pages) c.requires.open.entries
+    (c.append.ensures.time told) (c.append.ensures.cell told) appended (c.publish.ensures.time told)
+
+pub returns-clause-holds : goal.returns-clause-holds
+returns-clause-holds g c = λ told device contents h.
+    let history = g.P.Platform.history in
+    let head = g.P.Platform.head in
+    let self = c.args.self in
+    let addr = c.in-Ok.placed.addr in
+    let root = next_root self.root self.mapped addr c.in-Ok.placed.key in
+    let address : addr ≡ head c.args.platform.now = c.in-Ok.ensures.address in
+    let pages = g.met.P.Platform.counts_pages told c.args.platform.now in
+    let room : head c.args.platform.now < 2 ^ 32 = omega (arith, c.requires.room, g.met.P.Platform.is_limited c.args.platform.now) in
+    let appended = c.in-Ok.ensures.appended told ∙ ap (λ (bytes : List ℕ). with_page (history c.args.platform.now).present bytes bytes)
+        (page_is addr c.head.result c.in-Ok.placed.key c.put_node.new.self.body c.deref.result.now self.entries.items (ap (λ (b : Held). b.body) c.put_node.ensures) c.deref.ensures.0 (c.head.ensures.value ∙ sym address)) in
+    committed_with (history c.publish.new.platform).present self.root root self.mapped self.is_loaded self.entries.items device contents (self.root.commit + 1) (ap (λ (n : ℕ). n + 1) h.stands.number)
+    (raise_held (history c.args.platform.now) (history c.append.new.platform) (history c.publish.new.platform) self.root root self.mapped (head c.args.platform.now) self.is_loaded self.is_touched self.entries.items device contents
+    (c.requires.open.loaded c.requires.touched) h (is_next self.root self.mapped addr _ c.in-Ok.placed.key address) c.requires.open.served c.requires.open.mapped room c.in-Ok.ensures.key (sym pages) c.requires.open.entries
+    appended (c.in-Ok-publish.ensures.published told))
+
+pub returns-clause-open : goal.returns-clause-open
+returns-clause-open g c =
+    let history = g.P.Platform.history in
+    let head = g.P.Platform.head in
+    let self = c.args.self in
+    let addr = c.in-Ok.placed.addr in
+    let root = next_root self.root self.mapped addr c.in-Ok.placed.key in
+    let address : addr ≡ head c.args.platform.now = c.in-Ok.ensures.address in
+    let next = is_next self.root self.mapped addr (head c.args.platform.now) c.in-Ok.placed.key address in
+    record {
+      served = record {
+        fits = next_fits self.root root self.mapped (head c.args.platform.now) next c.requires.open.served c.requires.open.mapped (omega (arith, c.requires.room, g.met.P.Platform.is_limited c.args.platform.now));
+        key = c.in-Ok.ensures.key;
+        leaf = next_leaf self.root root self.mapped (head c.args.platform.now) next c.requires.open.served.leaf;
+        within = omega (arith, address, c.in-Ok.ensures.head_ok, c.publish.ensures.head);
+      };
+      mapped = c.requires.open.mapped;
+      entries = AreEntries-later self.entries.items self.root.blocks (head c.args.platform.now) _ c.requires.open.entries (omega (arith, c.in-Ok.ensures.head_ok, c.publish.ensures.head));
+      loaded = λ never. c.requires.open.loaded c.requires.touched;
+    }

@@ -1,0 +1,102 @@
+use Rattle.std.proofs.Common.{◌≡◌, ◌∙◌, ◌+◌, ◌-◌, ◌≤◌, ◌<◌, ◌^◌, ℕ, List, Option, get_or, length, Ok, Err, Bool, true, false, refl, ap, sym, subst, arith}
+use Rattle.platform.proofs.Moments.{Extends-earlier, whole-now}
+use Rattle.seal_record.specs.Sealing.{masked}
+use Rattle.node_codec.specs.declared.body.Entry.{Entry}
+use Rattle.node_codec.specs.Record.{DataRecord, record_bytes}
+use Rattle.root_codec.specs.declared.root.Root.{Root}
+use Rattle.page_store.specs.Buffer.{Held, padded}
+use Rattle.platform.specs.Image.{with_page}
+use Rattle.device_core.specs.Leaf.{AreEntries}
+use Rattle.device_core.specs.Blocks.{Blocks}
+use Rattle.device_core.specs.Holding.{HoldsBy}
+use Rattle.device_core.proofs.MomentLaws.{still, call_more}
+use Rattle.device_core.proofs.EntryLaws.{AreEntries-placed, AreEntries-later, room_where_none}
+use Rattle.device_core.proofs.HoldLaws.{holds_same, holds_later, some_unmapped, padded_bytes, written, data_page}
+use Rattle.device_core.proofs.session.Session.write.Goals as goal
+
+pub returns-then-block-self-clause-time : goal.returns-then-block-self-clause-time
+returns-then-block-self-clause-time g c = λ told. still _
+
+pub returns-then-head-capacity-clause-time : goal.returns-then-head-capacity-clause-time
+returns-then-head-capacity-clause-time g c = λ told. still _
+
+pub returns-in-Err-BadRecord-clause-sound : goal.returns-in-Err-BadRecord-clause-sound
+returns-in-Err-BadRecord-clause-sound g c = λ told device contents h addr is. c.load.ensures.bad told device contents h c.in-Err-BadRecord.addr (cc)
+
+pub returns-in_default-clause-sound : goal.returns-in_default-clause-sound
+returns-in_default-clause-sound g c = λ told device contents h addr is.
+    let session = c.load.new.self in
+    let place = rw c.as_slice.ensures.value at c.place_of-place.ensures in
+    let same = ap (λ (r : Root). r.blocks) c.load.ensures.same.0 in
+    let counter = c.mapped_with.ensures.none.0 (grind (arith, c.in_default.is)) in
+    some_unmapped session.root session.mapped session.is_loaded session.is_touched session.entries.items _ device contents c.args.block session.root.blocks _ c.place_of-place.result c.in-Ok.ensures.loaded
+    (c.load.ensures.holds told device contents h) c.load.ensures.open.entries place (omega (arith, same)) counter.0 counter.1
+
+pub put_block-requires-clause-block : goal.put_block-requires-clause-block
+put_block-requires-clause-block g c = omega (arith, c.requires.open.served.leaf.blocks)
+
+pub returns-in-Err-TapeFault-clause-refused : goal.returns-in-Err-TapeFault-clause-refused
+returns-in-Err-TapeFault-clause-refused g c = λ told device contents h.
+    holds_same _ _ _ _ _ _ _ _ _ (c.append.ensures.unchanged told (cc)) (c.load.ensures.holds told device contents h)
+
+pub returns-in-Err-TapeFault-clause-time : goal.returns-in-Err-TapeFault-clause-time
+returns-in-Err-TapeFault-clause-time g c = λ told. call_more _ _ _ (c.load.ensures.time told) (c.append.ensures.time told) (c.append.ensures.cell told)
+
+pub returns-in-Err-PlatformFault-append-clause-refused : goal.returns-in-Err-PlatformFault-append-clause-refused
+returns-in-Err-PlatformFault-append-clause-refused g c = λ told device contents h.
+    holds_later _ _ _ _ _ _ _ device contents (Extends-earlier _ _ (c.append.ensures.time told).extends) (c.append.ensures.cell told) (c.load.ensures.holds told device contents h)
+
+pub returns-in-Err-PlatformFault-append-clause-time : goal.returns-in-Err-PlatformFault-append-clause-time
+returns-in-Err-PlatformFault-append-clause-time g c = λ told. call_more _ _ _ (c.load.ensures.time told) (c.append.ensures.time told) (c.append.ensures.cell told)
+
+pub returns-clause-time : goal.returns-clause-time
+returns-clause-time g c = λ told. call_more _ _ _ (c.load.ensures.time told) (c.append.ensures.time told) (c.append.ensures.cell told)
+
+pub put_entry-requires-clause-room : goal.put_entry-requires-clause-room
+put_entry-requires-clause-room g c none =
+    let session = c.load.new.self in
+    let opened = c.load.ensures.open in
+    let same = ap (λ (r : Root). r.blocks) c.load.ensures.same.0 in
+    omega (
+      arith,
+      room_where_none session.entries.items c.place_of-place.result c.args.block session.root.blocks (g.P.Platform.head c.load.new.platform) none
+          opened.entries (rw c.as_slice.ensures.value at c.place_of-place.ensures) (omega (arith, same)),
+      opened.served.leaf.blocks,
+    )
+
+pub returns-clause-open : goal.returns-clause-open
+returns-clause-open g c =
+    let session = c.load.new.self in
+    let opened = c.load.ensures.open in
+    let same = ap (λ (r : Root). r.blocks) c.load.ensures.same.0 in
+    let entry : Entry = record { low = c.args.block; addr = c.in-Ok-append.placed.addr; key = c.in-Ok-append.placed.key } in
+    record {
+      served = record { fits = opened.served.fits; key = opened.served.key; leaf = opened.served.leaf; within = omega (arith, opened.served.within, c.append.ensures.head_rises) };
+      mapped = omega (arith, c.in-Some.ensures.found, same);
+      entries = rw c.put_entry.ensures (AreEntries-placed session.entries.items c.place_of-place.result entry session.root.blocks
+          (g.P.Platform.head c.load.new.platform) (g.P.Platform.head c.append.new.platform) opened.entries
+          (rw c.as_slice.ensures.value at c.place_of-place.ensures) (omega (arith, same)) (omega (arith, c.in-Ok-append.ensures.address, c.in-Ok-append.ensures.head_ok)) c.in-Ok-append.ensures.key c.append.ensures.head_rises);
+      loaded = λ yes. c.in-Ok.ensures.loaded;
+    }
+
+pub returns-clause-written : goal.returns-clause-written
+returns-clause-written g c = λ told device contents h.
+    let history = g.P.Platform.history in
+    let session = c.load.new.self in
+    let opened = c.load.ensures.open in
+    let addr = c.in-Ok-append.placed.addr in
+    let key = c.in-Ok-append.placed.key in
+    let text = padded c.args.content.now in
+    let same = ap (λ (r : Root). r.blocks) c.load.ensures.same.0 in
+    let pages = g.met.P.Platform.counts_pages told c.load.new.platform in
+    let address : addr ≡ g.P.Platform.head c.load.new.platform = c.in-Ok-append.ensures.address in
+    let are = subst (λ (n : ℕ). AreEntries session.entries.items session.root.blocks n) (sym address) opened.entries in
+    let body : c.put_block.new.self.body ≡ record_bytes addr (DataRecord c.args.block text) =
+        ap (λ (b : Held). b.body) c.put_block.ensures ∙ ap (λ (n : ℕ). record_bytes n (DataRecord c.args.block text)) (c.head-addr.ensures.value ∙ sym address) in
+    let page : masked key c.put_block.new.self.body ≡ data_page addr c.args.block key text = ap (masked key) body in
+    let later = c.in-Ok-append.ensures.appended told ∙ ap (λ (bytes : List ℕ). with_page (history c.load.new.platform).present bytes bytes) page in
+    let place = rw c.as_slice.ensures.value at c.place_of-place.ensures in
+    rw c.put_entry.ensures (written session.root session.mapped _ session.is_loaded session.is_touched session.entries.items (history c.load.new.platform).present (history c.append.new.platform).present device contents c.args.block addr
+    c.place_of-place.result key text c.in-Ok.ensures.loaded (c.load.ensures.holds told device contents h) (whole-now (history c.load.new.platform)) (address ∙ sym pages)
+    (omega (arith, address, g.met.P.Platform.has_room c.load.new.platform, g.met.P.Platform.is_limited c.load.new.platform)) are place (omega (arith, c.requires.open.served.leaf.blocks))
+    (padded_bytes c.args.content.now c.requires.size c.are_bytes.ensures) c.in-Some.ensures.found.1 (Extends-earlier _ _ (c.append.ensures.time told).extends) later)

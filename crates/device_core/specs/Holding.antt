@@ -1,0 +1,37 @@
+-- When a session's entries over an image are an array of blocks.
+use Rattle.std.specs.Prelude.{◌≡◌, ◌≢◌, ℕ, Bool, true, false, List, All, AllPairs, length, map, slice_get}
+use Rattle.std.specs.List.{AllZip, zip}
+use Rattle.std.specs.FinMap.{from_entries}
+use Rattle.platform.specs.Image.{Image}
+use Rattle.node_codec.specs.declared.body.Entry.{Entry}
+use Rattle.node_codec.specs.Record.{DataRecord}
+use Rattle.root_codec.specs.declared.root.Root.{Root}
+use Rattle.page_store.specs.Device.{Device}
+use Rattle.page_store.specs.Places.{IsRecordAt}
+use Rattle.page_store.specs.Leaf.{StandsByLeaf}
+use Rattle.device_core.specs.Blocks.{Blocks}
+
+-- the data records of these entries are there with these contents, each at a page of its own that reads as it was recorded
+pub record AreMapped (image : Image) (entries : List Entry) (texts : List (List ℕ)) : Type 0 where
+  pub records : AllZip (λ e c. IsRecordAt image.readable e.addr e.key (DataRecord e.low c)) entries texts
+  pub recorded : All (λ e. slice_get image.readable e.addr ≡ slice_get image.recorded e.addr) entries
+  pub apart : AllPairs (λ a b. a.addr ≢ b.addr) entries
+
+-- the blocks of entries, each with its content
+abbrev pub blocks_of_entries : List Entry → List (List ℕ) → Blocks
+blocks_of_entries entries texts = from_entries (zip (map (λ e. e.low) entries) texts)
+
+-- the image stands for the device by this root, and the entries that a session has, or that it is yet to read, are
+-- an array of these contents: without a change the device's own
+pub record HoldsBy (root : Root) (mapped : ℕ) (is_loaded is_touched : Bool) (known : List Entry) (image : Image) (device : Device) (contents : Blocks) : Type 0 where
+  pub leaf : List Entry
+  pub leaf_texts : List (List ℕ)
+  pub stands : StandsByLeaf image device root leaf leaf_texts
+  pub entries : List Entry
+  pub texts : List (List ℕ)
+  pub mapped_there : AreMapped image entries texts
+  pub contents_are : contents ≡ blocks_of_entries entries texts
+  pub count : mapped ≡ length entries
+  pub read : is_loaded ≡ true → known ≡ entries
+  pub unread : is_loaded ≡ false → entries ≡ leaf
+  pub untouched : is_touched ≡ false → contents ≡ device.contents

@@ -1,0 +1,12 @@
+-- What a session is over an image.
+use Rattle.platform.specs.Image.{Image}
+use Rattle.page_store.specs.Device.{Device}
+use Rattle.device_core.specs.Blocks.{Blocks}
+use Rattle.device_core.specs.Holding.{HoldsBy}
+use Rattle.device_core.specs.declared.session.Session.{Session}
+
+-- the image stands for the device that the session was opened on, or that its last commit made; each place of the
+-- session's tree that has a page fits, and the page reads as it was recorded; and these contents are its array
+abbrev pub Holds : Session → Image → Device → Blocks → Type 0
+Holds session image device contents =
+    HoldsBy session.root session.mapped session.is_loaded session.is_touched session.entries.items image device contents

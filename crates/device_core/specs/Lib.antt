@@ -1,0 +1,6 @@
+pub mod Leaf
+pub mod Blocks
+pub mod Holding
+pub mod Open
+pub mod Holds
+pub mod Replies

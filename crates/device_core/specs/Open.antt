@@ -1,0 +1,37 @@
+-- What contracts see of a session, and that it is open on a medium of so many pages.
+use Rattle.std.specs.Prelude.{◌≡◌, ℕ, ◌≤◌, Bool, true, List}
+use Rattle.node_codec.specs.declared.body.Entry.{Entry}
+use Rattle.root_codec.specs.declared.root.Root.{Root}
+use Rattle.device_core.specs.Leaf.{IsServed, AreEntries}
+use Rattle.device_core.specs.declared.session.Session.{Session}
+
+-- the device's number of blocks
+abbrev pub blocks_of : Session → ℕ
+blocks_of session = session.root.blocks
+
+-- the commit number of the mount or the last commit
+abbrev pub number_of : Session → ℕ
+number_of session = session.root.commit
+
+-- the number of mapped blocks, changes included
+abbrev pub mapped_of : Session → ℕ
+mapped_of session = session.mapped
+
+-- the level of the root node
+abbrev pub level_of : Session → ℕ
+level_of session = session.root.level
+
+-- whether something was changed since
+abbrev pub is_touched : Session → Bool
+is_touched session = session.is_touched
+
+-- the root can be served, and the entries are those of a leaf of that device, each page of them handed over
+pub record IsOpenBy (root : Root) (count : ℕ) (is_loaded is_touched : Bool) (known : List Entry) (head : ℕ) : Type 0 where
+  pub served : IsServed root head
+  pub mapped : count ≤ root.blocks
+  pub entries : AreEntries known root.blocks head
+  pub loaded : is_touched ≡ true → is_loaded ≡ true
+
+-- the session was opened on a medium of at most so many pages
+abbrev pub IsOpen : Session → ℕ → Type 0
+IsOpen session head = IsOpenBy session.root session.mapped session.is_loaded session.is_touched session.entries.items head

@@ -1,0 +1,40 @@
+ghost use Rattle.std.specs.Prelude.{◌≡◌, ◌≢◌, ◌≤◌, Option, None, OnOk, IsErrOf};
+ghost use Rattle.sdbt_base.specs.Faults.{Rose};
+ghost use Rattle.platform.specs.Image.{LeavesOnly};
+ghost use Rattle.platform.specs.History.{Turns};
+ghost use Rattle.page_store.specs.Device.{Device};
+ghost use Rattle.page_store.specs.Stands.{Stands};
+
+use crate::refusals::EraseRefusal;
+use platform::Platform;
+use sdbt_base::ROOT;
+
+/// Clears the cell: nothing that was on the device can be reached any more.
+///
+/// `NoDevice` comes exactly where the cell is empty.
+pub fn erase<P: Platform>(platform: &mut P) -> Result<(), EraseRefusal>
+    ensures erased { P.tells → OnOk result (Stands (P.history platform.new).present None) }
+    ensures device { P.tells → OnOk result ((P.history platform.old).present.cell ≢ None) }
+    ensures no_device { P.tells → IsErrOf result EraseRefusal.NoDevice → (P.history platform.old).present.cell ≡ None }
+    ensures same { P.tells → IsErrOf result EraseRefusal.NoDevice → (P.history platform.new).present ≡ (P.history platform.old).present }
+    // At each moment a loss of power leaves the device, until one from which on it leaves none.
+    ensures time { P.tells → (device : Option Device) → Stands (P.history platform.old).present device
+        → Turns (P.history platform.old) (P.history platform.new) (LeavesOnly (λ left. Stands left device)) (LeavesOnly (λ left. Stands left None)) }
+
+    ensures head { P.head platform.new ≡ P.head platform.old }
+    ensures capacity { P.capacity platform.new ≡ P.capacity platform.old }
+    ensures reads { P.tells → P.reads platform.new ≡ P.reads platform.old }
+    ensures faults { P.faults platform.old ≤ P.faults platform.new }
+    ensures cause { IsErrOf result EraseRefusal.PlatformFault → Rose (P.faults platform.old) (P.faults platform.new) }
+{
+    let mut cell = [0; ROOT];
+    match platform.load_root(&mut cell) {
+        Ok(true) => {}
+        Ok(false) => return Err(EraseRefusal::NoDevice),
+        Err(_) => return Err(EraseRefusal::PlatformFault),
+    }
+    match platform.clear_root() {
+        Ok(()) => Ok(()),
+        Err(_) => Err(EraseRefusal::PlatformFault),
+    }
+}

@@ -1,0 +1,153 @@
+ghost use Rattle.std.specs.Prelude.{◌≡◌, ◌≢◌, ◌<◌, ◌≤◌, ◌+◌, ℕ, None, Some, true, false, IfOk, OnOk, OnErr, IsErrOf};
+ghost use Rattle.sdbt_base.specs.Faults.{Rose};
+ghost use Rattle.platform.specs.History.{During};
+ghost use Rattle.root_codec.specs.RootRecord.{root_bytes};
+ghost use Rattle.page_store.specs.Device.{Device};
+ghost use Rattle.page_store.specs.Stands.{Stands};
+ghost use Rattle.page_store.specs.Places.{NothingFits, root_want};
+ghost use Rattle.device_core.specs.Leaf.{IsRefusedCell};
+ghost use Rattle.device_core.specs.Blocks.{Blocks};
+
+use crate::leaves::is_one_leaf;
+use crate::refusals::MountRefusal;
+use arrayvec::ArrayVec;
+use node_codec::{Body, Entry};
+use page_store::{Buffers, CurrentRefusal, FetchRefusal, Want, current, fetch};
+use platform::Platform;
+use root_codec::Root;
+use std::alloc::Global;
+
+/// A session on a device: an array of blocks with changes that are the device's only with a commit.
+///
+/// Each call of a session wants a platform that has at least the pages that the one had on which it was
+/// mounted or last called. After a refused `read`, `write` or `trim` its array is unchanged.
+#[derive(Drop)]
+pub struct Session {
+    // the root record that the session was opened on, or that its last commit made
+    pub(crate) root: Root,
+    // how many blocks are mapped, by the root record and the changes since
+    pub(crate) mapped: u64,
+    // whether the leaf was read; until then there are no entries
+    pub(crate) is_loaded: bool,
+    pub(crate) is_touched: bool,
+    pub(crate) entries: ArrayVec<Entry, 64>,
+    pub(crate) buffers: Buffers,
+}
+
+impl Session {
+    ghost use Rattle.device_core.specs.Open.{IsOpen, blocks_of, number_of, mapped_of, level_of, is_touched};
+    ghost use Rattle.device_core.specs.Holds.{Holds};
+
+    /// Opens a session on the device. It reads no page.
+    ///
+    /// `cache` is how many nodes are kept; it is 0, since there is no cache yet. `NoDevice` comes exactly
+    /// where the cell is empty, `BadRoot` exactly where it is full and holds no root record that can be
+    /// served, or one that speaks of more pages than there are.
+    pub fn mount<P: Platform>(
+        alloc: Global,
+        platform: &mut P,
+        cache: usize,
+    ) -> Result<Session, MountRefusal>
+        requires { cache ≡ 0 }
+
+        ensures open { IfOk result (λ session. IsOpen session (P.head platform.new)) }
+        ensures untouched { IfOk result (λ session. is_touched session ≡ false) }
+        ensures holds { P.tells → (device : Device) → Stands (P.history platform.old).present (Some device)
+            → IfOk result (λ session. Holds session (P.history platform.new).present device device.contents) }
+        ensures found { P.tells → IfOk result (λ session. (P.history platform.old).present.cell ≡ Some (root_bytes session.root)) }
+        ensures no_device { P.tells → IsErrOf result MountRefusal.NoDevice → (P.history platform.old).present.cell ≡ None }
+        ensures bad_root { P.tells → IsErrOf result MountRefusal.BadRoot → IsRefusedCell (P.history platform.old).present.cell (P.head platform.old) }
+
+        ensures image { P.tells → (P.history platform.new).present ≡ (P.history platform.old).present }
+        ensures time { P.tells → During (P.history platform.old) (P.history platform.new) (λ image. image.cell ≡ (P.history platform.old).present.cell) }
+        ensures head { P.head platform.new ≡ P.head platform.old }
+        ensures capacity { P.capacity platform.new ≡ P.capacity platform.old }
+        ensures reads { P.tells → P.reads platform.new ≡ P.reads platform.old }
+        ensures faults { P.faults platform.old ≤ P.faults platform.new }
+        ensures cause { IsErrOf result MountRefusal.PlatformFault → Rose (P.faults platform.old) (P.faults platform.new) }
+    {
+        let found = match current(platform) {
+            Ok(found) => found,
+            Err(CurrentRefusal::BadRoot) => return Err(MountRefusal::BadRoot),
+            Err(CurrentRefusal::PlatformFault) => return Err(MountRefusal::PlatformFault),
+        };
+        let Some(root) = found else {
+            return Err(MountRefusal::NoDevice);
+        };
+        if !is_one_leaf(&root) {
+            return Err(MountRefusal::BadRoot);
+        }
+        let Ok(buffers) = Buffers::new(alloc) else {
+            return Err(MountRefusal::Memory);
+        };
+        let mapped = root.mapped;
+        Ok(Session {
+            root,
+            mapped,
+            is_loaded: false,
+            is_touched: false,
+            entries: ArrayVec::new(),
+            buffers,
+        })
+    }
+
+    /// The number of mapped blocks, uncommitted changes included.
+    pub fn mapped(&self) -> u64
+        ensures { result ≡ mapped_of self.now }
+    {
+        self.mapped
+    }
+
+    /// The commit number of the mount or the last commit.
+    pub fn number(&self) -> u64
+        ensures { result ≡ number_of self.now }
+    {
+        self.root.commit
+    }
+
+    /// The device's number of blocks.
+    pub fn blocks(&self) -> u64
+        ensures { result ≡ blocks_of self.now }
+    {
+        self.root.blocks
+    }
+
+    /// Reads the leaf, where it was not read yet.
+    pub(crate) fn load<P: Platform>(&mut self, platform: &mut P) -> Result<(), FetchRefusal>
+        requires { IsOpen self.old (P.head platform.old) }
+
+        ensures open { IsOpen self.new (P.head platform.new) }
+        ensures loaded { OnOk result (self.new.is_loaded ≡ true) }
+        ensures same { (self.new.root ≡ self.old.root) × (self.new.mapped ≡ self.old.mapped) × (self.new.is_touched ≡ self.old.is_touched) }
+        ensures holds { P.tells → (device : Device) (contents : Blocks) → Holds self.old (P.history platform.old).present device contents
+            → Holds self.new (P.history platform.new).present device contents }
+        ensures bad { P.tells → (device : Device) (contents : Blocks) → Holds self.old (P.history platform.old).present device contents
+            → (addr : ℕ) → IsErrOf result (FetchRefusal.BadRecord addr) → ⊥ }
+
+        ensures image { P.tells → (P.history platform.new).present ≡ (P.history platform.old).present }
+        ensures time { P.tells → During (P.history platform.old) (P.history platform.new) (λ image. image.cell ≡ (P.history platform.old).present.cell) }
+        ensures head { P.head platform.new ≡ P.head platform.old }
+        ensures capacity { P.capacity platform.new ≡ P.capacity platform.old }
+        ensures reads { P.tells → P.reads platform.new ≤ P.reads platform.old + 1 }
+        ensures faults { P.faults platform.old ≤ P.faults platform.new }
+        ensures cause { IsErrOf result FetchRefusal.PlatformFault → Rose (P.faults platform.old) (P.faults platform.new) }
+    {
+        if self.is_loaded {
+            return Ok(());
+        }
+        let want = Want::of_root(&self.root);
+        let key = self.root.key;
+        let body = match fetch(platform, &want, &key, &mut self.buffers) {
+            Ok(body) => body,
+            Err(refusal) => return Err(refusal),
+        };
+        match body {
+            Body::Node { node } => {
+                self.entries = node.entries;
+                self.is_loaded = true;
+                Ok(())
+            }
+            Body::Block { .. } => Err(FetchRefusal::BadRecord { addr: want.addr }),
+        }
+    }
+}

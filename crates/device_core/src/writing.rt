@@ -1,0 +1,150 @@
+ghost use Rattle.std.specs.Prelude.{◌≡◌, ◌≢◌, ◌↔◌, ◌<◌, ◌≤◌, ◌+◌, ◌⊎◌, ◌||◌, ℕ, true, None, All, OnOk, OnErr, IsErrOf, length};
+ghost use Rattle.std.specs.FinMap as map;
+ghost use Rattle.sdbt_base.specs.Faults.{Rose};
+ghost use Rattle.platform.specs.History.{During};
+ghost use Rattle.page_store.specs.Buffer.{padded};
+ghost use Rattle.page_store.specs.Device.{Device};
+ghost use Rattle.device_core.specs.Blocks.{Blocks};
+
+use crate::leaves::{mapped_with, place_of, put_entry};
+use crate::refusals::{TrimRefusal, WriteRefusal};
+use crate::session::Session;
+use node_codec::Entry;
+use page_store::{AppendFault, FetchRefusal};
+use platform::Platform;
+use sdbt_base::Tape;
+
+impl Session {
+    ghost use Rattle.device_core.specs.Open.{IsOpen, blocks_of, mapped_of, is_touched};
+    ghost use Rattle.device_core.specs.Holds.{Holds};
+
+    /// Writes a block: at most 4,096 bytes, and zeros up to its end. It is the session's alone until a commit.
+    ///
+    /// `Range` comes exactly where the device has no such block, and else `Full` exactly where no page is
+    /// free. `BadRecord` never comes on a sound device; on a forged one it names a page that is not the
+    /// record that belongs there, or the root node where a block more would be mapped than there are.
+    pub fn write<P: Platform, T: Tape>(
+        &mut self,
+        platform: &mut P,
+        tape: &mut T,
+        block: u64,
+        content: &[u8],
+    ) -> Result<(), WriteRefusal>
+        requires size { length content.now ≤ 4096 }
+        requires open { IsOpen self.old (P.head platform.old) }
+
+        ensures written { P.tells → (device : Device) (contents : Blocks) → Holds self.old (P.history platform.old).present device contents
+            → OnOk result (Holds self.new (P.history platform.new).present device (map.insert contents block (padded content.now))) }
+        ensures touched { OnOk result (is_touched self.new ≡ true) }
+        ensures refused { P.tells → (device : Device) (contents : Blocks) → Holds self.old (P.history platform.old).present device contents
+            → OnErr result (Holds self.new (P.history platform.new).present device contents) }
+        ensures untouched { OnErr result (is_touched self.new ≡ is_touched self.old) }
+        ensures sound { P.tells → (device : Device) (contents : Blocks) → Holds self.old (P.history platform.old).present device contents
+            → (addr : ℕ) → IsErrOf result (WriteRefusal.BadRecord addr) → ⊥ }
+        ensures range { IsErrOf result WriteRefusal.Range ↔ (blocks_of self.old ≤ block) }
+        ensures full { IsErrOf result WriteRefusal.Full ↔ ((block < blocks_of self.old) × (P.head platform.old ≡ P.capacity platform.old)) }
+        ensures open { IsOpen self.new (P.head platform.new) }
+        ensures same { self.new.root ≡ self.old.root }
+
+        ensures cell { P.tells → (P.history platform.new).present.cell ≡ (P.history platform.old).present.cell }
+        ensures time { P.tells → During (P.history platform.old) (P.history platform.new) (λ image. image.cell ≡ (P.history platform.old).present.cell) }
+        ensures head_ok { OnOk result (P.head platform.new ≡ P.head platform.old + 1) }
+        ensures head_rises { P.head platform.old ≤ P.head platform.new }
+        ensures head_by_one { P.head platform.new ≤ P.head platform.old + 1 }
+        ensures capacity { P.capacity platform.new ≡ P.capacity platform.old }
+        ensures platform_faults { P.faults platform.old ≤ P.faults platform.new }
+        ensures platform_cause { IsErrOf result WriteRefusal.PlatformFault → Rose (P.faults platform.old) (P.faults platform.new) }
+        ensures tape_faults { T.faults tape.old ≤ T.faults tape.new }
+        ensures tape_cause { IsErrOf result WriteRefusal.TapeFault → Rose (T.faults tape.old) (T.faults tape.new) }
+    {
+        if block >= self.root.blocks {
+            return Err(WriteRefusal::Range);
+        }
+        if platform.head() == platform.capacity() {
+            return Err(WriteRefusal::Full);
+        }
+        match self.load(platform) {
+            Ok(()) => {}
+            Err(FetchRefusal::BadRecord { addr }) => return Err(WriteRefusal::BadRecord { addr }),
+            Err(FetchRefusal::PlatformFault) => return Err(WriteRefusal::PlatformFault),
+        }
+        let place = place_of(self.entries.as_slice(), block);
+        let Some(mapped) = mapped_with(place, self.mapped, self.root.blocks) else {
+            return Err(WriteRefusal::BadRecord {
+                addr: self.root.addr,
+            });
+        };
+        are_bytes(content);
+        let addr = platform.head();
+        self.buffers.put_block(addr, block, content);
+        let placed = match self.buffers.append(platform, tape) {
+            Ok(placed) => placed,
+            Err(AppendFault::TapeFault) => return Err(WriteRefusal::TapeFault),
+            Err(AppendFault::PlatformFault) => return Err(WriteRefusal::PlatformFault),
+        };
+        let entry = Entry {
+            low: block,
+            addr: placed.addr,
+            key: placed.key,
+        };
+        put_entry(&mut self.entries, place, entry);
+        self.mapped = mapped;
+        self.is_touched = true;
+        Ok(())
+    }
+
+    /// Unmaps a block, which then reads as zeros. One that is not mapped stays so, and nothing is touched.
+    ///
+    /// `Range` comes exactly where the device has no such block. `BadRecord` never comes on a sound device;
+    /// on a forged one it names a page that is not the record that belongs there, or the root node where
+    /// the root record says that no block is mapped.
+    pub fn trim<P: Platform>(&mut self, platform: &mut P, block: u64) -> Result<(), TrimRefusal>
+        requires { IsOpen self.old (P.head platform.old) }
+
+        ensures trimmed { P.tells → (device : Device) (contents : Blocks) → Holds self.old (P.history platform.old).present device contents
+            → OnOk result (Holds self.new (P.history platform.new).present device (map.remove contents block)) }
+        ensures touched { P.tells → (device : Device) (contents : Blocks) → Holds self.old (P.history platform.old).present device contents
+            → OnOk result (is_touched self.new ≡ (is_touched self.old || map.contains_key contents block)) }
+        ensures refused { P.tells → (device : Device) (contents : Blocks) → Holds self.old (P.history platform.old).present device contents
+            → OnErr result (Holds self.new (P.history platform.new).present device contents) }
+        ensures untouched { OnErr result (is_touched self.new ≡ is_touched self.old) }
+        ensures sound { P.tells → (device : Device) (contents : Blocks) → Holds self.old (P.history platform.old).present device contents
+            → (addr : ℕ) → IsErrOf result (TrimRefusal.BadRecord addr) → ⊥ }
+        ensures range { IsErrOf result TrimRefusal.Range ↔ (blocks_of self.old ≤ block) }
+        ensures open { IsOpen self.new (P.head platform.new) }
+        ensures same { self.new.root ≡ self.old.root }
+
+        ensures image { P.tells → (P.history platform.new).present ≡ (P.history platform.old).present }
+        ensures time { P.tells → During (P.history platform.old) (P.history platform.new) (λ image. image.cell ≡ (P.history platform.old).present.cell) }
+        ensures head { P.head platform.new ≡ P.head platform.old }
+        ensures capacity { P.capacity platform.new ≡ P.capacity platform.old }
+        ensures faults { P.faults platform.old ≤ P.faults platform.new }
+        ensures cause { IsErrOf result TrimRefusal.PlatformFault → Rose (P.faults platform.old) (P.faults platform.new) }
+    {
+        if block >= self.root.blocks {
+            return Err(TrimRefusal::Range);
+        }
+        match self.load(platform) {
+            Ok(()) => {}
+            Err(FetchRefusal::BadRecord { addr }) => return Err(TrimRefusal::BadRecord { addr }),
+            Err(FetchRefusal::PlatformFault) => return Err(TrimRefusal::PlatformFault),
+        }
+        let Ok(place) = place_of(self.entries.as_slice(), block) else {
+            return Ok(());
+        };
+        if self.mapped == 0 {
+            return Err(TrimRefusal::BadRecord {
+                addr: self.root.addr,
+            });
+        }
+        self.entries.remove(place);
+        self.mapped -= 1;
+        self.is_touched = true;
+        Ok(())
+    }
+}
+
+/// A fact: each is below 256.
+fn are_bytes(bytes: &[u8])
+    ensures { All (λ b. b < 256) bytes.now }
+{}
