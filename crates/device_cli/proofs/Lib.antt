@@ -1,5 +1,3 @@
-pub mod Ascending
-pub mod EntryLaws
 pub mod RunLaws
 pub mod RepliedLaws
 pub mod PieceLaws
@@ -8,3 +6,4 @@ pub mod Reading
 pub mod RanLaws
 pub mod RepresentsLaws
 pub mod ScriptLaws
+pub mod ServedLaws

@@ -4,7 +4,7 @@ use Rattle.std.specs.Prelude.{Option}
 use Rattle.platform.specs.Image.{Image}
 use Rattle.script_lang.specs.Arrays.{State}
 use Rattle.script_lang.specs.declared.devices.Session.{Session as OpenSession}
-use Rattle.device_cli.specs.declared.session.Session.{Session}
+use Rattle.device_core.specs.declared.session.Session.{Session}
 use Rattle.device_cli.specs.declared.desk.Desk.{Desk}
 use Rattle.device_cli.specs.Represents.{StandsFor, IsSessionOf, Represents, Stood, StoodAlone, StoodBy}
 

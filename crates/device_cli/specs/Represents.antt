@@ -4,10 +4,12 @@ use Rattle.std.specs.Option.{option_map}
 use Rattle.platform.specs.Image.{Image}
 use Rattle.page_store.specs.Device.{Device as StoredDevice}
 use Rattle.page_store.specs.Stands.{Stands}
+use Rattle.device_core.specs.Open.{is_touched}
+use Rattle.device_core.specs.Holds.{Holds}
 use Rattle.script_lang.specs.Arrays.{State}
 use Rattle.script_lang.specs.declared.devices.Device.{Device}
 use Rattle.script_lang.specs.declared.devices.Session.{Session as OpenSession}
-use Rattle.device_cli.specs.declared.session.Session.{Session}
+use Rattle.device_core.specs.declared.session.Session.{Session}
 use Rattle.device_cli.specs.declared.desk.Desk.{Desk}
 
 -- a device of the array machine, as the layers below name its parts
@@ -18,12 +20,13 @@ stored device = record { blocks = device.blocks; order = device.order; number = 
 abbrev pub StandsFor : Image → Option Device → Type 0
 StandsFor image device = Stands image (option_map stored device)
 
--- a stand-in
+-- the session, if there is one, has over the image the array of the state's session; below it is the state's device
 abbrev pub IsSessionOf : Option Session → Image → Option Device → Option OpenSession → Type 0
 IsSessionOf None image device None = Unit {0}
 IsSessionOf None image device (Some there) = ⊥
 IsSessionOf (Some session) image device None = ⊥
-IsSessionOf (Some session) image device (Some there) = Unit {0}
+IsSessionOf (Some session) image None (Some there) = ⊥
+IsSessionOf (Some session) image (Some device) (Some there) = Holds session image (stored device) there.contents × (is_touched session ≡ there.touched)
 
 -- the image stands for the state's device, and the desk has the state's session
 pub record Represents (desk : Desk) (image : Image) (state : State) : Type 0 where

@@ -7,16 +7,16 @@ ghost use Rattle.std.specs.Prelude.{◌≡◌, ℕ, List, ◌↔◌, ◌⊎◌, 
 ghost use Rattle.sdbt_base.specs.Faults.{Rose};
 ghost use Rattle.sdbt_base.specs.Told.{Gave};
 ghost use Rattle.device_cli.specs.Words.{AreRunWords};
-ghost use Rattle.device_cli.specs.Leaf.{IsServedCell};
+ghost use Rattle.device_core.specs.Leaf.{IsServedCell};
 ghost use Rattle.device_cli.specs.Represents.{StoodAlone, StoodBy};
 ghost use Rattle.device_cli.specs.Ran.{AnswersScript};
 ghost use Rattle.device_cli.specs.Run.{IsStatus, Took, NoneFell, counts};
 
-mod buffers;
 mod desk;
+mod entry;
+mod no_ledger;
 mod pending;
 mod run;
-mod session;
 mod stop;
 mod words;
 

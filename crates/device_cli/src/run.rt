@@ -6,7 +6,7 @@ ghost use Rattle.sdbt_base.specs.Told.{Got, GotPart};
 ghost use Rattle.script_lang.specs.Grammar.{Spells, IsBad, HasNone};
 ghost use Rattle.script_lang.specs.Lines.{whole_lines_of, rest_of, last_line as line_at_end};
 ghost use Rattle.script_lang.specs.Replies.{CanWrite, line_of};
-ghost use Rattle.device_cli.specs.Leaf.{IsServedCell};
+ghost use Rattle.device_core.specs.Leaf.{IsServedCell};
 ghost use Rattle.device_cli.specs.Desk.{IsReady};
 ghost use Rattle.device_cli.specs.Run.{counts, NoneFell, HasCause, IsOfLine, IsRefusal, status_of};
 ghost use Rattle.device_cli.specs.Kept.{IsKept, IsPending};
@@ -15,13 +15,13 @@ ghost use Rattle.device_cli.specs.Replied.{Handled, HasPut, IsSound, no_line, da
 ghost use Rattle.device_cli.specs.Ran.{Ran};
 
 use crate::desk::Desk;
+use crate::entry::check_cell;
 use crate::pending::Pending;
-use crate::session::served_root;
 use crate::stop::{DeviceStop, Stop};
 use arrayvec::ArrayVec;
 use platform::Platform;
 use script_lang::{Command, Reply, parse, write_reply};
-use sdbt_base::{MAX_INPUT, ROOT, Sink, Source, Tape};
+use sdbt_base::{MAX_INPUT, Sink, Source, Tape};
 use std::alloc::Global;
 
 /// The most that one take asks for.
@@ -53,27 +53,6 @@ pub(crate) fn run<P: Platform, T: Tape, I: Source, O: Sink>(
     match stop {
         Stop::Device(stop) => Err(last_line(stop, output)),
         _ => Err(stop),
-    }
-}
-
-/// Whether the root cell is empty, or holds a root record that can be served.
-fn check_cell<P: Platform>(platform: &mut P) -> Result<(), DeviceStop>
-    ensures served { P.tells → OnOk result (IsServedCell (P.history platform.old).present.cell (P.head platform.old)) }
-    ensures bad_root { P.tells → IsErrOf result DeviceStop.BadRoot → IsServedCell (P.history platform.old).present.cell (P.head platform.old) → ⊥ }
-    ensures stops { IfErr result (λ stop. (stop ≡ DeviceStop.BadRoot) ⊎ ((stop ≡ DeviceStop.Platform) × Rose (P.faults platform.old) (P.faults platform.new))) }
-    ensures image { P.tells → (P.history platform.new).present ≡ (P.history platform.old).present }
-    ensures head { P.head platform.new ≡ P.head platform.old }
-    ensures count { P.faults platform.old ≤ P.faults platform.new }
-{
-    let mut cell = [0; ROOT];
-    match platform.load_root(&mut cell) {
-        Ok(true) => {}
-        Ok(false) => return Ok(()),
-        Err(_) => return Err(DeviceStop::Platform),
-    }
-    match served_root(&cell, platform.head()) {
-        Some(_) => Ok(()),
-        None => Err(DeviceStop::BadRoot),
     }
 }
 

@@ -1,6 +1,6 @@
 use Rattle.std.proofs.Common.{Ok, Err, ℕ, sym, subst}
 use Rattle.script_lang.specs.Arrays.{State}
-use Rattle.device_cli.specs.Leaf.{IsServedCell}
+use Rattle.device_core.specs.Leaf.{IsServedCell}
 use Rattle.device_cli.specs.Represents.{StoodAlone, StoodBy}
 use Rattle.device_cli.specs.Ran.{AnswersScript}
 use Rattle.device_cli.proofs.ScriptLaws.{answers_script, answers_nothing}

@@ -1,4 +1,4 @@
-use Rattle.device_cli.specs.Leaf.{IsServedCell}
+use Rattle.device_core.specs.Leaf.{IsServedCell}
 use Rattle.device_cli.specs.Desk.{IsReady}
 use Rattle.device_cli.specs.Run.{counts, NoneFell}
 use Rattle.device_cli.specs.Represents.{Stood}

@@ -1,5 +1,5 @@
 use Rattle.std.proofs.Common.{ℕ, List, ◌++◌, length}
-use Rattle.device_cli.specs.Leaf.{IsServedCell}
+use Rattle.device_core.specs.Leaf.{IsServedCell}
 use Rattle.device_cli.specs.Desk.{IsReady}
 use Rattle.device_cli.specs.Run.{counts, NoneFell}
 use Rattle.device_cli.specs.Kept.{IsPending}

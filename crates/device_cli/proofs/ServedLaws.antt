@@ -1,0 +1,188 @@
+-- What serving a command makes of the state, by the array machine.
+use Rattle.std.proofs.Common.{◌≡◌, ◌≢◌, ℕ, ◌+◌, ◌<◌, ◌≤◌, Bool, true, false, List, Option, None, Some, Ok, Err, length, refl, sym, ◌∙◌, subst, ap, arith}
+use Rattle.std.specs.Prelude.{Result, nat_lt, nat_le, ◌||◌, ◌&&◌, ◌==◌, ◌%◌, replicate}
+use Rattle.std.specs.FinMap as map
+use Rattle.std.proofs.lemmas.Grind.{common_steps}
+use Rattle.platform.specs.Image.{Image}
+use Rattle.page_store.specs.Device.{Device as StoredDevice}
+use Rattle.page_store.specs.Stands.{Stands}
+use Rattle.page_store.specs.Leaf.{leaf_parts}
+use Rattle.page_store.proofs.LeafStandsLaws.{stands_by_leaf}
+use Rattle.device_core.specs.Blocks.{Blocks, block_content}
+use Rattle.device_core.specs.Open.{is_touched}
+use Rattle.device_core.specs.Holds.{Holds}
+use Rattle.device_core.specs.declared.session.Session.{Session}
+use Rattle.arrayvec.specs.ArrayVec.{ArrayVec as Bytes}
+use Rattle.script_lang.specs.declared.commands.Command.{Command}
+use Rattle.script_lang.specs.declared.commands.Command.TheVariants.{Format, Mount, Read, Write, Trim, Commit, Drop, Erase, Seize}
+use Rattle.script_lang.specs.declared.commands.Command.TheVariants as commands
+use Rattle.script_lang.specs.declared.replies.Reply.{Reply}
+use Rattle.script_lang.specs.declared.replies.Reply.TheVariants.{Formatted, Mounted, Content, Done, Committed, Dropped, Erased, Unmounted, AlreadyMounted, NotEmpty, NoDevice, Range, Full, Unbuilt}
+use Rattle.script_lang.specs.declared.replies.Reply.TheVariants as replies
+use Rattle.script_lang.specs.declared.devices.Device.{Device}
+use Rattle.script_lang.specs.declared.devices.Session.{Session as OpenSession}
+use Rattle.script_lang.specs.Arrays.{State, zeros, content_of, content_reply, padded, in_limits, new_device, session_on, committed, written, unmapped}
+use Rattle.script_lang.specs.Answers.{answer}
+use Rattle.device_cli.specs.declared.desk.Desk.{Desk}
+use Rattle.device_cli.specs.declared.stop.DeviceStop.{DeviceStop}
+use Rattle.device_cli.specs.Replied.{Serves, IsSound}
+use Rattle.device_cli.specs.Represents.{stored, StandsFor, IsSessionOf, Represents}
+
+-- a state with a session, and one without
+abbrev pub at : Device → OpenSession → State
+at device session = record { device = Some device; session = Some session }
+
+abbrev pub closed : Option Device → State
+closed device = record { device = device; session = None }
+
+by_cases : (s : Option Session) (image : Image) (device : Option Device) (open : Option OpenSession) (session : Session) → s ≡ Some session
+    → IsSessionOf s image device open → (Goal : State → Type 0)
+    → ((d : Device) (t : OpenSession) → Holds session image (stored d) t.contents → is_touched session ≡ t.touched → Goal (at d t))
+    → Goal (record { device = device; session = open })
+by_cases None image device open session e h Goal k = absurd cc
+by_cases (Some s) image device None session e h Goal k = absurd h
+by_cases (Some s) image None (Some t) session e h Goal k = absurd h
+by_cases (Some s) image (Some d) (Some t) session e h Goal k =
+    let same : s ≡ session = cc in
+    k d t (subst (λ (x : Session). Holds x image (stored d) t.contents) same h.0) (subst (λ (x : Session). is_touched x ≡ t.touched) same h.1)
+
+-- what a desk with a session stands for
+pub with_session : (desk : Desk) (image : Image) (session : Session) (state : State) → desk.session ≡ Some session → Represents desk image state → (Goal : State → Type 0)
+    → ((d : Device) (t : OpenSession) → Holds session image (stored d) t.contents → is_touched session ≡ t.touched → Goal (at d t)) → Goal state
+with_session desk image session state e rep Goal k = by_cases desk.session image state.device state.session session e rep.session Goal k
+
+none_open : (s : Option Session) (image : Image) (device : Option Device) (open : Option OpenSession) → s ≡ None → IsSessionOf s image device open → open ≡ None
+none_open None image device None e h = refl
+none_open None image device (Some t) e h = absurd h
+none_open (Some s) image device open e h = absurd cc
+
+-- what one without a session stands for
+pub without_session : (desk : Desk) (image : Image) (state : State) → desk.session ≡ None → Represents desk image state → (Goal : State → Type 0)
+    → (StandsFor image state.device → Goal (closed state.device)) → Goal state
+without_session desk image state e rep Goal k =
+    subst (λ (open : Option OpenSession). Goal (record { device = state.device; session = open })) (sym (none_open desk.session image state.device state.session e rep.session)) (k rep.device)
+
+-- a desk stands for a state with a session that it has
+pub has_session : (desk : Desk) (image : Image) (session : Session) (d : Device) (t : OpenSession) → desk.session ≡ Some session
+    → Holds session image (stored d) t.contents → is_touched session ≡ t.touched → Represents desk image (at d t)
+has_session desk image session d t e holds touched = record {
+  device = (session.root, leaf_parts session.root.addr session.root.key holds.leaf holds.leaf_texts, stands_by_leaf image (stored d) session.root holds.leaf holds.leaf_texts holds.stands);
+  session = subst (λ (s : Option Session). IsSessionOf s image (Some d) (Some t)) (sym e) (holds, touched);
+}
+
+pub has_none : (desk : Desk) (image : Image) (device : Option Device) → desk.session ≡ None → StandsFor image device → Represents desk image (closed device)
+has_none desk image device e stands = record {
+  device = stands;
+  session = subst (λ (s : Option Session). IsSessionOf s image device None) (sym e) tt;
+}
+
+-- without a session
+pub unmounted_read : (New : State → Type 0) (device : Option Device) (block : ℕ) → New (closed device) → Serves New (closed device) (Read block) (Ok Unmounted)
+unmounted_read New None block new = (false, closed None, refl, new)
+unmounted_read New (Some d) block new = (false, closed (Some d), refl, new)
+
+pub unmounted_write : (New : State → Type 0) (device : Option Device) (block : ℕ) (bytes : Bytes ℕ) → New (closed device) → Serves New (closed device) (Write block bytes) (Ok Unmounted)
+unmounted_write New None block bytes new = (false, closed None, refl, new)
+unmounted_write New (Some d) block bytes new = (false, closed (Some d), refl, new)
+
+pub unmounted_trim : (New : State → Type 0) (device : Option Device) (block : ℕ) → New (closed device) → Serves New (closed device) (Trim block) (Ok Unmounted)
+unmounted_trim New None block new = (false, closed None, refl, new)
+unmounted_trim New (Some d) block new = (false, closed (Some d), refl, new)
+
+pub unmounted_commit : (New : State → Type 0) (device : Option Device) → New (closed device) → Serves New (closed device) Commit (Ok Unmounted)
+unmounted_commit New None new = (false, closed None, refl, new)
+unmounted_commit New (Some d) new = (false, closed (Some d), refl, new)
+
+pub unmounted_drop : (New : State → Type 0) (device : Option Device) → New (closed device) → Serves New (closed device) Drop (Ok Unmounted)
+unmounted_drop New None new = (false, closed None, refl, new)
+unmounted_drop New (Some d) new = (false, closed (Some d), refl, new)
+
+pub unmounted_stat : (New : State → Type 0) (device : Option Device) → New (closed device) → Serves New (closed device) commands.Stat (Ok Unmounted)
+unmounted_stat New None new = (false, closed None, refl, new)
+unmounted_stat New (Some d) new = (false, closed (Some d), refl, new)
+
+below : (block blocks : ℕ) → block < blocks → nat_lt block blocks ≡ true
+below block blocks h = grind (arith, common_steps)
+
+above : (block blocks : ℕ) → blocks ≤ block → nat_lt block blocks ≡ false
+above block blocks h = grind (arith, common_steps)
+
+-- with one
+pub read_content : (New : State → Type 0) (d : Device) (t : OpenSession) (block : ℕ) (content : List ℕ) → block < d.blocks → content ≡ block_content t.contents block
+    → New (at d t) → Serves New (at d t) (Read block) (Ok (content_reply content))
+unfolding zeros
+read_content New d t block content within is new = (false, at d t, rw (below block d.blocks within) (ap (λ (c : List ℕ). (content_reply c, at d t)) is), new)
+
+pub read_range : (New : State → Type 0) (d : Device) (t : OpenSession) (block : ℕ) → d.blocks ≤ block → New (at d t) → Serves New (at d t) (Read block) (Ok Range)
+read_range New d t block past new = (false, at d t, rw (above block d.blocks past) refl, new)
+
+pub write_done : (New : State → Type 0) (d : Device) (t : OpenSession) (block : ℕ) (bytes : Bytes ℕ) → block < d.blocks
+    → New (at d (written t block bytes.items)) → Serves New (at d t) (Write block bytes) (Ok Done)
+write_done New d t block bytes within new = (false, at d (written t block bytes.items), rw (below block d.blocks within) refl, new)
+
+pub write_range : (New : State → Type 0) (d : Device) (t : OpenSession) (block : ℕ) (bytes : Bytes ℕ) → d.blocks ≤ block → New (at d t) → Serves New (at d t) (Write block bytes) (Ok Range)
+write_range New d t block bytes past new = (false, at d t, rw (above block d.blocks past) refl, new)
+
+pub write_full : (New : State → Type 0) (d : Device) (t : OpenSession) (block : ℕ) (bytes : Bytes ℕ) → block < d.blocks → New (at d t) → Serves New (at d t) (Write block bytes) (Ok Full)
+write_full New d t block bytes within new = (true, at d t, rw (below block d.blocks within) refl, new)
+
+pub trim_done : (New : State → Type 0) (d : Device) (t : OpenSession) (block : ℕ) → block < d.blocks → New (at d (unmapped t block)) → Serves New (at d t) (Trim block) (Ok Done)
+trim_done New d t block within new = (false, at d (unmapped t block), rw (below block d.blocks within) refl, new)
+
+pub trim_range : (New : State → Type 0) (d : Device) (t : OpenSession) (block : ℕ) → d.blocks ≤ block → New (at d t) → Serves New (at d t) (Trim block) (Ok Range)
+trim_range New d t block past new = (false, at d t, rw (above block d.blocks past) refl, new)
+
+pub commit_raised : (New : State → Type 0) (d : Device) (t : OpenSession) → t.touched ≡ true → New (at (committed d t) (session_on (committed d t)))
+    → Serves New (at d t) Commit (Ok (Committed (d.number + 1)))
+commit_raised New d t touched new = (false, at (committed d t) (session_on (committed d t)), rw touched refl, new)
+
+pub commit_idle : (New : State → Type 0) (d : Device) (t : OpenSession) → t.touched ≡ false → New (at d t) → Serves New (at d t) Commit (Ok (Committed d.number))
+commit_idle New d t idle new = (false, at d t, rw idle refl, new)
+
+pub commit_full : (New : State → Type 0) (d : Device) (t : OpenSession) → t.touched ≡ true → New (at d t) → Serves New (at d t) Commit (Ok Full)
+commit_full New d t touched new = (true, at d t, rw touched refl, new)
+
+pub dropped : (New : State → Type 0) (d : Device) (t : OpenSession) → New (closed (Some d)) → Serves New (at d t) Drop (Ok Dropped)
+dropped New d t new = (false, closed (Some d), refl, new)
+
+pub stat_of : (New : State → Type 0) (d : Device) (t : OpenSession) (mapped number : ℕ) → mapped ≡ map.len t.contents → number ≡ d.number → New (at d t)
+    → Serves New (at d t) commands.Stat (Ok (replies.Stat mapped number))
+stat_of New d t mapped number m n new = (false, at d t, cc, new)
+
+pub already_mounted : (New : State → Type 0) (d : Device) (t : OpenSession) → New (at d t) → Serves New (at d t) Mount (Ok AlreadyMounted)
+already_mounted New d t new = (false, at d t, refl, new)
+
+pub mounted : (New : State → Type 0) (d : Device) → New (at d (session_on d)) → Serves New (closed (Some d)) Mount (Ok (Mounted d.number))
+mounted New d new = (false, at d (session_on d), refl, new)
+
+pub mount_none : (New : State → Type 0) → New (closed None) → Serves New (closed None) Mount (Ok NoDevice)
+mount_none New new = (false, closed None, refl, new)
+
+pub erased : (New : State → Type 0) (d : Device) (open : Option OpenSession) → New (closed None) → Serves New (record { device = Some d; session = open }) Erase (Ok Erased)
+erased New d open new = (false, closed None, refl, new)
+
+pub erase_none : (New : State → Type 0) (open : Option OpenSession) → New (record { device = None; session = open }) → Serves New (record { device = None; session = open }) Erase (Ok NoDevice)
+erase_none New open new = (false, record { device = None; session = open }, refl, new)
+
+pub seize_unbuilt : (New : State → Type 0) (state : State) → New state → Serves New state Seize (Ok Unbuilt)
+seize_unbuilt New state new = (false, state, refl, new)
+
+pub not_empty : (New : State → Type 0) (d : Device) (open : Option OpenSession) (blocks order : ℕ) → New (record { device = Some d; session = open })
+    → Serves New (record { device = Some d; session = open }) (Format blocks order) (Ok NotEmpty)
+not_empty New d open blocks order new = (false, record { device = Some d; session = open }, refl, new)
+
+pub format_range : (New : State → Type 0) (open : Option OpenSession) (blocks order : ℕ) → in_limits blocks order ≡ false → New (record { device = None; session = open })
+    → Serves New (record { device = None; session = open }) (Format blocks order) (Ok Range)
+format_range New open blocks order out new = (false, record { device = None; session = open }, rw out refl, new)
+
+pub format_unbuilt : (New : State → Type 0) (open : Option OpenSession) (blocks order : ℕ) → in_limits blocks order ≡ true → (order == 64) && nat_le blocks 64 ≡ false
+    → New (record { device = None; session = open }) → Serves New (record { device = None; session = open }) (Format blocks order) (Ok Unbuilt)
+format_unbuilt New open blocks order within out new = (false, record { device = None; session = open }, ?, new)
+
+pub formatted : (New : State → Type 0) (open : Option OpenSession) (blocks : ℕ) → 1 ≤ blocks → blocks ≤ 64 → New (record { device = Some (new_device blocks 64); session = open })
+    → Serves New (record { device = None; session = open }) (Format blocks 64) (Ok Formatted)
+formatted New open blocks least most new = (false, record { device = Some (new_device blocks 64); session = open }, ?, new)
+
+pub format_full : (New : State → Type 0) (open : Option OpenSession) (blocks : ℕ) → 1 ≤ blocks → blocks ≤ 64 → New (record { device = None; session = open })
+    → Serves New (record { device = None; session = open }) (Format blocks 64) (Ok Full)
+format_full New open blocks least most new = (true, record { device = None; session = open }, ?, new)
