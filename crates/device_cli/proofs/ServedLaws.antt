@@ -35,11 +35,11 @@ at device session = record { device = Some device; session = Some session }
 abbrev pub closed : Option Device → State
 closed device = record { device = device; session = None }
 
-by_cases : (s : Option Session) (image : Image) (device : Option Device) (open : Option OpenSession) (session : Session) → s ≡ Some session
-    → IsSessionOf s image device open → (Goal : State → Type 0)
+by_cases : (s : Option Session) (image : Image) (device : Option Device) (there : Option OpenSession) (session : Session) → s ≡ Some session
+    → IsSessionOf s image device there → (Goal : State → Type 0)
     → ((d : Device) (t : OpenSession) → Holds session image (stored d) t.contents → is_touched session ≡ t.touched → Goal (at d t))
-    → Goal (record { device = device; session = open })
-by_cases None image device open session e h Goal k = absurd cc
+    → Goal (record { device = device; session = there })
+by_cases None image device there session e h Goal k = absurd cc
 by_cases (Some s) image device None session e h Goal k = absurd h
 by_cases (Some s) image None (Some t) session e h Goal k = absurd h
 by_cases (Some s) image (Some d) (Some t) session e h Goal k =
@@ -51,16 +51,16 @@ pub with_session : (desk : Desk) (image : Image) (session : Session) (state : St
     → ((d : Device) (t : OpenSession) → Holds session image (stored d) t.contents → is_touched session ≡ t.touched → Goal (at d t)) → Goal state
 with_session desk image session state e rep Goal k = by_cases desk.session image state.device state.session session e rep.session Goal k
 
-none_open : (s : Option Session) (image : Image) (device : Option Device) (open : Option OpenSession) → s ≡ None → IsSessionOf s image device open → open ≡ None
-none_open None image device None e h = refl
-none_open None image device (Some t) e h = absurd h
-none_open (Some s) image device open e h = absurd cc
+none_there : (s : Option Session) (image : Image) (device : Option Device) (there : Option OpenSession) → s ≡ None → IsSessionOf s image device there → there ≡ None
+none_there None image device None e h = refl
+none_there None image device (Some t) e h = absurd h
+none_there (Some s) image device there e h = absurd cc
 
 -- what one without a session stands for
 pub without_session : (desk : Desk) (image : Image) (state : State) → desk.session ≡ None → Represents desk image state → (Goal : State → Type 0)
     → (StandsFor image state.device → Goal (closed state.device)) → Goal state
 without_session desk image state e rep Goal k =
-    subst (λ (open : Option OpenSession). Goal (record { device = state.device; session = open })) (sym (none_open desk.session image state.device state.session e rep.session)) (k rep.device)
+    subst (λ (there : Option OpenSession). Goal (record { device = state.device; session = there })) (sym (none_there desk.session image state.device state.session e rep.session)) (k rep.device)
 
 -- a desk stands for a state with a session that it has
 pub has_session : (desk : Desk) (image : Image) (session : Session) (d : Device) (t : OpenSession) → desk.session ≡ Some session
@@ -158,31 +158,31 @@ mounted New d new = (false, at d (session_on d), refl, new)
 pub mount_none : (New : State → Type 0) → New (closed None) → Serves New (closed None) Mount (Ok NoDevice)
 mount_none New new = (false, closed None, refl, new)
 
-pub erased : (New : State → Type 0) (d : Device) (open : Option OpenSession) → New (closed None) → Serves New (record { device = Some d; session = open }) Erase (Ok Erased)
-erased New d open new = (false, closed None, refl, new)
+pub erased : (New : State → Type 0) (d : Device) (there : Option OpenSession) → New (closed None) → Serves New (record { device = Some d; session = there }) Erase (Ok Erased)
+erased New d there new = (false, closed None, refl, new)
 
-pub erase_none : (New : State → Type 0) (open : Option OpenSession) → New (record { device = None; session = open }) → Serves New (record { device = None; session = open }) Erase (Ok NoDevice)
-erase_none New open new = (false, record { device = None; session = open }, refl, new)
+pub erase_none : (New : State → Type 0) (there : Option OpenSession) → New (record { device = None; session = there }) → Serves New (record { device = None; session = there }) Erase (Ok NoDevice)
+erase_none New there new = (false, record { device = None; session = there }, refl, new)
 
 pub seize_unbuilt : (New : State → Type 0) (state : State) → New state → Serves New state Seize (Ok Unbuilt)
 seize_unbuilt New state new = (false, state, refl, new)
 
-pub not_empty : (New : State → Type 0) (d : Device) (open : Option OpenSession) (blocks order : ℕ) → New (record { device = Some d; session = open })
-    → Serves New (record { device = Some d; session = open }) (Format blocks order) (Ok NotEmpty)
-not_empty New d open blocks order new = (false, record { device = Some d; session = open }, refl, new)
+pub not_empty : (New : State → Type 0) (d : Device) (there : Option OpenSession) (blocks order : ℕ) → New (record { device = Some d; session = there })
+    → Serves New (record { device = Some d; session = there }) (Format blocks order) (Ok NotEmpty)
+not_empty New d there blocks order new = (false, record { device = Some d; session = there }, refl, new)
 
-pub format_range : (New : State → Type 0) (open : Option OpenSession) (blocks order : ℕ) → in_limits blocks order ≡ false → New (record { device = None; session = open })
-    → Serves New (record { device = None; session = open }) (Format blocks order) (Ok Range)
-format_range New open blocks order out new = (false, record { device = None; session = open }, rw out refl, new)
+pub format_range : (New : State → Type 0) (there : Option OpenSession) (blocks order : ℕ) → in_limits blocks order ≡ false → New (record { device = None; session = there })
+    → Serves New (record { device = None; session = there }) (Format blocks order) (Ok Range)
+format_range New there blocks order out new = (false, record { device = None; session = there }, rw out refl, new)
 
-pub format_unbuilt : (New : State → Type 0) (open : Option OpenSession) (blocks order : ℕ) → in_limits blocks order ≡ true → (order == 64) && nat_le blocks 64 ≡ false
-    → New (record { device = None; session = open }) → Serves New (record { device = None; session = open }) (Format blocks order) (Ok Unbuilt)
-format_unbuilt New open blocks order within out new = (false, record { device = None; session = open }, ?, new)
+pub format_unbuilt : (New : State → Type 0) (there : Option OpenSession) (blocks order : ℕ) → in_limits blocks order ≡ true → (order == 64) && nat_le blocks 64 ≡ false
+    → New (record { device = None; session = there }) → Serves New (record { device = None; session = there }) (Format blocks order) (Ok Unbuilt)
+format_unbuilt New there blocks order within out new = (false, record { device = None; session = there }, ?, new)
 
-pub formatted : (New : State → Type 0) (open : Option OpenSession) (blocks : ℕ) → 1 ≤ blocks → blocks ≤ 64 → New (record { device = Some (new_device blocks 64); session = open })
-    → Serves New (record { device = None; session = open }) (Format blocks 64) (Ok Formatted)
-formatted New open blocks least most new = (false, record { device = Some (new_device blocks 64); session = open }, ?, new)
+pub formatted : (New : State → Type 0) (there : Option OpenSession) (blocks : ℕ) → 1 ≤ blocks → blocks ≤ 64 → New (record { device = Some (new_device blocks 64); session = there })
+    → Serves New (record { device = None; session = there }) (Format blocks 64) (Ok Formatted)
+formatted New there blocks least most new = (false, record { device = Some (new_device blocks 64); session = there }, ?, new)
 
-pub format_full : (New : State → Type 0) (open : Option OpenSession) (blocks : ℕ) → 1 ≤ blocks → blocks ≤ 64 → New (record { device = None; session = open })
-    → Serves New (record { device = None; session = open }) (Format blocks 64) (Ok Full)
-format_full New open blocks least most new = (true, record { device = None; session = open }, ?, new)
+pub format_full : (New : State → Type 0) (there : Option OpenSession) (blocks : ℕ) → 1 ≤ blocks → blocks ≤ 64 → New (record { device = None; session = there })
+    → Serves New (record { device = None; session = there }) (Format blocks 64) (Ok Full)
+format_full New there blocks least most new = (true, record { device = None; session = there }, ?, new)

@@ -244,14 +244,16 @@ impl Desk {
         let Some(session) = self.session.take() else {
             return Ok(Reply::Unmounted);
         };
-        match session.commit(platform, tape, &mut NoLedger) {
-            Ok((session, CommitReply::Committed { number })) => {
-                self.keep(session, Reply::Committed { number })
-            }
-            Ok((session, CommitReply::Full { .. })) => self.keep(session, Reply::Full),
-            Err(CommitFault::Memory | CommitFault::LedgerFault) => Err(DeviceStop::Memory),
-            Err(CommitFault::TapeFault) => Err(DeviceStop::Tape),
-            Err(CommitFault::PlatformFault) => Err(DeviceStop::Platform),
+        let answer = match session.commit(platform, tape, &mut NoLedger) {
+            Ok(answer) => answer,
+            Err(CommitFault::Memory | CommitFault::LedgerFault) => return Err(DeviceStop::Memory),
+            Err(CommitFault::TapeFault) => return Err(DeviceStop::Tape),
+            Err(CommitFault::PlatformFault) => return Err(DeviceStop::Platform),
+        };
+        let (session, reply) = answer;
+        match reply {
+            CommitReply::Committed { number } => self.keep(session, Reply::Committed { number }),
+            CommitReply::Full { .. } => self.keep(session, Reply::Full),
         }
     }
 
