@@ -175,14 +175,53 @@ pub format_range : (New : State → Type 0) (there : Option OpenSession) (blocks
     → Serves New (record { device = None; session = there }) (Format blocks order) (Ok Range)
 format_range New there blocks order out new = (false, record { device = None; session = there }, rw out refl, new)
 
-pub format_unbuilt : (New : State → Type 0) (there : Option OpenSession) (blocks order : ℕ) → in_limits blocks order ≡ true → (order == 64) && nat_le blocks 64 ≡ false
-    → New (record { device = None; session = there }) → Serves New (record { device = None; session = there }) (Format blocks order) (Ok Unbuilt)
-format_unbuilt New there blocks order within out new = (false, record { device = None; session = there }, ?, new)
-
 pub formatted : (New : State → Type 0) (there : Option OpenSession) (blocks : ℕ) → 1 ≤ blocks → blocks ≤ 64 → New (record { device = Some (new_device blocks 64); session = there })
     → Serves New (record { device = None; session = there }) (Format blocks 64) (Ok Formatted)
-formatted New there blocks least most new = (false, record { device = Some (new_device blocks 64); session = there }, ?, new)
+formatted New there blocks least most new =
+    let a : nat_le 1 blocks ≡ true = grind (arith, common_steps) in
+    let b : nat_le blocks 1048576 ≡ true = grind (arith, common_steps) in
+    let e : nat_lt 64 blocks ≡ false = above 64 blocks most in
+    (false, record { device = Some (new_device blocks 64); session = there }, rw (a, b, e) refl, new)
 
 pub format_full : (New : State → Type 0) (there : Option OpenSession) (blocks : ℕ) → 1 ≤ blocks → blocks ≤ 64 → New (record { device = None; session = there })
     → Serves New (record { device = None; session = there }) (Format blocks 64) (Ok Full)
-format_full New there blocks least most new = (true, record { device = None; session = there }, ?, new)
+format_full New there blocks least most new =
+    let a : nat_le 1 blocks ≡ true = grind (arith, common_steps) in
+    let b : nat_le blocks 1048576 ≡ true = grind (arith, common_steps) in
+    let e : nat_lt 64 blocks ≡ false = above 64 blocks most in
+    (true, record { device = None; session = there }, rw (a, b, e) refl, new)
+
+-- below a session the image stands for its device
+pub holds_stands : (session : Session) (image : Image) (d : Device) (contents : Blocks) → Holds session image (stored d) contents → StandsFor image (Some d)
+holds_stands session image d contents holds =
+    (session.root, leaf_parts session.root.addr session.root.key holds.leaf holds.leaf_texts, stands_by_leaf image (stored d) session.root holds.leaf holds.leaf_texts holds.stands)
+
+-- an erasure of what is there
+pub erased_any : (New : State → Type 0) (image : Image) (device : Option Device) (there : Option OpenSession) → StandsFor image device → image.cell ≢ None
+    → New (closed None) → Serves New (record { device = device; session = there }) Erase (Ok Erased)
+erased_any New image None there stands full new = absurd (full stands)
+erased_any New image (Some d) there stands full new = erased New d there new
+
+-- a session on what is there
+pub mounted_any : (New : State → Type 0) (image : Image) (device : Option Device) (number : ℕ) → StandsFor image device → image.cell ≢ None
+    → ((d : Device) → StandsFor image (Some d) → (number ≡ d.number) × New (at d (session_on d))) → Serves New (closed device) Mount (Ok (Mounted number))
+mounted_any New image None number stands full new = absurd (full stands)
+mounted_any New image (Some d) number stands full new =
+    let both = new d stands in
+    subst (λ (n : ℕ). Serves New (closed (Some d)) Mount (Ok (Mounted n))) (sym both.0) (mounted New d both.1)
+
+formatted_cases : (New : State → Type 0) (s : Option Session) (image : Image) (device : Option Device) (there : Option OpenSession) (blocks : ℕ)
+    → IsSessionOf s image device there → StandsFor image device → image.cell ≡ None → 1 ≤ blocks → blocks ≤ 64
+    → (s ≡ None → New (closed (Some (new_device blocks 64)))) → Serves New (record { device = device; session = there }) (Format blocks 64) (Ok Formatted)
+formatted_cases New s image (Some d) there blocks h stands empty least most new = absurd (let e = stands.2.cell in cc)
+formatted_cases New None image None None blocks h stands empty least most new = formatted New None blocks least most (new refl)
+formatted_cases New None image None (Some t) blocks h stands empty least most new = absurd h
+formatted_cases New (Some s) image None None blocks h stands empty least most new = absurd h
+formatted_cases New (Some s) image None (Some t) blocks h stands empty least most new = absurd h
+
+-- a new device
+pub formatted_any : (New : State → Type 0) (desk : Desk) (image : Image) (state : State) (blocks order : ℕ) → Represents desk image state → image.cell ≡ None
+    → 1 ≤ blocks → blocks ≤ 64 → order ≡ 64 → (desk.session ≡ None → New (closed (Some (new_device blocks 64)))) → Serves New state (Format blocks order) (Ok Formatted)
+formatted_any New desk image state blocks order rep empty least most is new =
+    subst (λ (n : ℕ). Serves New state (Format blocks n) (Ok Formatted)) (sym is)
+    (formatted_cases New desk.session image state.device state.session blocks rep.session rep.device empty least most new)

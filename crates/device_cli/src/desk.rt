@@ -266,10 +266,10 @@ impl Desk {
             → Serves (Represents self.new (P.history platform.now).present) entry Command.Drop result }
     {
         let _ = platform;
-        match self.session.take() {
-            Some(_) => Ok(Reply::Dropped),
-            None => Ok(Reply::Unmounted),
-        }
+        let Some(_) = self.session.take() else {
+            return Ok(Reply::Unmounted);
+        };
+        Ok(Reply::Dropped)
     }
 
     fn erase<P: Platform>(&mut self, platform: &mut P) -> Result<Reply, DeviceStop>
