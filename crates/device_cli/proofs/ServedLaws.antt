@@ -1,8 +1,11 @@
 -- What serving a command makes of the state, by the array machine.
-use Rattle.std.proofs.Common.{◌≡◌, ◌≢◌, ℕ, ◌+◌, ◌<◌, ◌≤◌, Bool, true, false, List, Option, None, Some, Ok, Err, length, refl, sym, ◌∙◌, subst, ap, arith}
+use Rattle.std.proofs.Common.{◌≡◌, ◌≢◌, ℕ, ◌+◌, ◌<◌, ◌≤◌, Bool, true, false, List, Option, None, Some, Ok, Err, length, inl, inr, refl, sym, ◌∙◌, subst, ap, arith}
 use Rattle.std.specs.Prelude.{Result, nat_lt, nat_le, ◌||◌, ◌&&◌, ◌==◌, ◌%◌, replicate}
 use Rattle.std.specs.FinMap as map
 use Rattle.std.proofs.lemmas.Grind.{common_steps}
+use Rattle.std.proofs.lemmas.Bool.Decides.{eqb_tells}
+use Rattle.device_core.specs.declared.refusals.CommitReply.{CommitReply}
+use Rattle.device_core.specs.declared.refusals.CommitReply.TheVariants as commits
 use Rattle.platform.specs.Image.{Image}
 use Rattle.page_store.specs.Device.{Device as StoredDevice}
 use Rattle.page_store.specs.Stands.{Stands}
@@ -225,3 +228,44 @@ pub formatted_any : (New : State → Type 0) (desk : Desk) (image : Image) (stat
 formatted_any New desk image state blocks order rep empty least most is new =
     subst (λ (n : ℕ). Serves New state (Format blocks n) (Ok Formatted)) (sym is)
     (formatted_cases New desk.session image state.device state.session blocks rep.session rep.device empty least most new)
+
+-- a commit that was answered with a number
+pub commit_committed : (New : State → Type 0) (d : Device) (t : OpenSession) (number now head capacity : ℕ) (touched : Bool) (reply : CommitReply) → reply ≡ commits.Committed now
+    → touched ≡ t.touched → number ≡ d.number → (touched ≡ false → (reply ≡ commits.Committed number) × New (at d t))
+    → (touched ≡ true → head ≡ capacity → reply ≡ commits.Full 1 0)
+    → (touched ≡ true → head ≢ capacity → (reply ≡ commits.Committed (number + 1)) × New (at (committed d t) (session_on (committed d t))))
+    → Serves New (at d t) Commit (Ok (Committed now))
+commit_committed New d t number now head capacity false reply is same n idle full raised =
+    let both = idle refl in
+    let e : d.number ≡ now = cc (both.0) in
+    subst (λ (k : ℕ). Serves New (at d t) Commit (Ok (Committed k))) e (commit_idle New d t (sym same) both.1)
+commit_committed New d t number now head capacity true reply is same n idle full raised =
+    elim (eqb_tells head capacity) [
+      | inl equal ↦ absurd (let f = full refl equal.1 in cc)
+      | inr differ ↦
+        let both = raised refl differ.1 in
+        let e : number + 1 ≡ now = cc (both.0) in
+        let f : d.number + 1 ≡ now = omega (arith, e, n) in
+        subst (λ (k : ℕ). Serves New (at d t) Commit (Ok (Committed k))) f (commit_raised New d t (sym same) both.1)
+    ]
+
+-- and one that was answered that the medium is full
+pub commit_refused : (New : State → Type 0) (d : Device) (t : OpenSession) (number needed free head capacity : ℕ) (touched : Bool) (reply : CommitReply) → reply ≡ commits.Full needed free
+    → touched ≡ t.touched → (touched ≡ false → reply ≡ commits.Committed number)
+    → (touched ≡ true → head ≡ capacity → New (at d t))
+    → (touched ≡ true → head ≢ capacity → reply ≡ commits.Committed (number + 1))
+    → Serves New (at d t) Commit (Ok Full)
+commit_refused New d t number needed free head capacity false reply is same idle full raised = absurd (let f = idle refl in cc)
+commit_refused New d t number needed free head capacity true reply is same idle full raised =
+    elim (eqb_tells head capacity) [
+      | inl equal ↦ commit_full New d t (sym same) (full refl equal.1)
+      | inr differ ↦ absurd (let f = raised refl differ.1 in cc)
+    ]
+
+-- nothing changed below a session that is as it was
+pub unchanged : (desk : Desk) (image image_now : Image) (session now : Session) (d : Device) (t : OpenSession) → desk.session ≡ Some now → now ≡ session → image_now ≡ image
+    → Holds session image (stored d) t.contents → is_touched session ≡ t.touched → Represents desk image_now (at d t)
+unchanged desk image image_now session now d t e same still holds touched =
+    has_session desk image_now now d t e
+    (subst (λ (s : Session). Holds s image_now (stored d) t.contents) (sym same) (subst (λ (i : Image). Holds session i (stored d) t.contents) (sym still) holds))
+    (subst (λ (s : Session). is_touched s ≡ t.touched) (sym same) touched)
