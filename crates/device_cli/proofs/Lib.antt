@@ -7,3 +7,4 @@ pub mod RanLaws
 pub mod RepresentsLaws
 pub mod ScriptLaws
 pub mod ServedLaws
+pub mod StatLaws
