@@ -1,3 +1,10 @@
-pub mod Ascending
-pub mod EntryLaws
 pub mod RunLaws
+pub mod RepliedLaws
+pub mod PieceLaws
+pub mod Serving
+pub mod Reading
+pub mod RanLaws
+pub mod RepresentsLaws
+pub mod ScriptLaws
+pub mod ServedLaws
+pub mod StatLaws

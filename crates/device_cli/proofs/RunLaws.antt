@@ -21,13 +21,11 @@ HasCause-within a b c d (stops.Device device.Tape) p o r q = Rose-within a.tape 
 HasCause-within a b c d (stops.Device device.BadRoot) p o r q = tt
 HasCause-within a b c d (stops.Device (device.BadRecord addr)) p o r q = tt
 HasCause-within a b c d (stops.Device device.Memory) p o r q = tt
-HasCause-within a b c d stops.FullCell p o r q = tt
 HasCause-within a b c d stops.Limit p o r q = tt
 
 -- a stop that a line led to says no more of what was taken than that it is within the limit
 pub TookUntil-line : (stop : Stop) (taken : List ℕ) (left : Option (List ℕ)) → IsOfLine stop → length taken ≤ 2 ^ 32 → TookUntil {T = Unit {0}} (Err stop) taken left
 TookUntil-line stops.Source taken left line most = absurd line
-TookUntil-line stops.FullCell taken left line most = absurd line
 TookUntil-line stops.Limit taken left line most = absurd line
-TookUntil-line stops.Sink taken left line most = record { most = most; whole = tt; failed = λ e. cc; limit = λ e. cc; nothing = λ e. cc }
-TookUntil-line (stops.Device stop) taken left line most = record { most = most; whole = tt; failed = λ e. cc; limit = λ e. cc; nothing = λ e. cc }
+TookUntil-line stops.Sink taken left line most = record { most = most; whole = tt; failed = λ e. cc; limit = λ e. cc }
+TookUntil-line (stops.Device stop) taken left line most = record { most = most; whole = tt; failed = λ e. cc; limit = λ e. cc }

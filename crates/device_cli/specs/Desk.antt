@@ -1,6 +1,6 @@
 -- What a run keeps between lines.
 use Rattle.std.specs.Prelude.{ℕ, IfSome}
-use Rattle.device_cli.specs.Open.{IsOpen}
+use Rattle.device_core.specs.Open.{IsOpen}
 use Rattle.device_cli.specs.declared.desk.Desk.{Desk}
 
 -- the session, if there is one, is open

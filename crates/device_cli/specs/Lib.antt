@@ -1,6 +1,7 @@
 pub mod Words
-pub mod Leaf
-pub mod Open
 pub mod Desk
 pub mod Kept
 pub mod Run
+pub mod Replied
+pub mod Ran
+pub mod Represents

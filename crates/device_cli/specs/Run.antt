@@ -32,7 +32,6 @@ HasCause before now (stops.Device device.Tape) = Rose before.tape now.tape
 HasCause before now (stops.Device device.BadRoot) = Unit {0}
 HasCause before now (stops.Device (device.BadRecord addr)) = Unit {0}
 HasCause before now (stops.Device device.Memory) = Unit {0}
-HasCause before now stops.FullCell = Unit {0}
 HasCause before now stops.Limit = Unit {0}
 
 -- the exit status of each stop
@@ -41,7 +40,6 @@ status_of stops.Source = 3
 status_of stops.Sink = 4
 status_of (stops.Device device.Platform) = 5
 status_of (stops.Device device.Tape) = 6
-status_of stops.FullCell = 8
 status_of (stops.Device device.BadRoot) = 8
 status_of (stops.Device (device.BadRecord addr)) = 9
 status_of (stops.Device device.Memory) = 11
@@ -54,7 +52,6 @@ pub record TookUntil {T : Type 0} (result : Result T Stop) (taken : List ℕ) (l
   pub whole : OnOk result ((length taken < 2 ^ 32) × IsAtEnd left)
   pub failed : IsErrOf result stops.Source → length taken < 2 ^ 32
   pub limit : IsErrOf result stops.Limit → length taken ≡ 2 ^ 32
-  pub nothing : IsErrOf result stops.FullCell → taken ≡ []
 
 -- the same by the exit status
 pub record Took (status : ℕ) (taken : List ℕ) (left : Option (List ℕ)) : Type 0 where
@@ -72,18 +69,16 @@ IsStatus status =
 -- a stop that a line may lead to: neither the input nor the start
 abbrev pub IsOfLine : Stop → Type 0
 IsOfLine stops.Source = ⊥
-IsOfLine stops.FullCell = ⊥
 IsOfLine stops.Limit = ⊥
 IsOfLine stops.Sink = Unit {0}
 IsOfLine (stops.Device stop) = Unit {0}
 
--- a stop before the first line: the cell is full, or it was not even known
+-- a stop before the first line: the cell can't be served, or that could not be told or not be said
 abbrev pub IsRefusal : Stop → Type 0
-IsRefusal stops.FullCell = Unit {0}
 IsRefusal stops.Sink = Unit {0}
 IsRefusal (stops.Device device.Platform) = Unit {0}
+IsRefusal (stops.Device device.BadRoot) = Unit {0}
 IsRefusal (stops.Device device.Tape) = ⊥
-IsRefusal (stops.Device device.BadRoot) = ⊥
 IsRefusal (stops.Device (device.BadRecord addr)) = ⊥
 IsRefusal (stops.Device device.Memory) = ⊥
 IsRefusal stops.Source = ⊥

@@ -1,21 +1,27 @@
 //! What a run keeps between lines, and the answer to each command.
-ghost use Rattle.std.specs.Prelude.{◌≡◌, ◌≤◌, ℕ, IfOk, OnOk, IfErr, IsErrOf, length};
+ghost use Rattle.std.specs.Prelude.{◌≡◌, ◌≢◌, ◌≤◌, ◌⊎◌, ℕ, IfOk, OnOk, IfErr, IsErrOf, None, Some, Ok, length};
+ghost use Rattle.arrayvec.specs.ArrayVec.{ArrayVec as Bytes};
 ghost use Rattle.sdbt_base.specs.Faults.{Rose};
 ghost use Rattle.script_lang.specs.Replies.{CanWrite};
-ghost use Rattle.device_cli.specs.Leaf.{IsServedCell};
+ghost use Rattle.script_lang.specs.Arrays.{State};
+ghost use Rattle.device_core.specs.Leaf.{IsServedCell};
 ghost use Rattle.device_cli.specs.Run.{counts, NoneFell, HasCause};
+ghost use Rattle.device_cli.specs.Replied.{IsOfBlock, Serves};
 
-use crate::buffers::DeviceFault;
-use crate::session::{
-    self, CommitReply, FormatRefusal, LEAF_BLOCKS, MountRefusal, ReadRefusal, Session, WriteRefusal,
-};
+use crate::entry::MOST_BLOCKS;
+use crate::no_ledger::NoLedger;
 use crate::stop::{DeviceStop, Stop};
+use device_core::{
+    CommitFault, CommitReply, EraseRefusal, FormatRefusal, MountRefusal, ReadRefusal, Session,
+    TrimRefusal, WriteRefusal,
+};
 use platform::Platform;
 use script_lang::{Command, Reply, reply_with_content};
 use sdbt_base::{BLOCK, MAX_BLOCKS, MAX_ORDER, ROOT, Tape};
 use std::alloc::Global;
 
-/// What a run keeps between lines: the session, if there is one.
+/// What a run keeps between lines: the session, if there is one. A call takes it out, and puts it back
+/// unless it ends the run.
 #[derive(Drop)]
 pub(crate) struct Desk {
     alloc: Global,
@@ -24,10 +30,12 @@ pub(crate) struct Desk {
 
 impl Desk {
     ghost use Rattle.device_cli.specs.Desk.{IsReady};
+    ghost use Rattle.device_cli.specs.Represents.{Represents};
 
     /// No session.
     pub(crate) fn new(alloc: Global) -> Desk
-        ensures { (head : ℕ) → IsReady result head }
+        ensures ready { (head : ℕ) → IsReady result head }
+        ensures session { result.session ≡ None }
     {
         Desk {
             alloc,
@@ -50,37 +58,79 @@ impl Desk {
         ensures bad_root { P.tells → IsErrOf result DeviceStop.BadRoot → ⊥ }
         ensures counts { NoneFell (counts (P.faults platform.old) (T.faults tape.old) 0 0) (counts (P.faults platform.new) (T.faults tape.new) 0 0) }
         ensures cause { IfErr result (λ stop. HasCause (counts (P.faults platform.old) (T.faults tape.old) 0 0) (counts (P.faults platform.new) (T.faults tape.new) 0 0) (Stop.Device stop)) }
+        ensures bad_record { (addr : ℕ) → IsErrOf result (DeviceStop.BadRecord addr) → IsOfBlock command.now }
+        ensures answered { P.tells → (entry : State) → Represents self.old (P.history platform.old).present entry
+            → Serves (Represents self.new (P.history platform.new).present) entry command.now result }
     {
         match command {
-            Command::Format { blocks, order } => format(
-                self.alloc, platform, tape, *blocks, *order,
-            ),
+            Command::Format { blocks, order } => self.format(platform, tape, *blocks, *order),
             Command::Mount => self.mount(platform),
             Command::Read { block } => self.read(platform, *block),
             Command::Write { block, content } => self.write(platform, tape, *block, content),
+            Command::Trim { block } => self.trim(platform, *block),
             Command::Commit => self.commit(platform, tape),
-            Command::Trim { .. }
-            | Command::Drop
-            | Command::Erase
-            | Command::Stat
-            | Command::Seize => { Ok(Reply::Unbuilt) }
+            Command::Drop => self.give_up(platform),
+            Command::Erase => self.erase(platform),
+            Command::Stat => self.stat(platform),
+            Command::Seize => Ok(Reply::Unbuilt),
+        }
+    }
+
+    /// Makes a device, where the numbers are within the limits of one, and within those that are served yet.
+    fn format<P: Platform, T: Tape>(
+        &mut self,
+        platform: &mut P,
+        tape: &mut T,
+        blocks: u64,
+        order: u64,
+    ) -> Result<Reply, DeviceStop>
+        requires ready { IsReady self.old (P.head platform.old) }
+        requires cell { P.tells → IsServedCell (P.history platform.old).present.cell (P.head platform.old) }
+        ensures ready { OnOk result (IsReady self.new (P.head platform.new)) }
+        ensures cell { P.tells → OnOk result (IsServedCell (P.history platform.new).present.cell (P.head platform.new)) }
+        ensures reply { IfOk result CanWrite }
+        ensures bad_root { P.tells → IsErrOf result DeviceStop.BadRoot → ⊥ }
+        ensures counts { NoneFell (counts (P.faults platform.old) (T.faults tape.old) 0 0) (counts (P.faults platform.new) (T.faults tape.new) 0 0) }
+        ensures cause { IfErr result (λ stop. HasCause (counts (P.faults platform.old) (T.faults tape.old) 0 0) (counts (P.faults platform.new) (T.faults tape.new) 0 0) (Stop.Device stop)) }
+        ensures bad_record { (addr : ℕ) → IsErrOf result (DeviceStop.BadRecord addr) → ⊥ }
+        ensures answered { P.tells → (entry : State) → Represents self.old (P.history platform.old).present entry
+            → Serves (Represents self.new (P.history platform.new).present) entry (Command.Format blocks order) result }
+    {
+        let is_size = (1..=MAX_BLOCKS).contains(&blocks);
+        let is_order = order.is_multiple_of(2) && (4..=u64::from(MAX_ORDER)).contains(&order);
+        if !is_size || !is_order {
+            return refuse_format(platform, Reply::Range);
+        }
+        if order != u64::from(MAX_ORDER) || blocks > MOST_BLOCKS {
+            return refuse_format(platform, Reply::Unbuilt);
+        }
+        match device_core::format(self.alloc, platform, tape, &mut NoLedger, blocks, MAX_ORDER) {
+            Ok(()) => Ok(Reply::Formatted),
+            Err(FormatRefusal::NotEmpty) => Ok(Reply::NotEmpty),
+            Err(FormatRefusal::Full) => Ok(Reply::Full),
+            Err(FormatRefusal::Memory | FormatRefusal::LedgerFault) => Err(DeviceStop::Memory),
+            Err(FormatRefusal::TapeFault) => Err(DeviceStop::Tape),
+            Err(FormatRefusal::PlatformFault) => Err(DeviceStop::Platform),
         }
     }
 
     fn mount<P: Platform>(&mut self, platform: &mut P) -> Result<Reply, DeviceStop>
         requires ready { IsReady self.old (P.head platform.old) }
-        ensures ready { IsReady self.new (P.head platform.new) }
-        ensures cell { P.tells → (P.history platform.new).present.cell ≡ (P.history platform.old).present.cell }
-        ensures head { P.head platform.new ≡ P.head platform.old }
+        requires cell { P.tells → IsServedCell (P.history platform.old).present.cell (P.head platform.old) }
+        ensures ready { OnOk result (IsReady self.new (P.head platform.new)) }
+        ensures cell { P.tells → OnOk result (IsServedCell (P.history platform.new).present.cell (P.head platform.new)) }
         ensures reply { IfOk result CanWrite }
-        ensures bad_root { P.tells → IsServedCell (P.history platform.old).present.cell (P.head platform.old) → IsErrOf result DeviceStop.BadRoot → ⊥ }
+        ensures bad_root { P.tells → IsErrOf result DeviceStop.BadRoot → ⊥ }
         ensures count { P.faults platform.old ≤ P.faults platform.new }
         ensures cause { IfErr result (λ stop. HasCause (counts (P.faults platform.old) 0 0 0) (counts (P.faults platform.new) 0 0 0) (Stop.Device stop)) }
+        ensures bad_record { (addr : ℕ) → IsErrOf result (DeviceStop.BadRecord addr) → ⊥ }
+        ensures answered { P.tells → (entry : State) → Represents self.old (P.history platform.old).present entry
+            → Serves (Represents self.new (P.history platform.new).present) entry (Command.Mount) result }
     {
         if self.session.is_some() {
             return Ok(Reply::AlreadyMounted);
         }
-        match Session::mount(self.alloc, platform) {
+        match Session::mount(self.alloc, platform, 0) {
             Ok(session) => {
                 let number = session.number();
                 self.session = Some(session);
@@ -95,21 +145,23 @@ impl Desk {
 
     fn read<P: Platform>(&mut self, platform: &mut P, block: u64) -> Result<Reply, DeviceStop>
         requires ready { IsReady self.old (P.head platform.old) }
-        ensures ready { IsReady self.new (P.head platform.new) }
-        ensures cell { P.tells → (P.history platform.new).present.cell ≡ (P.history platform.old).present.cell }
-        ensures head { P.head platform.new ≡ P.head platform.old }
+        requires cell { P.tells → IsServedCell (P.history platform.old).present.cell (P.head platform.old) }
+        ensures ready { OnOk result (IsReady self.new (P.head platform.new)) }
+        ensures cell { P.tells → OnOk result (IsServedCell (P.history platform.new).present.cell (P.head platform.new)) }
         ensures reply { IfOk result CanWrite }
-        ensures bad_root { IsErrOf result DeviceStop.BadRoot → ⊥ }
+        ensures bad_root { P.tells → IsErrOf result DeviceStop.BadRoot → ⊥ }
         ensures count { P.faults platform.old ≤ P.faults platform.new }
         ensures cause { IfErr result (λ stop. HasCause (counts (P.faults platform.old) 0 0 0) (counts (P.faults platform.new) 0 0 0) (Stop.Device stop)) }
+        ensures answered { P.tells → (entry : State) → Represents self.old (P.history platform.old).present entry
+            → Serves (Represents self.new (P.history platform.new).present) entry (Command.Read block) result }
     {
-        let Some(session) = &mut self.session else {
+        let Some(mut session) = self.session.take() else {
             return Ok(Reply::Unmounted);
         };
         let mut content = [0; BLOCK];
         match session.read(platform, block, &mut content) {
-            Ok(()) => Ok(reply_with_content(&content)),
-            Err(ReadRefusal::Range) => Ok(Reply::Range),
+            Ok(()) => self.keep(session, reply_with_content(&content)),
+            Err(ReadRefusal::Range) => self.keep(session, Reply::Range),
             Err(ReadRefusal::BadRecord { addr }) => Err(DeviceStop::BadRecord { addr }),
             Err(ReadRefusal::PlatformFault) => Err(DeviceStop::Platform),
         }
@@ -124,24 +176,51 @@ impl Desk {
     ) -> Result<Reply, DeviceStop>
         requires size { length content.now ≤ 4096 }
         requires ready { IsReady self.old (P.head platform.old) }
+        requires cell { P.tells → IsServedCell (P.history platform.old).present.cell (P.head platform.old) }
         ensures ready { OnOk result (IsReady self.new (P.head platform.new)) }
-        ensures head { P.head platform.old ≤ P.head platform.new }
+        ensures cell { P.tells → OnOk result (IsServedCell (P.history platform.new).present.cell (P.head platform.new)) }
         ensures reply { IfOk result CanWrite }
-        ensures bad_root { IsErrOf result DeviceStop.BadRoot → ⊥ }
+        ensures bad_root { P.tells → IsErrOf result DeviceStop.BadRoot → ⊥ }
         ensures counts { NoneFell (counts (P.faults platform.old) (T.faults tape.old) 0 0) (counts (P.faults platform.new) (T.faults tape.new) 0 0) }
         ensures cause { IfErr result (λ stop. HasCause (counts (P.faults platform.old) (T.faults tape.old) 0 0) (counts (P.faults platform.new) (T.faults tape.new) 0 0) (Stop.Device stop)) }
-        ensures cell { P.tells → (P.history platform.new).present.cell ≡ (P.history platform.old).present.cell }
+        ensures answered { P.tells → (entry : State) → Represents self.old (P.history platform.old).present entry
+            → (bytes : Bytes ℕ) → bytes.items ≡ content.now → Serves (Represents self.new (P.history platform.new).present) entry (Command.Write block bytes) result }
     {
-        let Some(session) = &mut self.session else {
+        let Some(mut session) = self.session.take() else {
             return Ok(Reply::Unmounted);
         };
         match session.write(platform, tape, block, content) {
-            Ok(()) => Ok(Reply::Done),
-            Err(WriteRefusal::Range) => Ok(Reply::Range),
-            Err(WriteRefusal::Full) => Ok(Reply::Full),
+            Ok(()) => self.keep(session, Reply::Done),
+            Err(WriteRefusal::Range) => self.keep(session, Reply::Range),
+            Err(WriteRefusal::Full) => self.keep(session, Reply::Full),
+            Err(WriteRefusal::Memory) => Err(DeviceStop::Memory),
             Err(WriteRefusal::BadRecord { addr }) => Err(DeviceStop::BadRecord { addr }),
             Err(WriteRefusal::TapeFault) => Err(DeviceStop::Tape),
             Err(WriteRefusal::PlatformFault) => Err(DeviceStop::Platform),
+        }
+    }
+
+    fn trim<P: Platform>(&mut self, platform: &mut P, block: u64) -> Result<Reply, DeviceStop>
+        requires ready { IsReady self.old (P.head platform.old) }
+        requires cell { P.tells → IsServedCell (P.history platform.old).present.cell (P.head platform.old) }
+        ensures ready { OnOk result (IsReady self.new (P.head platform.new)) }
+        ensures cell { P.tells → OnOk result (IsServedCell (P.history platform.new).present.cell (P.head platform.new)) }
+        ensures reply { IfOk result CanWrite }
+        ensures bad_root { P.tells → IsErrOf result DeviceStop.BadRoot → ⊥ }
+        ensures count { P.faults platform.old ≤ P.faults platform.new }
+        ensures cause { IfErr result (λ stop. HasCause (counts (P.faults platform.old) 0 0 0) (counts (P.faults platform.new) 0 0 0) (Stop.Device stop)) }
+        ensures answered { P.tells → (entry : State) → Represents self.old (P.history platform.old).present entry
+            → Serves (Represents self.new (P.history platform.new).present) entry (Command.Trim block) result }
+    {
+        let Some(mut session) = self.session.take() else {
+            return Ok(Reply::Unmounted);
+        };
+        match session.trim(platform, block) {
+            Ok(()) => self.keep(session, Reply::Done),
+            Err(TrimRefusal::Range) => self.keep(session, Reply::Range),
+            Err(TrimRefusal::Memory) => Err(DeviceStop::Memory),
+            Err(TrimRefusal::BadRecord { addr }) => Err(DeviceStop::BadRecord { addr }),
+            Err(TrimRefusal::PlatformFault) => Err(DeviceStop::Platform),
         }
     }
 
@@ -150,66 +229,105 @@ impl Desk {
         platform: &mut P,
         tape: &mut T,
     ) -> Result<Reply, DeviceStop>
-        requires cell { P.tells → IsServedCell (P.history platform.old).present.cell (P.head platform.old) }
         requires ready { IsReady self.old (P.head platform.old) }
+        requires cell { P.tells → IsServedCell (P.history platform.old).present.cell (P.head platform.old) }
         ensures ready { OnOk result (IsReady self.new (P.head platform.new)) }
-        ensures head { P.head platform.old ≤ P.head platform.new }
+        ensures cell { P.tells → OnOk result (IsServedCell (P.history platform.new).present.cell (P.head platform.new)) }
         ensures reply { IfOk result CanWrite }
-        ensures bad_root { IsErrOf result DeviceStop.BadRoot → ⊥ }
+        ensures bad_root { P.tells → IsErrOf result DeviceStop.BadRoot → ⊥ }
         ensures counts { NoneFell (counts (P.faults platform.old) (T.faults tape.old) 0 0) (counts (P.faults platform.new) (T.faults tape.new) 0 0) }
         ensures cause { IfErr result (λ stop. HasCause (counts (P.faults platform.old) (T.faults tape.old) 0 0) (counts (P.faults platform.new) (T.faults tape.new) 0 0) (Stop.Device stop)) }
-        ensures cell { P.tells → OnOk result (IsServedCell (P.history platform.new).present.cell (P.head platform.new)) }
+        ensures bad_record { (addr : ℕ) → IsErrOf result (DeviceStop.BadRecord addr) → ⊥ }
+        ensures answered { P.tells → (entry : State) → Represents self.old (P.history platform.old).present entry
+            → Serves (Represents self.new (P.history platform.new).present) entry (Command.Commit) result }
     {
-        let Some(session) = &mut self.session else {
+        let Some(session) = self.session.take() else {
             return Ok(Reply::Unmounted);
         };
-        match session.commit(platform, tape) {
-            Ok(CommitReply::Committed { number }) => Ok(Reply::Committed { number }),
-            Ok(CommitReply::Full) => Ok(Reply::Full),
-            Err(DeviceFault::Tape) => Err(DeviceStop::Tape),
-            Err(DeviceFault::Platform) => Err(DeviceStop::Platform),
+        let answer = match session.commit(platform, tape, &mut NoLedger) {
+            Ok(answer) => answer,
+            Err(CommitFault::Memory | CommitFault::LedgerFault) => return Err(DeviceStop::Memory),
+            Err(CommitFault::TapeFault) => return Err(DeviceStop::Tape),
+            Err(CommitFault::PlatformFault) => return Err(DeviceStop::Platform),
+        };
+        let (session, reply) = answer;
+        match reply {
+            CommitReply::Committed { number } => self.keep(session, Reply::Committed { number }),
+            CommitReply::Full { .. } => self.keep(session, Reply::Full),
         }
     }
-}
 
-/// Makes a device, where the numbers are within the limits of one, and within those that are served yet.
-fn format<P: Platform, T: Tape>(
-    alloc: Global,
-    platform: &mut P,
-    tape: &mut T,
-    blocks: u64,
-    order: u64,
-) -> Result<Reply, DeviceStop>
-    requires cell { P.tells → IsServedCell (P.history platform.old).present.cell (P.head platform.old) }
-    ensures cell { P.tells → OnOk result (IsServedCell (P.history platform.new).present.cell (P.head platform.new)) }
-    ensures head { P.head platform.old ≤ P.head platform.new }
-    ensures reply { IfOk result CanWrite }
-    ensures bad_root { IsErrOf result DeviceStop.BadRoot → ⊥ }
-    ensures counts { NoneFell (counts (P.faults platform.old) (T.faults tape.old) 0 0) (counts (P.faults platform.new) (T.faults tape.new) 0 0) }
-    ensures cause { IfErr result (λ stop. HasCause (counts (P.faults platform.old) (T.faults tape.old) 0 0) (counts (P.faults platform.new) (T.faults tape.new) 0 0) (Stop.Device stop)) }
-{
-    let is_size = (1..=MAX_BLOCKS).contains(&blocks);
-    let is_order = order.is_multiple_of(2) && (4..=u64::from(MAX_ORDER)).contains(&order);
-    if !is_size || !is_order {
-        return refuse_format(platform, Reply::Range);
+    fn give_up<P: Platform>(&mut self, platform: &P) -> Result<Reply, DeviceStop>
+        requires ready { IsReady self.old (P.head platform.now) }
+        ensures ready { OnOk result (IsReady self.new (P.head platform.now)) }
+        ensures reply { IfOk result CanWrite }
+        ensures stop { IfErr result (λ stop. ⊥) }
+        ensures answered { P.tells → (entry : State) → Represents self.old (P.history platform.now).present entry
+            → Serves (Represents self.new (P.history platform.now).present) entry Command.Drop result }
+    {
+        let _ = platform;
+        let Some(_) = self.session.take() else {
+            return Ok(Reply::Unmounted);
+        };
+        Ok(Reply::Dropped)
     }
-    if order != u64::from(MAX_ORDER) || blocks > LEAF_BLOCKS {
-        return refuse_format(platform, Reply::Unbuilt);
+
+    fn erase<P: Platform>(&mut self, platform: &mut P) -> Result<Reply, DeviceStop>
+        requires ready { IsReady self.old (P.head platform.old) }
+        requires cell { P.tells → IsServedCell (P.history platform.old).present.cell (P.head platform.old) }
+        ensures ready { OnOk result (IsReady self.new (P.head platform.new)) }
+        ensures cell { P.tells → OnOk result (IsServedCell (P.history platform.new).present.cell (P.head platform.new)) }
+        ensures reply { IfOk result CanWrite }
+        ensures bad_root { P.tells → IsErrOf result DeviceStop.BadRoot → ⊥ }
+        ensures count { P.faults platform.old ≤ P.faults platform.new }
+        ensures cause { IfErr result (λ stop. HasCause (counts (P.faults platform.old) 0 0 0) (counts (P.faults platform.new) 0 0 0) (Stop.Device stop)) }
+        ensures bad_record { (addr : ℕ) → IsErrOf result (DeviceStop.BadRecord addr) → ⊥ }
+        ensures answered { P.tells → (entry : State) → Represents self.old (P.history platform.old).present entry
+            → Serves (Represents self.new (P.history platform.new).present) entry (Command.Erase) result }
+    {
+        match device_core::erase(platform) {
+            Ok(()) => {
+                self.session = None;
+                Ok(Reply::Erased)
+            }
+            Err(EraseRefusal::NoDevice) => Ok(Reply::NoDevice),
+            Err(EraseRefusal::PlatformFault) => Err(DeviceStop::Platform),
+        }
     }
-    match session::format(alloc, platform, tape, blocks) {
-        Ok(()) => Ok(Reply::Formatted),
-        Err(FormatRefusal::NotEmpty) => Ok(Reply::NotEmpty),
-        Err(FormatRefusal::Full) => Ok(Reply::Full),
-        Err(FormatRefusal::Memory) => Err(DeviceStop::Memory),
-        Err(FormatRefusal::TapeFault) => Err(DeviceStop::Tape),
-        Err(FormatRefusal::PlatformFault) => Err(DeviceStop::Platform),
+
+    fn stat<P: Platform>(&self, platform: &P) -> Result<Reply, DeviceStop>
+        requires ready { IsReady self.now (P.head platform.now) }
+        ensures reply { IfOk result CanWrite }
+        ensures stop { IfErr result (λ stop. ⊥) }
+        ensures answered { P.tells → (entry : State) → Represents self.now (P.history platform.now).present entry
+            → Serves (Represents self.now (P.history platform.now).present) entry Command.Stat result }
+    {
+        let _ = platform;
+        match &self.session {
+            Some(session) => Ok(Reply::Stat {
+                mapped: session.mapped(),
+                number: session.number(),
+            }),
+            None => Ok(Reply::Unmounted),
+        }
+    }
+
+    /// Puts the session back, and answers the reply.
+    fn keep(&mut self, session: Session, reply: Reply) -> Result<Reply, DeviceStop>
+        ensures reply { result ≡ Ok reply }
+        ensures session { self.new.session ≡ Some session }
+    {
+        self.session = Some(session);
+        Ok(reply)
     }
 }
 
 /// The reply to a `format` that is not done: that there is a device already comes first.
 fn refuse_format<P: Platform>(platform: &mut P, reply: Reply) -> Result<Reply, DeviceStop>
     requires { CanWrite reply }
-    ensures cell { P.tells → (P.history platform.new).present.cell ≡ (P.history platform.old).present.cell }
+    ensures replies { P.tells → IfOk result (λ now. ((now ≡ Reply.NotEmpty) × ((P.history platform.old).present.cell ≢ None))
+        ⊎ ((now ≡ reply) × ((P.history platform.old).present.cell ≡ None))) }
+    ensures image { P.tells → (P.history platform.new).present ≡ (P.history platform.old).present }
     ensures head { P.head platform.new ≡ P.head platform.old }
     ensures reply { IfOk result CanWrite }
     ensures count { P.faults platform.old ≤ P.faults platform.new }

@@ -3,17 +3,20 @@
 //! [`run_main`] takes the words of a command line and the objects of the outside, and answers an exit status.
 #![tactic(auto)]
 
-ghost use Rattle.std.specs.Prelude.{◌≡◌, ℕ, List, ◌↔◌, ◌⊎◌, map, string_bytes, IsSome};
+ghost use Rattle.std.specs.Prelude.{◌≡◌, ℕ, List, ◌↔◌, ◌⊎◌, map, string_bytes};
 ghost use Rattle.sdbt_base.specs.Faults.{Rose};
 ghost use Rattle.sdbt_base.specs.Told.{Gave};
 ghost use Rattle.device_cli.specs.Words.{AreRunWords};
+ghost use Rattle.device_core.specs.Leaf.{IsServedCell};
+ghost use Rattle.device_cli.specs.Represents.{StoodAlone, StoodBy};
+ghost use Rattle.device_cli.specs.Ran.{AnswersScript};
 ghost use Rattle.device_cli.specs.Run.{IsStatus, Took, NoneFell, counts};
 
-mod buffers;
 mod desk;
+mod entry;
+mod no_ledger;
 mod pending;
 mod run;
-mod session;
 mod stop;
 mod words;
 
@@ -27,8 +30,8 @@ use words::are_run_words;
 ///
 /// With no words, or `run`, it serves the script that `input` gives: each whole line before more input is
 /// taken, one reply for each line, put to `output` in one put. Statuses: 0, the input was served to its end;
-/// 2, other words; 3, 4, 5 and 6, `input`, `output`, the platform or the tape failed; 8, the root cell was full
-/// at the start, which is not served yet; 9, a record was not what the tree wants there; 11, no memory;
+/// 2, other words; 3, 4, 5 and 6, `input`, `output`, the platform or the tape failed; 8, the root cell is full and
+/// its root record can't be served; 9, a record was not what the tree wants there; 11, no memory;
 /// 12, the limit of 2^32 bytes of input was reached. Nothing is put to `ledger` yet.
 pub fn run_main<P: Platform, T: Tape, I: Source, O: Sink, L: Sink>(
     alloc: Global,
@@ -51,10 +54,15 @@ pub fn run_main<P: Platform, T: Tape, I: Source, O: Sink, L: Sink>(
     ensures counts { NoneFell (counts (P.faults platform.old) (T.faults tape.old) (I.faults input.old) (O.faults output.old))
         (counts (P.faults platform.new) (T.faults tape.new) (I.faults input.new) (O.faults output.new)) }
 
-    // 8 exactly where the cell is full at the start, unless that could not be told or not be said.
-    ensures full_cell_only { P.tells → result ≡ 8 → IsSome (P.history platform.old).present.cell }
-    ensures full_cell { P.tells → IsSome (P.history platform.old).present.cell → AreRunWords (map string_bytes words.now)
+    // 8 exactly where the cell at the start is full and can't be served, unless that could not be told or not be said.
+    ensures bad_root_only { P.tells → result ≡ 8 → IsServedCell (P.history platform.old).present.cell (P.head platform.old) → ⊥ }
+    ensures bad_root { P.tells → (IsServedCell (P.history platform.old).present.cell (P.head platform.old) → ⊥) → AreRunWords (map string_bytes words.now)
         → (result ≡ 8) ⊎ (result ≡ 4) ⊎ (result ≡ 5) }
+
+    // The bytes put are the lines of replies, one for each line in turn, and perhaps a part behind them; on a device that
+    // stands they are the replies of an array of blocks.
+    ensures answers { AnswersScript (λ state. StoodAlone P.tells (P.history platform.old).present state × IsServedCell (P.history platform.old).present.cell (P.head platform.old))
+        (StoodBy P.tells (P.history platform.new).present) result (I.left input.old) (I.left input.new) (O.written output.old) (O.written output.new) }
 
     // 0 and 3 before the limit of input, and 12 at it.
     ensures taken { (taken : List ℕ) × Gave (I.left input.old) taken (I.left input.new) × Took result taken (I.left input.new) }

@@ -1,25 +1,33 @@
 //! Serves a script line by line.
-ghost use Rattle.std.specs.Prelude.{◌≡◌, ◌≤◌, ◌⊎◌, ℕ, List, IfErr, OnOk, IsOk, IsErrOf, IsSome};
+ghost use Rattle.std.specs.Prelude.{◌≡◌, ◌≤◌, ◌⊎◌, ◌∷◌, [], ◌++◌, ℕ, List, IfErr, OnOk, IsOk, IsErrOf, ◌+◌, length, IfSome, IfNone, option_copied};
+ghost use Rattle.arrayvec.specs.ArrayVec.{array_vec_len};
 ghost use Rattle.sdbt_base.specs.Faults.{Rose};
-ghost use Rattle.sdbt_base.specs.Told.{Gave};
-ghost use Rattle.device_cli.specs.Leaf.{IsServedCell};
+ghost use Rattle.sdbt_base.specs.Told.{Got, GotPart};
+ghost use Rattle.script_lang.specs.Grammar.{Spells, IsBad, HasNone};
+ghost use Rattle.script_lang.specs.Lines.{whole_lines_of, rest_of, last_line as line_at_end};
+ghost use Rattle.script_lang.specs.Replies.{CanWrite, line_of};
+ghost use Rattle.device_core.specs.Leaf.{IsServedCell};
 ghost use Rattle.device_cli.specs.Desk.{IsReady};
-ghost use Rattle.device_cli.specs.Run.{counts, NoneFell, HasCause, IsOfLine, IsRefusal, TookUntil, status_of};
+ghost use Rattle.device_cli.specs.Run.{counts, NoneFell, HasCause, IsOfLine, IsRefusal, status_of};
+ghost use Rattle.device_cli.specs.Kept.{IsKept, IsPending};
+ghost use Rattle.device_cli.specs.Represents.{Stood, StoodAlone, StoodBy};
+ghost use Rattle.device_cli.specs.Replied.{Handled, HasPut, IsSound, no_line, damage_line};
+ghost use Rattle.device_cli.specs.Ran.{Ran};
 
 use crate::desk::Desk;
+use crate::entry::check_cell;
 use crate::pending::Pending;
 use crate::stop::{DeviceStop, Stop};
-use arrayvec::ArrayString;
+use arrayvec::ArrayVec;
 use platform::Platform;
-use script_lang::{Reply, parse, write_reply};
-use sdbt_base::{MAX_INPUT, ROOT, Sink, Source, Tape};
+use script_lang::{Command, Reply, parse, write_reply};
+use sdbt_base::{MAX_INPUT, Sink, Source, Tape};
 use std::alloc::Global;
-use std::fmt::Write;
 
 /// The most that one take asks for.
 const PIECE: usize = 4096;
 
-/// Serves the script that the input gives, where the root cell is empty at the start.
+/// Serves the script that the input gives, where the root cell is empty or its record can be served.
 pub(crate) fn run<P: Platform, T: Tape, I: Source, O: Sink>(
     alloc: Global,
     platform: &mut P,
@@ -27,23 +35,24 @@ pub(crate) fn run<P: Platform, T: Tape, I: Source, O: Sink>(
     input: &mut I,
     output: &mut O,
 ) -> Result<(), Stop>
-    ensures full_cell_only { P.tells → IfErr result (λ stop. status_of stop ≡ 8 → IsSome (P.history platform.old).present.cell) }
-    ensures full_cell { P.tells → IsSome (P.history platform.old).present.cell → IfErr result (λ stop. IsRefusal stop) × (IsOk result → ⊥) }
+    ensures refused_only { P.tells → IfErr result (λ stop. status_of stop ≡ 8 → IsServedCell (P.history platform.old).present.cell (P.head platform.old) → ⊥) }
+    ensures refused { P.tells → (IsServedCell (P.history platform.old).present.cell (P.head platform.old) → ⊥) → IfErr result (λ stop. IsRefusal stop) × (IsOk result → ⊥) }
     ensures counts { NoneFell (counts (P.faults platform.old) (T.faults tape.old) (I.faults input.old) (O.faults output.old)) (counts (P.faults platform.new) (T.faults tape.new) (I.faults input.new) (O.faults output.new)) }
     ensures cause { IfErr result (HasCause (counts (P.faults platform.old) (T.faults tape.old) (I.faults input.old) (O.faults output.old)) (counts (P.faults platform.new) (T.faults tape.new) (I.faults input.new) (O.faults output.new))) }
-    ensures taken { (taken : List ℕ) × Gave (I.left input.old) taken (I.left input.new) × TookUntil result taken (I.left input.new) }
+    ensures ran { Ran (λ state. StoodAlone P.tells (P.history platform.old).present state × IsServedCell (P.history platform.old).present.cell (P.head platform.old))
+        (StoodBy P.tells (P.history platform.new).present) damage_line result (I.left input.old) (I.left input.new) (O.written output.old) (O.written output.new) }
 {
-    let mut cell = [0; ROOT];
-    match platform.load_root(&mut cell) {
-        Ok(false) => {}
-        Ok(true) => return Err(refuse_full_cell(output)),
-        Err(_) => return Err(Stop::Device(DeviceStop::Platform)),
+    match check_cell(platform) {
+        Ok(()) => {}
+        Err(stop) => return Err(last_line(stop, output)),
     }
     let mut desk = Desk::new(alloc);
-    match serve_input(&mut desk, platform, tape, input, output) {
-        Ok(()) => Ok(()),
-        Err(Stop::Device(stop)) => Err(last_line(stop, output)),
-        Err(stop) => Err(stop),
+    let Err(stop) = serve_input(&mut desk, platform, tape, input, output) else {
+        return Ok(());
+    };
+    match stop {
+        Stop::Device(stop) => Err(last_line(stop, output)),
+        _ => Err(stop),
     }
 }
 
@@ -60,8 +69,8 @@ fn serve_input<P: Platform, T: Tape, I: Source, O: Sink>(
     ensures bad_root { P.tells → IsErrOf result (Stop.Device DeviceStop.BadRoot) → ⊥ }
     ensures counts { NoneFell (counts (P.faults platform.old) (T.faults tape.old) (I.faults input.old) (O.faults output.old)) (counts (P.faults platform.new) (T.faults tape.new) (I.faults input.new) (O.faults output.new)) }
     ensures cause { IfErr result (HasCause (counts (P.faults platform.old) (T.faults tape.old) (I.faults input.old) (O.faults output.old)) (counts (P.faults platform.new) (T.faults tape.new) (I.faults input.new) (O.faults output.new))) }
-    ensures taken { (taken : List ℕ) × Gave (I.left input.old) taken (I.left input.new) × TookUntil result taken (I.left input.new) }
-    ensures full_cell { IsErrOf result Stop.FullCell → ⊥ }
+    ensures ran { Ran (Stood P.tells desk.old (P.history platform.old).present) (Stood P.tells desk.new (P.history platform.new).present)
+        no_line result (I.left input.old) (I.left input.new) (O.written output.old) (O.written output.new) }
 {
     let mut piece = [0; PIECE];
     let mut pending = Pending::new();
@@ -100,19 +109,31 @@ fn serve_piece<P: Platform, T: Tape, O: Sink>(
     ensures counts { NoneFell (counts (P.faults platform.old) (T.faults tape.old) 0 (O.faults output.old)) (counts (P.faults platform.new) (T.faults tape.new) 0 (O.faults output.new)) }
     ensures cause { IfErr result (HasCause (counts (P.faults platform.old) (T.faults tape.old) 0 (O.faults output.old)) (counts (P.faults platform.new) (T.faults tape.new) 0 (O.faults output.new))) }
     ensures stops { IfErr result IsOfLine }
+    ensures pending { (rest : List ℕ) → IsPending pending.old rest → OnOk result (IsPending pending.new (rest_of (rest ++ piece.now))) }
+    ensures handled { (rest : List ℕ) → IsPending pending.old rest → Handled (Stood P.tells desk.old (P.history platform.old).present) (Stood P.tells desk.new (P.history platform.new).present)
+        no_line result (whole_lines_of (rest ++ piece.now)) (O.written output.old) (O.written output.new) }
 {
     let mut rest = piece;
-    while let Some(at) = rest.iter().position(|byte| *byte == b'\n') {
-        let (front, behind) = rest.split_at(at);
+    while let Some((front, behind)) = split_line(rest) {
         pending.push(front);
         if let Err(stop) = answer(desk, pending.line(), platform, tape, output) {
             return Err(stop);
         }
         pending.clear();
-        rest = &behind[1..];
+        rest = behind;
     }
     pending.push(rest);
     Ok(())
+}
+
+/// What stands before the first line feed of a text, and what stands behind it; None where there is none.
+fn split_line(text: &[u8]) -> Option<(&[u8], &[u8])>
+    ensures found { IfSome result (λ parts. HasNone 10 parts.0.now × (text.now ≡ parts.0.now ++ 10 ∷ parts.1.now)) }
+    ensures none { IfNone result (HasNone 10 text.now) }
+{
+    let feed = text.iter().position(|byte| *byte == b'\n')?;
+    let (line, behind) = text.split_at(feed);
+    Some((line, &behind[1..]))
 }
 
 /// Serves a last line that lacks its line feed.
@@ -131,6 +152,8 @@ fn serve_end<P: Platform, T: Tape, O: Sink>(
     ensures counts { NoneFell (counts (P.faults platform.old) (T.faults tape.old) 0 (O.faults output.old)) (counts (P.faults platform.new) (T.faults tape.new) 0 (O.faults output.new)) }
     ensures cause { IfErr result (HasCause (counts (P.faults platform.old) (T.faults tape.old) 0 (O.faults output.old)) (counts (P.faults platform.new) (T.faults tape.new) 0 (O.faults output.new))) }
     ensures stops { IfErr result IsOfLine }
+    ensures handled { (rest : List ℕ) → IsPending pending.now rest → Handled (Stood P.tells desk.old (P.history platform.old).present) (Stood P.tells desk.new (P.history platform.new).present)
+        no_line result (line_at_end rest) (O.written output.old) (O.written output.new) }
 {
     if pending.is_empty() {
         return Ok(());
@@ -154,49 +177,80 @@ fn answer<P: Platform, T: Tape, O: Sink>(
     ensures counts { NoneFell (counts (P.faults platform.old) (T.faults tape.old) 0 (O.faults output.old)) (counts (P.faults platform.new) (T.faults tape.new) 0 (O.faults output.new)) }
     ensures cause { IfErr result (HasCause (counts (P.faults platform.old) (T.faults tape.old) 0 (O.faults output.old)) (counts (P.faults platform.new) (T.faults tape.new) 0 (O.faults output.new))) }
     ensures stops { IfErr result IsOfLine }
+    ensures handled { (text : List ℕ) → IsKept (option_copied line.entry) text → Handled (Stood P.tells desk.old (P.history platform.old).present) (Stood P.tells desk.new (P.history platform.new).present)
+        no_line result (text ∷ []) (O.written output.old) (O.written output.new) }
 {
-    let command = match line {
+    let Some(command) = read_line(line) else {
+        return put_reply(&Reply::Bad, output);
+    };
+    match desk.serve(platform, tape, &command) {
+        Ok(reply) => put_reply(&reply, output),
+        Err(stop) => Err(Stop::Device(stop)),
+    }
+}
+
+/// The command that a line spells. None is a line that is too long for the grammar.
+fn read_line(line: Option<&[u8]>) -> Option<Command>
+    ensures found { IfSome result (λ command. (text : List ℕ) → IsKept (option_copied line.entry) text → Spells text command) }
+    ensures none { IfNone result ((text : List ℕ) → IsKept (option_copied line.entry) text → IsBad text) }
+{
+    match line {
         Some(line) => parse(line),
         None => None,
-    };
-    let reply = match command {
-        Some(command) => match desk.serve(platform, tape, &command) {
-            Ok(reply) => reply,
-            Err(stop) => return Err(Stop::Device(stop)),
-        },
-        None => Reply::Bad,
-    };
-    match write_reply(&reply, output) {
+    }
+}
+
+/// Puts a reply's line.
+fn put_reply<O: Sink>(reply: &Reply, output: &mut O) -> Result<(), Stop>
+    requires { CanWrite reply.now }
+    ensures put { HasPut (line_of reply.now) result (O.written output.old) (O.written output.new) }
+    ensures stop { IfErr result (λ stop. (stop ≡ Stop.Sink) × Rose (O.faults output.old) (O.faults output.new)) }
+    ensures count { O.faults output.old ≤ O.faults output.new }
+{
+    match write_reply(reply, output) {
         Ok(()) => Ok(()),
         Err(_) => Err(Stop::Sink),
     }
 }
 
-/// Puts the one line of a run that finds the cell full, which is not served yet.
-fn refuse_full_cell<O: Sink>(output: &mut O) -> Stop
-    ensures stop { (result ≡ Stop.FullCell) ⊎ ((result ≡ Stop.Sink) × Rose (O.faults output.old) (O.faults output.new)) }
+/// Puts the last line of a run that met a record or a root record which does not fit.
+fn last_line<O: Sink>(stop: DeviceStop, output: &mut O) -> Stop
+    ensures stop { ((result ≡ Stop.Device stop) × Got (O.written output.old) (damage_line stop) (O.written output.new))
+        ⊎ ((result ≡ Stop.Sink) × Rose (O.faults output.old) (O.faults output.new) × GotPart (O.written output.old) (damage_line stop) (O.written output.new) × (IsSound stop → ⊥)) }
     ensures count { O.faults output.old ≤ O.faults output.new }
 {
-    match write_reply(&Reply::Unbuilt, output) {
-        Ok(()) => Stop::FullCell,
+    let line = damage_text(stop);
+    if line.is_empty() {
+        return Stop::Device(stop);
+    }
+    match output.put(line.as_slice()) {
+        Ok(()) => Stop::Device(stop),
         Err(_) => Stop::Sink,
     }
 }
 
-/// Puts the last line of a run that met a record or a root record which does not fit.
-fn last_line<O: Sink>(stop: DeviceStop, output: &mut O) -> Stop
-    ensures stop { (result ≡ Stop.Device stop) ⊎ ((result ≡ Stop.Sink) × Rose (O.faults output.old) (O.faults output.new)) }
-    ensures count { O.faults output.old ≤ O.faults output.new }
+/// What a run says last that met damage, and nothing for other stops. The longest such line has 32 bytes.
+#[tactic(auto, unfolding(crate::specs::Replied::damage_line))]
+fn damage_text(stop: DeviceStop) -> ArrayVec<u8, 40>
+    ensures { result.items ≡ damage_line stop }
 {
-    let mut line = ArrayString::<40>::new();
-    // The longest line has 32 bytes.
-    let _ = match stop {
-        DeviceStop::BadRecord { addr } => writeln!(line, "bad record {addr}"),
-        DeviceStop::BadRoot => writeln!(line, "bad root"),
-        DeviceStop::Platform | DeviceStop::Tape | DeviceStop::Memory => return Stop::Device(stop),
-    };
-    match output.put(line.as_str().as_bytes()) {
-        Ok(()) => Stop::Device(stop),
-        Err(_) => Stop::Sink,
+    let mut line = ArrayVec::new();
+    match stop {
+        DeviceStop::BadRoot => push_text(&mut line, b"bad root\n"),
+        DeviceStop::BadRecord { addr } => {
+            push_text(&mut line, b"bad record ");
+            push_text(&mut line, itoa::Buffer::new().format(addr).as_bytes());
+            push_text(&mut line, b"\n");
+        }
+        DeviceStop::Platform | DeviceStop::Tape | DeviceStop::Memory => {}
     }
+    line
+}
+
+/// Puts a text at the end of a line that has room for it.
+fn push_text(line: &mut ArrayVec<u8, 40>, text: &[u8])
+    requires { array_vec_len line.old + length text.now ≤ 40 }
+    ensures { line.new.items ≡ line.old.items ++ text.now }
+{
+    let _ = line.try_extend_from_slice(text);
 }

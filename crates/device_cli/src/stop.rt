@@ -7,7 +7,7 @@ pub(crate) enum DeviceStop {
     Platform,
     /// The tape gave no key.
     Tape,
-    /// The cell holds no root record that is served.
+    /// The cell is full, and not with a root record that is served.
     BadRoot,
     /// The page at this address holds no record that fits its place.
     BadRecord { addr: u64 },
@@ -22,8 +22,6 @@ pub(crate) enum Stop {
     Source,
     /// The output failed.
     Sink,
-    /// The root cell was full at the start.
-    FullCell,
     /// The limit of input was reached before its end was seen.
     Limit,
     /// The device could not serve a line.
@@ -43,7 +41,6 @@ impl Stop {
             Stop::Sink => 4,
             Stop::Device(DeviceStop::Platform) => 5,
             Stop::Device(DeviceStop::Tape) => 6,
-            Stop::FullCell => 8,
             Stop::Device(DeviceStop::BadRoot) => 8,
             Stop::Device(DeviceStop::BadRecord { .. }) => 9,
             Stop::Device(DeviceStop::Memory) => 11,

@@ -4,6 +4,7 @@ ghost use Rattle.platform.specs.Image.{LeavesOnly};
 ghost use Rattle.platform.specs.History.{Turns};
 ghost use Rattle.page_store.specs.Device.{Device};
 ghost use Rattle.page_store.specs.Stands.{Stands};
+ghost use Rattle.device_core.specs.Leaf.{IsServedCell};
 ghost use Rattle.device_core.specs.Blocks.{Blocks};
 ghost use Rattle.device_core.specs.Replies.{device_after, committed_device};
 
@@ -46,6 +47,8 @@ impl Session {
         ensures follows { P.tells → Follows self (P.history platform.old).present → IfOk result (λ answer. Follows answer.0 (P.history platform.new).present) }
         ensures open { IfOk result (λ answer. IsOpen answer.0 (P.head platform.new)) }
         ensures same { IfOk result (λ answer. (blocks_of answer.0 ≡ blocks_of self) × (mapped_of answer.0 ≡ mapped_of self)) }
+        ensures served { P.tells → IsServedCell (P.history platform.old).present.cell (P.head platform.old)
+            → IfOk result (λ answer. IsServedCell (P.history platform.new).present.cell (P.head platform.new)) }
         // At each moment a loss of power leaves the device, until one from which on it leaves the one with the session's array.
         ensures time { P.tells → (device : Device) (contents : Blocks) → Holds self (P.history platform.old).present device contents
             → Turns (P.history platform.old) (P.history platform.new)
@@ -89,6 +92,7 @@ impl Session {
         ensures follows { P.tells → IfOk result (λ answer. Follows answer.0 (P.history platform.new).present) }
         ensures open { IfOk result (λ answer. IsOpen answer.0 (P.head platform.new)) }
         ensures same { IfOk result (λ answer. (blocks_of answer.0 ≡ blocks_of self) × (mapped_of answer.0 ≡ mapped_of self)) }
+        ensures served { P.tells → IfOk result (λ answer. IsServedCell (P.history platform.new).present.cell (P.head platform.new)) }
         ensures time { P.tells → (device : Device) (contents : Blocks) → Holds self (P.history platform.old).present device contents
             → Turns (P.history platform.old) (P.history platform.new)
             (LeavesOnly (λ left. Stands left (Some device)))

@@ -4,7 +4,7 @@ use platform::{CallKind, Failure, MemPlatform};
 use std::test::Fail;
 
 /// A script, and what is written for it. The status is 0.
-const ROWS: [(&str, &str, &str); 6] = [
+const ROWS: [(&str, &str, &str); 10] = [
     ("empty-input", "", ""),
     (
         "one-block",
@@ -16,7 +16,7 @@ const ROWS: [(&str, &str, &str); 6] = [
         "read 0\nmount\nformat 0 64\nformat 8 4\nformat 65 64\nformat 8 64\nformat 8 64\nmount\nmount\n\
          read 8\ntrim 1\nread 3\n",
         "unmounted\nno device\nrange\nunbuilt\nunbuilt\nformatted\nnot empty\nmounted 0\nalready mounted\n\
-         range\nunbuilt\ndata -\n",
+         range\nok\ndata -\n",
     ),
     (
         "idle-commit",
@@ -27,7 +27,28 @@ const ROWS: [(&str, &str, &str); 6] = [
         "grammar",
         "format 8 64\nmount\nwrite 3 abc\n\nread 03\nREAD 3\nread  3\nread 18446744073709551616\n\
          read 18446744073709551615\nread 3\r\nfrob\nwrite 3 Ff00\nread 3\nstat\n",
-        "formatted\nmounted 0\nbad\nbad\nbad\nbad\nbad\nbad\nrange\nbad\nbad\nok\ndata ff\nunbuilt\n",
+        "formatted\nmounted 0\nbad\nbad\nbad\nbad\nbad\nbad\nrange\nbad\nbad\nok\ndata ff\nstat mapped 1 commit 0\n",
+    ),
+    (
+        "state-refusals",
+        "read 0\nmount\nerase\nformat 0 64\nformat 8 5\nformat 8 64\nformat 8 64\nmount\nmount\ndrop\ndrop\n",
+        "unmounted\nno device\nno device\nrange\nrange\nformatted\nnot empty\nmounted 0\nalready mounted\n\
+         dropped\nunmounted\n",
+    ),
+    (
+        "out-of-range",
+        "format 8 64\nmount\nread 7\nread 8\nwrite 8 61\ntrim 8\n",
+        "formatted\nmounted 0\ndata -\nrange\nrange\nrange\n",
+    ),
+    (
+        "trim-committed",
+        "format 8 64\nmount\nwrite 3 6869\ncommit\ntrim 3\nstat\nread 3\ncommit\ntrim 3\ncommit\n",
+        "formatted\nmounted 0\nok\ncommitted 1\nok\nstat mapped 0 commit 1\ndata -\ncommitted 2\nok\ncommitted 2\n",
+    ),
+    (
+        "erase-and-format",
+        "format 8 64\nmount\nwrite 3 6869\ncommit\nerase\nread 3\nformat 8 64\nmount\nread 3\n",
+        "formatted\nmounted 0\nok\ncommitted 1\nerased\nunmounted\nformatted\nmounted 0\ndata -\n",
     ),
     (
         "last line without its line feed",
@@ -145,9 +166,9 @@ fn failed_append(rt: HostRuntime) -> Result<(), Fail> {
     );
     assert_eq!(rt; ran.status, 5);
 
-    // The cell is full now, which is not served yet.
-    let ran = run_over(alloc, &mut platform, &Given::script("mount\n"))?;
-    assert_eq!(rt; ran.output.bytes(), b"unbuilt\n".as_slice());
-    assert_eq!(rt; ran.status, 8);
+    // What was not committed is gone.
+    let ran = run_over(alloc, &mut platform, &Given::script("mount\nread 3\n"))?;
+    assert_eq!(rt; ran.output.bytes(), b"mounted 0\ndata -\n".as_slice());
+    assert_eq!(rt; ran.status, 0);
     Ok(())
 }

@@ -1,41 +1,110 @@
-use Rattle.std.proofs.Common.{◌≡◌, ◌+◌, ◌-◌, ◌≤◌, ◌^◌, ℕ, List, ◌++◌, take, length, arith, length-append, length-take}
+use Rattle.std.proofs.Common.{◌≡◌, ℕ, ◌+◌, ◌-◌, ◌≤◌, List, [], ◌++◌, None, Some, Err, take, drop, length, refl, sym, ◌∙◌, ap, subst, arith, length-take, length-append}
+use Rattle.std.proofs.lemmas.List.{take-append-le}
 use Rattle.std.proofs.lemmas.Grind.{common_steps}
-use Rattle.sdbt_base.proofs.ToldLaws.{Gave-then}
-use Rattle.device_cli.proofs.RunLaws.{TookUntil-line}
+use Rattle.std.specs.Prelude.{◌↔◌, Option, IfSome}
+use Rattle.sdbt_base.specs.Told.{Gave, IsAtEnd}
+use Rattle.script_lang.specs.Lines.{rest_of}
+use Rattle.script_lang.specs.Arrays.{State}
+use Rattle.device_cli.specs.Represents.{Stood}
+use Rattle.device_cli.proofs.Reading.{IsReading, IsReading-start, IsReading-more, IsReading-stop, IsReading-end, IsReading-failed, IsReading-limit}
 use Rattle.device_cli.proofs.run.serve_input.Goals as goal
 
--- what was taken with one piece more
-taken_more : (before into : List ℕ) (count left : ℕ) → length before + left ≡ 2 ^ 32 → count ≤ length into → length into ≤ left → length (before ++ take count into) + (left - count) ≡ 2 ^ 32
-taken_more before into count left all bound room =
-    omega (arith, length-append before (take count into), length-take count into)
+-- nothing given leaves all
+none_given : (a b : Option (List ℕ)) (bytes : List ℕ) (count : ℕ) → count ≡ 0 → Gave a (take count bytes) b → a ≡ b
+none_given a None bytes count e gave = gave
+none_given a (Some rest) bytes count e gave = gave ∙ ap (λ (front : List ℕ). Some (front ++ rest)) (ap (λ (n : ℕ). take n bytes) e)
 
-pub returns-in-Err-clause-taken : goal.returns-in-Err-clause-taken
-returns-in-Err-clause-taken g c =
+-- the front of what was taken is within it
+front : (into behind : List ℕ) (count : ℕ) → count ≤ length into → take count into ≡ take count (into ++ behind)
+front into behind count bound = sym (take-append-le count into behind bound)
+
+-- and where something is left, it is given
+nothing_left : (a : Option (List ℕ)) (count : ℕ) → count ≡ 0 → IfSome a (λ rest. (count ≡ 0) ↔ (rest ≡ [])) → IsAtEnd a
+nothing_left None count e end = tt
+nothing_left (Some rest) count e end = end.0 e
+
+pub loop-left-init : goal.loop-left-init
+loop-left-init g c =
+    let P = g.P.Platform in
+    record {
+      ready = c.requires.ready;
+      cell = c.requires.cell;
+      counts = grind (arith, common_steps);
+      reading = IsReading-start (Stood P.tells c.args.desk.now (P.history c.args.platform.now).present) (g.I.Source.left c.args.input.now)
+        (g.O.Sink.written c.args.output.now) c.new-pending.result _ c.new-pending.ensures (omega arith);
+    }
+
+pub returns-in_default-clause-ran : goal.returns-in_default-clause-ran
+returns-in_default-clause-ran g c =
+    let P = g.P.Platform in
     let left = g.I.Source.left in
-    let before = c.loop-left.invariant.taken in
+    let written = g.O.Sink.written in
+    let Old : State → Type 0 = Stood P.tells c.args.desk.now (P.history c.args.platform.now).present in
+    let Mid : State → Type 0 = Stood P.tells c.loop-left.desk (P.history c.loop-left.platform).present in
+    let same : left c.take.new.self ≡ left c.loop-left.input = c.in_default.ensures.nothing_taken in
+    IsReading-failed Old Mid (left c.args.input.now) (left c.take.new.self) (written c.args.output.now) (written c.loop-left.output) c.loop-left.pending c.loop-left.left
+    (subst (λ (l : Option (List ℕ)). IsReading Old Mid (left c.args.input.now) l (written c.args.output.now) (written c.loop-left.output) c.loop-left.pending c.loop-left.left)
+      (sym same) c.loop-left.invariant.reading)
+    c.loop-left-test.true
+
+pub returns-then-count-eq0-clause-ran : goal.returns-then-count-eq0-clause-ran
+returns-then-count-eq0-clause-ran g c =
+    let P = g.P.Platform in
+    let left = g.I.Source.left in
+    let written = g.O.Sink.written in
+    let Old : State → Type 0 = Stood P.tells c.args.desk.now (P.history c.args.platform.now).present in
+    let Mid : State → Type 0 = Stood P.tells c.loop-left.desk (P.history c.loop-left.platform).present in
+    let New : State → Type 0 = Stood P.tells c.serve_end.new.desk (P.history c.serve_end.new.platform).present in
     let into : List ℕ = c.take.new.into in
-    let piece : List ℕ = take c.in-Ok.count into in
+    let same : left c.loop-left.input ≡ left c.take.new.self = none_given (left c.loop-left.input) (left c.take.new.self) into c.in-Ok.count c.if-count-eq0.true c.in-Ok.ensures.taken in
+    let reading = subst (λ (l : Option (List ℕ)). IsReading Old Mid (left c.args.input.now) l (written c.args.output.now) (written c.loop-left.output) c.loop-left.pending c.loop-left.left)
+      same c.loop-left.invariant.reading in
+    let end = subst (λ (l : Option (List ℕ)). IsAtEnd l) same (nothing_left (left c.loop-left.input) c.in-Ok.count c.if-count-eq0.true c.in-Ok.ensures.end) in
+    IsReading-end Old Mid New c.serve_end.result (left c.args.input.now) (left c.take.new.self) (written c.args.output.now) (written c.loop-left.output) (written c.serve_end.new.output)
+    c.loop-left.pending c.loop-left.left reading c.loop-left-test.true end c.serve_end.ensures.stops
+    (c.serve_end.ensures.handled (rest_of reading.taken) reading.pending)
+
+pub returns-in-Err-clause-ran : goal.returns-in-Err-clause-ran
+returns-in-Err-clause-ran g c =
+    let P = g.P.Platform in
+    let left = g.I.Source.left in
+    let written = g.O.Sink.written in
+    let Old : State → Type 0 = Stood P.tells c.args.desk.now (P.history c.args.platform.now).present in
+    let Mid : State → Type 0 = Stood P.tells c.loop-left.desk (P.history c.loop-left.platform).present in
+    let New : State → Type 0 = Stood P.tells c.serve_piece.new.desk (P.history c.serve_piece.new.platform).present in
+    let reading = c.loop-left.invariant.reading in
+    let into : List ℕ = c.take.new.into in
+    let behind : List ℕ = drop c.min-room.result c.loop-left.piece in
+    let piece : List ℕ = take c.in-Ok.count (into ++ behind) in
     let long : length into ≤ c.loop-left.left = grind (arith, common_steps, c.take.auto.into, c.min-room.ensures) in
-    let whole = taken_more before.0 into c.in-Ok.count c.loop-left.left before.2 (omega (arith, c.in-Ok.ensures.bound, c.take.auto.into)) long in (
-      before.0 ++ piece,
-      Gave-then (left c.args.input.now) before.0 (left c.loop-left.input) piece (left c.take.new.self) before.1 c.in-Ok.ensures.taken,
-      TookUntil-line c.in-Err.stop (before.0 ++ piece) (left c.take.new.self) c.in-Err.ensures.stops (omega (arith, whole)),
-    )
+    let bound : c.in-Ok.count ≤ length into = omega (arith, c.in-Ok.ensures.bound, c.take.auto.into) in
+    let gave = subst (λ (bytes : List ℕ). Gave (left c.loop-left.input) bytes (left c.take.new.self)) (front into behind c.in-Ok.count bound) c.in-Ok.ensures.taken in
+    let short : length piece ≤ c.loop-left.left = omega (arith, length-take c.in-Ok.count (into ++ behind), length-append into behind) in
+    IsReading-stop Old Mid New (left c.args.input.now) (left c.loop-left.input) (left c.take.new.self) (written c.args.output.now) (written c.loop-left.output) (written c.serve_piece.new.output)
+    c.loop-left.pending c.loop-left.left piece c.in-Err.stop reading gave short c.in-Err.ensures.stops
+    (c.in-Err.ensures.handled (rest_of reading.taken) reading.pending)
 
 pub loop-left-preserved : goal.loop-left-preserved
 loop-left-preserved g c =
+    let P = g.P.Platform in
     let left = g.I.Source.left in
-    let before = c.loop-left.invariant.taken in
+    let written = g.O.Sink.written in
+    let Old : State → Type 0 = Stood P.tells c.args.desk.now (P.history c.args.platform.now).present in
+    let Mid : State → Type 0 = Stood P.tells c.loop-left.desk (P.history c.loop-left.platform).present in
+    let New : State → Type 0 = Stood P.tells c.serve_piece.new.desk (P.history c.serve_piece.new.platform).present in
+    let reading = c.loop-left.invariant.reading in
     let into : List ℕ = c.take.new.into in
-    let piece : List ℕ = take c.in-Ok.count into in
+    let behind : List ℕ = drop c.min-room.result c.loop-left.piece in
+    let piece : List ℕ = take c.in-Ok.count (into ++ behind) in
     let long : length into ≤ c.loop-left.left = grind (arith, common_steps, c.take.auto.into, c.min-room.ensures) in
+    let bound : c.in-Ok.count ≤ length into = omega (arith, c.in-Ok.ensures.bound, c.take.auto.into) in
+    let gave = subst (λ (bytes : List ℕ). Gave (left c.loop-left.input) bytes (left c.take.new.self)) (front into behind c.in-Ok.count bound) c.in-Ok.ensures.taken in
+    let less : c.loop-left.left ≡ length piece + (c.loop-left.left - c.in-Ok.count) = omega (arith, length-take c.in-Ok.count (into ++ behind), length-append into behind) in
     record {
       ready = c.in-Ok-serve_piece.ensures.ready;
       cell = c.in-Ok-serve_piece.ensures.cell;
       counts = grind (arith, c.loop-left.invariant.counts, c.serve_piece.ensures.counts, c.take.ensures.count);
-      taken = (
-        before.0 ++ piece,
-        Gave-then (left c.args.input.now) before.0 (left c.loop-left.input) piece (left c.take.new.self) before.1 c.in-Ok.ensures.taken,
-        taken_more before.0 into c.in-Ok.count c.loop-left.left before.2 (omega (arith, c.in-Ok.ensures.bound, c.take.auto.into)) long,
-      );
+      reading = IsReading-more Old Mid New (left c.args.input.now) (left c.loop-left.input) (left c.take.new.self) (written c.args.output.now) (written c.loop-left.output) (written c.serve_piece.new.output)
+        c.loop-left.pending c.serve_piece.new.pending c.loop-left.left (c.loop-left.left - c.in-Ok.count) piece reading gave less
+        (c.in-Ok-serve_piece.ensures.pending (rest_of reading.taken) reading.pending) (c.in-Ok-serve_piece.ensures.handled (rest_of reading.taken) reading.pending);
     }

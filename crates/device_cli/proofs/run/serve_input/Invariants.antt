@@ -1,11 +1,10 @@
-use Rattle.std.proofs.Common.{◌≡◌, ◌+◌, ◌^◌, ℕ, List, length}
-use Rattle.sdbt_base.specs.Told.{Gave}
-use Rattle.device_cli.specs.Leaf.{IsServedCell}
+use Rattle.device_core.specs.Leaf.{IsServedCell}
 use Rattle.device_cli.specs.Desk.{IsReady}
 use Rattle.device_cli.specs.Run.{counts, NoneFell}
+use Rattle.device_cli.specs.Represents.{Stood}
+use Rattle.device_cli.proofs.Reading.{IsReading}
 use Rattle.device_cli.proofs.run.serve_input.Given as goal
 
--- so much was taken that with what is left to the limit it is the limit
 abbrev pub invariant-loop-left : goal.invariant-loop-left
 invariant-loop-left g l =
     let P = g.P.Platform in
@@ -16,7 +15,8 @@ invariant-loop-left g l =
       ready : IsReady l.desk (P.head l.platform);
       cell : P.tells → IsServedCell (P.history l.platform).present.cell (P.head l.platform);
       counts : NoneFell (counts (P.faults l.fn.platform) (T.faults l.fn.tape) (I.faults l.fn.input) (O.faults l.fn.output)) (counts (P.faults l.platform) (T.faults l.tape) (I.faults l.input) (O.faults l.output));
-      taken : (taken : List ℕ) × Gave (I.left l.fn.input) taken (I.left l.input) × (length taken + l.left ≡ 2 ^ 32);
+      reading : IsReading (Stood P.tells l.fn.desk (P.history l.fn.platform).present) (Stood P.tells l.desk (P.history l.platform).present)
+        (I.left l.fn.input) (I.left l.input) (O.written l.fn.output) (O.written l.output) l.pending l.left;
     }
 
 abbrev pub decreases-loop-left : goal.decreases-loop-left

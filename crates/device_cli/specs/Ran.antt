@@ -1,0 +1,65 @@
+-- A run from its input to its output.
+use Rattle.std.specs.Prelude.{◌≡◌, ◌≢◌, ℕ, ◌≤◌, ◌⊎◌, List, [], ◌∷◌, ◌++◌, Option, Ok, Err, length, flat_map}
+use Rattle.sdbt_base.specs.Told.{Gave, Got, IsAtEnd}
+use Rattle.script_lang.specs.Lines.{whole_lines_of, lines_of}
+use Rattle.script_lang.specs.Replies.{line_of}
+use Rattle.script_lang.specs.Arrays.{State}
+use Rattle.script_lang.specs.Answers.{Answers}
+use Rattle.script_lang.specs.declared.replies.Reply.{Reply}
+use Rattle.device_cli.specs.Run.{TookUntil}
+use Rattle.device_cli.specs.Replied.{Ending, Handled, IsFirstPart, IfNext, AsksForBlock, damage_line}
+use Rattle.device_cli.specs.declared.stop.DeviceStop.{DeviceStop}
+use Rattle.device_cli.specs.declared.stop.DeviceStop.TheVariants as device
+use Rattle.device_cli.specs.declared.stop.Stop.TheVariants as stops
+
+-- the lines that have come: those with their line feeds, and at the end of the input also a last one without
+abbrev pub HaveCome : List ℕ → Option (List ℕ) → List (List ℕ) → Type 0
+HaveCome taken left lines = (lines ≡ whole_lines_of taken) ⊎ (IsAtEnd left × (lines ≡ lines_of taken))
+
+-- the lines that a run handles which ends so: at the end of the input all, where the input failed or reached its
+-- limit the whole ones, and else those that have come
+abbrev pub AreLines : Ending → List ℕ → Option (List ℕ) → List (List ℕ) → Type 0
+AreLines (Ok done) taken left lines = IsAtEnd left × (lines ≡ lines_of taken)
+AreLines (Err stops.Source) taken left lines = lines ≡ whole_lines_of taken
+AreLines (Err stops.Limit) taken left lines = lines ≡ whole_lines_of taken
+AreLines (Err stops.Sink) taken left lines = HaveCome taken left lines
+AreLines (Err (stops.Device stop)) taken left lines = HaveCome taken left lines
+
+-- a run that took its lines from an input and put its replies to an output
+pub record Ran (Old New : State → Type 0) (last : DeviceStop → List ℕ) (ending : Ending) (left left_now written written_now : Option (List ℕ)) : Type 0 where
+  pub taken : List ℕ
+  pub lines : List (List ℕ)
+  pub gave : Gave left taken left_now
+  pub took : TookUntil ending taken left_now
+  pub come : AreLines ending taken left_now lines
+  pub handled : Handled Old New last ending lines written written_now
+
+-- the replies are those of the array, from the state at entry on, where a run ends with this status: at 0, 3 and 12 in
+-- the state after them; at 4 in the one that one more reply leads to, of whose line a first part was put; never by damage
+pub record AnswersFrom (New : State → Type 0) (status : ℕ) (entry : State) (lines : List (List ℕ)) (replies : List Reply) (part : List ℕ) : Type 0 where
+  pub now : State
+  pub answers : Answers entry lines replies now
+  pub ends : (status ≡ 0) ⊎ (status ≡ 3) ⊎ (status ≡ 12) → New now
+  pub next : status ≡ 4 → (reply : Reply) × (then : State) × Answers entry lines (replies ++ reply ∷ []) then × IsFirstPart (line_of reply) part × New then
+  pub sound : (status ≢ 8) × (status ≢ 9)
+
+-- a run that ends with this status: what was taken from its input, the lines of that which it handled, its replies, and
+-- the part that it put behind their lines
+pub record AnswersScript (Old New : State → Type 0) (status : ℕ) (left left_now written written_now : Option (List ℕ)) : Type 0 where
+  pub taken : List ℕ
+  pub gave : Gave left taken left_now
+  pub lines : List (List ℕ)
+  pub come : HaveCome taken left_now lines
+  pub replies : List Reply
+  pub part : List ℕ
+  pub got : Got written (flat_map line_of replies ++ part) written_now
+  pub few : length replies ≤ length lines
+  -- at the end of the input each line has its reply; where the input failed or reached its limit, each whole line
+  pub all : status ≡ 0 → IsAtEnd left_now × (lines ≡ lines_of taken) × (length replies ≡ length lines)
+  pub whole : (status ≡ 3) ⊎ (status ≡ 12) → (lines ≡ whole_lines_of taken) × (length replies ≡ length lines)
+  -- behind the replies: nothing; the last line of 8 or 9, whole; or, where the output failed, a first part of a line
+  pub no_part : status ≢ 4 → status ≢ 8 → status ≢ 9 → part ≡ []
+  pub bad_root : status ≡ 8 → part ≡ damage_line device.BadRoot
+  pub bad_record : status ≡ 9 → (addr : ℕ) × (part ≡ damage_line (device.BadRecord addr)) × IfNext replies lines AsksForBlock
+  pub cut : status ≡ 4 → ((reply : Reply) × IsFirstPart (line_of reply) part) ⊎ ((stop : DeviceStop) × IsFirstPart (damage_line stop) part)
+  pub answered : (entry : State) → Old entry → AnswersFrom New status entry lines replies part

@@ -1,0 +1,50 @@
+//! What is looked at before the first line.
+ghost use Rattle.std.specs.Prelude.{◌≡◌, ◌≤◌, ◌⊎◌, IfErr, OnOk, IsErrOf, IfSome, IfNone, length};
+ghost use Rattle.sdbt_base.specs.Faults.{Rose};
+ghost use Rattle.root_codec.specs.declared.root.Root.{Root};
+ghost use Rattle.root_codec.specs.RootRecord.{root_bytes};
+ghost use Rattle.device_core.specs.Leaf.{IsServed, IsServedCell};
+
+use crate::stop::DeviceStop;
+use platform::Platform;
+use root_codec::{Root, decode_root};
+use sdbt_base::{MAX_ORDER, ROOT};
+
+/// The greatest number of blocks of a device that is served.
+pub(crate) const MOST_BLOCKS: u64 = 64;
+
+/// Whether the root cell is empty, or holds a root record that can be served.
+pub(crate) fn check_cell<P: Platform>(platform: &mut P) -> Result<(), DeviceStop>
+    ensures served { P.tells → OnOk result (IsServedCell (P.history platform.old).present.cell (P.head platform.old)) }
+    ensures bad_root { P.tells → IsErrOf result DeviceStop.BadRoot → IsServedCell (P.history platform.old).present.cell (P.head platform.old) → ⊥ }
+    ensures stops { IfErr result (λ stop. (stop ≡ DeviceStop.BadRoot) ⊎ ((stop ≡ DeviceStop.Platform) × Rose (P.faults platform.old) (P.faults platform.new))) }
+    ensures image { P.tells → (P.history platform.new).present ≡ (P.history platform.old).present }
+    ensures head { P.head platform.new ≡ P.head platform.old }
+    ensures count { P.faults platform.old ≤ P.faults platform.new }
+{
+    let mut cell = [0; ROOT];
+    match platform.load_root(&mut cell) {
+        Ok(true) => {}
+        Ok(false) => return Ok(()),
+        Err(_) => return Err(DeviceStop::Platform),
+    }
+    match served_root(&cell, platform.head()) {
+        Some(_) => Ok(()),
+        None => Err(DeviceStop::BadRoot),
+    }
+}
+
+/// The root whose record the 128 bytes are, where it can be served with so many pages on the medium.
+fn served_root(bytes: &[u8], head: u64) -> Option<Root>
+    requires { length bytes.now ≡ 128 }
+    ensures found { IfSome result (λ root. IsServed root head × (bytes.now ≡ root_bytes root)) }
+    ensures none { IfNone result ((root : Root) → IsServed root head → bytes.now ≡ root_bytes root → ⊥) }
+{
+    let root = decode_root(bytes)?;
+    let is_one_leaf = root.order == MAX_ORDER && root.level == 1 && root.blocks <= MOST_BLOCKS;
+    if is_one_leaf && root.head <= head {
+        Some(root)
+    } else {
+        None
+    }
+}
