@@ -55,7 +55,7 @@ Replied-part Old New last line reply n turn = record {
   many = omega arith;
   damage = tt;
   answered = λ entry old. let t = turn entry old in
-    record { now = entry; answers = refl; ends = (reply, t.0, (t.0, t.1, refl), (n, refl), t.2) };
+      record { now = entry; answers = refl; ends = (reply, t.0, (t.0, t.1, refl), (n, refl), t.2) };
 }
 
 -- a line that the device stopped at
@@ -112,9 +112,14 @@ EndsIn-then New (Ok done) entry mid now lines more replies others part same h k 
 EndsIn-then New (Err stops.Source) entry mid now lines more replies others part same h k = k
 EndsIn-then New (Err stops.Limit) entry mid now lines more replies others part same h k = k
 EndsIn-then New (Err (stops.Device stop)) entry mid now lines more replies others part same h k = k
-EndsIn-then New (Err stops.Sink) entry mid now lines more replies others part same h (reply, next, answers, cut, new) =
-    (reply, next, subst (λ (all : List Reply). Answers entry (lines ++ more) all next) (sym (append_assoc replies others (reply ∷ [])))
-      (Answers-append entry mid next lines more replies (others ++ reply ∷ []) same h answers), cut, new)
+EndsIn-then New (Err stops.Sink) entry mid now lines more replies others part same h (reply, next, answers, cut, new) = (
+  reply,
+  next,
+  subst (λ (all : List Reply). Answers entry (lines ++ more) all next) (sym (append_assoc replies others (reply ∷ [])))
+      (Answers-append entry mid next lines more replies (others ++ reply ∷ []) same h answers),
+  cut,
+  new,
+)
 
 -- one run after another, which answered all its lines
 pub Replied-then : (Old Mid New : State → Type 0) (last : DeviceStop → List ℕ) (ending : Ending) (lines more : List (List ℕ)) (put others : List ℕ)

@@ -243,10 +243,10 @@ commit_committed New d t number now head capacity true reply is same n idle full
     elim (eqb_tells head capacity) [
       | inl equal ↦ absurd (let f = full refl equal.1 in cc)
       | inr differ ↦
-        let both = raised refl differ.1 in
-        let e : number + 1 ≡ now = cc (both.0) in
-        let f : d.number + 1 ≡ now = omega (arith, e, n) in
-        subst (λ (k : ℕ). Serves New (at d t) Commit (Ok (Committed k))) f (commit_raised New d t (sym same) both.1)
+          let both = raised refl differ.1 in
+          let e : number + 1 ≡ now = cc (both.0) in
+          let f : d.number + 1 ≡ now = omega (arith, e, n) in
+          subst (λ (k : ℕ). Serves New (at d t) Commit (Ok (Committed k))) f (commit_raised New d t (sym same) both.1)
     ]
 
 -- and one that was answered that the medium is full

@@ -15,4 +15,4 @@ returns-clause-answered g c told entry rep =
     let taken : c.args.self.now.session ≡ Some c.in-Some.field-0 = cc (c.take.ensures.value, c.in-Some.is) in
     with_session c.args.self.now image c.in-Some.field-0 entry taken rep (λ state. Serves New state commands.Drop (Ok replies.Dropped))
     (λ d t holds touched. dropped New d t (has_none (record { alloc = c.args.self.now.alloc; session = c.take.new.self }) image (Some d) c.take.ensures.after
-      (holds_stands c.in-Some.field-0 image d t.contents holds)))
+    (holds_stands c.in-Some.field-0 image d t.contents holds)))

@@ -18,5 +18,5 @@ returns-in-Ok-clause-answered g c told entry rep =
     let found = c.in-Ok.ensures.found told in
     without_session c.args.self.now image entry none rep (λ state. Serves New state commands.Mount (Ok (replies.Mounted c.number-number.result)))
     (λ stands. mounted_any New image entry.device c.number-number.result stands (λ e. cc)
-      (λ d stands_for. let holds = c.in-Ok.ensures.holds told (stored d) stands_for in
-        (c.number-number.ensures ∙ holds.stands.number, has_session (record { alloc = c.args.self.now.alloc; session = Some c.in-Ok.session }) image_now c.in-Ok.session d (session_on d) refl holds c.in-Ok.ensures.untouched)))
+    (λ d stands_for. let holds = c.in-Ok.ensures.holds told (stored d) stands_for in
+    (c.number-number.ensures ∙ holds.stands.number, has_session (record { alloc = c.args.self.now.alloc; session = Some c.in-Ok.session }) image_now c.in-Ok.session d (session_on d) refl holds c.in-Ok.ensures.untouched)))

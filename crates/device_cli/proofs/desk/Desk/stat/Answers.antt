@@ -18,4 +18,4 @@ returns-in-Some-clause-answered g c told entry rep =
     let New : State → Type 0 = Represents c.args.self.now image in
     with_session c.args.self.now image c.in-Some.session entry c.in-Some.is rep (λ state. Serves New state commands.Stat (Ok (replies.Stat c.mapped.result c.number.result)))
     (λ d t holds touched. stat_of New d t c.mapped.result c.number.result (c.mapped.ensures ∙ mapped_len c.in-Some.session image (stored d) t.contents (g.P.Platform.head c.args.platform.now) (subst (λ (s : Option Session). IfSome s (λ session. IsOpen session (g.P.Platform.head c.args.platform.now))) c.in-Some.is c.requires.ready) holds) (c.number.ensures ∙ holds.stands.number)
-      (has_session c.args.self.now image c.in-Some.session d t c.in-Some.is holds touched))
+    (has_session c.args.self.now image c.in-Some.session d t c.in-Some.is holds touched))
