@@ -1,5 +1,5 @@
 -- How far the serving of an input has come.
-use Rattle.std.proofs.Common.{◌≡◌, ℕ, ◌+◌, ◌-◌, ◌<◌, ◌≤◌, ◌^◌, List, [], ◌++◌, Option, None, Ok, Err, length, inl, inr, refl, sym, subst, arith, length-append}
+use Rattle.std.proofs.Common.{◌≡◌, ℕ, ◌+◌, ◌<◌, ◌≤◌, ◌^◌, List, [], ◌++◌, Option, Ok, Err, length, inl, inr, refl, sym, subst, arith, length-append}
 use Rattle.std.specs.Prelude.{IfErr}
 use Rattle.sdbt_base.specs.Told.{Gave, IsAtEnd}
 use Rattle.sdbt_base.proofs.ToldLaws.{Gave-nothing, Gave-then}
@@ -85,12 +85,13 @@ IsReading-end Old Mid New ending left left_now a b c kept room r some end ends h
   took = took ending r.taken left_now ends (omega (arith, r.most, some)) end;
   come = come ending r.taken left_now ends end;
   handled = subst (λ (lines : List (List ℕ)). Handled Old New no_line ending lines a c) (sym (lines_of-whole r.taken))
-    (Handled-then Old Mid New no_line ending (whole_lines_of r.taken) (line_at_end (rest_of r.taken)) a b c r.handled handled);
+      (Handled-then Old Mid New no_line ending (whole_lines_of r.taken) (line_at_end (rest_of r.taken)) a b c r.handled handled);
 }
   where
     took : (e : Ending) (t : List ℕ) (l : Option (List ℕ)) → IfErr e IsOfLine → length t < 2 ^ 32 → IsAtEnd l → TookUntil e t l
     took (Ok done) t l h below e = record { most = omega (arith, below); whole = (below, e); failed = λ p. cc; limit = λ p. cc }
     took (Err stop) t l h below e = TookUntil-line stop t l h (omega (arith, below))
+
     come : (e : Ending) (t : List ℕ) (l : Option (List ℕ)) → IfErr e IsOfLine → IsAtEnd l → AreLines e t l (lines_of t)
     come (Ok done) t l h e = (e, refl)
     come (Err stop) t l h e = AreLines-line stop t l (lines_of t) h (inr (e, refl))

@@ -1,8 +1,6 @@
 -- How runs compose.
-use Rattle.std.proofs.Common.{◌≡◌, ℕ, ◌≤◌, ◌+◌, List, [], ◌∷◌, ◌++◌, Option, Ok, Err, length, take, inl, inr, refl, sym, ap, ◌∙◌, subst, arith, append_assoc, length-append}
-use Rattle.std.specs.Prelude.{flat_map}
+use Rattle.std.proofs.Common.{◌≡◌, ℕ, ◌≤◌, ◌+◌, List, [], ◌∷◌, ◌++◌, Option, Ok, Err, length, take, inl, refl, sym, subst, arith, append_assoc, length-append}
 use Rattle.std.proofs.lemmas.Grind.{flat_map-append, common_steps}
-use Rattle.sdbt_base.specs.Told.{Got, GotPart}
 use Rattle.sdbt_base.proofs.ToldLaws.{Got-nothing, Got-then}
 use Rattle.script_lang.specs.Grammar.{Spells}
 use Rattle.script_lang.specs.Replies.{line_of}
@@ -12,7 +10,7 @@ use Rattle.script_lang.specs.Answers.{Answers, Turn}
 use Rattle.script_lang.proofs.AnswerLaws.{Answers-append, Answers-longer}
 use Rattle.script_lang.specs.declared.replies.Reply.{Reply}
 use Rattle.device_cli.specs.Run.{IsOfLine}
-use Rattle.device_cli.specs.Replied.{no_line, Ending, IsBehind, AreMany, IfNext, IsDamageAt, EndsIn, Answered, Replied, Handled, IsFirstPart, AsksForBlock, IsSound, IsOfBlock, HasPut}
+use Rattle.device_cli.specs.Replied.{no_line, Ending, AreMany, IfNext, IsDamageAt, EndsIn, Replied, Handled, AsksForBlock, IsSound, IsOfBlock, HasPut}
 use Rattle.device_cli.specs.declared.stop.Stop.{Stop}
 use Rattle.device_cli.specs.declared.stop.Stop.TheVariants as stops
 use Rattle.device_cli.specs.declared.stop.DeviceStop.{DeviceStop}
@@ -55,7 +53,7 @@ Replied-part Old New last line reply n turn = record {
   many = omega arith;
   damage = tt;
   answered = λ entry old. let t = turn entry old in
-    record { now = entry; answers = refl; ends = (reply, t.0, (t.0, t.1, refl), (n, refl), t.2) };
+      record { now = entry; answers = refl; ends = (reply, t.0, (t.0, t.1, refl), (n, refl), t.2) };
 }
 
 -- a line that the device stopped at
@@ -112,9 +110,14 @@ EndsIn-then New (Ok done) entry mid now lines more replies others part same h k 
 EndsIn-then New (Err stops.Source) entry mid now lines more replies others part same h k = k
 EndsIn-then New (Err stops.Limit) entry mid now lines more replies others part same h k = k
 EndsIn-then New (Err (stops.Device stop)) entry mid now lines more replies others part same h k = k
-EndsIn-then New (Err stops.Sink) entry mid now lines more replies others part same h (reply, next, answers, cut, new) =
-    (reply, next, subst (λ (all : List Reply). Answers entry (lines ++ more) all next) (sym (append_assoc replies others (reply ∷ [])))
-      (Answers-append entry mid next lines more replies (others ++ reply ∷ []) same h answers), cut, new)
+EndsIn-then New (Err stops.Sink) entry mid now lines more replies others part same h (reply, next, answers, cut, new) = (
+  reply,
+  next,
+  subst (λ (all : List Reply). Answers entry (lines ++ more) all next) (sym (append_assoc replies others (reply ∷ [])))
+      (Answers-append entry mid next lines more replies (others ++ reply ∷ []) same h answers),
+  cut,
+  new,
+)
 
 -- one run after another, which answered all its lines
 pub Replied-then : (Old Mid New : State → Type 0) (last : DeviceStop → List ℕ) (ending : Ending) (lines more : List (List ℕ)) (put others : List ℕ)

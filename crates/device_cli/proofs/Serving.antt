@@ -37,11 +37,10 @@ IsServing-lines : (Old New : State → Type 0) (a b : Option (List ℕ)) (text :
     → (s : IsServing Old New a b text kept (front ++ 10 ∷ behind)) → HasNone 10 front
     → (whole_lines_of text ≡ (s.done ++ (s.line ++ front) ∷ []) ++ whole_lines_of behind) × (rest_of text ≡ rest_of behind)
 IsServing-lines Old New a b text kept front behind s none =
-    let whole : s.line ++ (front ++ 10 ∷ behind) ≡ (s.line ++ front) ++ 10 ∷ behind = sym (append_assoc s.line front (10 ∷ behind)) in
-    (
+    let whole : s.line ++ (front ++ 10 ∷ behind) ≡ (s.line ++ front) ++ 10 ∷ behind = sym (append_assoc s.line front (10 ∷ behind)) in (
       s.lines ∙ ap (λ (rest : List ℕ). s.done ++ whole_lines_of rest) whole
-      ∙ ap (λ (lines : List (List ℕ)). s.done ++ lines) (whole_lines_of-line (s.line ++ front) behind (HasNone-append 10 s.line front s.pending.feedless none))
-      ∙ sym (append_assoc s.done ((s.line ++ front) ∷ []) (whole_lines_of behind)),
+          ∙ ap (λ (lines : List (List ℕ)). s.done ++ lines) (whole_lines_of-line (s.line ++ front) behind (HasNone-append 10 s.line front s.pending.feedless none))
+          ∙ sym (append_assoc s.done ((s.line ++ front) ∷ []) (whole_lines_of behind)),
       s.rest ∙ ap (λ (rest : List ℕ). rest_of rest) whole ∙ rest_of-line (s.line ++ front) behind,
     )
 
@@ -78,8 +77,7 @@ pub IsServing-end : (Old New : State → Type 0) (a b : Option (List ℕ)) (text
 IsServing-end Old New a b text kept behind s none =
     let feedless : HasNone 10 (s.line ++ behind) = HasNone-append 10 s.line behind s.pending.feedless none in
     let nothing : whole_lines_of (s.line ++ behind) ≡ [] = whole_lines_of-none (s.line ++ behind) feedless in
-    let all : s.done ≡ whole_lines_of text = sym (s.lines ∙ ap (λ (lines : List (List ℕ)). s.done ++ lines) nothing ∙ grind (arith, common_steps)) in
-    (
+    let all : s.done ≡ whole_lines_of text = sym (s.lines ∙ ap (λ (lines : List (List ℕ)). s.done ++ lines) nothing ∙ grind (arith, common_steps)) in (
       subst (λ (lines : List (List ℕ)). Handled Old New no_line (Ok tt) lines a b) all s.handled,
       s.rest ∙ rest_of-none (s.line ++ behind) feedless,
       feedless,

@@ -14,8 +14,7 @@ impl Sink for NoLedger {
 
     ghost faults = { λ s. 0 };
 
-    fn put(&mut self, bytes: &[u8]) -> Result<(), SinkFault>
-    {
+    fn put(&mut self, bytes: &[u8]) -> Result<(), SinkFault> {
         let _ = bytes;
         Ok(())
     }

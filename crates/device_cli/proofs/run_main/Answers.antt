@@ -34,4 +34,4 @@ returns-in-Err-clause-answers g c =
     subst (λ (status : ℕ). AnswersScript Old New status (left c.args.input.now) (left c.run.new.input) (written c.args.output.now) (written c.run.new.output))
     (sym c.status.ensures)
     (answers_script Old New (Err c.in-Err.stop) (left c.args.input.now) (left c.run.new.input)
-      (written c.args.output.now) (written c.run.new.output) c.in-Err.ensures.ran)
+    (written c.args.output.now) (written c.run.new.output) c.in-Err.ensures.ran)

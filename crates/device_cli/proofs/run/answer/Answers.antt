@@ -1,4 +1,3 @@
-use Rattle.std.proofs.Common.{refl}
 use Rattle.script_lang.specs.Arrays.{State}
 use Rattle.script_lang.specs.declared.replies.Reply.TheVariants.{Bad}
 use Rattle.script_lang.proofs.AnswerLaws.{turn_of_bad, turn_of_command}
@@ -23,7 +22,7 @@ returns-in-Ok-clause-handled g c text kept =
     let New : State → Type 0 = Stood P.tells c.serve.new.self (P.history c.serve.new.platform).present in
     Handled-line Old New no_line text c.in-Ok.reply c.put_reply-in-Ok.result (written c.args.output.now) (written c.put_reply-in-Ok.new.output)
     (λ entry old. let served = c.in-Ok.ensures.answered old.0 entry old.1 in
-      (served.1, turn_of_command entry served.1 text c.in-Some.command served.0 c.in-Ok.reply (c.in-Some.ensures.found text kept) served.2, (old.0, served.3)))
+    (served.1, turn_of_command entry served.1 text c.in-Some.command served.0 c.in-Ok.reply (c.in-Some.ensures.found text kept) served.2, (old.0, served.3)))
     c.put_reply-in-Ok.ensures.put
 
 pub returns-in-Err-clause-handled : goal.returns-in-Err-clause-handled

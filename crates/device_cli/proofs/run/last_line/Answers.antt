@@ -1,6 +1,5 @@
 use Rattle.std.proofs.Common.{◌≡◌, ◌==◌, List, [], ◌∷◌, ℕ, length, inl, inr, true, false, refl, sym, ◌∙◌, ap, subst, arith}
 use Rattle.std.proofs.lemmas.Bool.{eqb-true}
-use Rattle.std.proofs.lemmas.Grind.{common_steps}
 use Rattle.sdbt_base.specs.Told.{Got, GotPart}
 use Rattle.sdbt_base.proofs.ToldLaws.{Got-nothing}
 use Rattle.device_cli.specs.Replied.{damage_line, IsSound}
@@ -33,8 +32,13 @@ returns-in-Err-clause-stop g c =
     let O = g.O.Sink in
     let text : c.as_slice.result.now ≡ damage_line c.args.stop = c.as_slice.ensures.value ∙ c.damage_text-line.ensures in
     let part = subst (λ (line : List ℕ). GotPart (O.written c.args.output.now) line (O.written c.put.new.self)) text c.in-Err.ensures.part in
-    inr (refl, c.in-Err.ensures.cause, part, λ sound.
-      let none : length c.damage_text-line.result.items ≡ 0 = ap (λ (line : List ℕ). length line) c.damage_text-line.ensures ∙ silent c.args.stop sound in
-      let is : (length c.damage_text-line.result.items == 0) ≡ true = ap (λ (n : ℕ). n == 0) none in
-      let isnt : (length c.damage_text-line.result.items == 0) ≡ false = sym c.is_empty.ensures ∙ c.if-is_empty.false in
-      cc)
+    inr (
+      refl,
+      c.in-Err.ensures.cause,
+      part,
+      λ sound.
+          let none : length c.damage_text-line.result.items ≡ 0 = ap (λ (line : List ℕ). length line) c.damage_text-line.ensures ∙ silent c.args.stop sound in
+          let is : (length c.damage_text-line.result.items == 0) ≡ true = ap (λ (n : ℕ). n == 0) none in
+          let isnt : (length c.damage_text-line.result.items == 0) ≡ false = sym c.is_empty.ensures ∙ c.if-is_empty.false in
+          cc,
+    )

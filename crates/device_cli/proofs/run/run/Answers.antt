@@ -1,9 +1,8 @@
-use Rattle.std.proofs.Common.{◌≡◌, ◌⊎◌, inl, inr, Err, sym, ap}
-use Rattle.std.specs.Prelude.{Option}
+use Rattle.std.proofs.Common.{◌≡◌, ◌⊎◌, inl, inr, Err}
 use Rattle.sdbt_base.specs.Faults.{Rose}
 use Rattle.script_lang.specs.Arrays.{State}
 use Rattle.device_core.specs.Leaf.{IsServedCell}
-use Rattle.device_cli.specs.Replied.{no_line, damage_line}
+use Rattle.device_cli.specs.Replied.{no_line}
 use Rattle.device_cli.specs.Represents.{Stood, StoodAlone, StoodBy}
 use Rattle.device_cli.specs.declared.stop.DeviceStop.{DeviceStop}
 use Rattle.device_cli.specs.declared.stop.DeviceStop.TheVariants as device
@@ -29,7 +28,7 @@ returns-in-Err-clause-ran g c =
     Ran-ended Old New New (Rose (O.faults c.args.output.now) (O.faults c.last_line.new.output)) c.in-Err.stop c.last_line.result (g.I.Source.left c.args.input.now) (g.I.Source.left c.args.input.now)
     (written c.args.output.now) (written c.args.output.now) (written c.last_line.new.output)
     (Ran-refused Old New c.in-Err.stop (g.I.Source.left c.args.input.now) (written c.args.output.now) stops_at
-      (λ entry old. sound_of c.in-Err.stop stops_at (λ e. c.in-Err.ensures.bad_root old.0.told (cc) old.1)))
+    (λ entry old. sound_of c.in-Err.stop stops_at (λ e. c.in-Err.ensures.bad_root old.0.told (cc) old.1)))
     c.last_line.ensures.stop
 
 pub returns-in-Device-clause-ran : goal.returns-in-Device-clause-ran
@@ -47,10 +46,9 @@ returns-in-Device-clause-ran g c =
     Ran-ended Before Mid New (Rose (O.faults c.serve_input.new.output) (O.faults c.last_line-in-Device.new.output)) c.in-Device.stop c.last_line-in-Device.result
     (left c.args.input.now) (left c.serve_input.new.input) (written c.args.output.now) (written c.serve_input.new.output) (written c.last_line-in-Device.new.output)
     (Ran-adapt Before Old Mid Mid no_line (Err (stops.Device c.in-Device.stop)) (left c.args.input.now) (left c.serve_input.new.input) (written c.args.output.now) (written c.serve_input.new.output)
-      (λ state before. Stood-alone P.tells c.new-desk.result image entry state c.new-desk.ensures.session c.check_cell.ensures.image before.0) (λ state mid. mid)
-      (rw c.in-Device.is at c.in-Err-serve_input.ensures.ran))
+    (λ state before. Stood-alone P.tells c.new-desk.result image entry state c.new-desk.ensures.session c.check_cell.ensures.image before.0) (λ state mid. mid)
+    (rw c.in-Device.is at c.in-Err-serve_input.ensures.ran))
     c.last_line-in-Device.ensures.stop
-
 
 pub returns-clause-ran : goal.returns-clause-ran
 returns-clause-ran g c =
@@ -67,6 +65,6 @@ returns-clause-ran g c =
     Ran-other Before New (Err c.in-Err-serve_input.stop) (left c.args.input.now) (left c.serve_input.new.input) (written c.args.output.now) (written c.serve_input.new.output)
     (λ stop e. c.in_default-stop.not-Device stop (cc))
     (Ran-adapt Before Old Mid New no_line (Err c.in-Err-serve_input.stop) (left c.args.input.now) (left c.serve_input.new.input) (written c.args.output.now) (written c.serve_input.new.output)
-      (λ state before. Stood-alone P.tells c.new-desk.result image entry state c.new-desk.ensures.session c.check_cell.ensures.image before.0)
-      (λ state mid. Stood-by P.tells c.serve_input.new.desk exit state mid)
-      c.in-Err-serve_input.ensures.ran)
+    (λ state before. Stood-alone P.tells c.new-desk.result image entry state c.new-desk.ensures.session c.check_cell.ensures.image before.0)
+    (λ state mid. Stood-by P.tells c.serve_input.new.desk exit state mid)
+    c.in-Err-serve_input.ensures.ran)

@@ -1,4 +1,4 @@
-use Rattle.std.proofs.Common.{◌≡◌, ℕ, ◌+◌, ◌-◌, ◌≤◌, List, [], ◌++◌, None, Some, Err, take, drop, length, refl, sym, ◌∙◌, ap, subst, arith, length-take, length-append}
+use Rattle.std.proofs.Common.{◌≡◌, ℕ, ◌+◌, ◌-◌, ◌≤◌, List, [], ◌++◌, None, Some, take, drop, length, sym, ◌∙◌, ap, subst, arith, length-take, length-append}
 use Rattle.std.proofs.lemmas.List.{take-append-le}
 use Rattle.std.proofs.lemmas.Grind.{common_steps}
 use Rattle.std.specs.Prelude.{◌↔◌, Option, IfSome}
@@ -6,7 +6,7 @@ use Rattle.sdbt_base.specs.Told.{Gave, IsAtEnd}
 use Rattle.script_lang.specs.Lines.{rest_of}
 use Rattle.script_lang.specs.Arrays.{State}
 use Rattle.device_cli.specs.Represents.{Stood}
-use Rattle.device_cli.proofs.Reading.{IsReading, IsReading-start, IsReading-more, IsReading-stop, IsReading-end, IsReading-failed, IsReading-limit}
+use Rattle.device_cli.proofs.Reading.{IsReading, IsReading-start, IsReading-more, IsReading-stop, IsReading-end, IsReading-failed}
 use Rattle.device_cli.proofs.run.serve_input.Goals as goal
 
 -- nothing given leaves all
@@ -31,7 +31,7 @@ loop-left-init g c =
       cell = c.requires.cell;
       counts = grind (arith, common_steps);
       reading = IsReading-start (Stood P.tells c.args.desk.now (P.history c.args.platform.now).present) (g.I.Source.left c.args.input.now)
-        (g.O.Sink.written c.args.output.now) c.new-pending.result _ c.new-pending.ensures (omega arith);
+          (g.O.Sink.written c.args.output.now) c.new-pending.result _ c.new-pending.ensures (omega arith);
     }
 
 pub returns-in_default-clause-ran : goal.returns-in_default-clause-ran
@@ -44,7 +44,7 @@ returns-in_default-clause-ran g c =
     let same : left c.take.new.self ≡ left c.loop-left.input = c.in_default.ensures.nothing_taken in
     IsReading-failed Old Mid (left c.args.input.now) (left c.take.new.self) (written c.args.output.now) (written c.loop-left.output) c.loop-left.pending c.loop-left.left
     (subst (λ (l : Option (List ℕ)). IsReading Old Mid (left c.args.input.now) l (written c.args.output.now) (written c.loop-left.output) c.loop-left.pending c.loop-left.left)
-      (sym same) c.loop-left.invariant.reading)
+    (sym same) c.loop-left.invariant.reading)
     c.loop-left-test.true
 
 pub returns-then-count-eq0-clause-ran : goal.returns-then-count-eq0-clause-ran
@@ -58,7 +58,7 @@ returns-then-count-eq0-clause-ran g c =
     let into : List ℕ = c.take.new.into in
     let same : left c.loop-left.input ≡ left c.take.new.self = none_given (left c.loop-left.input) (left c.take.new.self) into c.in-Ok.count c.if-count-eq0.true c.in-Ok.ensures.taken in
     let reading = subst (λ (l : Option (List ℕ)). IsReading Old Mid (left c.args.input.now) l (written c.args.output.now) (written c.loop-left.output) c.loop-left.pending c.loop-left.left)
-      same c.loop-left.invariant.reading in
+    same c.loop-left.invariant.reading in
     let end = subst (λ (l : Option (List ℕ)). IsAtEnd l) same (nothing_left (left c.loop-left.input) c.in-Ok.count c.if-count-eq0.true c.in-Ok.ensures.end) in
     IsReading-end Old Mid New c.serve_end.result (left c.args.input.now) (left c.take.new.self) (written c.args.output.now) (written c.loop-left.output) (written c.serve_end.new.output)
     c.loop-left.pending c.loop-left.left reading c.loop-left-test.true end c.serve_end.ensures.stops
@@ -105,6 +105,6 @@ loop-left-preserved g c =
       cell = c.in-Ok-serve_piece.ensures.cell;
       counts = grind (arith, c.loop-left.invariant.counts, c.serve_piece.ensures.counts, c.take.ensures.count);
       reading = IsReading-more Old Mid New (left c.args.input.now) (left c.loop-left.input) (left c.take.new.self) (written c.args.output.now) (written c.loop-left.output) (written c.serve_piece.new.output)
-        c.loop-left.pending c.serve_piece.new.pending c.loop-left.left (c.loop-left.left - c.in-Ok.count) piece reading gave less
-        (c.in-Ok-serve_piece.ensures.pending (rest_of reading.taken) reading.pending) (c.in-Ok-serve_piece.ensures.handled (rest_of reading.taken) reading.pending);
+          c.loop-left.pending c.serve_piece.new.pending c.loop-left.left (c.loop-left.left - c.in-Ok.count) piece reading gave less
+          (c.in-Ok-serve_piece.ensures.pending (rest_of reading.taken) reading.pending) (c.in-Ok-serve_piece.ensures.handled (rest_of reading.taken) reading.pending);
     }

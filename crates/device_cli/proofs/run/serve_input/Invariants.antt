@@ -16,7 +16,7 @@ invariant-loop-left g l =
       cell : P.tells → IsServedCell (P.history l.platform).present.cell (P.head l.platform);
       counts : NoneFell (counts (P.faults l.fn.platform) (T.faults l.fn.tape) (I.faults l.fn.input) (O.faults l.fn.output)) (counts (P.faults l.platform) (T.faults l.tape) (I.faults l.input) (O.faults l.output));
       reading : IsReading (Stood P.tells l.fn.desk (P.history l.fn.platform).present) (Stood P.tells l.desk (P.history l.platform).present)
-        (I.left l.fn.input) (I.left l.input) (O.written l.fn.output) (O.written l.output) l.pending l.left;
+          (I.left l.fn.input) (I.left l.input) (O.written l.fn.output) (O.written l.output) l.pending l.left;
     }
 
 abbrev pub decreases-loop-left : goal.decreases-loop-left

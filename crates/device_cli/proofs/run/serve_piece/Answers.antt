@@ -1,4 +1,4 @@
-use Rattle.std.proofs.Common.{◌≡◌, ℕ, List, ◌++◌, Ok, Err, sym, subst}
+use Rattle.std.proofs.Common.{ℕ, List, ◌++◌, sym, subst}
 use Rattle.std.proofs.lemmas.Grind.{common_steps}
 use Rattle.std.proofs.Common.{arith}
 use Rattle.std.specs.Prelude.{Option}
@@ -16,7 +16,7 @@ loop-front-init g c =
       cell = c.requires.cell;
       counts = grind (arith, common_steps);
       serving = λ rest pending. IsServing-start (Stood P.tells c.args.desk.now (P.history c.args.platform.now).present)
-        (g.O.Sink.written c.args.output.now) c.args.pending.now rest c.args.piece.now pending;
+          (g.O.Sink.written c.args.output.now) c.args.pending.now rest c.args.piece.now pending;
     }
 
 pub loop-front-preserved : goal.loop-front-preserved
@@ -31,12 +31,12 @@ loop-front-preserved g c =
       cell = c.in_default-answer.ensures.cell;
       counts = grind (arith, c.loop-front.invariant.counts, c.answer.ensures.counts);
       serving = λ rest pending.
-        let so_far = c.loop-front.invariant.serving rest pending in
-        let line : List ℕ = so_far.line ++ c.in-Some.front.now in
-        let kept = subst (λ (k : Option (List ℕ)). IsKept k line) (sym c.line.ensures) (c.push.ensures so_far.line so_far.pending.is_kept) in
-        IsServing-line Old Mid New (written c.args.output.now) (written c.loop-front.output) (written c.answer.new.output) (rest ++ c.args.piece.now)
-        c.loop-front.pending c.clear.new.self c.loop-front.rest.now c.in-Some.front.now c.in-Some.behind.now
-        so_far c.in-Some.ensures.found.0 c.in-Some.ensures.found.1 c.clear.ensures (c.in_default-answer.ensures.handled line kept);
+          let so_far = c.loop-front.invariant.serving rest pending in
+          let line : List ℕ = so_far.line ++ c.in-Some.front.now in
+          let kept = subst (λ (k : Option (List ℕ)). IsKept k line) (sym c.line.ensures) (c.push.ensures so_far.line so_far.pending.is_kept) in
+          IsServing-line Old Mid New (written c.args.output.now) (written c.loop-front.output) (written c.answer.new.output) (rest ++ c.args.piece.now)
+          c.loop-front.pending c.clear.new.self c.loop-front.rest.now c.in-Some.front.now c.in-Some.behind.now
+          so_far c.in-Some.ensures.found.0 c.in-Some.ensures.found.1 c.clear.ensures (c.in_default-answer.ensures.handled line kept);
     }
 
 pub returns-in-Err-clause-handled : goal.returns-in-Err-clause-handled
@@ -58,8 +58,8 @@ returns-clause-pending g c rest pending =
     let P = g.P.Platform in
     let so_far = c.loop-front.invariant.serving rest pending in
     let end = IsServing-end (Stood P.tells c.args.desk.now (P.history c.args.platform.now).present) (Stood P.tells c.loop-front.desk (P.history c.loop-front.platform).present)
-      (g.O.Sink.written c.args.output.now) (g.O.Sink.written c.loop-front.output) (rest ++ c.args.piece.now) c.loop-front.pending c.loop-front.rest.now
-      so_far c.in_default.ensures.none in
+    (g.O.Sink.written c.args.output.now) (g.O.Sink.written c.loop-front.output) (rest ++ c.args.piece.now) c.loop-front.pending c.loop-front.rest.now
+    so_far c.in_default.ensures.none in
     rw end.1 (record { is_kept = c.push-2.ensures so_far.line so_far.pending.is_kept; feedless = end.2 })
 
 pub returns-clause-handled : goal.returns-clause-handled
@@ -67,5 +67,5 @@ returns-clause-handled g c rest pending =
     let P = g.P.Platform in
     let so_far = c.loop-front.invariant.serving rest pending in
     (IsServing-end (Stood P.tells c.args.desk.now (P.history c.args.platform.now).present) (Stood P.tells c.loop-front.desk (P.history c.loop-front.platform).present)
-      (g.O.Sink.written c.args.output.now) (g.O.Sink.written c.loop-front.output) (rest ++ c.args.piece.now) c.loop-front.pending c.loop-front.rest.now
-      so_far c.in_default.ensures.none).0
+    (g.O.Sink.written c.args.output.now) (g.O.Sink.written c.loop-front.output) (rest ++ c.args.piece.now) c.loop-front.pending c.loop-front.rest.now
+    so_far c.in_default.ensures.none).0

@@ -17,8 +17,8 @@ invariant-loop-front g l =
       cell : P.tells → IsServedCell (P.history l.platform).present.cell (P.head l.platform);
       counts : NoneFell (counts (P.faults l.fn.platform) (T.faults l.fn.tape) 0 (O.faults l.fn.output)) (counts (P.faults l.platform) (T.faults l.tape) 0 (O.faults l.output));
       serving : (rest : List ℕ) → IsPending l.fn.pending rest
-        → IsServing (Stood P.tells l.fn.desk (P.history l.fn.platform).present) (Stood P.tells l.desk (P.history l.platform).present)
-        (O.written l.fn.output) (O.written l.output) (rest ++ l.fn.piece) l.pending l.rest;
+          → IsServing (Stood P.tells l.fn.desk (P.history l.fn.platform).present) (Stood P.tells l.desk (P.history l.platform).present)
+          (O.written l.fn.output) (O.written l.output) (rest ++ l.fn.piece) l.pending l.rest;
     }
 
 abbrev pub decreases-loop-front : goal.decreases-loop-front

@@ -1,11 +1,11 @@
-use Rattle.std.proofs.Common.{◌≡◌, ◌≢◌, ◌≤◌, ℕ, Ok, Some, None, Option, refl, sym, ◌∙◌, ap, subst, arith}
+use Rattle.std.proofs.Common.{◌≡◌, Ok, Some, None, refl, ◌∙◌, arith}
 use Rattle.std.proofs.lemmas.Grind.{common_steps}
-use Rattle.script_lang.specs.Arrays.{State, session_on, new_device}
+use Rattle.script_lang.specs.Arrays.{State, session_on}
 use Rattle.script_lang.specs.declared.commands.Command.TheVariants as commands
 use Rattle.script_lang.specs.declared.replies.Reply.TheVariants as replies
 use Rattle.device_cli.specs.Replied.{Serves}
-use Rattle.device_cli.specs.Represents.{stored, StandsFor, Represents}
-use Rattle.device_cli.proofs.ServedLaws.{at, closed, with_session, without_session, has_session, has_none, dropped, stat_of, holds_stands, erased_any, mounted_any, formatted_any}
+use Rattle.device_cli.specs.Represents.{stored, Represents}
+use Rattle.device_cli.proofs.ServedLaws.{without_session, has_session, mounted_any}
 use Rattle.device_cli.proofs.desk.Desk.mount.Goals as goal
 
 pub returns-in-Ok-clause-answered : goal.returns-in-Ok-clause-answered
@@ -18,5 +18,5 @@ returns-in-Ok-clause-answered g c told entry rep =
     let found = c.in-Ok.ensures.found told in
     without_session c.args.self.now image entry none rep (λ state. Serves New state commands.Mount (Ok (replies.Mounted c.number-number.result)))
     (λ stands. mounted_any New image entry.device c.number-number.result stands (λ e. cc)
-      (λ d stands_for. let holds = c.in-Ok.ensures.holds told (stored d) stands_for in
-        (c.number-number.ensures ∙ holds.stands.number, has_session (record { alloc = c.args.self.now.alloc; session = Some c.in-Ok.session }) image_now c.in-Ok.session d (session_on d) refl holds c.in-Ok.ensures.untouched)))
+    (λ d stands_for. let holds = c.in-Ok.ensures.holds told (stored d) stands_for in
+    (c.number-number.ensures ∙ holds.stands.number, has_session (record { alloc = c.args.self.now.alloc; session = Some c.in-Ok.session }) image_now c.in-Ok.session d (session_on d) refl holds c.in-Ok.ensures.untouched)))

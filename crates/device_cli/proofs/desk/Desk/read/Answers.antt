@@ -1,14 +1,14 @@
-use Rattle.std.proofs.Common.{◌≡◌, ◌≢◌, ◌<◌, ◌≤◌, ℕ, Ok, Err, Some, Option, true, refl, sym, ◌∙◌, ap, subst, arith}
+use Rattle.std.proofs.Common.{◌≡◌, ◌<◌, ◌≤◌, ℕ, Ok, Err, Some, sym, ◌∙◌, ap, subst, arith}
 use Rattle.std.specs.Prelude.{Result}
 use Rattle.std.proofs.lemmas.Grind.{common_steps}
-use Rattle.script_lang.specs.Arrays.{State, written, unmapped, zeros}
-use Rattle.script_lang.specs.declared.commands.Command.TheVariants.{Read, Write, Trim}
+use Rattle.script_lang.specs.Arrays.{State}
+use Rattle.script_lang.specs.declared.commands.Command.TheVariants.{Read}
 use Rattle.script_lang.specs.declared.replies.Reply.{Reply}
 use Rattle.device_cli.specs.declared.stop.DeviceStop.{DeviceStop}
 use Rattle.device_cli.specs.declared.stop.DeviceStop.TheVariants as device
 use Rattle.device_cli.specs.Replied.{Serves}
 use Rattle.device_cli.specs.Represents.{stored, Represents}
-use Rattle.device_cli.proofs.ServedLaws.{at, with_session, has_session, read_content, read_range, write_done, write_range, write_full, trim_done, trim_range}
+use Rattle.device_cli.proofs.ServedLaws.{at, with_session, has_session, read_content, read_range}
 use Rattle.device_cli.proofs.desk.Desk.read.Goals as goal
 
 -- a number that isn't past another is below it
@@ -26,11 +26,11 @@ returns-in-Ok-clause-answered g c told entry rep =
     let taken : c.args.self.now.session ≡ Some c.in-Some.session = cc (c.take.ensures.value, c.in-Some.is) in
     with_session c.args.self.now image c.in-Some.session entry taken rep (λ state. Serves New state (Read c.args.block) c.keep.result)
     (λ d t holds touched.
-      let within : c.args.block < d.blocks = inside c.args.block d.blocks (λ past. not_both c.read.result _ _ c.in-Ok.is (c.read.ensures.range.1 (subst (λ (n : ℕ). n ≤ c.args.block) (sym holds.stands.blocks) past))) in
-      let now = has_session c.keep.new.self (P.history c.read.new.platform).present c.read.new.self d t c.keep.ensures.session
-        (c.in-Ok.ensures.holds told (stored d) t.contents holds) (c.in-Ok.ensures.same.2 ∙ touched) in
-      subst (λ (r : Result Reply DeviceStop). Serves New (at d t) (Read c.args.block) r) (sym (c.keep.ensures.reply ∙ ap Ok c.reply_with_content.ensures.value))
-      (read_content New d t c.args.block c.read.new.out within (c.in-Ok.ensures.content told (stored d) t.contents holds) now)
+    let within : c.args.block < d.blocks = inside c.args.block d.blocks (λ past. not_both c.read.result _ _ c.in-Ok.is (c.read.ensures.range.1 (subst (λ (n : ℕ). n ≤ c.args.block) (sym holds.stands.blocks) past))) in
+    let now = has_session c.keep.new.self (P.history c.read.new.platform).present c.read.new.self d t c.keep.ensures.session
+    (c.in-Ok.ensures.holds told (stored d) t.contents holds) (c.in-Ok.ensures.same.2 ∙ touched) in
+    subst (λ (r : Result Reply DeviceStop). Serves New (at d t) (Read c.args.block) r) (sym (c.keep.ensures.reply ∙ ap Ok c.reply_with_content.ensures.value))
+    (read_content New d t c.args.block c.read.new.out within (c.in-Ok.ensures.content told (stored d) t.contents holds) now)
     )
 
 pub returns-in-Err-Range-clause-answered : goal.returns-in-Err-Range-clause-answered
@@ -41,11 +41,11 @@ returns-in-Err-Range-clause-answered g c told entry rep =
     let taken : c.args.self.now.session ≡ Some c.in-Some.session = cc (c.take.ensures.value, c.in-Some.is) in
     with_session c.args.self.now image c.in-Some.session entry taken rep (λ state. Serves New state (Read c.args.block) c.keep-in-Err-Range.result)
     (λ d t holds touched.
-      let past : d.blocks ≤ c.args.block = subst (λ (n : ℕ). n ≤ c.args.block) holds.stands.blocks (c.read.ensures.range.0 (cc)) in
-      let now = has_session c.keep-in-Err-Range.new.self (P.history c.read.new.platform).present c.read.new.self d t c.keep-in-Err-Range.ensures.session
-        (c.read.ensures.holds told (stored d) t.contents holds) (c.read.ensures.same.2 ∙ touched) in
-      subst (λ (r : Result Reply DeviceStop). Serves New (at d t) (Read c.args.block) r) (sym (c.keep-in-Err-Range.ensures.reply))
-      (read_range New d t c.args.block past now)
+    let past : d.blocks ≤ c.args.block = subst (λ (n : ℕ). n ≤ c.args.block) holds.stands.blocks (c.read.ensures.range.0 (cc)) in
+    let now = has_session c.keep-in-Err-Range.new.self (P.history c.read.new.platform).present c.read.new.self d t c.keep-in-Err-Range.ensures.session
+    (c.read.ensures.holds told (stored d) t.contents holds) (c.read.ensures.same.2 ∙ touched) in
+    subst (λ (r : Result Reply DeviceStop). Serves New (at d t) (Read c.args.block) r) (sym (c.keep-in-Err-Range.ensures.reply))
+    (read_range New d t c.args.block past now)
     )
 
 pub returns-in-Err-BadRecord-clause-answered : goal.returns-in-Err-BadRecord-clause-answered

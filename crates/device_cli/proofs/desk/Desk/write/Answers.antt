@@ -1,18 +1,18 @@
-use Rattle.std.proofs.Common.{◌≡◌, ◌≢◌, ◌<◌, ◌≤◌, ℕ, Ok, Err, Some, Option, true, refl, sym, ◌∙◌, ap, subst, arith}
+use Rattle.std.proofs.Common.{◌≡◌, ◌<◌, ◌≤◌, ℕ, Ok, Err, Some, sym, ◌∙◌, subst, arith}
 use Rattle.std.specs.Prelude.{Result, List}
 use Rattle.std.specs.FinMap.{insert}
 use Rattle.page_store.specs.Buffer.{padded}
 use Rattle.device_core.specs.Holds.{Holds}
 use Rattle.device_core.specs.declared.refusals.WriteRefusal.TheVariants as refusals
 use Rattle.std.proofs.lemmas.Grind.{common_steps}
-use Rattle.script_lang.specs.Arrays.{State, written, unmapped, zeros}
-use Rattle.script_lang.specs.declared.commands.Command.TheVariants.{Read, Write, Trim}
+use Rattle.script_lang.specs.Arrays.{State, written, zeros}
+use Rattle.script_lang.specs.declared.commands.Command.TheVariants.{Write}
 use Rattle.script_lang.specs.declared.replies.Reply.{Reply}
 use Rattle.device_cli.specs.declared.stop.DeviceStop.{DeviceStop}
 use Rattle.device_cli.specs.declared.stop.DeviceStop.TheVariants as device
 use Rattle.device_cli.specs.Replied.{Serves}
 use Rattle.device_cli.specs.Represents.{stored, Represents}
-use Rattle.device_cli.proofs.ServedLaws.{at, with_session, has_session, read_content, read_range, write_done, write_range, write_full, trim_done, trim_range}
+use Rattle.device_cli.proofs.ServedLaws.{at, with_session, has_session, write_done, write_range, write_full}
 use Rattle.device_cli.proofs.desk.Desk.write.Goals as goal
 
 -- a number that isn't past another is below it
@@ -31,12 +31,12 @@ returns-in-Ok-clause-answered g c told entry rep bytes same =
     let taken : c.args.self.now.session ≡ Some c.in-Some.session = cc (c.take.ensures.value, c.in-Some.is) in
     with_session c.args.self.now image c.in-Some.session entry taken rep (λ state. Serves New state (Write c.args.block bytes) c.keep.result)
     (λ d t holds touched.
-      let within : c.args.block < d.blocks = inside c.args.block d.blocks (λ past. not_both c.write.result _ _ c.in-Ok.is (c.write.ensures.range.1 (subst (λ (n : ℕ). n ≤ c.args.block) (sym holds.stands.blocks) past))) in
-      let holds_now = subst (λ (content : List ℕ). Holds c.write.new.self (P.history c.write.new.platform).present (stored d) (insert t.contents c.args.block (padded content))) (sym same) (c.in-Ok.ensures.written told (stored d) t.contents holds) in
-      let now = has_session c.keep.new.self (P.history c.write.new.platform).present c.write.new.self d (written t c.args.block bytes.items) c.keep.ensures.session
-        (holds_now) (c.in-Ok.ensures.touched) in
-      subst (λ (r : Result Reply DeviceStop). Serves New (at d t) (Write c.args.block bytes) r) (sym (c.keep.ensures.reply))
-      (write_done New d t c.args.block bytes within now)
+    let within : c.args.block < d.blocks = inside c.args.block d.blocks (λ past. not_both c.write.result _ _ c.in-Ok.is (c.write.ensures.range.1 (subst (λ (n : ℕ). n ≤ c.args.block) (sym holds.stands.blocks) past))) in
+    let holds_now = subst (λ (content : List ℕ). Holds c.write.new.self (P.history c.write.new.platform).present (stored d) (insert t.contents c.args.block (padded content))) (sym same) (c.in-Ok.ensures.written told (stored d) t.contents holds) in
+    let now = has_session c.keep.new.self (P.history c.write.new.platform).present c.write.new.self d (written t c.args.block bytes.items) c.keep.ensures.session
+    (holds_now) (c.in-Ok.ensures.touched) in
+    subst (λ (r : Result Reply DeviceStop). Serves New (at d t) (Write c.args.block bytes) r) (sym (c.keep.ensures.reply))
+    (write_done New d t c.args.block bytes within now)
     )
 
 pub returns-in-Err-Range-clause-answered : goal.returns-in-Err-Range-clause-answered
@@ -47,14 +47,14 @@ returns-in-Err-Range-clause-answered g c told entry rep bytes same =
     let taken : c.args.self.now.session ≡ Some c.in-Some.session = cc (c.take.ensures.value, c.in-Some.is) in
     with_session c.args.self.now image c.in-Some.session entry taken rep (λ state. Serves New state (Write c.args.block bytes) c.keep-in-Err-Range.result)
     (λ d t holds touched.
-      let past : d.blocks ≤ c.args.block = subst (λ (n : ℕ). n ≤ c.args.block) holds.stands.blocks (c.write.ensures.range.0 (cc)) in
-      let refused = c.write.ensures.refused told (stored d) t.contents holds in
-      let untouched = c.write.ensures.untouched in
-      let e : c.write.result ≡ Err refusals.Range = cc in
-      let now = has_session c.keep-in-Err-Range.new.self (P.history c.write.new.platform).present c.write.new.self d t c.keep-in-Err-Range.ensures.session
-        (rw e at refused) ((rw e at untouched) ∙ touched) in
-      subst (λ (r : Result Reply DeviceStop). Serves New (at d t) (Write c.args.block bytes) r) (sym (c.keep-in-Err-Range.ensures.reply))
-      (write_range New d t c.args.block bytes past now)
+    let past : d.blocks ≤ c.args.block = subst (λ (n : ℕ). n ≤ c.args.block) holds.stands.blocks (c.write.ensures.range.0 (cc)) in
+    let refused = c.write.ensures.refused told (stored d) t.contents holds in
+    let untouched = c.write.ensures.untouched in
+    let e : c.write.result ≡ Err refusals.Range = cc in
+    let now = has_session c.keep-in-Err-Range.new.self (P.history c.write.new.platform).present c.write.new.self d t c.keep-in-Err-Range.ensures.session
+    (rw e at refused) ((rw e at untouched) ∙ touched) in
+    subst (λ (r : Result Reply DeviceStop). Serves New (at d t) (Write c.args.block bytes) r) (sym (c.keep-in-Err-Range.ensures.reply))
+    (write_range New d t c.args.block bytes past now)
     )
 
 pub returns-in-Err-Full-clause-answered : goal.returns-in-Err-Full-clause-answered
@@ -65,14 +65,14 @@ returns-in-Err-Full-clause-answered g c told entry rep bytes same =
     let taken : c.args.self.now.session ≡ Some c.in-Some.session = cc (c.take.ensures.value, c.in-Some.is) in
     with_session c.args.self.now image c.in-Some.session entry taken rep (λ state. Serves New state (Write c.args.block bytes) c.keep-in-Err-Full.result)
     (λ d t holds touched.
-      let refused = c.write.ensures.refused told (stored d) t.contents holds in
-      let untouched = c.write.ensures.untouched in
-      let e : c.write.result ≡ Err refusals.Full = cc in
-      let within : c.args.block < d.blocks = subst (λ (n : ℕ). c.args.block < n) holds.stands.blocks (c.write.ensures.full.0 e).0 in
-      let now = has_session c.keep-in-Err-Full.new.self (P.history c.write.new.platform).present c.write.new.self d t c.keep-in-Err-Full.ensures.session
-        (rw e at refused) ((rw e at untouched) ∙ touched) in
-      subst (λ (r : Result Reply DeviceStop). Serves New (at d t) (Write c.args.block bytes) r) (sym (c.keep-in-Err-Full.ensures.reply))
-      (write_full New d t c.args.block bytes within now)
+    let refused = c.write.ensures.refused told (stored d) t.contents holds in
+    let untouched = c.write.ensures.untouched in
+    let e : c.write.result ≡ Err refusals.Full = cc in
+    let within : c.args.block < d.blocks = subst (λ (n : ℕ). c.args.block < n) holds.stands.blocks (c.write.ensures.full.0 e).0 in
+    let now = has_session c.keep-in-Err-Full.new.self (P.history c.write.new.platform).present c.write.new.self d t c.keep-in-Err-Full.ensures.session
+    (rw e at refused) ((rw e at untouched) ∙ touched) in
+    subst (λ (r : Result Reply DeviceStop). Serves New (at d t) (Write c.args.block bytes) r) (sym (c.keep-in-Err-Full.ensures.reply))
+    (write_full New d t c.args.block bytes within now)
     )
 
 pub returns-in-Err-BadRecord-clause-answered : goal.returns-in-Err-BadRecord-clause-answered
