@@ -1,16 +1,14 @@
 -- From the serving of an input to a run, and to its exit status.
-use Rattle.std.proofs.Common.{◌≡◌, ◌≢◌, ℕ, ◌≤◌, List, [], ◌++◌, Option, Ok, Err, length, take, ◌⊎◌, inl, inr, refl, sym, subst, arith}
+use Rattle.std.proofs.Common.{◌≡◌, ℕ, List, [], ◌++◌, Option, Ok, Err, take, ◌⊎◌, inl, inr, refl, sym, subst, arith}
 use Rattle.std.proofs.lemmas.Grind.{common_steps}
-use Rattle.std.specs.Prelude.{flat_map}
-use Rattle.sdbt_base.specs.Told.{Got, GotPart, IsAtEnd}
+use Rattle.sdbt_base.specs.Told.{Got, GotPart}
 use Rattle.sdbt_base.proofs.ToldLaws.{Gave-nothing, Got-nothing, Got-then}
-use Rattle.script_lang.specs.Lines.{whole_lines_of, lines_of}
-use Rattle.script_lang.specs.Replies.{line_of}
+use Rattle.script_lang.specs.Lines.{whole_lines_of}
 use Rattle.script_lang.specs.Arrays.{State}
 use Rattle.script_lang.specs.declared.replies.Reply.{Reply}
-use Rattle.device_cli.specs.Run.{IsOfLine, TookUntil, Took, status_of}
-use Rattle.device_cli.specs.Replied.{Ending, IsBehind, AreMany, IsDamageAt, IfNext, AsksForBlock, IsFirstPart, IsSound, EndsIn, Answered, Replied, Handled, no_line, damage_line}
-use Rattle.device_cli.specs.Ran.{Ran, AreLines, HaveCome, AnswersFrom, AnswersScript}
+use Rattle.device_cli.specs.Run.{TookUntil, Took, status_of}
+use Rattle.device_cli.specs.Replied.{Ending, IsBehind, IsDamageAt, IsSound, EndsIn, Replied, no_line, damage_line}
+use Rattle.device_cli.specs.Ran.{Ran}
 use Rattle.device_cli.specs.declared.stop.Stop.{Stop}
 use Rattle.device_cli.specs.declared.stop.Stop.TheVariants as stops
 use Rattle.device_cli.specs.declared.stop.DeviceStop.{DeviceStop}

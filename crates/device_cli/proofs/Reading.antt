@@ -1,5 +1,5 @@
 -- How far the serving of an input has come.
-use Rattle.std.proofs.Common.{◌≡◌, ℕ, ◌+◌, ◌-◌, ◌<◌, ◌≤◌, ◌^◌, List, [], ◌++◌, Option, None, Ok, Err, length, inl, inr, refl, sym, subst, arith, length-append}
+use Rattle.std.proofs.Common.{◌≡◌, ℕ, ◌+◌, ◌<◌, ◌≤◌, ◌^◌, List, [], ◌++◌, Option, Ok, Err, length, inl, inr, refl, sym, subst, arith, length-append}
 use Rattle.std.specs.Prelude.{IfErr}
 use Rattle.sdbt_base.specs.Told.{Gave, IsAtEnd}
 use Rattle.sdbt_base.proofs.ToldLaws.{Gave-nothing, Gave-then}

@@ -6,7 +6,7 @@ use Rattle.script_lang.specs.Arrays.{State}
 use Rattle.script_lang.specs.declared.devices.Session.{Session as OpenSession}
 use Rattle.device_core.specs.declared.session.Session.{Session}
 use Rattle.device_cli.specs.declared.desk.Desk.{Desk}
-use Rattle.device_cli.specs.Represents.{StandsFor, IsSessionOf, Represents, Stood, StoodAlone, StoodBy}
+use Rattle.device_cli.specs.Represents.{StandsFor, IsSessionOf, Stood, StoodAlone, StoodBy}
 
 -- no session on either side
 pub Stood-alone : (tells : Type 0) (desk : Desk) (image image_now : Image) (state : State) → desk.session ≡ None → (tells → image_now ≡ image)

@@ -1,16 +1,13 @@
 -- From how a run ends to its exit status.
-use Rattle.std.proofs.Common.{◌≡◌, ◌≢◌, ℕ, ◌≤◌, List, [], ◌++◌, Option, Ok, Err, length, ◌⊎◌, inl, inr, refl, sym, subst, arith}
-use Rattle.std.specs.Prelude.{flat_map}
+use Rattle.std.proofs.Common.{◌≡◌, ◌≢◌, ℕ, ◌≤◌, List, [], Option, Ok, Err, length, ◌⊎◌, inl, inr, refl, subst, arith}
 use Rattle.sdbt_base.specs.Told.{Got, IsAtEnd}
 use Rattle.sdbt_base.proofs.ToldLaws.{Gave-nothing, Got-nothing}
 use Rattle.script_lang.specs.Lines.{whole_lines_of, lines_of}
 use Rattle.script_lang.specs.Replies.{line_of}
 use Rattle.script_lang.specs.Arrays.{State}
-use Rattle.script_lang.specs.Answers.{Answers}
 use Rattle.script_lang.specs.declared.replies.Reply.{Reply}
-use Rattle.device_cli.specs.Run.{status_of}
-use Rattle.device_cli.specs.Replied.{Ending, IsBehind, AreMany, IsDamageAt, IfNext, AsksForBlock, IsFirstPart, IsSound, EndsIn, Answered, damage_line}
-use Rattle.device_cli.specs.Ran.{Ran, AreLines, HaveCome, AnswersFrom, AnswersScript}
+use Rattle.device_cli.specs.Replied.{Ending, IsBehind, AreMany, IsDamageAt, IfNext, AsksForBlock, IsFirstPart, EndsIn, damage_line}
+use Rattle.device_cli.specs.Ran.{Ran, AreLines, HaveCome, AnswersScript}
 use Rattle.device_cli.specs.declared.stop.Stop.TheVariants as stops
 use Rattle.device_cli.specs.declared.stop.DeviceStop.{DeviceStop}
 use Rattle.device_cli.specs.declared.stop.DeviceStop.TheVariants as device

@@ -1,14 +1,12 @@
 -- What serving a command makes of the state, by the array machine.
-use Rattle.std.proofs.Common.{◌≡◌, ◌≢◌, ℕ, ◌+◌, ◌<◌, ◌≤◌, Bool, true, false, List, Option, None, Some, Ok, Err, length, inl, inr, refl, sym, ◌∙◌, subst, ap, arith}
-use Rattle.std.specs.Prelude.{Result, nat_lt, nat_le, ◌||◌, ◌&&◌, ◌==◌, ◌%◌, replicate}
+use Rattle.std.proofs.Common.{◌≡◌, ◌≢◌, ℕ, ◌+◌, ◌<◌, ◌≤◌, Bool, true, false, List, Option, None, Some, Ok, inl, inr, refl, sym, subst, ap, arith}
+use Rattle.std.specs.Prelude.{nat_lt, nat_le}
 use Rattle.std.specs.FinMap as map
 use Rattle.std.proofs.lemmas.Grind.{common_steps}
 use Rattle.std.proofs.lemmas.Bool.Decides.{eqb_tells}
 use Rattle.device_core.specs.declared.refusals.CommitReply.{CommitReply}
 use Rattle.device_core.specs.declared.refusals.CommitReply.TheVariants as commits
 use Rattle.platform.specs.Image.{Image}
-use Rattle.page_store.specs.Device.{Device as StoredDevice}
-use Rattle.page_store.specs.Stands.{Stands}
 use Rattle.page_store.specs.Leaf.{leaf_parts}
 use Rattle.page_store.proofs.LeafStandsLaws.{stands_by_leaf}
 use Rattle.device_core.specs.Blocks.{Blocks, block_content}
@@ -16,19 +14,15 @@ use Rattle.device_core.specs.Open.{is_touched}
 use Rattle.device_core.specs.Holds.{Holds}
 use Rattle.device_core.specs.declared.session.Session.{Session}
 use Rattle.arrayvec.specs.ArrayVec.{ArrayVec as Bytes}
-use Rattle.script_lang.specs.declared.commands.Command.{Command}
 use Rattle.script_lang.specs.declared.commands.Command.TheVariants.{Format, Mount, Read, Write, Trim, Commit, Drop, Erase, Seize}
 use Rattle.script_lang.specs.declared.commands.Command.TheVariants as commands
-use Rattle.script_lang.specs.declared.replies.Reply.{Reply}
 use Rattle.script_lang.specs.declared.replies.Reply.TheVariants.{Formatted, Mounted, Content, Done, Committed, Dropped, Erased, Unmounted, AlreadyMounted, NotEmpty, NoDevice, Range, Full, Unbuilt}
 use Rattle.script_lang.specs.declared.replies.Reply.TheVariants as replies
 use Rattle.script_lang.specs.declared.devices.Device.{Device}
 use Rattle.script_lang.specs.declared.devices.Session.{Session as OpenSession}
-use Rattle.script_lang.specs.Arrays.{State, zeros, content_of, content_reply, padded, in_limits, new_device, session_on, committed, written, unmapped}
-use Rattle.script_lang.specs.Answers.{answer}
+use Rattle.script_lang.specs.Arrays.{State, zeros, content_reply, in_limits, new_device, session_on, committed, written, unmapped}
 use Rattle.device_cli.specs.declared.desk.Desk.{Desk}
-use Rattle.device_cli.specs.declared.stop.DeviceStop.{DeviceStop}
-use Rattle.device_cli.specs.Replied.{Serves, IsSound}
+use Rattle.device_cli.specs.Replied.{Serves}
 use Rattle.device_cli.specs.Represents.{stored, StandsFor, IsSessionOf, Represents}
 
 -- a state with a session, and one without

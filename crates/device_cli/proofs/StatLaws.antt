@@ -1,9 +1,8 @@
 -- How many blocks a session maps.
-use Rattle.std.proofs.Common.{◌≡◌, ℕ, zero, suc, ◌+◌, ◌<◌, Bool, true, false, cond, List, [], ◌∷◌, length, map, drop, refl, sym, ◌∙◌, ap, subst, arith, None, Some, Err, Option}
+use Rattle.std.proofs.Common.{◌≡◌, ℕ, ◌+◌, ◌<◌, cond, List, [], ◌∷◌, length, map, refl, sym, ◌∙◌, ap, subst, arith, Err, Option}
 use Rattle.std.specs.Prelude.{is_some}
 use Rattle.std.proofs.lemmas.Bool.{cases_Bool}
 use Rattle.std.proofs.Common.{inl, inr}
-use Rattle.std.specs.List.{zip}
 use Rattle.std.specs.List.Sorted.{IsStrictlyIncreasing}
 use Rattle.std.specs.Cmp.{nat_cmp_total}
 use Rattle.std.specs.Ordering.{nat_cmp}
@@ -14,7 +13,7 @@ use Rattle.node_codec.specs.declared.body.Entry.{Entry}
 use Rattle.page_store.specs.Device.{Device}
 use Rattle.device_core.specs.Blocks.{Blocks}
 use Rattle.device_core.specs.Leaf.{IsPlace}
-use Rattle.device_core.specs.Holding.{blocks_of_entries, HoldsBy}
+use Rattle.device_core.specs.Holding.{blocks_of_entries}
 use Rattle.device_core.specs.Holds.{Holds}
 use Rattle.device_core.specs.Open.{IsOpen}
 use Rattle.device_core.specs.declared.session.Session.{Session}

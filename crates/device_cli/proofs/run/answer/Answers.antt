@@ -1,4 +1,3 @@
-use Rattle.std.proofs.Common.{refl}
 use Rattle.script_lang.specs.Arrays.{State}
 use Rattle.script_lang.specs.declared.replies.Reply.TheVariants.{Bad}
 use Rattle.script_lang.proofs.AnswerLaws.{turn_of_bad, turn_of_command}

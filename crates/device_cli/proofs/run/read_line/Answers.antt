@@ -1,7 +1,4 @@
-use Rattle.std.proofs.Common.{◌≡◌, ℕ, None, List, subst}
-use Rattle.std.specs.Prelude.{option_copied, Option}
 use Rattle.script_lang.proofs.LongLines.{long_is_bad}
-use Rattle.device_cli.specs.Kept.{IsKept}
 use Rattle.device_cli.proofs.run.read_line.Goals as goal
 
 pub returns-in-None-clause-none : goal.returns-in-None-clause-none

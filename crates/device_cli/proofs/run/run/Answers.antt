@@ -1,9 +1,8 @@
-use Rattle.std.proofs.Common.{◌≡◌, ◌⊎◌, inl, inr, Err, sym, ap}
-use Rattle.std.specs.Prelude.{Option}
+use Rattle.std.proofs.Common.{◌≡◌, ◌⊎◌, inl, inr, Err}
 use Rattle.sdbt_base.specs.Faults.{Rose}
 use Rattle.script_lang.specs.Arrays.{State}
 use Rattle.device_core.specs.Leaf.{IsServedCell}
-use Rattle.device_cli.specs.Replied.{no_line, damage_line}
+use Rattle.device_cli.specs.Replied.{no_line}
 use Rattle.device_cli.specs.Represents.{Stood, StoodAlone, StoodBy}
 use Rattle.device_cli.specs.declared.stop.DeviceStop.{DeviceStop}
 use Rattle.device_cli.specs.declared.stop.DeviceStop.TheVariants as device

@@ -1,4 +1,4 @@
-use Rattle.std.proofs.Common.{◌≡◌, ℕ, List, [], ◌∷◌, Ok, sym, subst, rules}
+use Rattle.std.proofs.Common.{◌≡◌, ℕ, List, [], Ok, sym, subst, rules}
 use Rattle.script_lang.specs.Lines.{last_line as line_at_end}
 use Rattle.script_lang.specs.Arrays.{State}
 use Rattle.device_cli.specs.Replied.{Handled, no_line}

@@ -1,4 +1,4 @@
-use Rattle.std.proofs.Common.{◌≡◌, ℕ, ◌+◌, ◌-◌, ◌≤◌, List, [], ◌++◌, None, Some, Err, take, drop, length, refl, sym, ◌∙◌, ap, subst, arith, length-take, length-append}
+use Rattle.std.proofs.Common.{◌≡◌, ℕ, ◌+◌, ◌-◌, ◌≤◌, List, [], ◌++◌, None, Some, take, drop, length, sym, ◌∙◌, ap, subst, arith, length-take, length-append}
 use Rattle.std.proofs.lemmas.List.{take-append-le}
 use Rattle.std.proofs.lemmas.Grind.{common_steps}
 use Rattle.std.specs.Prelude.{◌↔◌, Option, IfSome}
@@ -6,7 +6,7 @@ use Rattle.sdbt_base.specs.Told.{Gave, IsAtEnd}
 use Rattle.script_lang.specs.Lines.{rest_of}
 use Rattle.script_lang.specs.Arrays.{State}
 use Rattle.device_cli.specs.Represents.{Stood}
-use Rattle.device_cli.proofs.Reading.{IsReading, IsReading-start, IsReading-more, IsReading-stop, IsReading-end, IsReading-failed, IsReading-limit}
+use Rattle.device_cli.proofs.Reading.{IsReading, IsReading-start, IsReading-more, IsReading-stop, IsReading-end, IsReading-failed}
 use Rattle.device_cli.proofs.run.serve_input.Goals as goal
 
 -- nothing given leaves all

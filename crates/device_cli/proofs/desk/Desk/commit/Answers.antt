@@ -1,11 +1,9 @@
-use Rattle.std.proofs.Common.{◌≡◌, ◌≢◌, ◌+◌, ℕ, Ok, Some, Option, true, false, refl, sym, ◌∙◌, ap, subst, arith}
+use Rattle.std.proofs.Common.{◌≡◌, ◌+◌, ℕ, Some, sym, ◌∙◌, ap, subst}
 use Rattle.std.specs.Prelude.{Result}
-use Rattle.page_store.specs.Device.{Device as StoredDevice}
 use Rattle.device_core.specs.Replies.{device_after}
 use Rattle.device_core.specs.Open.{is_touched}
 use Rattle.device_core.specs.Holds.{Holds}
 use Rattle.device_core.specs.declared.refusals.CommitReply.{CommitReply}
-use Rattle.device_core.specs.declared.refusals.CommitReply.TheVariants as commits
 use Rattle.script_lang.specs.Arrays.{State, session_on, committed}
 use Rattle.script_lang.specs.declared.commands.Command.TheVariants as commands
 use Rattle.script_lang.specs.declared.replies.Reply.{Reply}

@@ -1,11 +1,7 @@
-use Rattle.std.proofs.Common.{◌≡◌, ◌≢◌, ◌≤◌, ℕ, Ok, Some, None, Option, refl, sym, ◌∙◌, ap, subst, arith}
-use Rattle.std.proofs.lemmas.Grind.{common_steps}
-use Rattle.script_lang.specs.Arrays.{State, session_on, new_device}
-use Rattle.script_lang.specs.declared.commands.Command.TheVariants as commands
-use Rattle.script_lang.specs.declared.replies.Reply.TheVariants as replies
-use Rattle.device_cli.specs.Replied.{Serves}
-use Rattle.device_cli.specs.Represents.{stored, StandsFor, Represents}
-use Rattle.device_cli.proofs.ServedLaws.{at, closed, with_session, without_session, has_session, has_none, dropped, stat_of, holds_stands, erased_any, mounted_any, formatted_any}
+use Rattle.std.proofs.Common.{None, refl}
+use Rattle.script_lang.specs.Arrays.{State}
+use Rattle.device_cli.specs.Represents.{Represents}
+use Rattle.device_cli.proofs.ServedLaws.{has_none, erased_any}
 use Rattle.device_cli.proofs.desk.Desk.erase.Goals as goal
 
 pub returns-in-Ok-clause-answered : goal.returns-in-Ok-clause-answered

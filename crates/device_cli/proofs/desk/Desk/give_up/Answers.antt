@@ -1,11 +1,10 @@
-use Rattle.std.proofs.Common.{◌≡◌, ◌≢◌, ◌≤◌, ℕ, Ok, Some, None, Option, refl, sym, ◌∙◌, ap, subst, arith}
-use Rattle.std.proofs.lemmas.Grind.{common_steps}
-use Rattle.script_lang.specs.Arrays.{State, session_on, new_device}
+use Rattle.std.proofs.Common.{◌≡◌, Ok, Some}
+use Rattle.script_lang.specs.Arrays.{State}
 use Rattle.script_lang.specs.declared.commands.Command.TheVariants as commands
 use Rattle.script_lang.specs.declared.replies.Reply.TheVariants as replies
 use Rattle.device_cli.specs.Replied.{Serves}
-use Rattle.device_cli.specs.Represents.{stored, StandsFor, Represents}
-use Rattle.device_cli.proofs.ServedLaws.{at, closed, with_session, without_session, has_session, has_none, dropped, stat_of, holds_stands, erased_any, mounted_any, formatted_any}
+use Rattle.device_cli.specs.Represents.{Represents}
+use Rattle.device_cli.proofs.ServedLaws.{with_session, has_none, dropped, holds_stands}
 use Rattle.device_cli.proofs.desk.Desk.give_up.Goals as goal
 
 pub returns-clause-answered : goal.returns-clause-answered

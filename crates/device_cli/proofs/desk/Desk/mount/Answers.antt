@@ -1,11 +1,11 @@
-use Rattle.std.proofs.Common.{◌≡◌, ◌≢◌, ◌≤◌, ℕ, Ok, Some, None, Option, refl, sym, ◌∙◌, ap, subst, arith}
+use Rattle.std.proofs.Common.{◌≡◌, Ok, Some, None, refl, ◌∙◌, arith}
 use Rattle.std.proofs.lemmas.Grind.{common_steps}
-use Rattle.script_lang.specs.Arrays.{State, session_on, new_device}
+use Rattle.script_lang.specs.Arrays.{State, session_on}
 use Rattle.script_lang.specs.declared.commands.Command.TheVariants as commands
 use Rattle.script_lang.specs.declared.replies.Reply.TheVariants as replies
 use Rattle.device_cli.specs.Replied.{Serves}
-use Rattle.device_cli.specs.Represents.{stored, StandsFor, Represents}
-use Rattle.device_cli.proofs.ServedLaws.{at, closed, with_session, without_session, has_session, has_none, dropped, stat_of, holds_stands, erased_any, mounted_any, formatted_any}
+use Rattle.device_cli.specs.Represents.{stored, Represents}
+use Rattle.device_cli.proofs.ServedLaws.{without_session, has_session, mounted_any}
 use Rattle.device_cli.proofs.desk.Desk.mount.Goals as goal
 
 pub returns-in-Ok-clause-answered : goal.returns-in-Ok-clause-answered

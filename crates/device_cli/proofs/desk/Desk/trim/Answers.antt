@@ -1,16 +1,16 @@
-use Rattle.std.proofs.Common.{◌≡◌, ◌≢◌, ◌<◌, ◌≤◌, ℕ, Ok, Err, Some, Option, true, refl, sym, ◌∙◌, ap, subst, arith}
+use Rattle.std.proofs.Common.{◌≡◌, ◌<◌, ◌≤◌, ℕ, Ok, Err, Some, sym, ◌∙◌, ap, subst, arith}
 use Rattle.std.specs.Prelude.{Result, Bool, ◌||◌}
 use Rattle.std.specs.FinMap.{contains_key}
 use Rattle.device_core.specs.declared.refusals.TrimRefusal.TheVariants as refusals
 use Rattle.std.proofs.lemmas.Grind.{common_steps}
-use Rattle.script_lang.specs.Arrays.{State, written, unmapped, zeros}
-use Rattle.script_lang.specs.declared.commands.Command.TheVariants.{Read, Write, Trim}
+use Rattle.script_lang.specs.Arrays.{State, unmapped}
+use Rattle.script_lang.specs.declared.commands.Command.TheVariants.{Trim}
 use Rattle.script_lang.specs.declared.replies.Reply.{Reply}
 use Rattle.device_cli.specs.declared.stop.DeviceStop.{DeviceStop}
 use Rattle.device_cli.specs.declared.stop.DeviceStop.TheVariants as device
 use Rattle.device_cli.specs.Replied.{Serves}
 use Rattle.device_cli.specs.Represents.{stored, Represents}
-use Rattle.device_cli.proofs.ServedLaws.{at, with_session, has_session, read_content, read_range, write_done, write_range, write_full, trim_done, trim_range}
+use Rattle.device_cli.proofs.ServedLaws.{at, with_session, has_session, trim_done, trim_range}
 use Rattle.device_cli.proofs.desk.Desk.trim.Goals as goal
 
 -- a number that isn't past another is below it

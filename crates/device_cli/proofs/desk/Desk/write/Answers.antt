@@ -1,18 +1,18 @@
-use Rattle.std.proofs.Common.{◌≡◌, ◌≢◌, ◌<◌, ◌≤◌, ℕ, Ok, Err, Some, Option, true, refl, sym, ◌∙◌, ap, subst, arith}
+use Rattle.std.proofs.Common.{◌≡◌, ◌<◌, ◌≤◌, ℕ, Ok, Err, Some, sym, ◌∙◌, subst, arith}
 use Rattle.std.specs.Prelude.{Result, List}
 use Rattle.std.specs.FinMap.{insert}
 use Rattle.page_store.specs.Buffer.{padded}
 use Rattle.device_core.specs.Holds.{Holds}
 use Rattle.device_core.specs.declared.refusals.WriteRefusal.TheVariants as refusals
 use Rattle.std.proofs.lemmas.Grind.{common_steps}
-use Rattle.script_lang.specs.Arrays.{State, written, unmapped, zeros}
-use Rattle.script_lang.specs.declared.commands.Command.TheVariants.{Read, Write, Trim}
+use Rattle.script_lang.specs.Arrays.{State, written, zeros}
+use Rattle.script_lang.specs.declared.commands.Command.TheVariants.{Write}
 use Rattle.script_lang.specs.declared.replies.Reply.{Reply}
 use Rattle.device_cli.specs.declared.stop.DeviceStop.{DeviceStop}
 use Rattle.device_cli.specs.declared.stop.DeviceStop.TheVariants as device
 use Rattle.device_cli.specs.Replied.{Serves}
 use Rattle.device_cli.specs.Represents.{stored, Represents}
-use Rattle.device_cli.proofs.ServedLaws.{at, with_session, has_session, read_content, read_range, write_done, write_range, write_full, trim_done, trim_range}
+use Rattle.device_cli.proofs.ServedLaws.{at, with_session, has_session, write_done, write_range, write_full}
 use Rattle.device_cli.proofs.desk.Desk.write.Goals as goal
 
 -- a number that isn't past another is below it
