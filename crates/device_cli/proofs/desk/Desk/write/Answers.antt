@@ -1,8 +1,9 @@
 use Rattle.std.proofs.Common.{◌≡◌, ◌<◌, ◌≤◌, ℕ, Ok, Err, Some, sym, ◌∙◌, subst, arith}
-use Rattle.std.specs.Prelude.{Result, List}
+use Rattle.std.specs.Prelude.{Result, List, Option, None, OnOk}
 use Rattle.std.specs.FinMap.{insert}
 use Rattle.page_store.specs.Buffer.{padded}
 use Rattle.device_core.specs.Holds.{Holds}
+use Rattle.device_core.specs.Leaf.{IsServedCell}
 use Rattle.device_core.specs.declared.refusals.WriteRefusal.TheVariants as refusals
 use Rattle.std.proofs.lemmas.Grind.{common_steps}
 use Rattle.script_lang.specs.Arrays.{State, written, zeros}
@@ -21,6 +22,25 @@ inside n m h = grind (arith, common_steps)
 
 not_both : {T E : Type 0} (r : Result T E) (x : T) (e : E) → r ≡ Ok x → r ≡ Err e → ⊥
 not_both r x e p q = cc
+
+-- a cell that is served stays so while pages are added
+served_later : (cell : Option (List ℕ)) (before now : ℕ) → before ≤ now → IsServedCell cell before → IsServedCell cell now
+served_later None before now later h = tt
+served_later (Some bytes) before now later (root, served, same) =
+    (root, record { fits = served.fits; key = served.key; leaf = served.leaf; within = omega (arith, served.within) }, same)
+
+on_ok : {T E : Type 0} (r : Result T E) (P : Type 0) → P → OnOk r P
+on_ok (Ok x) P p = p
+on_ok (Err e) P p = tt
+
+pub returns-in-Err-Range-clause-cell : goal.returns-in-Err-Range-clause-cell
+returns-in-Err-Range-clause-cell g c told =
+    let P = g.P.Platform in
+    let before = (P.history c.args.platform.now).present.cell in
+    let cell = (P.history c.write.new.platform).present.cell in
+    let served = served_later before (P.head c.args.platform.now) (P.head c.write.new.platform) c.write.ensures.head_rises (c.requires.cell told) in
+    on_ok c.keep-in-Err-Range.result (IsServedCell cell (P.head c.write.new.platform))
+    (subst (λ (x : Option (List ℕ)). IsServedCell x (P.head c.write.new.platform)) (sym (c.write.ensures.cell told)) served)
 
 pub returns-in-Ok-clause-answered : goal.returns-in-Ok-clause-answered
 unfolding zeros
