@@ -130,11 +130,15 @@ pub stands_empty : (image : Image) → Stands (with_cell image None) None
 stands_empty image = refl
 
 -- as long as the cell stays as it was, a loss of power at any moment leaves what stands for the same device
-pub stands_during : (old new : History) (device : Option Device) → Stands old.present device → During old new (λ image. image.cell ≡ old.present.cell) → During old new (LeavesOnly (λ left. Stands left device))
-stands_during old new device stands during = record {
+pub stays_while_cell : (old new : History) (device : Option Device) → Stands old.present device → During old new (λ image. image.cell ≡ old.present.cell) → During old new (LeavesOnly (λ left. Stands left device))
+stays_while_cell old new device stands during = record {
   extends = during.extends;
   each = λ i from to.
       let was : image_at new (moment old) ≡ old.present = during.extends.same (moment old) (omega arith) ∙ image_at-now old (moment old) (omega arith) in
       let earlier = subst (λ (image : Image). IsEarlier image (image_at new i)) was (new.ascends (moment old) i from) in
       stands_leaves (image_at new i) device (stands_later old.present (image_at new i) device earlier (during.each i from to) stands);
 }
+
+-- the same under the name that proofs of other crates cite
+pub stands_during : (old new : History) (device : Option Device) → Stands old.present device → During old new (λ image. image.cell ≡ old.present.cell) → During old new (LeavesOnly (λ left. Stands left device))
+stands_during = stays_while_cell

@@ -1,6 +1,7 @@
 //! Laws of trees and of what images stand for. The functions do nothing: each has its law as its contract.
 ghost use Rattle.std.specs.Prelude.{◌≡◌, ℕ, List, Option};
 ghost use Rattle.platform.specs.Image.{Image, IsEarlier, LeavesOnly};
+ghost use Rattle.platform.specs.History.{History, During};
 ghost use Rattle.root_codec.specs.declared.root.Root.{Root};
 ghost use Rattle.root_codec.specs.RootRecord.{FitsRoot};
 ghost use Rattle.page_store.specs.Device.{Device};
@@ -30,4 +31,11 @@ pub fn outlasts_loss_of_power()
     ensures { (image later : Image) (device : Option Device) →
         IsEarlier image later → later.cell ≡ image.cell → Stands image device →
         LeavesOnly (λ left. Stands left device) later }
+{}
+
+/// As long as the cell stays as it was, what a loss of power leaves of any moment's image stands for the same device.
+pub fn stays_while_the_cell_stays()
+    ensures { (old new : History) (device : Option Device) → Stands old.present device →
+        During old new (λ image. image.cell ≡ old.present.cell) →
+        During old new (LeavesOnly (λ left. Stands left device)) }
 {}
