@@ -5,6 +5,7 @@ pub mod Kept
 pub mod Log
 pub mod Logged
 pub mod Mem
+pub mod Places
 pub mod Runs
 pub mod Told
 pub mod Refusals

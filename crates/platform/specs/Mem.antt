@@ -1,5 +1,5 @@
 -- A platform in memory, as contracts see it.
-use Rattle.std.specs.Prelude.{◌≡◌, ◌⊎◌, ◌≤◌, ◌↔◌, ℕ, Bool, true, false, List, Option, Some, IsSome, Result, IsErr, slice_index}
+use Rattle.std.specs.Prelude.{◌≡◌, ◌⊎◌, ◌≤◌, ◌+◌, ◌↔◌, ℕ, Bool, true, false, List, Option, Some, IsSome, Result, IsErr, slice_index}
 use Rattle.sdbt_base.specs.Faults.{Rose, next_count}
 use Rattle.platform.specs.declared.failures.CallKind.{CallKind}
 use Rattle.platform.specs.declared.failures.Failure.{Failure}
@@ -53,11 +53,12 @@ Starved old new = Rose (starved_of old) (starved_of new)
 abbrev pub FailsAsListed : {T E : Type 0} → CallKind → MemPlatform → MemPlatform → Result T E → Type 0
 FailsAsListed call old new result = IsErr result ↔ (IsSome (due old call) ⊎ Starved old new)
 
--- one call more was counted, and the list stays
+-- one call more was counted, at most one growth more was refused, and the list stays
 pub record Counts (call : CallKind) (old new : MemPlatform) : Type 0 where
   pub calls : calls_of new ≡ counted (calls_of old) call
   pub failures : failures_of new ≡ failures_of old
   pub starved : starved_of old ≤ starved_of new
+  pub starved_by_one : starved_of new ≤ starved_of old + 1
 
 -- a call that fails has its effect where the list says so, and memory was there
 pub record HasEffect (call : CallKind) (old new : MemPlatform) (after : Image) : Type 0 where

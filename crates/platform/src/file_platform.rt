@@ -1,7 +1,10 @@
 //! A platform in a folder.
-ghost use Rattle.std.specs.Prelude.{◌≡◌, ◌<◌, ◌≤◌, ◌+◌, ◌*◌, ◌^◌, ◌↔◌, IsSome, IfSome, IfOk, IfErr, IsErr, IsTrue, OnOk, false};
+ghost use Rattle.std.specs.Prelude.{◌≡◌, ◌≢◌, ◌<◌, ◌≤◌, ◌+◌, ◌*◌, ◌^◌, ◌↔◌, length, All, Some, IsSome, IfSome, IfOk, IfErr, IsOk, IsErr, IsTrue, OnOk, OnErr, false};
+ghost use Rattle.std.specs.Io.KnownBytes.{Appends, Consumes};
+ghost use Rattle.std.specs.Io.Seek.{MovesTo};
 ghost use Rattle.std.specs.Int.{div_ceil};
-ghost use Rattle.sdbt_base.specs.Faults.{Rose};
+ghost use Rattle.sdbt_base.specs.Faults.{Rose, next_count};
+ghost use Rattle.platform.specs.Places.{ReadsAt, WritesAt};
 ghost use Rattle.platform.specs.Refusals.{IsNotMemory};
 
 use crate::transfers::{read_whole, write_whole};
@@ -47,6 +50,7 @@ impl<R: Files + Alloc + Clone + Drop> FilePlatform<R> {
     /// up with zeros, and a `root.new` that was left behind goes: a key that nothing needs must not stay.
     pub fn open(rt: R, folder: &str) -> Result<FilePlatform<R>, OpenRefusal>
         ensures faults { IfOk result (λ platform. ⟦<FilePlatform<R> as Platform>⟧.faults platform ≡ 0) }
+        ensures believed { IfOk result (λ platform. platform.is_unsure ≡ false) }
         ensures memory { IfErr result IsNotMemory }
     {
         let root = format!(in rt.alloc(); "{folder}/root")?;
@@ -78,6 +82,8 @@ impl<R: Files + Alloc + Clone + Drop> FilePlatform<R> {
     // Moves to the end of the last page, once that is whole.
     fn go_to_end(&mut self) -> io::Result<()>
         ensures whole { OnOk result (self.new.is_torn ≡ false) }
+        ensures there { OnOk result (IfSome (R.File.stream_position self.old.media) (λ _.
+            R.File.stream_position self.new.media ≡ Some (self.old.head * RECORD))) }
         ensures head { self.new.head ≡ self.old.head }
         ensures faults { self.new.faults ≡ self.old.faults }
     {
@@ -85,8 +91,7 @@ impl<R: Files + Alloc + Clone + Drop> FilePlatform<R> {
             fill_up(&self.media, self.head * PAGE_LEN)?;
             self.is_torn = false;
         }
-        self.media.seek(SeekFrom::Start(self.head * PAGE_LEN))?;
-        Ok(())
+        go_to_page(&mut self.media, self.head)
     }
 
     // Writes a page. It counts as handed over whatever comes of it, since a part of it may be there.
@@ -95,6 +100,8 @@ impl<R: Files + Alloc + Clone + Drop> FilePlatform<R> {
         requires whole { self.old.is_torn ≡ false }
         ensures head { self.new.head ≡ self.old.head + 1 }
         ensures torn { IsTrue self.new.is_torn ↔ IsErr result }
+        ensures written { OnOk result
+            (Appends (R.File.contents self.old.media) (R.File.contents self.new.media) page.now) }
         ensures faults { self.new.faults ≡ self.old.faults }
     {
         self.head += 1;
@@ -143,7 +150,9 @@ impl<R: Files + Alloc + Clone + Drop> FilePlatform<R> {
 }
 
 impl<R: Files + Alloc + Clone + Drop> Platform for FilePlatform<R> {
-    ghost use Rattle.std.specs.Prelude.{◌≤◌, ◌^◌, ℕ};
+    ghost use Rattle.std.specs.Prelude.{◌≡◌, ◌↔◌, ◌≤◌, ◌<◌, ◌+◌, ◌*◌, ◌^◌, ℕ, length, false, IsTrue, IsErr, IfOk, OnOk, OnErr};
+    ghost use Rattle.sdbt_base.specs.Faults.{Rose, next_count};
+    ghost use Rattle.platform.specs.Places.{ReadsAt, WritesAt};
     ghost use Rattle.std.proofs.Common.{rules};
     ghost use Rattle.platform.specs.Untold.{untold};
 
@@ -173,7 +182,22 @@ impl<R: Files + Alloc + Clone + Drop> Platform for FilePlatform<R> {
         MAX_PAGES
     }
 
-    fn append(&mut self, page: &[u8]) -> Result<u64, PlatformFault> {
+    fn append(&mut self, page: &[u8]) -> Result<u64, PlatformFault>
+        requires size { length page.now ≡ RECORD }
+        requires room { self.old.head < MAX_PAGES }
+
+        ensures address { IfOk result (λ address. address ≡ self.old.head) }
+        ensures written { OnOk result (WritesAt R.File.stream_position R.File.contents
+            self.old.media self.new.media (self.old.head * RECORD) page.now) }
+        ensures whole { OnOk result (self.new.is_torn ≡ false) }
+        ensures head_ok { OnOk result (self.new.head ≡ self.old.head + 1) }
+        ensures head_rises { self.old.head ≤ self.new.head }
+        ensures head_by_one { self.new.head ≤ self.old.head + 1 }
+        ensures faults { self.old.faults ≤ self.new.faults }
+        ensures cause { OnErr result (Rose self.old.faults self.new.faults) }
+        ensures no_fault { OnOk result (self.new.faults ≡ self.old.faults) }
+        ensures one_fault { OnErr result (self.new.faults ≡ next_count self.old.faults) }
+    {
         let addr = self.head;
         if self.go_to_end().is_err() || self.hand_over(page).is_err() {
             return fault(&mut self.faults);
@@ -181,28 +205,61 @@ impl<R: Files + Alloc + Clone + Drop> Platform for FilePlatform<R> {
         Ok(addr)
     }
 
-    fn read(&mut self, addr: u64, into: &mut [u8]) -> Result<(), PlatformFault> {
+    fn read(&mut self, addr: u64, into: &mut [u8]) -> Result<(), PlatformFault>
+        requires size { length into.old ≡ RECORD }
+        requires within { addr < self.old.head }
+
+        ensures page { OnOk result (ReadsAt R.File.stream_position R.File.remaining
+            self.old.media self.new.media (addr * RECORD) into.new) }
+        ensures head { self.new.head ≡ self.old.head }
+        ensures faults { self.old.faults ≤ self.new.faults }
+        ensures cause { OnErr result (Rose self.old.faults self.new.faults) }
+        ensures no_fault { OnOk result (self.new.faults ≡ self.old.faults) }
+        ensures one_fault { OnErr result (self.new.faults ≡ next_count self.old.faults) }
+    {
         if read_page(&mut self.media, addr, into).is_err() {
             return fault(&mut self.faults);
         }
         Ok(())
     }
 
-    fn sync(&mut self) -> Result<(), PlatformFault> {
+    fn sync(&mut self) -> Result<(), PlatformFault>
+        ensures believed { OnOk result (self.old.is_unsure ≡ false) }
+        ensures unsure { IsTrue self.new.is_unsure ↔ IsErr result }
+        ensures head { self.new.head ≡ self.old.head }
+        ensures faults { self.old.faults ≤ self.new.faults }
+        ensures cause { OnErr result (Rose self.old.faults self.new.faults) }
+        ensures no_fault { OnOk result (self.new.faults ≡ self.old.faults) }
+        ensures one_fault { OnErr result (self.new.faults ≡ next_count self.old.faults) }
+    {
         if self.sync_media().is_err() {
             return fault(&mut self.faults);
         }
         Ok(())
     }
 
-    fn load_root(&mut self, into: &mut [u8]) -> Result<bool, PlatformFault> {
+    fn load_root(&mut self, into: &mut [u8]) -> Result<bool, PlatformFault>
+        requires size { length into.old ≡ ROOT }
+        ensures head { self.new.head ≡ self.old.head }
+        ensures faults { self.old.faults ≤ self.new.faults }
+        ensures cause { OnErr result (Rose self.old.faults self.new.faults) }
+        ensures no_fault { OnOk result (self.new.faults ≡ self.old.faults) }
+        ensures one_fault { OnErr result (self.new.faults ≡ next_count self.old.faults) }
+    {
         let Ok(full) = load(&self.rt, self.root.as_str(), into) else {
             return fault(&mut self.faults);
         };
         Ok(full)
     }
 
-    fn swap_root(&mut self, bytes: &[u8]) -> Result<(), PlatformFault> {
+    fn swap_root(&mut self, bytes: &[u8]) -> Result<(), PlatformFault>
+        requires size { length bytes.now ≡ ROOT }
+        ensures head { self.new.head ≡ self.old.head }
+        ensures faults { self.old.faults ≤ self.new.faults }
+        ensures cause { OnErr result (Rose self.old.faults self.new.faults) }
+        ensures no_fault { OnOk result (self.new.faults ≡ self.old.faults) }
+        ensures one_fault { OnErr result (self.new.faults ≡ next_count self.old.faults) }
+    {
         if self.replace_root(bytes).is_err() {
             let _ = forget(&self.rt, self.new_root.as_str());
             return fault(&mut self.faults);
@@ -210,7 +267,13 @@ impl<R: Files + Alloc + Clone + Drop> Platform for FilePlatform<R> {
         Ok(())
     }
 
-    fn clear_root(&mut self) -> Result<(), PlatformFault> {
+    fn clear_root(&mut self) -> Result<(), PlatformFault>
+        ensures head { self.new.head ≡ self.old.head }
+        ensures faults { self.old.faults ≤ self.new.faults }
+        ensures cause { OnErr result (Rose self.old.faults self.new.faults) }
+        ensures no_fault { OnOk result (self.new.faults ≡ self.old.faults) }
+        ensures one_fault { OnErr result (self.new.faults ≡ next_count self.old.faults) }
+    {
         if self.remove_root().is_err() {
             return fault(&mut self.faults);
         }
@@ -257,11 +320,21 @@ fn fill_up<F: OpenFile>(file: &F, len: u64) -> io::Result<()> {
     Ok(())
 }
 
-// Reads the page of an address.
-fn read_page<F: Read + Seek>(media: &mut F, addr: u64, into: &mut [u8]) -> io::Result<()>
-    requires { addr < MAX_PAGES }
+// Moves to where the page of an address begins.
+fn go_to_page<F: Seek>(media: &mut F, addr: u64) -> io::Result<()>
+    requires { addr ≤ MAX_PAGES }
+    ensures { MovesTo (F.stream_position media.old) (F.stream_position media.new) (addr * RECORD) result }
 {
     media.seek(SeekFrom::Start(addr * PAGE_LEN))?;
+    Ok(())
+}
+
+// Reads the page of an address: what the file gives from where that begins.
+fn read_page<F: Read + Seek>(media: &mut F, addr: u64, into: &mut [u8]) -> io::Result<()>
+    requires { addr < MAX_PAGES }
+    ensures { OnOk result (ReadsAt F.stream_position F.remaining media.old media.new (addr * RECORD) into.new) }
+{
+    go_to_page(media, addr)?;
     read_whole(media, into)
 }
 
@@ -272,10 +345,22 @@ fn load(files: &impl Files, path: &str, into: &mut [u8]) -> io::Result<bool> {
         Err(error) if error.kind() == ErrorKind::NotFound => return Ok(false),
         Err(error) => return Err(error),
     };
-    match file.metadata()?.len() {
+    let len = file.metadata()?.len();
+    load_from(&mut file, len, into)
+}
+
+// Whether a file of so many bytes is a full cell, whose bytes are then in the buffer: zeros, if it has another length than
+// a root record's.
+fn load_from<F: Read>(file: &mut F, len: u64, into: &mut [u8]) -> io::Result<bool>
+    ensures full { IfOk result (λ full. IsTrue full ↔ (len ≢ 0)) }
+    ensures bytes { len ≡ ROOT → OnOk result (Consumes (F.remaining file.old) (F.remaining file.new) into.new) }
+    ensures zeros { len ≢ 0 → len ≢ ROOT → OnOk result (All (λ b. b ≡ 0) into.new) }
+    ensures fails { len ≢ ROOT → IsOk result }
+{
+    match len {
         0 => Ok(false),
         ROOT_LEN => {
-            read_whole(&mut file, into)?;
+            read_whole(file, into)?;
             Ok(true)
         }
         _ => {
@@ -289,6 +374,7 @@ fn load(files: &impl Files, path: &str, into: &mut [u8]) -> io::Result<bool> {
 fn fault<T>(faults: &mut u64) -> Result<T, PlatformFault>
     ensures rises { faults.old ≤ faults.new }
     ensures rose { Rose faults.old faults.new }
+    ensures one { faults.new ≡ next_count faults.old }
     ensures failed { IsErr result }
 {
     *faults = faults.saturating_add(1);

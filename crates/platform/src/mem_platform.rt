@@ -1,7 +1,7 @@
 //! A platform in memory.
 ghost use Rattle.std.specs.Prelude.{◌≡◌, ◌↔◌, ◌⊎◌, ◌<◌, ◌≤◌, ◌+◌, ◌-◌, ◌^◌, [], ℕ, Some, None, IsTrue, IsSome, IsErr, IfOk, OnOk, OnErr, All, length, slice_get};
 ghost use Rattle.medium_trace.specs.Trace.{Tears};
-ghost use Rattle.sdbt_base.specs.Faults.{Rose};
+ghost use Rattle.sdbt_base.specs.Faults.{Rose, next_count};
 ghost use Rattle.platform.specs.Image.{blank, with_page, with_cell, all_synced, MayLeave};
 ghost use Rattle.platform.specs.History.{Steps};
 ghost use Rattle.platform.specs.Failures.{no_calls};
@@ -31,7 +31,7 @@ pub struct MemPlatform {
 }
 
 impl MemPlatform {
-    ghost use Rattle.platform.specs.Mem.{mem_history, image_of_now, failures_of, calls_of, starved_of, reads_of, capacity_of, IsSameRest};
+    ghost use Rattle.platform.specs.Mem.{mem_history, image_of_now, failures_of, calls_of, starved_of, reads_of, faults_of, capacity_of, IsSameRest};
 
     /// No page, an empty cell and no failures.
     pub fn blank(alloc: Global, capacity: u64) -> Self
@@ -40,7 +40,9 @@ impl MemPlatform {
         ensures past { (mem_history result).past ≡ [] }
         ensures capacity { capacity_of result ≡ capacity }
         ensures failures { failures_of result ≡ [] }
+        ensures calls { calls_of result ≡ no_calls }
         ensures reads { reads_of result ≡ 0 }
+        ensures faults { faults_of result ≡ 0 }
         ensures starved { starved_of result ≡ 0 }
     {
         MemPlatform {
@@ -63,7 +65,9 @@ impl MemPlatform {
         ensures past { (mem_history result).past ≡ [] }
         ensures capacity { capacity_of result ≡ capacity }
         ensures failures { failures_of result ≡ [] }
+        ensures calls { calls_of result ≡ no_calls }
         ensures reads { reads_of result ≡ 0 }
+        ensures faults { faults_of result ≡ 0 }
         ensures starved { starved_of result ≡ 0 }
     {
         MemPlatform {
@@ -146,7 +150,7 @@ impl MemPlatform {
 
 impl Platform for MemPlatform {
     ghost use Rattle.std.specs.Prelude.{◌≡◌, ◌↔◌, ◌⊎◌, ◌<◌, ◌≤◌, ◌+◌, ◌-◌, ◌^◌, ℕ, true, false, Some, None, IsTrue, IsSome, IsErr, IfOk, OnOk, OnErr, length, slice_get, refl};
-    ghost use Rattle.sdbt_base.specs.Faults.{Rose};
+    ghost use Rattle.sdbt_base.specs.Faults.{Rose, next_count};
     ghost use Rattle.platform.specs.Image.{with_page, with_cell, all_synced, IsEither, MayHavePage};
     ghost use Rattle.platform.specs.History.{Steps};
     ghost use Rattle.platform.specs.Mem.{mem_history, image_of_now, due, starved_of, reads_of, faults_of, capacity_of, FailsAsListed, Starved, Counts, HasEffect};
@@ -201,6 +205,7 @@ impl Platform for MemPlatform {
         ensures faults { faults_of self.old ≤ faults_of self.new }
         ensures cause { OnErr result (Rose (faults_of self.old) (faults_of self.new)) }
         ensures no_fault { OnOk result (faults_of self.new ≡ faults_of self.old) }
+        ensures one_fault { OnErr result (faults_of self.new ≡ next_count (faults_of self.old)) }
 
         ensures fails { FailsAsListed CallKind.Append self.old self.new result }
         ensures effect { HasEffect CallKind.Append self.old self.new
@@ -239,6 +244,7 @@ impl Platform for MemPlatform {
         ensures faults { faults_of self.old ≤ faults_of self.new }
         ensures cause { OnErr result (Rose (faults_of self.old) (faults_of self.new)) }
         ensures no_fault { OnOk result (faults_of self.new ≡ faults_of self.old) }
+        ensures one_fault { OnErr result (faults_of self.new ≡ next_count (faults_of self.old)) }
 
         // A read fails too where its count has come to its end.
         ensures fails { IsErr result
@@ -279,6 +285,7 @@ impl Platform for MemPlatform {
         ensures faults { faults_of self.old ≤ faults_of self.new }
         ensures cause { OnErr result (Rose (faults_of self.old) (faults_of self.new)) }
         ensures no_fault { OnOk result (faults_of self.new ≡ faults_of self.old) }
+        ensures one_fault { OnErr result (faults_of self.new ≡ next_count (faults_of self.old)) }
 
         ensures fails { FailsAsListed CallKind.Sync self.old self.new result }
         ensures effect { HasEffect CallKind.Sync self.old self.new
@@ -315,6 +322,7 @@ impl Platform for MemPlatform {
         ensures faults { faults_of self.old ≤ faults_of self.new }
         ensures cause { OnErr result (Rose (faults_of self.old) (faults_of self.new)) }
         ensures no_fault { OnOk result (faults_of self.new ≡ faults_of self.old) }
+        ensures one_fault { OnErr result (faults_of self.new ≡ next_count (faults_of self.old)) }
 
         ensures fails { FailsAsListed CallKind.Load self.old self.new result }
         ensures starved { starved_of self.new ≡ starved_of self.old }
@@ -343,6 +351,7 @@ impl Platform for MemPlatform {
         ensures faults { faults_of self.old ≤ faults_of self.new }
         ensures cause { OnErr result (Rose (faults_of self.old) (faults_of self.new)) }
         ensures no_fault { OnOk result (faults_of self.new ≡ faults_of self.old) }
+        ensures one_fault { OnErr result (faults_of self.new ≡ next_count (faults_of self.old)) }
 
         ensures fails { FailsAsListed CallKind.Swap self.old self.new result }
         ensures effect { HasEffect CallKind.Swap self.old self.new
@@ -379,6 +388,7 @@ impl Platform for MemPlatform {
         ensures faults { faults_of self.old ≤ faults_of self.new }
         ensures cause { OnErr result (Rose (faults_of self.old) (faults_of self.new)) }
         ensures no_fault { OnOk result (faults_of self.new ≡ faults_of self.old) }
+        ensures one_fault { OnErr result (faults_of self.new ≡ next_count (faults_of self.old)) }
 
         ensures fails { FailsAsListed CallKind.Clear self.old self.new result }
         ensures effect { HasEffect CallKind.Clear self.old self.new
@@ -404,6 +414,7 @@ impl Platform for MemPlatform {
 fn fault<T>(faults: &mut u64) -> Result<T, PlatformFault>
     ensures rises { faults.old ≤ faults.new }
     ensures rose { Rose faults.old faults.new }
+    ensures one { faults.new ≡ next_count faults.old }
     ensures failed { IsErr result }
 {
     *faults = faults.saturating_add(1);
