@@ -17,7 +17,8 @@ pub use appending::Placed;
 pub use buffers::Buffers;
 pub use fetching::fetch;
 pub use laws::{
-    no_wrong_place, one_device, one_tree, outlasts_loss_of_power, stays_while_the_cell_stays,
+    leaf_of_stands, no_wrong_place, one_device, one_tree, outlasts_loss_of_power, stands_by_leaf,
+    stays_while_the_cell_stays,
 };
 pub use refusals::{AppendFault, CurrentRefusal, FetchRefusal};
 pub use roots::current;
