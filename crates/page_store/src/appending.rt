@@ -43,6 +43,7 @@ impl Buffers {
         ensures untouched { IsErrOf result AppendFault.TapeFault → P.head platform.new ≡ P.head platform.old }
         ensures unchanged { P.tells → IsErrOf result AppendFault.TapeFault →
             (P.history platform.new).present ≡ (P.history platform.old).present }
+        ensures idle { IsErrOf result AppendFault.TapeFault → platform.new ≡ platform.old }
         // The page that may have been handed over is sealed under a key that was drawn for it.
         ensures spent { IsErrOf result AppendFault.PlatformFault →
             (key : List ℕ) × IsBytes 32 key × Drew (T.drawn tape.old) key (T.drawn tape.new)
