@@ -1,5 +1,5 @@
 -- When a session's entries over an image are an array of blocks.
-use Rattle.std.specs.Prelude.{◌≡◌, ◌≢◌, ◌<◌, ◌⊎◌, ℕ, Bool, true, false, List, All, AllPairs, length, map, slice_get}
+use Rattle.std.specs.Prelude.{◌≡◌, ◌≢◌, ◌<◌, ◌⊎◌, ◌+◌, ℕ, Bool, true, false, List, All, AllPairs, length, map, slice_get}
 use Rattle.std.specs.List.{Contains}
 use Rattle.std.specs.List.{AllZip, zip}
 use Rattle.std.specs.FinMap.{from_entries}
@@ -42,8 +42,10 @@ abbrev pub IsOfLeaf : List (List ℕ) → List Entry → Entry → Type 0
 IsOfLeaf pages leaf e = Contains leaf e ⊎ ((c : List ℕ) × IsRecordAt pages e.addr e.key (DataRecord e.low c))
 
 -- a session on any pages, forged ones too: the leaf of its root fits where it was read, and each entry is one of that
--- leaf, or was written by the session
-pub record FollowsBy (root : Root) (is_loaded : Bool) (known : List Entry) (pages : List (List ℕ)) : Type 0 where
+-- leaf, or was written by the session; it counts so many blocks more than the root record says as it has more than that leaf
+pub record FollowsBy (root : Root) (mapped : ℕ) (is_loaded : Bool) (known : List Entry) (pages : List (List ℕ)) : Type 0 where
   pub leaf : List Entry
   pub fits : is_loaded ≡ true → FitsAt pages (root_want root) root.key (NodeRecord 1 leaf)
   pub each : is_loaded ≡ true → All (IsOfLeaf pages leaf) known
+  pub counted : is_loaded ≡ true → mapped + length leaf ≡ length known + root.mapped
+  pub uncounted : is_loaded ≡ false → mapped ≡ root.mapped

@@ -11,6 +11,6 @@ abbrev pub Holds : Session → Image → Device → Blocks → Type 0
 Holds session image device contents =
     HoldsBy session.root session.mapped session.is_loaded session.is_touched session.entries.items image device contents
 
--- the session was opened on these pages, forged ones too, and what it read of them fits
+-- the session was opened on these pages, forged ones too, what it read of them fits, and its count goes on from the root record's
 abbrev pub Follows : Session → Image → Type 0
-Follows session image = FollowsBy session.root session.is_loaded session.entries.items image.readable
+Follows session image = FollowsBy session.root session.mapped session.is_loaded session.entries.items image.readable

@@ -2,6 +2,7 @@
 use Rattle.std.specs.Prelude.{◌≡◌, ◌≢◌, ℕ, ◌≤◌, Bool, true, List, All, slice_index_or}
 use Rattle.node_codec.specs.declared.body.Entry.{Entry}
 use Rattle.root_codec.specs.declared.root.Root.{Root}
+use Rattle.page_store.specs.Buffer.{Held}
 use Rattle.device_core.specs.Leaf.{IsServed, AreEntries}
 use Rattle.device_core.specs.declared.session.Session.{Session}
 
@@ -32,6 +33,10 @@ root_node session = session.root.addr
 -- the root record
 abbrev pub root_of : Session → Root
 root_of session = session.root
+
+-- the bytes of the last page that was read or sealed, and of its record
+abbrev pub buffers_of : Session → Held
+buffers_of session = session.buffers
 
 -- the session's tree has no entry for the block
 abbrev pub IsUnmapped : Session → ℕ → Type 0

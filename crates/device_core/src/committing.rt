@@ -1,7 +1,9 @@
 ghost use Rattle.std.specs.Prelude.{◌≡◌, ◌≢◌, ◌<◌, ◌≤◌, ◌+◌, ◌⊎◌, ℕ, Option, None, Some, true, false, IfOk, IsOk, IsErrOf};
 ghost use Rattle.sdbt_base.specs.Faults.{Rose};
 ghost use Rattle.platform.specs.Image.{LeavesOnly};
-ghost use Rattle.platform.specs.History.{Turns};
+ghost use Rattle.platform.specs.History.{During, Turns};
+ghost use Rattle.root_codec.specs.RootRecord.{root_bytes};
+ghost use Rattle.page_store.specs.Buffer.{IsBlank};
 ghost use Rattle.page_store.specs.Device.{Device};
 ghost use Rattle.page_store.specs.Stands.{Stands};
 ghost use Rattle.device_core.specs.Leaf.{IsServedCell};
@@ -17,7 +19,7 @@ use root_codec::Root;
 use sdbt_base::{Sink, Tape};
 
 impl Session {
-    ghost use Rattle.device_core.specs.Open.{IsOpen, blocks_of, number_of, mapped_of, is_touched};
+    ghost use Rattle.device_core.specs.Open.{IsOpen, blocks_of, number_of, mapped_of, root_of, buffers_of, is_touched};
     ghost use Rattle.device_core.specs.Holds.{Holds, Follows};
 
     /// Makes the session's changes the device's: one new leaf, and then the root record that names it.
@@ -55,6 +57,22 @@ impl Session {
             (LeavesOnly (λ left. Stands left (Some device)))
             (LeavesOnly (λ left. Stands left (Some (committed_device device contents)))) }
 
+        // The cell is as it was at each moment, if not for a commit or a fault of the platform.
+        ensures still { P.tells → IsOk result ⊎ (IsErrOf result CommitFault.PlatformFault
+            ⊎ During (P.history platform.old) (P.history platform.new) (λ image. image.cell ≡ (P.history platform.old).present.cell)) }
+        ensures stays_served { P.tells → IsServedCell (P.history platform.old).present.cell (P.head platform.old)
+            → IsServedCell (P.history platform.new).present.cell (P.head platform.new) }
+        ensures root_cell { P.tells → (P.history platform.old).present.cell ≡ Some (root_bytes (root_of self))
+            → IfOk result (λ answer. (P.history platform.new).present.cell ≡ Some (root_bytes (root_of answer.0))) }
+        ensures raised_cell { P.tells → is_touched self ≡ true → P.head platform.old ≢ P.capacity platform.old
+            → IfOk result (λ answer. (P.history platform.new).present.cell ≡ Some (root_bytes (root_of answer.0))) }
+        // A commit that raises the number leaves nothing of what was read or sealed in the session's buffers.
+        ensures wiped { is_touched self ≡ true → P.head platform.old ≢ P.capacity platform.old
+            → IfOk result (λ answer. IsBlank (buffers_of answer.0)) }
+        ensures unput { L.written ledger.new ≡ L.written ledger.old }
+
+        ensures head_raised { is_touched self ≡ true → P.head platform.old ≢ P.capacity platform.old
+            → IfOk result (λ answer. P.head platform.new ≡ P.head platform.old + 1) }
         ensures head_rises { P.head platform.old ≤ P.head platform.new }
         ensures head_by_one { P.head platform.new ≤ P.head platform.old + 1 }
         ensures capacity { P.capacity platform.new ≡ P.capacity platform.old }
@@ -98,6 +116,14 @@ impl Session {
             (LeavesOnly (λ left. Stands left (Some device)))
             (LeavesOnly (λ left. Stands left (Some (committed_device device contents)))) }
 
+        ensures still { P.tells → IsOk result ⊎ (IsErrOf result CommitFault.PlatformFault
+            ⊎ During (P.history platform.old) (P.history platform.new) (λ image. image.cell ≡ (P.history platform.old).present.cell)) }
+        ensures stays_served { P.tells → IsServedCell (P.history platform.old).present.cell (P.head platform.old)
+            → IsServedCell (P.history platform.new).present.cell (P.head platform.new) }
+        ensures cell { P.tells → IfOk result (λ answer. (P.history platform.new).present.cell ≡ Some (root_bytes (root_of answer.0))) }
+        ensures wiped { IfOk result (λ answer. IsBlank (buffers_of answer.0)) }
+
+        ensures head_ok { IfOk result (λ answer. P.head platform.new ≡ P.head platform.old + 1) }
         ensures head_rises { P.head platform.old ≤ P.head platform.new }
         ensures head_by_one { P.head platform.new ≤ P.head platform.old + 1 }
         ensures capacity { P.capacity platform.new ≡ P.capacity platform.old }

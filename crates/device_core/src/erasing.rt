@@ -1,9 +1,10 @@
-ghost use Rattle.std.specs.Prelude.{◌≡◌, ◌≢◌, ◌≤◌, Option, None, OnOk, IsErrOf};
+ghost use Rattle.std.specs.Prelude.{◌≡◌, ◌≢◌, ◌≤◌, ◌⊎◌, Option, None, OnOk, IsOk, IsErrOf};
 ghost use Rattle.sdbt_base.specs.Faults.{Rose};
 ghost use Rattle.platform.specs.Image.{LeavesOnly};
-ghost use Rattle.platform.specs.History.{Turns};
+ghost use Rattle.platform.specs.History.{During, Turns};
 ghost use Rattle.page_store.specs.Device.{Device};
 ghost use Rattle.page_store.specs.Stands.{Stands};
+ghost use Rattle.device_core.specs.Leaf.{IsServedCell};
 
 use crate::refusals::EraseRefusal;
 use platform::Platform;
@@ -20,6 +21,11 @@ pub fn erase<P: Platform>(platform: &mut P) -> Result<(), EraseRefusal>
     // At each moment a loss of power leaves the device, until one from which on it leaves none.
     ensures time { P.tells → (device : Option Device) → Stands (P.history platform.old).present device
         → Turns (P.history platform.old) (P.history platform.new) (LeavesOnly (λ left. Stands left device)) (LeavesOnly (λ left. Stands left None)) }
+
+    ensures still { P.tells → IsOk result ⊎ (IsErrOf result EraseRefusal.PlatformFault
+        ⊎ During (P.history platform.old) (P.history platform.new) (λ image. image.cell ≡ (P.history platform.old).present.cell)) }
+    ensures stays_served { P.tells → IsServedCell (P.history platform.old).present.cell (P.head platform.old)
+        → IsServedCell (P.history platform.new).present.cell (P.head platform.new) }
 
     ensures head { P.head platform.new ≡ P.head platform.old }
     ensures capacity { P.capacity platform.new ≡ P.capacity platform.old }

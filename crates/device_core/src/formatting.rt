@@ -1,7 +1,7 @@
-ghost use Rattle.std.specs.Prelude.{◌≡◌, ◌≢◌, ◌<◌, ◌≤◌, ◌+◌, ◌⊎◌, Option, None, Some, OnOk, IsErrOf};
+ghost use Rattle.std.specs.Prelude.{◌≡◌, ◌≢◌, ◌<◌, ◌≤◌, ◌+◌, ◌⊎◌, Option, None, Some, OnOk, IsOk, IsErrOf};
 ghost use Rattle.sdbt_base.specs.Faults.{Rose};
 ghost use Rattle.platform.specs.Image.{LeavesOnly};
-ghost use Rattle.platform.specs.History.{Turns};
+ghost use Rattle.platform.specs.History.{During, Turns};
 ghost use Rattle.page_store.specs.Device.{Device};
 ghost use Rattle.page_store.specs.Stands.{Stands};
 ghost use Rattle.device_core.specs.Leaf.{IsServedCell};
@@ -47,6 +47,15 @@ pub fn format<P: Platform, T: Tape, L: Sink>(
     ensures time { P.tells → (device : Option Device) → Stands (P.history platform.old).present device
         → Turns (P.history platform.old) (P.history platform.new) (LeavesOnly (λ left. Stands left device)) (LeavesOnly (λ left. Stands left (Some (new_device blocks order)))) }
 
+    // The cell is as it was at each moment, if not for the new device or a fault of the platform.
+    ensures still { P.tells → IsOk result ⊎ (IsErrOf result FormatRefusal.PlatformFault
+        ⊎ During (P.history platform.old) (P.history platform.new) (λ image. image.cell ≡ (P.history platform.old).present.cell)) }
+    ensures stays_served { P.tells → IsServedCell (P.history platform.old).present.cell (P.head platform.old)
+        → IsServedCell (P.history platform.new).present.cell (P.head platform.new) }
+    ensures unput { L.written ledger.new ≡ L.written ledger.old }
+
+    ensures head_ok { OnOk result (P.head platform.new ≡ P.head platform.old + 1) }
+    ensures head_refused { (IsErrOf result FormatRefusal.NotEmpty ⊎ IsErrOf result FormatRefusal.Full) → P.head platform.new ≡ P.head platform.old }
     ensures head_rises { P.head platform.old ≤ P.head platform.new }
     ensures head_by_one { P.head platform.new ≤ P.head platform.old + 1 }
     ensures capacity { P.capacity platform.new ≡ P.capacity platform.old }

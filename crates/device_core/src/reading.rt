@@ -6,6 +6,7 @@ ghost use Rattle.page_store.specs.Places.{NothingFits, FitsAt, block_want};
 ghost use Rattle.page_store.specs.Tree.{Wrong};
 ghost use Rattle.node_codec.specs.Record.{Record, DataRecord};
 ghost use Rattle.device_core.specs.Blocks.{Blocks, block_content};
+ghost use Rattle.device_core.specs.Damage.{IsDamaged};
 
 use crate::leaves::place_of;
 use crate::refusals::ReadRefusal;
@@ -41,6 +42,8 @@ impl Session {
         ensures follows { P.tells → Follows self.old (P.history platform.old).present → Follows self.new (P.history platform.new).present }
         ensures wrong { P.tells → Follows self.old (P.history platform.old).present → (addr : ℕ) → IsErrOf result (ReadRefusal.BadRecord addr)
             → Wrong (P.history platform.old).present.readable (root_of self.old) addr }
+        ensures damaged { P.tells → Follows self.old (P.history platform.old).present → (addr : ℕ) → IsErrOf result (ReadRefusal.BadRecord addr)
+            → IsDamaged (P.history platform.new).present.readable (root_of self.old) addr }
         ensures range { IsErrOf result ReadRefusal.Range ↔ (blocks_of self.old ≤ block) }
         ensures open { IsOpen self.new (P.head platform.new) }
         ensures same { (self.new.root ≡ self.old.root) × (self.new.mapped ≡ self.old.mapped) × (is_touched self.new ≡ is_touched self.old) }

@@ -1,4 +1,4 @@
-ghost use Rattle.std.specs.Prelude.{◌≡◌, ◌≢◌, ◌↔◌, ◌<◌, ◌≤◌, ◌+◌, ◌⊎◌, ◌||◌, ℕ, true, None, All, OnOk, OnErr, IsErrOf, length};
+ghost use Rattle.std.specs.Prelude.{◌≡◌, ◌≢◌, ◌↔◌, ◌<◌, ◌≤◌, ◌+◌, ◌⊎◌, ◌||◌, ℕ, true, None, All, OnOk, OnErr, IsOk, IsErrOf, length};
 ghost use Rattle.std.specs.FinMap as map;
 ghost use Rattle.sdbt_base.specs.Faults.{Rose};
 ghost use Rattle.platform.specs.History.{During};
@@ -6,6 +6,7 @@ ghost use Rattle.page_store.specs.Buffer.{padded};
 ghost use Rattle.page_store.specs.Device.{Device};
 ghost use Rattle.page_store.specs.Tree.{Wrong};
 ghost use Rattle.device_core.specs.Blocks.{Blocks};
+ghost use Rattle.device_core.specs.Damage.{IsDamaged};
 
 use crate::leaves::{mapped_with, place_of, put_entry};
 use crate::refusals::{TrimRefusal, WriteRefusal};
@@ -48,6 +49,13 @@ impl Session {
         ensures wrong { P.tells → (addr : ℕ) → IsErrOf result (WriteRefusal.BadRecord addr)
             → Wrong (P.history platform.old).present.readable (root_of self.old) addr
             ⊎ ((addr ≡ root_node self.old) × (mapped_of self.old ≡ blocks_of self.old) × IsUnmapped self.new block) }
+        ensures damaged { P.tells → Follows self.old (P.history platform.old).present → (addr : ℕ) → IsErrOf result (WriteRefusal.BadRecord addr)
+            → IsDamaged (P.history platform.new).present.readable (root_of self.old) addr }
+        ensures bad_still { P.tells → (addr : ℕ) → IsErrOf result (WriteRefusal.BadRecord addr)
+            → (P.history platform.new).present ≡ (P.history platform.old).present }
+        // Where as many blocks are mapped as there are, none is written that has no entry.
+        ensures counter { block < blocks_of self.old → mapped_of self.old ≡ blocks_of self.old → IsUnmapped self.new block
+            → (IsOk result ⊎ IsErrOf result WriteRefusal.TapeFault) → ⊥ }
         ensures range { IsErrOf result WriteRefusal.Range ↔ (blocks_of self.old ≤ block) }
         ensures full { IsErrOf result WriteRefusal.Full ↔ ((block < blocks_of self.old) × (P.head platform.old ≡ P.capacity platform.old)) }
         ensures open { IsOpen self.new (P.head platform.new) }
@@ -56,6 +64,9 @@ impl Session {
         ensures cell { P.tells → (P.history platform.new).present.cell ≡ (P.history platform.old).present.cell }
         ensures time { P.tells → During (P.history platform.old) (P.history platform.new) (λ image. image.cell ≡ (P.history platform.old).present.cell) }
         ensures head_ok { OnOk result (P.head platform.new ≡ P.head platform.old + 1) }
+        ensures head_refused { (IsErrOf result WriteRefusal.Range ⊎ (IsErrOf result WriteRefusal.Full ⊎ IsErrOf result WriteRefusal.TapeFault))
+            → P.head platform.new ≡ P.head platform.old }
+        ensures head_bad { (addr : ℕ) → IsErrOf result (WriteRefusal.BadRecord addr) → P.head platform.new ≡ P.head platform.old }
         ensures head_rises { P.head platform.old ≤ P.head platform.new }
         ensures head_by_one { P.head platform.new ≤ P.head platform.old + 1 }
         ensures capacity { P.capacity platform.new ≡ P.capacity platform.old }
@@ -123,6 +134,10 @@ impl Session {
         ensures wrong { P.tells → (addr : ℕ) → IsErrOf result (TrimRefusal.BadRecord addr)
             → Wrong (P.history platform.old).present.readable (root_of self.old) addr
             ⊎ ((addr ≡ root_node self.old) × (mapped_of self.old ≡ 0) × IsMapped self.new block) }
+        ensures damaged { P.tells → Follows self.old (P.history platform.old).present → (addr : ℕ) → IsErrOf result (TrimRefusal.BadRecord addr)
+            → IsDamaged (P.history platform.new).present.readable (root_of self.old) addr }
+        // Where no block is mapped, none is trimmed that has an entry.
+        ensures counter { mapped_of self.old ≡ 0 → IsMapped self.new block → IsOk result → ⊥ }
         ensures range { IsErrOf result TrimRefusal.Range ↔ (blocks_of self.old ≤ block) }
         ensures open { IsOpen self.new (P.head platform.new) }
         ensures same { self.new.root ≡ self.old.root }
