@@ -236,6 +236,11 @@ length-placed : (entries : List Entry) (place : Result ℕ ℕ) (block : ℕ) (x
 length-placed entries (Ok at) block x now count place is next = omega (arith, length-set {A = Entry} entries at x, is, next)
 length-placed entries (Err at) block x now count place is next = omega (arith, length-insert entries at x place.0, is, next)
 
+-- the count grows as the entries do
+pub length-placed_by : (entries : List Entry) (place : Result ℕ ℕ) (block : ℕ) (x : Entry) (now count : ℕ) → IsPlace entries block place → now ≡ (if is_ok place then count else count + 1) → now + length entries ≡ length (placed entries place x) + count
+length-placed_by entries (Ok at) block x now count place next = omega (arith, length-set {A = Entry} entries at x, next)
+length-placed_by entries (Err at) block x now count place next = omega (arith, length-insert entries at x place.0, next)
+
 -- a record that was appended reads as it was recorded
 end_recorded : (image : Image) (page : List ℕ) (addr : ℕ) → length image.readable ≡ length image.recorded → addr ≡ length image.recorded → slice_get (image.readable ++ page ∷ []) addr ≡ slice_get (image.recorded ++ page ∷ []) addr
 end_recorded image page addr as_many at =

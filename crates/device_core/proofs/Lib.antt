@@ -4,3 +4,5 @@ pub mod ArrayLaws
 pub mod HoldLaws
 pub mod MomentLaws
 pub mod FollowLaws
+pub mod ServedLaws
+pub mod CountLaws

@@ -1,14 +1,25 @@
-use Rattle.std.proofs.Common.{◌≡◌, ◌∙◌, ◌+◌, ◌-◌, ◌≤◌, ◌<◌, ◌^◌, ℕ, List, [], Option, Some, None, length, Bool, true, false, refl, ap, sym, subst, arith}
+use Rattle.std.proofs.Common.{◌≡◌, ◌∙◌, ◌+◌, ◌-◌, ◌≤◌, ◌<◌, ◌^◌, ℕ, List, [], Option, Some, None, length, Bool, true, false, refl, ap, sym, subst, inl, inr, arith}
+use Rattle.sdbt_base.specs.Bytes.{IsBytes}
 use Rattle.platform.specs.Image.{Image, with_page}
 use Rattle.seal_record.specs.Sealing.{masked}
 use Rattle.node_codec.specs.Record.{NodeRecord, record_bytes}
 use Rattle.root_codec.specs.declared.root.Root.{Root}
 use Rattle.page_store.specs.Buffer.{Held}
-use Rattle.device_core.specs.Leaf.{IsServedCell}
+use Rattle.device_core.specs.Leaf.{IsServed, IsServedCell}
 use Rattle.device_core.specs.Blocks.{new_device}
 use Rattle.device_core.proofs.MomentLaws.{one_look, look_more, call_more}
 use Rattle.device_core.proofs.HoldLaws.{during_stands, first_root, first_fits, first_one, no_entries_fit, format_turns, format_made, leaf_page}
+use Rattle.device_core.proofs.ServedLaws.{served_same, served_published}
 use Rattle.device_core.proofs.formatting.format.Goals as goal
+
+-- the first root record can be served
+first_served : (blocks order addr pages : ℕ) (key : List ℕ) → 1 ≤ blocks → blocks ≤ 64 → order ≡ 64 → addr < 2 ^ 32 → IsBytes 32 key → addr + 1 ≤ pages → IsServed (first_root blocks order addr key) pages
+first_served blocks order addr pages key least most is room sized within = record {
+  fits = first_fits blocks order addr key least most is room;
+  key = sized;
+  leaf = first_one blocks order addr key most is;
+  within = within;
+}
 
 pub returns-in_default-clause-time : goal.returns-in_default-clause-time
 returns-in_default-clause-time g c = λ told device stands.
@@ -75,12 +86,8 @@ returns-in-Ok-publish-clause-served g c = λ told.
     let cell = ap (λ (i : Image). i.cell) (c.in-Ok-publish.ensures.published told) in
     subst (λ (held : Option (List ℕ)). IsServedCell held (head c.publish.new.platform)) (sym cell) (
       root,
-      record {
-        fits = first_fits c.args.blocks c.args.order addr key c.requires.least c.requires.most c.requires.order room;
-        key = c.in-Ok-append.ensures.key;
-        leaf = first_one c.args.blocks c.args.order addr key c.requires.most c.requires.order;
-        within = omega (arith, address, c.in-Ok-append.ensures.head_ok, c.publish.ensures.head);
-      },
+      first_served c.args.blocks c.args.order addr (head c.publish.new.platform) key c.requires.least c.requires.most c.requires.order room
+          c.in-Ok-append.ensures.key (omega (arith, address, c.in-Ok-append.ensures.head_ok, c.publish.ensures.head)),
       refl,
     )
 
@@ -115,3 +122,86 @@ returns-clause-time g c = λ told device stands.
     format_turns (history c.args.platform.now) (history c.load_root.new.self) (history c.append.new.platform) (history c.publish.new.platform) c.args.blocks c.args.order addr key device stands
     (c.load_root.ensures.time told) (c.load_root.ensures.image told) (c.append.ensures.time told) (c.append.ensures.cell told) appended (c.publish.ensures.time told)
     c.requires.least c.requires.most c.requires.order room c.in-Ok-append.ensures.key (address ∙ sym pages)
+
+pub returns-then-is_full-clause-still : goal.returns-then-is_full-clause-still
+returns-then-is_full-clause-still g c = λ told. inr (inr (one_look _ _ (c.load_root.ensures.time told) (c.load_root.ensures.image told)))
+
+pub returns-then-head-capacity-clause-still : goal.returns-then-head-capacity-clause-still
+returns-then-head-capacity-clause-still g c = λ told. inr (inr (one_look _ _ (c.load_root.ensures.time told) (c.load_root.ensures.image told)))
+
+pub returns-in_default-new-clause-still : goal.returns-in_default-new-clause-still
+returns-in_default-new-clause-still g c = λ told. inr (inr (one_look _ _ (c.load_root.ensures.time told) (c.load_root.ensures.image told)))
+
+pub returns-in-Err-TapeFault-clause-still : goal.returns-in-Err-TapeFault-clause-still
+returns-in-Err-TapeFault-clause-still g c = λ told.
+    inr (inr (call_more _ _ _ (one_look _ _ (c.load_root.ensures.time told) (c.load_root.ensures.image told)) (c.append.ensures.time told) (c.append.ensures.cell told)))
+
+pub returns-in_default-clause-stays_served : goal.returns-in_default-clause-stays_served
+returns-in_default-clause-stays_served g c = λ told served.
+    let history = g.P.Platform.history in
+    let head = g.P.Platform.head in
+    served_same (history c.args.platform.now).present.cell (history c.load_root.new.self).present.cell (head c.args.platform.now) (head c.load_root.new.self)
+    (ap (λ (i : Image). i.cell) (c.load_root.ensures.image told)) (omega (arith, c.load_root.ensures.head)) served
+
+pub returns-then-is_full-clause-stays_served : goal.returns-then-is_full-clause-stays_served
+returns-then-is_full-clause-stays_served g c = λ told served.
+    let history = g.P.Platform.history in
+    let head = g.P.Platform.head in
+    served_same (history c.args.platform.now).present.cell (history c.load_root.new.self).present.cell (head c.args.platform.now) (head c.load_root.new.self)
+    (ap (λ (i : Image). i.cell) (c.load_root.ensures.image told)) (omega (arith, c.load_root.ensures.head)) served
+
+pub returns-then-head-capacity-clause-stays_served : goal.returns-then-head-capacity-clause-stays_served
+returns-then-head-capacity-clause-stays_served g c = λ told served.
+    let history = g.P.Platform.history in
+    let head = g.P.Platform.head in
+    served_same (history c.args.platform.now).present.cell (history c.load_root.new.self).present.cell (head c.args.platform.now) (head c.load_root.new.self)
+    (ap (λ (i : Image). i.cell) (c.load_root.ensures.image told)) (omega (arith, c.load_root.ensures.head)) served
+
+pub returns-in_default-new-clause-stays_served : goal.returns-in_default-new-clause-stays_served
+returns-in_default-new-clause-stays_served g c = λ told served.
+    let history = g.P.Platform.history in
+    let head = g.P.Platform.head in
+    served_same (history c.args.platform.now).present.cell (history c.load_root.new.self).present.cell (head c.args.platform.now) (head c.load_root.new.self)
+    (ap (λ (i : Image). i.cell) (c.load_root.ensures.image told)) (omega (arith, c.load_root.ensures.head)) served
+
+pub returns-in-Err-TapeFault-clause-stays_served : goal.returns-in-Err-TapeFault-clause-stays_served
+returns-in-Err-TapeFault-clause-stays_served g c = λ told served.
+    let history = g.P.Platform.history in
+    let head = g.P.Platform.head in
+    served_same (history c.args.platform.now).present.cell (history c.append.new.platform).present.cell (head c.args.platform.now) (head c.append.new.platform)
+    (c.append.ensures.cell told ∙ ap (λ (i : Image). i.cell) (c.load_root.ensures.image told)) (omega (arith, c.load_root.ensures.head, c.append.ensures.head_rises)) served
+
+pub returns-in-Err-PlatformFault-clause-stays_served : goal.returns-in-Err-PlatformFault-clause-stays_served
+returns-in-Err-PlatformFault-clause-stays_served g c = λ told served.
+    let history = g.P.Platform.history in
+    let head = g.P.Platform.head in
+    served_same (history c.args.platform.now).present.cell (history c.append.new.platform).present.cell (head c.args.platform.now) (head c.append.new.platform)
+    (c.append.ensures.cell told ∙ ap (λ (i : Image). i.cell) (c.load_root.ensures.image told)) (omega (arith, c.load_root.ensures.head, c.append.ensures.head_rises)) served
+
+pub returns-in-Ok-publish-clause-stays_served : goal.returns-in-Ok-publish-clause-stays_served
+returns-in-Ok-publish-clause-stays_served g c = λ told served.
+    let history = g.P.Platform.history in
+    let head = g.P.Platform.head in
+    let addr = c.in-Ok-append.placed.addr in
+    let address : addr ≡ head c.load_root.new.self = c.in-Ok-append.ensures.address in
+    let room : addr < 2 ^ 32 = omega (arith, address, c.head.ensures.value, c.capacity.ensures.value, c.head.ensures.room, c.head.ensures.limit, c.if-head-capacity.false) in
+    let next = first_served c.args.blocks c.args.order addr (head c.publish.new.platform) c.in-Ok-append.placed.key c.requires.least c.requires.most c.requires.order room
+    c.in-Ok-append.ensures.key (omega (arith, address, c.in-Ok-append.ensures.head_ok, c.publish.ensures.head)) in
+    let before = served_same (history c.args.platform.now).present.cell (history c.append.new.platform).present.cell (head c.args.platform.now) (head c.append.new.platform)
+    (c.append.ensures.cell told ∙ ap (λ (i : Image). i.cell) (c.load_root.ensures.image told)) (omega (arith, c.load_root.ensures.head, c.append.ensures.head_rises)) served in
+    served_published (history c.append.new.platform) (history c.publish.new.platform) (first_root c.args.blocks c.args.order addr c.in-Ok-append.placed.key)
+    (head c.append.new.platform) (head c.publish.new.platform) (c.publish.ensures.time told) next (omega (arith, c.publish.ensures.head)) before
+
+pub returns-clause-stays_served : goal.returns-clause-stays_served
+returns-clause-stays_served g c = λ told served.
+    let history = g.P.Platform.history in
+    let head = g.P.Platform.head in
+    let addr = c.in-Ok-append.placed.addr in
+    let address : addr ≡ head c.load_root.new.self = c.in-Ok-append.ensures.address in
+    let room : addr < 2 ^ 32 = omega (arith, address, c.head.ensures.value, c.capacity.ensures.value, c.head.ensures.room, c.head.ensures.limit, c.if-head-capacity.false) in
+    let next = first_served c.args.blocks c.args.order addr (head c.publish.new.platform) c.in-Ok-append.placed.key c.requires.least c.requires.most c.requires.order room
+    c.in-Ok-append.ensures.key (omega (arith, address, c.in-Ok-append.ensures.head_ok, c.publish.ensures.head)) in
+    let before = served_same (history c.args.platform.now).present.cell (history c.append.new.platform).present.cell (head c.args.platform.now) (head c.append.new.platform)
+    (c.append.ensures.cell told ∙ ap (λ (i : Image). i.cell) (c.load_root.ensures.image told)) (omega (arith, c.load_root.ensures.head, c.append.ensures.head_rises)) served in
+    served_published (history c.append.new.platform) (history c.publish.new.platform) (first_root c.args.blocks c.args.order addr c.in-Ok-append.placed.key)
+    (head c.append.new.platform) (head c.publish.new.platform) (c.publish.ensures.time told) next (omega (arith, c.publish.ensures.head)) before

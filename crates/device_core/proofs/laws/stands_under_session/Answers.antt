@@ -1,9 +1,6 @@
 use Rattle.page_store.proofs.LeafStandsLaws.{stands_by_leaf}
 use Rattle.page_store.specs.Leaf.{leaf_parts}
-use Rattle.device_core.proofs.ArrayLaws.{array_at}
-use Rattle.device_core.proofs.HoldLaws.{mounted}
-use Rattle.device_core.proofs.MomentLaws.{still}
-use Rattle.device_core.proofs.EntryLaws.{room_where_none}
+use Rattle.device_core.proofs.CountLaws.{mapped_len}
 use Rattle.device_core.proofs.laws.stands_under_session.Goals as goal
 
 pub returns-clause-stands : goal.returns-clause-stands
@@ -15,3 +12,6 @@ returns-clause-numbers c = λ session image device contents holds. (holds.stands
 
 pub returns-clause-untouched : goal.returns-clause-untouched
 returns-clause-untouched c = λ session image device contents holds untouched. holds.untouched untouched
+
+pub returns-clause-mapped : goal.returns-clause-mapped
+returns-clause-mapped c = λ session image device contents head is holds. mapped_len session image device contents head is holds

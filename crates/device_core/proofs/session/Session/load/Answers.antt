@@ -89,7 +89,7 @@ pub returns-in-Block-clause-time : goal.returns-in-Block-clause-time
 returns-in-Block-clause-time g c = λ told. one_look _ _ (c.fetch.ensures.time told) (c.fetch.ensures.image told)
 
 pub returns-in-Err-clause-follows : goal.returns-in-Err-clause-follows
-returns-in-Err-clause-follows g c = λ told follows. follows_same _ _ _ _ _ (c.fetch.ensures.image told) follows
+returns-in-Err-clause-follows g c = λ told follows. follows_same _ _ _ _ _ _ (c.fetch.ensures.image told) follows
 
 pub returns-in-Err-clause-wrong : goal.returns-in-Err-clause-wrong
 returns-in-Err-clause-wrong g c = λ told addr is.
@@ -110,10 +110,10 @@ returns-in-Node-clause-follows g c = λ told follows.
     let fits = rw c.in-Node.is at (c.in-Ok.ensures.fits told) in
     let of_root = subst (λ (w : Want). FitsAt pages w self.root.key (NodeRecord c.in-Node.node.level c.in-Node.node.entries.items)) c.of_root-want.ensures fits in
     let at_one = subst (λ (n : ℕ). FitsAt pages (root_want self.root) self.root.key (NodeRecord n c.in-Node.node.entries.items)) read.0 of_root in
-    follows_read self.root c.in-Node.node.entries.items pages _ (ap (λ (i : Image). i.readable) (c.fetch.ensures.image told)) at_one
+    follows_read self.root self.mapped c.in-Node.node.entries.items pages _ (ap (λ (i : Image). i.readable) (c.fetch.ensures.image told)) (follows.uncounted c.if-self.false) at_one
 
 pub returns-in-Block-clause-follows : goal.returns-in-Block-clause-follows
-returns-in-Block-clause-follows g c = λ told follows. follows_same _ _ _ _ _ (c.fetch.ensures.image told) follows
+returns-in-Block-clause-follows g c = λ told follows. follows_same _ _ _ _ _ _ (c.fetch.ensures.image told) follows
 
 pub returns-in-Block-clause-wrong : goal.returns-in-Block-clause-wrong
 returns-in-Block-clause-wrong g c = λ told addr is.

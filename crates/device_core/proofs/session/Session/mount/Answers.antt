@@ -48,4 +48,4 @@ returns-clause-holds g c = λ told device stands.
     (mounted (history c.args.platform.now).present device c.in-Some.root _ c.new-2.result.items opens.served found stands)
 
 pub returns-clause-follows : goal.returns-clause-follows
-returns-clause-follows g c = λ told. follows_none c.in-Some.root c.new-2.result.items _
+returns-clause-follows g c = λ told. follows_none c.in-Some.root _ c.new-2.result.items _ refl

@@ -1,11 +1,12 @@
-use Rattle.std.proofs.Common.{◌≡◌, ◌∙◌, ◌+◌, ◌-◌, ◌≤◌, ◌<◌, ◌^◌, ℕ, List, Option, Some, length, Bool, true, false, refl, ap, sym, subst, arith}
+use Rattle.std.proofs.Common.{◌≡◌, ◌∙◌, ◌+◌, ◌-◌, ◌≤◌, ◌<◌, ◌^◌, ℕ, List, Option, Some, length, Bool, true, false, inl, inr, refl, ap, sym, subst, arith}
+use Rattle.sdbt_base.specs.Bytes.{IsBytes}
 use Rattle.platform.specs.Image.{Image, with_page, with_cell, all_synced}
 use Rattle.seal_record.specs.Sealing.{masked}
 use Rattle.node_codec.specs.declared.body.Entry.{Entry}
 use Rattle.node_codec.specs.Record.{NodeRecord, FitsNode, record_bytes}
 use Rattle.root_codec.specs.declared.root.Root.{Root}
 use Rattle.page_store.specs.Buffer.{Held}
-use Rattle.device_core.specs.Leaf.{AreEntries}
+use Rattle.device_core.specs.Leaf.{IsServed, AreEntries}
 use Rattle.page_store.specs.Device.{Device}
 use Rattle.device_core.specs.Blocks.{Blocks}
 use Rattle.device_core.specs.Holding.{HoldsBy}
@@ -16,6 +17,7 @@ use Rattle.device_core.proofs.HoldLaws.{during_stands, entries_fit, IsNext, next
 use Rattle.platform.proofs.Moments.{whole-now}
 use Rattle.root_codec.specs.RootRecord.{root_bytes}
 use Rattle.device_core.proofs.FollowLaws.{follows_committed}
+use Rattle.device_core.proofs.ServedLaws.{served_same, served_published}
 use Rattle.device_core.proofs.session.Session.raise.Goals as goal
 
 -- the root record that a commit writes
@@ -24,6 +26,15 @@ next_root root count addr key = record { order = root.order; level = root.level;
 
 is_next : (root : Root) (count addr pages : ℕ) (key : List ℕ) → addr ≡ pages → IsNext root (next_root root count addr key) count pages
 is_next root count addr pages key at = record { order = refl; level = refl; blocks = refl; commit = refl; addr = at; mapped = refl; head = ap (λ (n : ℕ). n + 1) at }
+
+-- the root record that a commit writes can be served
+next_served : (old new : Root) (count pages now : ℕ) → IsNext old new count pages → IsServed old pages → count ≤ old.blocks → pages < 2 ^ 32 → IsBytes 32 new.key → pages + 1 ≤ now → IsServed new now
+next_served old new count pages now next served most room sized within = record {
+  fits = next_fits old new count pages next served most room;
+  key = sized;
+  leaf = next_leaf old new count pages next served.leaf;
+  within = omega (arith, next.head, within);
+}
 
 -- the page that was appended is that of the leaf
 page_is : (addr head : ℕ) (key body : List ℕ) (given known : List Entry) → body ≡ record_bytes head (NodeRecord 1 given) → given ≡ known → head ≡ addr → masked key body ≡ masked key (record_bytes addr (NodeRecord 1 known))
@@ -118,12 +129,8 @@ returns-clause-open g c =
     let address : addr ≡ head c.args.platform.now = c.in-Ok.ensures.address in
     let next = is_next self.root self.mapped addr (head c.args.platform.now) c.in-Ok.placed.key address in
     record {
-      served = record {
-        fits = next_fits self.root root self.mapped (head c.args.platform.now) next c.requires.open.served c.requires.open.mapped (omega (arith, c.requires.room, g.met.P.Platform.is_limited c.args.platform.now));
-        key = c.in-Ok.ensures.key;
-        leaf = next_leaf self.root root self.mapped (head c.args.platform.now) next c.requires.open.served.leaf;
-        within = omega (arith, address, c.in-Ok.ensures.head_ok, c.publish.ensures.head);
-      };
+      served = next_served self.root root self.mapped (head c.args.platform.now) (head c.publish.new.platform) next c.requires.open.served c.requires.open.mapped
+          (omega (arith, c.requires.room, g.met.P.Platform.is_limited c.args.platform.now)) c.in-Ok.ensures.key (omega (arith, c.in-Ok.ensures.head_ok, c.publish.ensures.head));
       mapped = c.requires.open.mapped;
       entries = AreEntries-later self.entries.items self.root.blocks (head c.args.platform.now) _ c.requires.open.entries (omega (arith, c.in-Ok.ensures.head_ok, c.publish.ensures.head));
       loaded = λ never. c.requires.open.loaded c.requires.touched;
@@ -147,3 +154,55 @@ returns-clause-follows g c = λ told.
     (next_leaf self.root root self.mapped (head c.args.platform.now) next c.requires.open.served.leaf) (address ∙ sym pages)
     (subst (λ (n : ℕ). AreEntries self.entries.items self.root.blocks n) (sym address) c.requires.open.entries)
     (c.in-Ok-publish.ensures.published told ∙ ap (λ (i : Image). with_cell (all_synced i) (Some (root_bytes root))) appended)
+
+pub returns-in-Err-TapeFault-clause-still : goal.returns-in-Err-TapeFault-clause-still
+returns-in-Err-TapeFault-clause-still g c = λ told. inr (inr (one_call _ _ (c.append.ensures.time told) (c.append.ensures.cell told)))
+
+pub returns-in-Err-TapeFault-clause-stays_served : goal.returns-in-Err-TapeFault-clause-stays_served
+returns-in-Err-TapeFault-clause-stays_served g c = λ told served.
+    let history = g.P.Platform.history in
+    let head = g.P.Platform.head in
+    served_same (history c.args.platform.now).present.cell (history c.append.new.platform).present.cell (head c.args.platform.now) (head c.append.new.platform)
+    (c.append.ensures.cell told) c.append.ensures.head_rises served
+
+pub returns-in-Err-PlatformFault-clause-stays_served : goal.returns-in-Err-PlatformFault-clause-stays_served
+returns-in-Err-PlatformFault-clause-stays_served g c = λ told served.
+    let history = g.P.Platform.history in
+    let head = g.P.Platform.head in
+    served_same (history c.args.platform.now).present.cell (history c.append.new.platform).present.cell (head c.args.platform.now) (head c.append.new.platform)
+    (c.append.ensures.cell told) c.append.ensures.head_rises served
+
+pub returns-in_default-clause-stays_served : goal.returns-in_default-clause-stays_served
+returns-in_default-clause-stays_served g c = λ told served.
+    let history = g.P.Platform.history in
+    let head = g.P.Platform.head in
+    let self = c.args.self in
+    let addr = c.in-Ok.placed.addr in
+    let root = next_root self.root self.mapped addr c.in-Ok.placed.key in
+    let address : addr ≡ head c.args.platform.now = c.in-Ok.ensures.address in
+    let room : head c.args.platform.now < 2 ^ 32 = omega (arith, c.requires.room, g.met.P.Platform.is_limited c.args.platform.now) in
+    let next = next_served self.root root self.mapped (head c.args.platform.now) (head c.publish.new.platform) (is_next self.root self.mapped addr (head c.args.platform.now) c.in-Ok.placed.key address)
+    c.requires.open.served c.requires.open.mapped room c.in-Ok.ensures.key (omega (arith, c.in-Ok.ensures.head_ok, c.publish.ensures.head)) in
+    let before = served_same (history c.args.platform.now).present.cell (history c.append.new.platform).present.cell (head c.args.platform.now) (head c.append.new.platform)
+    (c.append.ensures.cell told) c.append.ensures.head_rises served in
+    served_published (history c.append.new.platform) (history c.publish.new.platform) root (head c.append.new.platform) (head c.publish.new.platform)
+    (c.publish.ensures.time told) next (omega (arith, c.publish.ensures.head)) before
+
+pub returns-clause-stays_served : goal.returns-clause-stays_served
+returns-clause-stays_served g c = λ told served.
+    let history = g.P.Platform.history in
+    let head = g.P.Platform.head in
+    let self = c.args.self in
+    let addr = c.in-Ok.placed.addr in
+    let root = next_root self.root self.mapped addr c.in-Ok.placed.key in
+    let address : addr ≡ head c.args.platform.now = c.in-Ok.ensures.address in
+    let room : head c.args.platform.now < 2 ^ 32 = omega (arith, c.requires.room, g.met.P.Platform.is_limited c.args.platform.now) in
+    let next = next_served self.root root self.mapped (head c.args.platform.now) (head c.publish.new.platform) (is_next self.root self.mapped addr (head c.args.platform.now) c.in-Ok.placed.key address)
+    c.requires.open.served c.requires.open.mapped room c.in-Ok.ensures.key (omega (arith, c.in-Ok.ensures.head_ok, c.publish.ensures.head)) in
+    let before = served_same (history c.args.platform.now).present.cell (history c.append.new.platform).present.cell (head c.args.platform.now) (head c.append.new.platform)
+    (c.append.ensures.cell told) c.append.ensures.head_rises served in
+    served_published (history c.append.new.platform) (history c.publish.new.platform) root (head c.append.new.platform) (head c.publish.new.platform)
+    (c.publish.ensures.time told) next (omega (arith, c.publish.ensures.head)) before
+
+pub returns-clause-cell : goal.returns-clause-cell
+returns-clause-cell g c = λ told. ap (λ (i : Image). i.cell) (c.in-Ok-publish.ensures.published told)

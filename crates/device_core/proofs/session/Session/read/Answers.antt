@@ -1,4 +1,4 @@
-use Rattle.std.proofs.Common.{◌≡◌, ◌∙◌, ◌+◌, ◌≤◌, ◌<◌, ℕ, List, Option, get_or, Ok, Err, true, false, refl, ap, sym, subst, arith}
+use Rattle.std.proofs.Common.{◌≡◌, ◌∙◌, ◌+◌, ◌≤◌, ◌<◌, ℕ, List, Option, get_or, Ok, Err, true, false, inl, inr, refl, ap, sym, subst, arith}
 use Rattle.node_codec.specs.declared.body.Entry.{Entry}
 use Rattle.node_codec.specs.Record.{DataRecord}
 use Rattle.std.specs.Prelude.{unwrap_or, replicate}
@@ -69,13 +69,13 @@ pub returns-in-Err-BadRecord-clause-sound : goal.returns-in-Err-BadRecord-clause
 returns-in-Err-BadRecord-clause-sound g c = λ told device contents h addr is. c.load.ensures.bad told device contents h c.in-Err-BadRecord.addr (cc)
 
 pub returns-in-Ok-fetch_block-clause-follows : goal.returns-in-Ok-fetch_block-clause-follows
-returns-in-Ok-fetch_block-clause-follows g c = λ told follows. follows_same _ _ _ _ _ (c.fetch_block.ensures.image told) (c.load.ensures.follows told follows)
+returns-in-Ok-fetch_block-clause-follows g c = λ told follows. follows_same _ _ _ _ _ _ (c.fetch_block.ensures.image told) (c.load.ensures.follows told follows)
 
 pub returns-in-Err-BadRecord-fetch_block-clause-follows : goal.returns-in-Err-BadRecord-fetch_block-clause-follows
-returns-in-Err-BadRecord-fetch_block-clause-follows g c = λ told follows. follows_same _ _ _ _ _ (c.fetch_block.ensures.image told) (c.load.ensures.follows told follows)
+returns-in-Err-BadRecord-fetch_block-clause-follows g c = λ told follows. follows_same _ _ _ _ _ _ (c.fetch_block.ensures.image told) (c.load.ensures.follows told follows)
 
 pub returns-in-Err-PlatformFault-fetch_block-clause-follows : goal.returns-in-Err-PlatformFault-fetch_block-clause-follows
-returns-in-Err-PlatformFault-fetch_block-clause-follows g c = λ told follows. follows_same _ _ _ _ _ (c.fetch_block.ensures.image told) (c.load.ensures.follows told follows)
+returns-in-Err-PlatformFault-fetch_block-clause-follows g c = λ told follows. follows_same _ _ _ _ _ _ (c.fetch_block.ensures.image told) (c.load.ensures.follows told follows)
 
 pub returns-in-Err-BadRecord-clause-wrong : goal.returns-in-Err-BadRecord-clause-wrong
 returns-in-Err-BadRecord-clause-wrong g c = λ told follows addr is. c.load.ensures.wrong told addr (cc)
@@ -87,8 +87,25 @@ returns-in-Err-BadRecord-fetch_block-clause-wrong g c = λ told follows addr is.
     let at : c.index-deref-place.result ≡ get_or c.load.new.self.entries.items c.in-Ok-place_of.place c.index-deref-place.result = rw c.deref.ensures.0 at c.index-deref-place.is in
     let nothing = c.fetch_block.ensures.nothing_fits told c.in-Err-BadRecord-fetch_block.addr (cc) in
     let named : addr ≡ c.index-deref-place.result.addr = let same : c.in-Err-BadRecord-fetch_block.addr ≡ addr = cc in sym same ∙ c.fetch_block.ensures.bad c.in-Err-BadRecord-fetch_block.addr (cc) in
-    let found = wrong_found c.load.new.self.root c.load.new.self.is_loaded c.load.new.self.entries.items (history c.load.new.platform).present.readable _ c.args.block c.index-deref-place.result c.in-Ok.ensures.loaded
+    let found = wrong_found c.load.new.self.root c.load.new.self.mapped c.load.new.self.is_loaded c.load.new.self.entries.items (history c.load.new.platform).present.readable _ c.args.block c.index-deref-place.result c.in-Ok.ensures.loaded
     (c.load.ensures.follows told follows) c.load.ensures.open.served.leaf.level place at nothing in
     let before = subst (λ (i : Image). Wrong i.readable c.load.new.self.root c.index-deref-place.result.addr) (c.load.ensures.image told) found in
     let of_root = subst (λ (r : Root). Wrong (history c.args.platform.now).present.readable r c.index-deref-place.result.addr) c.load.ensures.same.0 before in
     subst (λ (n : ℕ). Wrong (history c.args.platform.now).present.readable c.args.self.now.root n) (sym named) of_root
+
+pub returns-in-Err-BadRecord-clause-damaged : goal.returns-in-Err-BadRecord-clause-damaged
+returns-in-Err-BadRecord-clause-damaged g c = λ told follows addr is.
+    inl (subst (λ (i : Image). Wrong i.readable c.args.self.now.root addr) (sym (c.load.ensures.image told)) (c.load.ensures.wrong told addr (cc)))
+
+pub returns-in-Err-BadRecord-fetch_block-clause-damaged : goal.returns-in-Err-BadRecord-fetch_block-clause-damaged
+returns-in-Err-BadRecord-fetch_block-clause-damaged g c = λ told follows addr is.
+    let history = g.P.Platform.history in
+    let place = rw c.as_slice.ensures.value at c.in-Ok-place_of.ensures in
+    let at : c.index-deref-place.result ≡ get_or c.load.new.self.entries.items c.in-Ok-place_of.place c.index-deref-place.result = rw c.deref.ensures.0 at c.index-deref-place.is in
+    let nothing = c.fetch_block.ensures.nothing_fits told c.in-Err-BadRecord-fetch_block.addr (cc) in
+    let named : addr ≡ c.index-deref-place.result.addr = let same : c.in-Err-BadRecord-fetch_block.addr ≡ addr = cc in sym same ∙ c.fetch_block.ensures.bad c.in-Err-BadRecord-fetch_block.addr (cc) in
+    let found = wrong_found c.load.new.self.root c.load.new.self.mapped c.load.new.self.is_loaded c.load.new.self.entries.items (history c.load.new.platform).present.readable _ c.args.block c.index-deref-place.result c.in-Ok.ensures.loaded
+    (c.load.ensures.follows told follows) c.load.ensures.open.served.leaf.level place at nothing in
+    let after = subst (λ (i : Image). Wrong i.readable c.load.new.self.root c.index-deref-place.result.addr) (sym (c.fetch_block.ensures.image told)) found in
+    let of_root = subst (λ (r : Root). Wrong (history c.fetch_block.new.platform).present.readable r c.index-deref-place.result.addr) c.load.ensures.same.0 after in
+    inl (subst (λ (n : ℕ). Wrong (history c.fetch_block.new.platform).present.readable c.args.self.now.root n) (sym named) of_root)

@@ -8,7 +8,10 @@ use Rattle.device_core.proofs.EntryLaws.{AreEntries-removed}
 use Rattle.device_core.proofs.HoldLaws.{content_none, remove_none, trimmed, some_mapped, touched_none, touched_some, is_mapped}
 use Rattle.std.proofs.Common.{inl, inr}
 use Rattle.root_codec.specs.declared.root.Root.{Root}
-use Rattle.device_core.proofs.FollowLaws.{follows_removed}
+use Rattle.device_core.proofs.FollowLaws.{follows_removed, miscounted_none, mapped_or_not, unmapped_place}
+use Rattle.platform.specs.Image.{Image}
+use Rattle.page_store.specs.Tree.{Wrong}
+use Rattle.device_core.specs.Damage.{IsMiscounted}
 use Rattle.device_core.proofs.session.Session.trim.Goals as goal
 
 pub returns-then-block-self-clause-time : goal.returns-then-block-self-clause-time
@@ -69,4 +72,27 @@ returns-then-self-eq0-clause-wrong g c = λ told addr is.
     inr (sym named ∙ ap (λ (r : Root). r.addr) c.load.ensures.same.0, sym c.load.ensures.same.1 ∙ c.if-self-eq0.true, (c.in-Ok-place_of.place, place.1))
 
 pub returns-clause-follows : goal.returns-clause-follows
-returns-clause-follows g c = λ told follows. rw c.remove.ensures.items (follows_removed _ _ _ _ c.in-Ok-place_of.place (c.load.ensures.follows told follows))
+returns-clause-follows g c = λ told follows.
+    let place = rw c.as_slice.ensures.value at c.in-Ok-place_of.ensures in
+    rw c.remove.ensures.items (follows_removed _ c.load.new.self.mapped _ _ _ _ c.in-Ok-place_of.place c.in-Ok.ensures.loaded (c.load.ensures.follows told follows) place.0 (omega arith))
+
+pub returns-in-Err-BadRecord-clause-damaged : goal.returns-in-Err-BadRecord-clause-damaged
+returns-in-Err-BadRecord-clause-damaged g c = λ told follows addr is.
+    inl (subst (λ (i : Image). Wrong i.readable c.args.self.now.root addr) (sym (c.load.ensures.image told)) (c.load.ensures.wrong told addr (cc)))
+
+pub returns-then-self-eq0-clause-damaged : goal.returns-then-self-eq0-clause-damaged
+returns-then-self-eq0-clause-damaged g c = λ told follows addr is.
+    let session = c.load.new.self in
+    let pages = (g.P.Platform.history c.load.new.platform).present.readable in
+    let place = rw c.as_slice.ensures.value at c.in-Ok-place_of.ensures in
+    let named : session.root.addr ≡ addr = cc in
+    inr (
+      sym named ∙ ap (λ (r : Root). r.addr) c.load.ensures.same.0,
+      subst (λ (r : Root). IsMiscounted pages r) c.load.ensures.same.0
+          (miscounted_none session.root session.mapped session.is_loaded session.entries.items pages c.in-Ok-place_of.place c.in-Ok.ensures.loaded (c.load.ensures.follows told follows) place.0 c.if-self-eq0.true),
+    )
+
+pub returns-in_default-clause-counter : goal.returns-in_default-clause-counter
+returns-in_default-clause-counter g c = λ none mapped ok.
+    let place = rw c.as_slice.ensures.value at c.in_default.ensures in
+    mapped_or_not c.load.new.self.entries.items c.args.block (unmapped_place c.load.new.self.entries.items (Err _) c.args.block place refl) mapped

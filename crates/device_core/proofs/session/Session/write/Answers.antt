@@ -5,7 +5,7 @@ use Rattle.node_codec.specs.declared.body.Entry.{Entry}
 use Rattle.node_codec.specs.Record.{DataRecord, record_bytes}
 use Rattle.root_codec.specs.declared.root.Root.{Root}
 use Rattle.page_store.specs.Buffer.{Held, padded}
-use Rattle.platform.specs.Image.{with_page}
+use Rattle.platform.specs.Image.{Image, with_page}
 use Rattle.device_core.specs.Leaf.{AreEntries}
 use Rattle.device_core.specs.Blocks.{Blocks}
 use Rattle.device_core.specs.Holding.{HoldsBy}
@@ -13,7 +13,9 @@ use Rattle.device_core.proofs.MomentLaws.{still, call_more}
 use Rattle.device_core.proofs.EntryLaws.{AreEntries-placed, AreEntries-later, room_where_none}
 use Rattle.device_core.proofs.HoldLaws.{holds_same, holds_later, some_unmapped, padded_bytes, written, data_page}
 use Rattle.std.proofs.Common.{inl, inr}
-use Rattle.device_core.proofs.FollowLaws.{follows_same, follows_later, follows_written, unmapped_place}
+use Rattle.device_core.proofs.FollowLaws.{follows_same, follows_later, follows_written, unmapped_place, miscounted_full, new_place, placed_mapped}
+use Rattle.page_store.specs.Tree.{Wrong}
+use Rattle.device_core.specs.Damage.{IsMiscounted}
 use Rattle.device_core.proofs.session.Session.write.Goals as goal
 
 pub returns-then-block-self-clause-time : goal.returns-then-block-self-clause-time
@@ -118,11 +120,11 @@ returns-in_default-clause-wrong g c = λ told addr is.
     )
 
 pub returns-in-Err-TapeFault-clause-follows : goal.returns-in-Err-TapeFault-clause-follows
-returns-in-Err-TapeFault-clause-follows g c = λ told follows. follows_same _ _ _ _ _ (c.append.ensures.unchanged told (cc)) (c.load.ensures.follows told follows)
+returns-in-Err-TapeFault-clause-follows g c = λ told follows. follows_same _ _ _ _ _ _ (c.append.ensures.unchanged told (cc)) (c.load.ensures.follows told follows)
 
 pub returns-in-Err-PlatformFault-append-clause-follows : goal.returns-in-Err-PlatformFault-append-clause-follows
 returns-in-Err-PlatformFault-append-clause-follows g c = λ told follows.
-    follows_later _ _ _ _ _ (Extends-earlier _ _ (c.append.ensures.time told).extends) (c.load.ensures.follows told follows)
+    follows_later _ _ _ _ _ _ (Extends-earlier _ _ (c.append.ensures.time told).extends) (c.load.ensures.follows told follows)
 
 pub returns-clause-follows : goal.returns-clause-follows
 returns-clause-follows g c = λ told follows.
@@ -137,7 +139,40 @@ returns-clause-follows g c = λ told follows.
     ap (λ (b : Held). b.body) c.put_block.ensures ∙ ap (λ (n : ℕ). record_bytes n (DataRecord c.args.block text)) (c.head-addr.ensures.value ∙ sym address) in
     let page : masked key c.put_block.new.self.body ≡ data_page addr c.args.block key text = ap (masked key) body in
     let later = c.in-Ok-append.ensures.appended told ∙ ap (λ (bytes : List ℕ). with_page (history c.load.new.platform).present bytes bytes) page in
-    rw c.put_entry.ensures (follows_written session.root session.is_loaded session.entries.items (history c.load.new.platform).present (history c.append.new.platform).present c.args.block addr c.place_of-place.result key text
-    (c.load.ensures.follows told follows) (whole-now (history c.load.new.platform)) (address ∙ sym pages)
+    let place = rw c.as_slice.ensures.value at c.place_of-place.ensures in
+    rw c.put_entry.ensures (follows_written session.root session.mapped _ session.is_loaded session.entries.items (history c.load.new.platform).present (history c.append.new.platform).present c.args.block addr c.place_of-place.result key text
+    c.in-Ok.ensures.loaded (c.load.ensures.follows told follows) place c.in-Some.ensures.found.1 (whole-now (history c.load.new.platform)) (address ∙ sym pages)
     (omega (arith, address, g.met.P.Platform.has_room c.load.new.platform, g.met.P.Platform.is_limited c.load.new.platform)) (omega (arith, c.requires.open.served.leaf.blocks))
     (padded_bytes c.args.content.now c.requires.size c.are_bytes.ensures) (Extends-earlier _ _ (c.append.ensures.time told).extends) later)
+
+pub returns-in-Err-BadRecord-clause-damaged : goal.returns-in-Err-BadRecord-clause-damaged
+returns-in-Err-BadRecord-clause-damaged g c = λ told follows addr is.
+    inl (subst (λ (i : Image). Wrong i.readable c.args.self.now.root addr) (sym (c.load.ensures.image told)) (c.load.ensures.wrong told addr (cc)))
+
+pub returns-in_default-clause-damaged : goal.returns-in_default-clause-damaged
+returns-in_default-clause-damaged g c = λ told follows addr is.
+    let session = c.load.new.self in
+    let pages = (g.P.Platform.history c.load.new.platform).present.readable in
+    let place = rw c.as_slice.ensures.value at c.place_of-place.ensures in
+    let counter = c.mapped_with.ensures.none.0 (grind (arith, c.in_default.is)) in
+    let named : session.root.addr ≡ addr = cc in
+    let same = ap (λ (r : Root). r.blocks) c.load.ensures.same.0 in
+    inr (
+      sym named ∙ ap (λ (r : Root). r.addr) c.load.ensures.same.0,
+      subst (λ (r : Root). IsMiscounted pages r) c.load.ensures.same.0
+          (miscounted_full session.root session.mapped session.is_loaded session.entries.items pages c.place_of-place.result c.args.block session.root.blocks (g.P.Platform.head c.load.new.platform)
+          c.in-Ok.ensures.loaded (c.load.ensures.follows told follows) c.load.ensures.open.entries place (omega (arith, same)) counter.0 counter.1),
+    )
+
+pub returns-in-Err-TapeFault-clause-counter : goal.returns-in-Err-TapeFault-clause-counter
+returns-in-Err-TapeFault-clause-counter g c = λ low all unmapped is.
+    let place = rw c.as_slice.ensures.value at c.place_of-place.ensures in
+    let new = new_place c.load.new.self.entries.items c.place_of-place.result c.args.block place unmapped in
+    let none = c.mapped_with.ensures.none.1 (new, c.load.ensures.same.1 ∙ all ∙ sym (ap (λ (r : Root). r.blocks) c.load.ensures.same.0)) in
+    grind (arith, none, c.in-Some.is)
+
+pub returns-clause-counter : goal.returns-clause-counter
+returns-clause-counter g c = λ low all unmapped is.
+    let place = rw c.as_slice.ensures.value at c.place_of-place.ensures in
+    let entry : Entry = record { low = c.args.block; addr = c.in-Ok-append.placed.addr; key = c.in-Ok-append.placed.key } in
+    placed_mapped c.load.new.self.entries.items c.place_of-place.result entry place (rw c.put_entry.ensures at unmapped)
