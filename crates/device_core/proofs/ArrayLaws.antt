@@ -1,19 +1,17 @@
 -- The entries of a leaf beside the contents of their data records, as an array: what it has for a block, and what an edit at a place leaves.
-use Rattle.std.proofs.Common.{◌≡◌, ◌≢◌, ◌⊎◌, inl, inr, ℕ, zero, suc, ◌+◌, ◌<◌, ◌≤◌, Bool, true, false, cond, List, [], ◌∷◌, ◌++◌, All, map, take, drop, length, get_or, set, Result, Ok, Err, Option, Some, None, refl, sym, subst, ap, ◌∙◌, arith, length-drop, length-take}
-use Rattle.std.specs.Prelude.{AllPairs, insert, remove, replicate, unwrap_or, T}
+use Rattle.std.proofs.Common.{◌≡◌, ◌≢◌, ℕ, zero, suc, ◌<◌, ◌≤◌, Bool, true, false, cond, List, [], ◌∷◌, All, map, take, drop, length, get_or, set, Result, Ok, Err, Option, Some, None, refl, sym, subst, ap, ◌∙◌, arith}
+use Rattle.std.specs.Prelude.{AllPairs, insert, remove}
 use Rattle.std.specs.List.{AllZip, zip}
 use Rattle.std.specs.Ordering.{nat_cmp, eq_by_cmp, is_eq}
 use Rattle.std.specs.Cmp.{nat_cmp_total, tied_itself}
 use Rattle.std.specs.FinMap as maps
-use Rattle.std.specs.FinMap.{find, from_entries, get-from_entries, get-insert, get-remove, same_map, nat_cmp-IsAntisymmetric}
+use Rattle.std.specs.FinMap.{find, get-from_entries, get-insert, get-remove, same_map, nat_cmp-IsAntisymmetric}
 use Rattle.std.proofs.lemmas.List.{take-append-drop}
-use Rattle.std.proofs.lemmas.List.Elements.{All-nil, All-cons, All-head, All-tail, All-take, All-drop, All-append, All-set, All-weaker}
+use Rattle.std.proofs.lemmas.List.Elements.{All-cons, All-head, All-tail, All-take, All-drop, All-append, All-set, All-weaker}
 use Rattle.std.proofs.lemmas.List.Kept.{AllPairs-cons}
-use Rattle.std.proofs.lemmas.List.Quantifiers.{all_pairs_remove}
 use Rattle.platform.specs.Logged.{AllPairs-first, AllPairs-rest}
 use Rattle.node_codec.specs.declared.body.Entry.{Entry}
 use Rattle.device_core.specs.Leaf.{IsPlace, placed}
-use Rattle.device_core.specs.Blocks.{block_content}
 use Rattle.device_core.specs.Holding.{blocks_of_entries}
 
 -- a place that is new is no farther than the end

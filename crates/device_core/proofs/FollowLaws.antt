@@ -1,6 +1,6 @@
 -- What a session on any pages, forged ones too, has read and written, and which places it finds wrong.
-use Rattle.std.proofs.Common.{◌≡◌, ◌≢◌, ◌⊎◌, inl, inr, ℕ, zero, suc, ◌+◌, ◌<◌, ◌≤◌, ◌^◌, Bool, true, false, List, [], ◌∷◌, ◌++◌, All, map, take, drop, length, get_or, set, Result, Ok, Err, IsErr, Some, is_ok, refl, sym, subst, ap, ◌∙◌, arith}
-use Rattle.std.specs.Prelude.{insert, remove, slice_get, if◌then◌else◌}
+use Rattle.std.proofs.Common.{◌≡◌, ◌≢◌, inl, inr, ℕ, zero, suc, ◌+◌, ◌<◌, ◌≤◌, ◌^◌, Bool, true, false, List, [], ◌∷◌, ◌++◌, All, take, drop, length, get_or, set, Result, Ok, Err, IsErr, Some, is_ok, refl, sym, subst, ap, ◌∙◌, arith}
+use Rattle.std.specs.Prelude.{insert, remove, if◌then◌else◌}
 use Rattle.std.proofs.lemmas.List.{take-append-drop, get_or-set_same}
 use Rattle.std.proofs.lemmas.List.Edits.{length-remove, get_or-insert_at}
 use Rattle.std.proofs.lemmas.List.Elements.{All-head, All-tail, All-weaker, All-append, All-contains_itself}
@@ -8,15 +8,15 @@ use Rattle.std.proofs.lemmas.Option.{slice_get-get_or}
 use Rattle.sdbt_base.specs.Bytes.{IsBytes}
 use Rattle.platform.specs.Image.{Image, IsWhole, IsEarlier, with_page}
 use Rattle.node_codec.specs.declared.body.Entry.{Entry}
-use Rattle.node_codec.specs.Record.{Record, DataRecord, NodeRecord}
+use Rattle.node_codec.specs.Record.{DataRecord, NodeRecord}
 use Rattle.root_codec.specs.declared.root.Root.{Root}
 use Rattle.root_codec.specs.RootRecord.{FitsRoot}
 use Rattle.page_store.specs.Places.{IsRecordAt, FitsAt, NothingFits, root_want, block_want}
 use Rattle.page_store.specs.Tree.{Wrong}
 use Rattle.page_store.proofs.RecordLaws.{record_appended}
-use Rattle.page_store.proofs.WrongLaws.{wrong_root, wrong_block}
+use Rattle.page_store.proofs.WrongLaws.{wrong_block}
 use Rattle.page_store.proofs.LeafStandsLaws.{leaf_wanted}
-use Rattle.device_core.specs.Leaf.{IsOneLeaf, IsServed, AreEntries, IsPlace, placed}
+use Rattle.device_core.specs.Leaf.{IsOneLeaf, AreEntries, IsPlace, placed}
 use Rattle.device_core.specs.Holding.{IsOfLeaf, FollowsBy}
 use Rattle.device_core.specs.Damage.{IsMiscounted}
 use Rattle.device_core.proofs.EntryLaws.{All-remove, length-entries, room_where_none}

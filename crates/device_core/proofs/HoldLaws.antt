@@ -1,9 +1,9 @@
 -- What keeps a session's hold on its device, and what a write, a trim and a commit make of it.
-use Rattle.std.proofs.Common.{◌≡◌, ◌≢◌, ◌⊎◌, inl, inr, ℕ, zero, suc, ◌+◌, ◌-◌, ◌%◌, ◌<◌, ◌≤◌, ◌^◌, IsErr, Bool, true, false, cond, List, [], ◌∷◌, ◌++◌, All, map, take, drop, length, get_or, set, Result, Ok, Err, Option, Some, None, refl, sym, subst, ap, ◌∙◌, arith, length-append, is_ok}
-use Rattle.std.specs.Prelude.{AllPairs, insert, remove, slice_get, if◌then◌else◌, unwrap_or, replicate, is_some, ◌||◌}
-use Rattle.std.specs.List.{AllZip, zip}
+use Rattle.std.proofs.Common.{◌≡◌, ◌≢◌, ◌⊎◌, inl, inr, ℕ, zero, suc, ◌+◌, ◌-◌, ◌%◌, ◌<◌, ◌≤◌, ◌^◌, IsErr, Bool, true, false, cond, List, [], ◌∷◌, ◌++◌, All, take, length, get_or, Result, Ok, Err, Option, Some, None, refl, sym, subst, ap, ◌∙◌, arith, length-append, is_ok}
+use Rattle.std.specs.Prelude.{remove, slice_get, if◌then◌else◌, unwrap_or, replicate, is_some, ◌||◌}
+use Rattle.std.specs.List.{AllZip}
 use Rattle.std.specs.FinMap as maps
-use Rattle.std.specs.FinMap.{from_entries, same_map, nat_cmp-IsAntisymmetric, get-remove}
+use Rattle.std.specs.FinMap.{same_map, nat_cmp-IsAntisymmetric, get-remove}
 use Rattle.std.specs.Cmp.{nat_cmp_total}
 use Rattle.std.specs.Ordering.{nat_cmp, eq_by_cmp}
 use Rattle.std.proofs.Math.Seq.{take-append_seam}
@@ -17,14 +17,14 @@ use Rattle.platform.specs.History.{History, Steps, During, Turns, image_at, mome
 use Rattle.platform.proofs.Moments.{whole-now, image_at-now, Turns-not, Turns-either, During-step}
 use Rattle.seal_record.specs.Sealing.{masked}
 use Rattle.node_codec.specs.declared.body.Entry.{Entry}
-use Rattle.node_codec.specs.Record.{Record, DataRecord, NodeRecord, FitsNode, FitsRecord, record_bytes, value_of}
+use Rattle.node_codec.specs.Record.{Record, DataRecord, NodeRecord, FitsNode, FitsRecord, record_bytes}
 use Rattle.root_codec.specs.declared.root.Root.{Root}
 use Rattle.root_codec.specs.RootRecord.{FitsRoot, root_bytes}
 use Rattle.root_codec.specs.Laws.{one_root}
 use Rattle.page_store.specs.Buffer.{padded}
 use Rattle.page_store.specs.Device.{Device}
-use Rattle.page_store.specs.Places.{IsRecordAt, FitsAt, NothingFits, IsNodeWanted, root_want, block_want}
-use Rattle.page_store.specs.Leaf.{IsLeaf, StandsByLeaf, leaf_parts}
+use Rattle.page_store.specs.Places.{IsRecordAt, FitsAt, NothingFits, root_want, block_want}
+use Rattle.page_store.specs.Leaf.{StandsByLeaf, leaf_parts}
 use Rattle.page_store.specs.Stands.{Stands, StandsBy}
 use Rattle.page_store.proofs.RecordLaws.{one_record, record_appended, slice_get-end}
 use Rattle.page_store.proofs.StandsLaws.{stands_later, stands_leaves, stands_during}
@@ -37,7 +37,7 @@ use Rattle.device_core.specs.Holding.{AreMapped, blocks_of_entries, HoldsBy}
 use Rattle.page_store.specs.Roots.{IsRootWithin, IsBadCell}
 use Rattle.device_core.specs.Open.{IsOpenBy}
 use Rattle.device_core.proofs.EntryLaws.{length-entries, room_where_none, All-insert, All-remove, AreEntries-none}
-use Rattle.device_core.proofs.ArrayLaws.{same_means, IsWithin, is_within, length-AllZip, AllZip-placed, AllZip-remove, apart_placed, array_placed, array_removed, array_without, array_at}
+use Rattle.device_core.proofs.ArrayLaws.{same_means, is_within, length-AllZip, AllZip-placed, AllZip-remove, apart_placed, array_placed, array_removed, array_without, array_at}
 
 -- ---- a later image
 

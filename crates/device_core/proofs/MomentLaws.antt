@@ -1,9 +1,9 @@
 -- How the moments of calls on a device compose: the cell stays as it was, until the root record is replaced.
-use Rattle.std.proofs.Common.{◌≡◌, ◌⊎◌, inl, inr, List, ℕ, Option, Some, refl, sym, subst, ap, ◌∙◌}
+use Rattle.std.proofs.Common.{◌≡◌, ◌⊎◌, inl, inr, List, ℕ, Option, Some, refl, ap, ◌∙◌}
 use Rattle.platform.specs.Image.{Image, IsEither, with_cell, all_synced}
-use Rattle.platform.specs.History.{History, Steps, During, Turns, Extends}
+use Rattle.platform.specs.History.{History, Steps, During, Turns}
 use Rattle.platform.specs.Image.{IsEarlier}
-use Rattle.platform.proofs.Moments.{During-step, During-call, During-then, During-weaker, During-start, During-now, Turns-not, Turns-either, Turns-after, Turns-weaker, Extends-earlier}
+use Rattle.platform.proofs.Moments.{During-step, During-call, During-start, During-now, Turns-not, Turns-either, Turns-after, Turns-weaker, Extends-earlier}
 
 -- the cell is what it was
 abbrev pub HasCell : Option (List ℕ) → Image → Type 0

@@ -1,5 +1,5 @@
 -- When a session's entries over an image are an array of blocks.
-use Rattle.std.specs.Prelude.{◌≡◌, ◌≢◌, ◌<◌, ◌⊎◌, ◌+◌, ℕ, Bool, true, false, List, All, AllPairs, length, map, slice_get}
+use Rattle.std.specs.Prelude.{◌≡◌, ◌≢◌, ◌⊎◌, ◌+◌, ℕ, Bool, true, false, List, All, AllPairs, length, map, slice_get}
 use Rattle.std.specs.List.{Contains}
 use Rattle.std.specs.List.{AllZip, zip}
 use Rattle.std.specs.FinMap.{from_entries}

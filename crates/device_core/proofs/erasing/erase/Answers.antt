@@ -1,4 +1,4 @@
-use Rattle.std.proofs.Common.{◌≡◌, ◌∙◌, ◌≤◌, arith, inl, inr, Some, None, refl, ap, sym, subst}
+use Rattle.std.proofs.Common.{arith, inr, None, ap}
 use Rattle.platform.specs.Image.{Image}
 use Rattle.device_core.proofs.MomentLaws.{one_look}
 use Rattle.device_core.proofs.ServedLaws.{served_same, served_cleared}

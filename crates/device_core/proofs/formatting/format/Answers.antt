@@ -1,14 +1,13 @@
-use Rattle.std.proofs.Common.{◌≡◌, ◌∙◌, ◌+◌, ◌-◌, ◌≤◌, ◌<◌, ◌^◌, ℕ, List, [], Option, Some, None, length, Bool, true, false, refl, ap, sym, subst, inl, inr, arith}
+use Rattle.std.proofs.Common.{◌≡◌, ◌∙◌, ◌+◌, ◌≤◌, ◌<◌, ◌^◌, ℕ, List, [], Option, Some, refl, ap, sym, subst, inr, arith}
 use Rattle.sdbt_base.specs.Bytes.{IsBytes}
 use Rattle.platform.specs.Image.{Image, with_page}
 use Rattle.seal_record.specs.Sealing.{masked}
 use Rattle.node_codec.specs.Record.{NodeRecord, record_bytes}
-use Rattle.root_codec.specs.declared.root.Root.{Root}
 use Rattle.page_store.specs.Buffer.{Held}
 use Rattle.device_core.specs.Leaf.{IsServed, IsServedCell}
 use Rattle.device_core.specs.Blocks.{new_device}
-use Rattle.device_core.proofs.MomentLaws.{one_look, look_more, call_more}
-use Rattle.device_core.proofs.HoldLaws.{during_stands, first_root, first_fits, first_one, no_entries_fit, format_turns, format_made, leaf_page}
+use Rattle.device_core.proofs.MomentLaws.{one_look, call_more}
+use Rattle.device_core.proofs.HoldLaws.{during_stands, first_root, first_fits, first_one, no_entries_fit, format_turns, format_made}
 use Rattle.device_core.proofs.ServedLaws.{served_same, served_published}
 use Rattle.device_core.proofs.formatting.format.Goals as goal
 

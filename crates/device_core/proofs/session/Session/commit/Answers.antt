@@ -1,4 +1,4 @@
-use Rattle.std.proofs.Common.{◌≡◌, ◌∙◌, ◌+◌, Some, refl, ap, sym, subst, arith}
+use Rattle.std.proofs.Common.{Some, refl, arith}
 use Rattle.device_core.specs.Replies.{committed_device}
 use Rattle.device_core.proofs.MomentLaws.{still}
 use Rattle.device_core.proofs.HoldLaws.{during_stands, held_stands, untouched_after}

@@ -1,12 +1,11 @@
-use Rattle.std.proofs.Common.{◌≡◌, ◌∙◌, ◌+◌, ◌≤◌, ℕ, List, Bool, true, false, refl, ap, sym, subst, arith}
+use Rattle.std.proofs.Common.{◌≡◌, ◌∙◌, ◌≤◌, ℕ, List, Bool, refl, ap, sym, subst, arith}
 use Rattle.page_store.specs.declared.wants.Want.{Want}
 use Rattle.page_store.specs.Places.{FitsAt, NothingFits, IsWantedRecord, root_want}
-use Rattle.node_codec.specs.Record.{Record, NodeRecord, DataRecord, value_of}
+use Rattle.node_codec.specs.Record.{NodeRecord, DataRecord}
 use Rattle.root_codec.specs.declared.root.Root.{Root}
 use Rattle.node_codec.specs.declared.body.Entry.{Entry}
 use Rattle.platform.specs.Image.{Image}
 use Rattle.page_store.specs.Tree.{Wrong}
-use Rattle.page_store.specs.Buffer.{content_of}
 use Rattle.device_core.specs.Leaf.{AreEntries}
 use Rattle.device_core.specs.Holding.{HoldsBy}
 use Rattle.device_core.proofs.MomentLaws.{still, one_look}

@@ -1,8 +1,6 @@
-use Rattle.std.proofs.Common.{◌≡◌, ◌∙◌, ◌+◌, ◌≤◌, ◌<◌, ℕ, List, Option, get_or, Ok, Err, true, false, inl, inr, refl, ap, sym, subst, arith}
+use Rattle.std.proofs.Common.{◌≡◌, ◌∙◌, ◌<◌, ℕ, List, Option, get_or, inl, ap, sym, subst, arith}
 use Rattle.node_codec.specs.declared.body.Entry.{Entry}
-use Rattle.node_codec.specs.Record.{DataRecord}
 use Rattle.std.specs.Prelude.{unwrap_or, replicate}
-use Rattle.device_core.specs.Blocks.{Blocks, block_content}
 use Rattle.device_core.proofs.MomentLaws.{still, look_more}
 use Rattle.device_core.proofs.HoldLaws.{holds_same, content_none, content_read, block_fits}
 use Rattle.root_codec.specs.declared.root.Root.{Root}

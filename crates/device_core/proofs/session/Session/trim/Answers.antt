@@ -1,6 +1,4 @@
-use Rattle.std.proofs.Common.{◌≡◌, ◌∙◌, ◌+◌, ◌-◌, ◌≤◌, ◌<◌, ℕ, List, Option, get_or, Ok, Err, Bool, true, false, refl, ap, sym, subst, arith}
-use Rattle.std.specs.FinMap as map
-use Rattle.node_codec.specs.declared.body.Entry.{Entry}
+use Rattle.std.proofs.Common.{◌≡◌, ◌∙◌, Err, refl, ap, sym, subst, arith}
 use Rattle.device_core.specs.Blocks.{Blocks}
 use Rattle.device_core.specs.Holding.{HoldsBy}
 use Rattle.device_core.proofs.MomentLaws.{still}

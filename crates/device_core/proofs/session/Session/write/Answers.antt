@@ -1,4 +1,4 @@
-use Rattle.std.proofs.Common.{◌≡◌, ◌∙◌, ◌+◌, ◌-◌, ◌≤◌, ◌<◌, ◌^◌, ℕ, List, Option, get_or, length, Ok, Err, Bool, true, false, refl, ap, sym, subst, arith}
+use Rattle.std.proofs.Common.{◌≡◌, ◌∙◌, ℕ, List, ap, sym, subst, arith}
 use Rattle.platform.proofs.Moments.{Extends-earlier, whole-now}
 use Rattle.seal_record.specs.Sealing.{masked}
 use Rattle.node_codec.specs.declared.body.Entry.{Entry}
@@ -7,10 +7,8 @@ use Rattle.root_codec.specs.declared.root.Root.{Root}
 use Rattle.page_store.specs.Buffer.{Held, padded}
 use Rattle.platform.specs.Image.{Image, with_page}
 use Rattle.device_core.specs.Leaf.{AreEntries}
-use Rattle.device_core.specs.Blocks.{Blocks}
-use Rattle.device_core.specs.Holding.{HoldsBy}
 use Rattle.device_core.proofs.MomentLaws.{still, call_more}
-use Rattle.device_core.proofs.EntryLaws.{AreEntries-placed, AreEntries-later, room_where_none}
+use Rattle.device_core.proofs.EntryLaws.{AreEntries-placed, room_where_none}
 use Rattle.device_core.proofs.HoldLaws.{holds_same, holds_later, some_unmapped, padded_bytes, written, data_page}
 use Rattle.std.proofs.Common.{inl, inr}
 use Rattle.device_core.proofs.FollowLaws.{follows_same, follows_later, follows_written, unmapped_place, miscounted_full, new_place, placed_mapped}
