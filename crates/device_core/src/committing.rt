@@ -69,8 +69,12 @@ impl Session {
         // A commit that raises the number leaves nothing of what was read or sealed in the session's buffers.
         ensures wiped { is_touched self ≡ true → P.head platform.old ≢ P.capacity platform.old
             → IfOk result (λ answer. IsBlank (buffers_of answer.0)) }
+        // Where no key was drawn nothing was handed over.
+        ensures undrawn { P.tells → IsErrOf result CommitFault.TapeFault → (P.history platform.new).present ≡ (P.history platform.old).present }
+        ensures no_memory { IsErrOf result CommitFault.Memory → ⊥ }
         ensures unput { L.written ledger.new ≡ L.written ledger.old }
 
+        ensures head_undrawn { IsErrOf result CommitFault.TapeFault → P.head platform.new ≡ P.head platform.old }
         ensures head_raised { is_touched self ≡ true → P.head platform.old ≢ P.capacity platform.old
             → IfOk result (λ answer. P.head platform.new ≡ P.head platform.old + 1) }
         ensures head_rises { P.head platform.old ≤ P.head platform.new }
@@ -122,7 +126,10 @@ impl Session {
             → IsServedCell (P.history platform.new).present.cell (P.head platform.new) }
         ensures cell { P.tells → IfOk result (λ answer. (P.history platform.new).present.cell ≡ Some (root_bytes (root_of answer.0))) }
         ensures wiped { IfOk result (λ answer. IsBlank (buffers_of answer.0)) }
+        ensures undrawn { P.tells → IsErrOf result CommitFault.TapeFault → (P.history platform.new).present ≡ (P.history platform.old).present }
+        ensures no_memory { IsErrOf result CommitFault.Memory → ⊥ }
 
+        ensures head_undrawn { IsErrOf result CommitFault.TapeFault → P.head platform.new ≡ P.head platform.old }
         ensures head_ok { IfOk result (λ answer. P.head platform.new ≡ P.head platform.old + 1) }
         ensures head_rises { P.head platform.old ≤ P.head platform.new }
         ensures head_by_one { P.head platform.new ≤ P.head platform.old + 1 }

@@ -43,6 +43,8 @@ pub fn format<P: Platform, T: Tape, L: Sink>(
         → IsErrOf result FormatRefusal.NotEmpty ⊎ (IsErrOf result FormatRefusal.Full ⊎ IsErrOf result FormatRefusal.PlatformFault) }
     ensures same { P.tells → (IsErrOf result FormatRefusal.NotEmpty ⊎ IsErrOf result FormatRefusal.Full)
         → (P.history platform.new).present ≡ (P.history platform.old).present }
+    ensures unmade { P.tells → (IsErrOf result FormatRefusal.Memory ⊎ IsErrOf result FormatRefusal.TapeFault)
+        → (P.history platform.new).present ≡ (P.history platform.old).present }
     // At each moment a loss of power leaves what there was before, until one from which on it leaves the new device.
     ensures time { P.tells → (device : Option Device) → Stands (P.history platform.old).present device
         → Turns (P.history platform.old) (P.history platform.new) (LeavesOnly (λ left. Stands left device)) (LeavesOnly (λ left. Stands left (Some (new_device blocks order)))) }
@@ -56,6 +58,7 @@ pub fn format<P: Platform, T: Tape, L: Sink>(
 
     ensures head_ok { OnOk result (P.head platform.new ≡ P.head platform.old + 1) }
     ensures head_refused { (IsErrOf result FormatRefusal.NotEmpty ⊎ IsErrOf result FormatRefusal.Full) → P.head platform.new ≡ P.head platform.old }
+    ensures head_unmade { (IsErrOf result FormatRefusal.Memory ⊎ IsErrOf result FormatRefusal.TapeFault) → P.head platform.new ≡ P.head platform.old }
     ensures head_rises { P.head platform.old ≤ P.head platform.new }
     ensures head_by_one { P.head platform.new ≤ P.head platform.old + 1 }
     ensures capacity { P.capacity platform.new ≡ P.capacity platform.old }

@@ -53,10 +53,13 @@ impl Session {
             → IsDamaged (P.history platform.new).present.readable (root_of self.old) addr }
         ensures bad_still { P.tells → (addr : ℕ) → IsErrOf result (WriteRefusal.BadRecord addr)
             → (P.history platform.new).present ≡ (P.history platform.old).present }
+        ensures refused_still { P.tells → (IsErrOf result WriteRefusal.Range ⊎ (IsErrOf result WriteRefusal.Full ⊎ IsErrOf result WriteRefusal.TapeFault))
+            → (P.history platform.new).present ≡ (P.history platform.old).present }
         // Where as many blocks are mapped as there are, none is written that has no entry.
         ensures counter { block < blocks_of self.old → mapped_of self.old ≡ blocks_of self.old → IsUnmapped self.new block
             → (IsOk result ⊎ IsErrOf result WriteRefusal.TapeFault) → ⊥ }
         ensures range { IsErrOf result WriteRefusal.Range ↔ (blocks_of self.old ≤ block) }
+        ensures no_memory { IsErrOf result WriteRefusal.Memory → ⊥ }
         ensures full { IsErrOf result WriteRefusal.Full ↔ ((block < blocks_of self.old) × (P.head platform.old ≡ P.capacity platform.old)) }
         ensures open { IsOpen self.new (P.head platform.new) }
         ensures same { self.new.root ≡ self.old.root }
@@ -138,6 +141,7 @@ impl Session {
             → IsDamaged (P.history platform.new).present.readable (root_of self.old) addr }
         // Where no block is mapped, none is trimmed that has an entry.
         ensures counter { mapped_of self.old ≡ 0 → IsMapped self.new block → IsOk result → ⊥ }
+        ensures no_memory { IsErrOf result TrimRefusal.Memory → ⊥ }
         ensures range { IsErrOf result TrimRefusal.Range ↔ (blocks_of self.old ≤ block) }
         ensures open { IsOpen self.new (P.head platform.new) }
         ensures same { self.new.root ≡ self.old.root }

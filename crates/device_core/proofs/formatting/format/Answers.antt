@@ -204,3 +204,6 @@ returns-clause-stays_served g c = λ told served.
     (c.append.ensures.cell told ∙ ap (λ (i : Image). i.cell) (c.load_root.ensures.image told)) (omega (arith, c.load_root.ensures.head, c.append.ensures.head_rises)) served in
     served_published (history c.append.new.platform) (history c.publish.new.platform) (first_root c.args.blocks c.args.order addr c.in-Ok-append.placed.key)
     (head c.append.new.platform) (head c.publish.new.platform) (c.publish.ensures.time told) next (omega (arith, c.publish.ensures.head)) before
+
+pub returns-in-Err-TapeFault-clause-unmade : goal.returns-in-Err-TapeFault-clause-unmade
+returns-in-Err-TapeFault-clause-unmade g c = λ told is. c.append.ensures.unchanged told (cc) ∙ c.load_root.ensures.image told

@@ -174,3 +174,6 @@ returns-clause-counter g c = λ low all unmapped is.
     let place = rw c.as_slice.ensures.value at c.place_of-place.ensures in
     let entry : Entry = record { low = c.args.block; addr = c.in-Ok-append.placed.addr; key = c.in-Ok-append.placed.key } in
     placed_mapped c.load.new.self.entries.items c.place_of-place.result entry place (rw c.put_entry.ensures at unmapped)
+
+pub returns-in-Err-TapeFault-clause-refused_still : goal.returns-in-Err-TapeFault-clause-refused_still
+returns-in-Err-TapeFault-clause-refused_still g c = λ told is. c.append.ensures.unchanged told (cc) ∙ c.load.ensures.image told
