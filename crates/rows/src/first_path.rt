@@ -1,6 +1,6 @@
 //! The rows of one script over one leaf of order 64.
-use crate::run::{Given, run_over};
-use platform::{CallKind, Failure, MemPlatform};
+use crate::run::{Given, ONE_BLOCK, run_over};
+use platform::MemPlatform;
 use std::test::Fail;
 
 /// A script, and what is written for it. The status is 0.
@@ -57,8 +57,6 @@ const ROWS: [(&str, &str, &str); 10] = [
     ),
 ];
 
-const ONE_BLOCK: &str = "format 8 64\nmount\nwrite 3 6869\nread 3\ncommit\nread 3\n";
-
 #[test]
 fn first_path(rt: HostRuntime) -> Result<(), Fail> {
     for (row, script, want) in ROWS {
@@ -76,18 +74,6 @@ fn first_path(rt: HostRuntime) -> Result<(), Fail> {
             assert_eq!(rt; platform.starved(), 0);
         }
     }
-    Ok(())
-}
-
-#[test]
-fn full_medium(rt: HostRuntime) -> Result<(), Fail> {
-    let script =
-        "format 8 64\nmount\nwrite 3 6869\ncommit\nwrite 3 00ff\ncommit\nread 3\nwrite 3 aa\n";
-    let want = "formatted\nmounted 0\nok\ncommitted 1\nok\nfull\ndata 00ff\nfull\n";
-    let mut platform = MemPlatform::blank(rt.alloc(), 4);
-    let ran = run_over(rt.alloc(), &mut platform, &Given::script(script))?;
-    assert_eq!(rt; ran.output.bytes(), want.as_bytes());
-    assert_eq!(rt; ran.status, 0);
     Ok(())
 }
 
@@ -147,28 +133,5 @@ fn failed_ends(rt: HostRuntime) -> Result<(), Fail> {
         assert_eq!(rt; ran.output.bytes(), b"formatted\nmounted 0\n".as_slice());
         assert_eq!(rt; ran.status, status);
     }
-    Ok(())
-}
-
-#[test]
-fn failed_append(rt: HostRuntime) -> Result<(), Fail> {
-    let alloc = rt.alloc();
-    let mut platform = MemPlatform::blank(alloc, 262_144);
-    platform.set_failures(&[Failure {
-        call: CallKind::Append,
-        nth: 3,
-        effect: false,
-    }])?;
-    let ran = run_over(alloc, &mut platform, &Given::script(ONE_BLOCK))?;
-    assert_eq!(rt;
-        ran.output.bytes(),
-        b"formatted\nmounted 0\nok\ndata 6869\n".as_slice()
-    );
-    assert_eq!(rt; ran.status, 5);
-
-    // What was not committed is gone.
-    let ran = run_over(alloc, &mut platform, &Given::script("mount\nread 3\n"))?;
-    assert_eq!(rt; ran.output.bytes(), b"mounted 0\ndata -\n".as_slice());
-    assert_eq!(rt; ran.status, 0);
     Ok(())
 }

@@ -2,15 +2,22 @@
 ghost use Rattle.std.specs.Prelude.{◌<◌, ◌≤◌, ◌^◌};
 
 use device_cli::run_main;
-use platform::MemPlatform;
+use platform::{Failure, MemPlatform, Platform};
 use sdbt_base::{Line, ListTape, MemSink, MemSource, Memory};
 use std::alloc::Global;
+use std::process::Abort;
+use std::test::Fail;
 
-/// How a run ended, and what it wrote.
+/// Makes a device, and writes and commits one block of it: page 0 is the empty leaf, page 1 the data record of the
+/// block and page 2 the new leaf.
+pub(crate) const ONE_BLOCK: &str = "format 8 64\nmount\nwrite 3 6869\nread 3\ncommit\nread 3\n";
+
+/// How a run ended, what it wrote, and how often the output was given no memory.
 #[derive(Drop)]
 pub(crate) struct Ran {
     pub(crate) status: u8,
     pub(crate) output: Line,
+    pub(crate) starved: u64,
 }
 
 /// What a run is handed beside the platform: its words and its script, of which so many bytes come a take, and
@@ -39,14 +46,22 @@ impl<'a> Given<'a> {
     }
 }
 
-/// Runs a script over a platform. The keys are eight of one byte each.
+/// Runs a script over a platform. The keys are eight of one byte each, and others where there are more pages.
 pub(crate) fn run_over(
     alloc: Global,
     platform: &mut MemPlatform,
     given: &Given<'_>,
 ) -> Result<Ran, Memory> {
+    let first = (platform.head() % 200) as u8;
     let keys = [
-        [1; 32], [2; 32], [3; 32], [4; 32], [5; 32], [6; 32], [7; 32], [8; 32],
+        [first + 1; 32],
+        [first + 2; 32],
+        [first + 3; 32],
+        [first + 4; 32],
+        [first + 5; 32],
+        [first + 6; 32],
+        [first + 7; 32],
+        [first + 8; 32],
     ];
     let mut tape = ListTape::new(alloc, &keys, given.failing_draws)?;
     let mut input = MemSource::new(alloc, given.script, given.step.max(1), given.failing_takes)?;
@@ -66,5 +81,46 @@ pub(crate) fn run_over(
     Ok(Ran {
         status,
         output: written,
+        starved: output.starved(),
     })
+}
+
+/// A script over the platform that the last run left, the calls that fail in it, and what it must end with.
+#[derive(Clone, Copy)]
+pub(crate) struct Step<'a> {
+    pub(crate) failures: &'a [Failure],
+    pub(crate) script: &'a str,
+    pub(crate) output: &'a str,
+    pub(crate) status: u8,
+}
+
+/// Runs these scripts, one after the other. No memory was refused in them.
+pub(crate) fn follow(
+    rt: &(impl Abort + Alloc<A = Global>),
+    platform: &mut MemPlatform,
+    steps: &[Step<'_>],
+) -> Result<(), Fail> {
+    for step in steps {
+        platform.set_failures(step.failures)?;
+        let ran = run_over(rt.alloc(), platform, &Given::script(step.script))?;
+        assert_eq!(rt;
+            ran.output.bytes(),
+            step.output.as_bytes(),
+            "{}",
+            step.script
+        );
+        assert_eq!(rt; ran.status, step.status, "{}", step.script);
+        assert_eq!(rt; (platform.starved(), ran.starved), (0, 0));
+    }
+    platform.set_failures(&[])?;
+    Ok(())
+}
+
+/// The power is lost, and each page that was not synced is torn.
+pub(crate) fn lose_power(platform: &mut MemPlatform) {
+    for addr in platform.synced()..platform.head() {
+        if addr >= platform.synced() && addr < platform.head() {
+            platform.power_cut(&[addr]);
+        }
+    }
 }
