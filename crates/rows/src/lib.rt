@@ -4,6 +4,8 @@
 #[cfg(test)]
 mod first_path;
 #[cfg(test)]
+mod forged;
+#[cfg(test)]
 mod run;
 #[cfg(test)]
 mod several_runs;

@@ -1,0 +1,143 @@
+//! A device of one block whose root cell or pages were changed.
+use crate::run::{Given, ONE_BLOCK, Step, follow, run_over};
+use platform::{MemPlatform, Platform};
+use sdbt_base::{Memory, ROOT};
+use std::alloc::Global;
+use std::test::Fail;
+
+/// A root record is 128 bytes with numbers in big-endian: the stamp `SDBTROOT`, the version in two bytes, the order in
+/// two, the level in one, three zeros, then in eight each the number of blocks, of the commit and of the root's page,
+/// its key in 32, the number of mapped blocks and of pages in eight each, and zeros.
+///
+/// Each row puts bytes at a place of the record of a device with 8 blocks, commit 1, its root in page 2, one mapped
+/// block and three pages, so that it is none that can be served.
+const BAD_ROOTS: [(&str, usize, &[u8]); 27] = [
+    ("stamp", 0, b"T"),
+    ("end of the stamp", 7, b"t"),
+    ("version 0", 8, &[0, 0]),
+    ("version 2", 8, &[0, 2]),
+    ("version 257", 8, &[1, 1]),
+    ("odd order", 10, &[0, 5]),
+    ("order 0", 10, &[0, 0]),
+    ("order 2", 10, &[0, 2]),
+    ("order 66", 10, &[0, 66]),
+    ("level 0", 12, &[0]),
+    ("level 2", 12, &[2]),
+    ("level 21", 12, &[21]),
+    ("first zero", 13, &[1]),
+    ("second zero", 14, &[1]),
+    ("third zero", 15, &[1]),
+    ("no block", 16, &[0, 0, 0, 0, 0, 0, 0, 0]),
+    ("65 blocks", 16, &[0, 0, 0, 0, 0, 0, 0, 65]),
+    ("2^32 + 8 blocks", 16, &[0, 0, 0, 1, 0, 0, 0, 8]),
+    ("commit 3", 24, &[0, 0, 0, 0, 0, 0, 0, 3]),
+    ("root in page 3", 32, &[0, 0, 0, 0, 0, 0, 0, 3]),
+    ("9 mapped", 72, &[0, 0, 0, 0, 0, 0, 0, 9]),
+    ("no page", 80, &[0, 0, 0, 0, 0, 0, 0, 0]),
+    ("4 pages", 80, &[0, 0, 0, 0, 0, 0, 0, 4]),
+    ("2^56 + 3 pages", 80, &[1, 0, 0, 0, 0, 0, 0, 3]),
+    ("zero behind the fields", 88, &[1]),
+    ("zero in the middle", 100, &[128]),
+    ("last zero", 127, &[1]),
+];
+
+/// The device that is changed.
+fn one_block(alloc: Global) -> Result<MemPlatform, Memory> {
+    let mut platform = MemPlatform::blank(alloc, 262_144);
+    let _ = run_over(alloc, &mut platform, &Given::script(ONE_BLOCK))?;
+    Ok(platform)
+}
+
+/// The root record of a device with these bytes at a place.
+fn forged(platform: &MemPlatform, place: usize, bytes: &[u8]) -> [u8; ROOT] {
+    let mut record = platform.cell().unwrap_or([0; ROOT]);
+    let (_, rest) = record.split_at_mut(place.min(ROOT));
+    let count = bytes.len().min(rest.len());
+    rest[..count].copy_from_slice(&bytes[..count]);
+    record
+}
+
+/// A platform with the pages and the cell of another, but for the first byte of one page.
+fn with_changed_page(alloc: Global, platform: &MemPlatform, changed: usize) -> MemPlatform {
+    let mut copy = MemPlatform::blank(alloc, 262_144);
+    for place in 0..platform.recorded().len() {
+        let mut page = *platform.recorded().at(place);
+        if place == changed {
+            page[0] ^= 1;
+        }
+        if copy.head() < copy.capacity() {
+            let _ = copy.append(&page);
+        }
+    }
+    let _ = copy.sync();
+    if let Some(record) = platform.cell() {
+        let _ = copy.swap_root(&record);
+    }
+    copy
+}
+
+#[test]
+fn bad_roots(rt: HostRuntime) -> Result<(), Fail> {
+    let mut platform = one_block(rt.alloc())?;
+    for (what, place, bytes) in BAD_ROOTS {
+        let before = one_block(rt.alloc())?;
+        let record = forged(&before, place, bytes);
+        assert!(rt; before.cell() != Some(record), "{what}");
+        assert_eq!(rt; platform.swap_root(&record), Ok(()));
+        for script in ["", "mount\nread 3\n", "format 8 64\n", "erase\n"] {
+            let ran = run_over(rt.alloc(), &mut platform, &Given::script(script))?;
+            assert_eq!(rt; ran.output.bytes(), b"bad root\n".as_slice(), "{what}");
+            assert_eq!(rt; ran.status, 8, "{what}");
+        }
+        assert!(rt; platform.cell() == Some(record), "{what}");
+        assert_eq!(rt; platform.head(), 3, "{what}");
+        for addr in 0..3 {
+            let is_same = addr < platform.recorded().len()
+                && addr < before.recorded().len()
+                && platform.recorded().at(addr) == before.recorded().at(addr);
+            assert!(rt; is_same, "{what}, page {addr}");
+        }
+    }
+    Ok(())
+}
+
+#[test]
+fn forged_root(rt: HostRuntime) -> Result<(), Fail> {
+    let mut platform = one_block(rt.alloc())?;
+    for (mapped, script) in [(8, "mount\nwrite 4 61\n"), (0, "mount\ntrim 3\n")] {
+        let record = forged(&platform, 79, &[mapped]);
+        assert_eq!(rt; platform.swap_root(&record), Ok(()));
+        let step = Step {
+            failures: &[],
+            script,
+            output: "mounted 1\nbad record 2\n",
+            status: 9,
+        };
+        follow(&rt, &mut platform, &[step])?;
+        assert!(rt; platform.cell() == Some(record));
+        assert_eq!(rt; platform.head(), 3);
+    }
+    Ok(())
+}
+
+#[test]
+fn forged_page(rt: HostRuntime) -> Result<(), Fail> {
+    let sound = one_block(rt.alloc())?;
+    for (changed, output, status) in [
+        (0, "mounted 1\ndata 6869\n", 0),
+        (1, "mounted 1\nbad record 1\n", 9),
+        (2, "mounted 1\nbad record 2\n", 9),
+    ] {
+        let mut platform = with_changed_page(rt.alloc(), &sound, changed);
+        let step = Step {
+            failures: &[],
+            script: "mount\nread 3\n",
+            output,
+            status,
+        };
+        follow(&rt, &mut platform, &[step])?;
+        assert_eq!(rt; platform.head(), 3);
+        assert!(rt; platform.cell() == sound.cell());
+    }
+    Ok(())
+}
