@@ -71,7 +71,7 @@ fn first_path(rt: HostRuntime) -> Result<(), Fail> {
                 "row {row}, {step} bytes a take"
             );
             assert_eq!(rt; ran.status, 0, "row {row}, {step} bytes a take");
-            assert_eq!(rt; platform.starved(), 0);
+            assert_eq!(rt; ran.starved, 0);
         }
     }
     Ok(())

@@ -87,7 +87,7 @@ fn bad_roots(rt: HostRuntime) -> Result<(), Fail> {
         for script in ["", "mount\nread 3\n", "format 8 64\n", "erase\n"] {
             let ran = run_over(rt.alloc(), &mut platform, &Given::script(script))?;
             assert_eq!(rt; ran.output.bytes(), b"bad root\n".as_slice(), "{what}");
-            assert_eq!(rt; ran.status, 8, "{what}");
+            assert_eq!(rt; (ran.status, ran.starved), (8, 0), "{what}");
         }
         assert!(rt; platform.cell() == Some(record), "{what}");
         assert_eq!(rt; platform.head(), 3, "{what}");
