@@ -1,10 +1,12 @@
 pub mod RunLaws
+pub mod PageLaws
+pub mod PassLaws
 pub mod RepliedLaws
 pub mod PieceLaws
 pub mod Serving
 pub mod Reading
 pub mod RanLaws
-pub mod RepresentsLaws
+pub mod StillLaws
 pub mod ScriptLaws
 pub mod ServedLaws
-pub mod StatLaws
+pub mod ServingLaws

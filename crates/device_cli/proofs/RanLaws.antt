@@ -5,9 +5,16 @@ use Rattle.sdbt_base.specs.Told.{Got, GotPart}
 use Rattle.sdbt_base.proofs.ToldLaws.{Gave-nothing, Got-nothing, Got-then}
 use Rattle.script_lang.specs.Lines.{whole_lines_of}
 use Rattle.script_lang.specs.Arrays.{State}
+use Rattle.script_lang.specs.declared.replies.Reply.TheVariants.{Full}
+use Rattle.std.proofs.lemmas.List.Elements.{All-nil}
+use Rattle.platform.specs.History.{During}
+use Rattle.device_cli.specs.World.{World, IsLater}
+use Rattle.device_cli.specs.Represents.{Stood, Leaves}
+use Rattle.device_cli.proofs.RepliedLaws.{Replied-idle, Handled-then}
+use Rattle.device_cli.proofs.PassLaws.{IsMark-none, Passes-stay}
 use Rattle.script_lang.specs.declared.replies.Reply.{Reply}
 use Rattle.device_cli.specs.Run.{TookUntil, Took, status_of}
-use Rattle.device_cli.specs.Replied.{Ending, IsBehind, IsDamageAt, IsSound, EndsIn, Replied, no_line, damage_line}
+use Rattle.device_cli.specs.Replied.{Ending, IsBehind, IsDamageAt, IsAhead, IsSound, Answered, no_line, damage_line}
 use Rattle.device_cli.specs.Ran.{Ran}
 use Rattle.device_cli.specs.declared.stop.Stop.{Stop}
 use Rattle.device_cli.specs.declared.stop.Stop.TheVariants as stops
@@ -15,41 +22,19 @@ use Rattle.device_cli.specs.declared.stop.DeviceStop.{DeviceStop}
 use Rattle.device_cli.specs.declared.stop.DeviceStop.TheVariants as device
 use Rattle.device_cli.proofs.RunLaws.{TookUntil-line}
 
-EndsIn-weaken : (Mid New : State → Type 0) (ending : Ending) (entry now : State) (lines : List (List ℕ)) (replies : List Reply) (part : List ℕ)
-    → ((state : State) → Mid state → New state) → EndsIn Mid entry lines replies part now ending → EndsIn New entry lines replies part now ending
-EndsIn-weaken Mid New (Ok done) entry now lines replies part to h = to now h
-EndsIn-weaken Mid New (Err stops.Source) entry now lines replies part to h = to now h
-EndsIn-weaken Mid New (Err stops.Limit) entry now lines replies part to h = to now h
-EndsIn-weaken Mid New (Err (stops.Device stop)) entry now lines replies part to h = h
-EndsIn-weaken Mid New (Err stops.Sink) entry now lines replies part to (reply, next, answers, cut, mid) = (reply, next, answers, cut, to next mid)
-
--- from another start, to another end
-Replied-adapt : (Before Old Mid New : State → Type 0) (last : DeviceStop → List ℕ) (ending : Ending) (lines : List (List ℕ)) (put : List ℕ)
-    → ((state : State) → Before state → Old state) → ((state : State) → Mid state → New state) → Replied Old Mid last ending lines put → Replied Before New last ending lines put
-Replied-adapt Before Old Mid New last ending lines put from to p = record {
-  replies = p.replies;
-  part = p.part;
-  put_is = p.put_is;
-  behind = p.behind;
-  many = p.many;
-  damage = p.damage;
-  answered = λ entry before. let first = p.answered entry (from entry before) in record {
-    now = first.now;
-    answers = first.answers;
-    ends = EndsIn-weaken Mid New ending entry first.now lines p.replies p.part to first.ends;
-  };
-}
-
-pub Ran-adapt : (Before Old Mid New : State → Type 0) (last : DeviceStop → List ℕ) (ending : Ending) (left left_now a b : Option (List ℕ))
-    → ((state : State) → Before state → Old state) → ((state : State) → Mid state → New state) → Ran Old Mid last ending left left_now a b
-    → Ran Before New last ending left left_now a b
-Ran-adapt Before Old Mid New last ending left left_now a b from to r = record {
+-- the same after the platform stood still
+pub Ran-after : (tells : Type 0) (old mid new : World) (last : DeviceStop → List ℕ) (ending : Ending) (left left_now a b : Option (List ℕ))
+    → IsLater old mid → mid.head ≡ old.head
+    → (tells → (entry : State) → Stood old entry → Stood mid entry × During old.history mid.history (Leaves entry.device))
+    → Ran tells mid new last ending left left_now a b → Ran tells old new last ending left left_now a b
+Ran-after tells old mid new last ending left left_now a b later same still r = record {
   taken = r.taken;
   lines = r.lines;
   gave = r.gave;
   took = r.took;
   come = r.come;
-  handled = record { put = r.handled.put; got = r.handled.got; replied = Replied-adapt Before Old Mid New last ending r.lines r.handled.put from to r.handled.replied };
+  handled = Handled-then tells old mid new last ending [] r.lines a a b
+      (record { put = []; got = Got-nothing a; replied = Replied-idle tells old mid last later same still }) r.handled;
 }
 
 -- a run that ends otherwise than by a stop of the device has no last line
@@ -61,9 +46,9 @@ IsBehind-other (Err (stops.Device stop)) part other h = absurd (other stop refl)
 IsBehind-other (Err stops.Sink) part other (inl h) = inl h
 IsBehind-other (Err stops.Sink) part other (inr (stop, (n, e))) = inr (stop, (0, grind (arith, common_steps, e)))
 
-pub Ran-other : (Old New : State → Type 0) (ending : Ending) (left left_now a b : Option (List ℕ)) → ((stop : DeviceStop) → ending ≡ Err (stops.Device stop) → ⊥)
-    → Ran Old New no_line ending left left_now a b → Ran Old New damage_line ending left left_now a b
-Ran-other Old New ending left left_now a b other r = let p = r.handled.replied in record {
+pub Ran-other : (tells : Type 0) (old new : World) (ending : Ending) (left left_now a b : Option (List ℕ)) → ((stop : DeviceStop) → ending ≡ Err (stops.Device stop) → ⊥)
+    → Ran tells old new no_line ending left left_now a b → Ran tells old new damage_line ending left left_now a b
+Ran-other tells old new ending left left_now a b other r = let p = r.handled.replied in record {
   taken = r.taken;
   lines = r.lines;
   gave = r.gave;
@@ -72,14 +57,20 @@ Ran-other Old New ending left left_now a b other r = let p = r.handled.replied i
   handled = record {
     put = r.handled.put;
     got = r.handled.got;
-    replied = record { replies = p.replies; part = p.part; put_is = p.put_is; behind = IsBehind-other ending p.part other p.behind; many = p.many; damage = p.damage; answered = p.answered };
+    replied = record { replies = p.replies; part = p.part; put_is = p.put_is; behind = IsBehind-other ending p.part other p.behind; many = p.many; damage = p.damage; later = p.later; full = p.full; answered = p.answered };
   };
 }
 
+-- after a stop of the device what stands behind the replies says nothing of the device
+Answered-part : (old new : World) (stop : DeviceStop) (entry : State) (lines : List (List ℕ)) (replies : List Reply) (part other : List ℕ)
+    → Answered old new (Err (stops.Device stop)) entry lines replies part → Answered old new (Err (stops.Device stop)) entry lines replies other
+Answered-part old new stop entry lines replies part other f =
+    record { now = f.now; pages = f.pages; answers = f.answers; ends = f.ends; ahead = f.ahead; is_ahead = f.is_ahead; passes = f.passes; exits = f.exits }
+
 -- a stop of the device, and then its last line
-pub Ran-last : (Old Mid New : State → Type 0) (stop : DeviceStop) (left left_now a b c : Option (List ℕ))
-    → Ran Old Mid no_line (Err (stops.Device stop)) left left_now a b → Got b (damage_line stop) c → Ran Old New damage_line (Err (stops.Device stop)) left left_now a c
-Ran-last Old Mid New stop left left_now a b c r got = let p = r.handled.replied in record {
+pub Ran-last : (tells : Type 0) (old new : World) (stop : DeviceStop) (left left_now a b c : Option (List ℕ))
+    → Ran tells old new no_line (Err (stops.Device stop)) left left_now a b → Got b (damage_line stop) c → Ran tells old new damage_line (Err (stops.Device stop)) left left_now a c
+Ran-last tells old new stop left left_now a b c r got = let p = r.handled.replied in record {
   taken = r.taken;
   lines = r.lines;
   gave = r.gave;
@@ -95,16 +86,18 @@ Ran-last Old Mid New stop left left_now a b c r got = let p = r.handled.replied 
       behind = refl;
       many = p.many;
       damage = p.damage;
-      answered = λ entry old. let first = p.answered entry old in record { now = first.now; answers = first.answers; ends = first.ends };
+      later = p.later;
+      full = p.full;
+      answered = λ told entry rep. Answered-part old new stop entry r.lines p.replies p.part (damage_line stop) (p.answered told entry rep);
     };
   };
 }
 
 -- the same where the last line couldn't be put
-pub Ran-cut : (Old Mid New : State → Type 0) (stop : DeviceStop) (left left_now a b c : Option (List ℕ))
-    → Ran Old Mid no_line (Err (stops.Device stop)) left left_now a b → GotPart b (damage_line stop) c → (IsSound stop → ⊥)
-    → Ran Old New damage_line (Err stops.Sink) left left_now a c
-Ran-cut Old Mid New stop left left_now a b c r (n, got) damaged = let p = r.handled.replied in record {
+pub Ran-cut : (tells : Type 0) (old new : World) (stop : DeviceStop) (left left_now a b c : Option (List ℕ))
+    → Ran tells old new no_line (Err (stops.Device stop)) left left_now a b → GotPart b (damage_line stop) c → (IsSound stop → ⊥)
+    → Ran tells old new damage_line (Err stops.Sink) left left_now a c
+Ran-cut tells old new stop left left_now a b c r (n, got) damaged = let p = r.handled.replied in record {
   taken = r.taken;
   lines = r.lines;
   gave = r.gave;
@@ -120,16 +113,20 @@ Ran-cut Old Mid New stop left left_now a b c r (n, got) damaged = let p = r.hand
       behind = inr (stop, (n, refl));
       many = p.many;
       damage = tt;
-      answered = λ entry old. absurd (damaged (p.answered entry old).ends);
+      later = p.later;
+      full = p.full;
+      answered = λ told entry rep. absurd (damaged (p.answered told entry rep).ends);
     };
   };
 }
 
 -- a run that was refused before its first line
-pub Ran-refused : (Old New : State → Type 0) (stop : DeviceStop) (left written : Option (List ℕ)) → (stop ≡ device.BadRoot) ⊎ (stop ≡ device.Platform)
-    → ((entry : State) → Old entry → IsSound stop) → Ran Old New no_line (Err (stops.Device stop)) left left written written
+pub Ran-refused : (tells : Type 0) (old new : World) (stop : DeviceStop) (left written : Option (List ℕ)) → (stop ≡ device.BadRoot) ⊎ (stop ≡ device.Platform)
+    → IsLater old new → new.head ≡ old.head
+    → (tells → (entry : State) → Stood old entry → Stood new entry × During old.history new.history (Leaves entry.device))
+    → (tells → (entry : State) → Stood old entry → IsSound stop) → Ran tells old new no_line (Err (stops.Device stop)) left left written written
 unfolding whole_lines_of
-Ran-refused Old New stop left written which sound = record {
+Ran-refused tells old new stop left written which later same still sound = record {
   taken = [];
   lines = [];
   gave = Gave-nothing left;
@@ -145,18 +142,38 @@ Ran-refused Old New stop left written which sound = record {
       behind = refl;
       many = omega arith;
       damage = no_damage stop which;
-      answered = λ entry old. record { now = entry; answers = refl; ends = sound entry old };
+      later = later;
+      full = All-nil (λ (r : Reply). r ≡ Full → new.head ≡ new.capacity);
+      answered = λ told entry rep. record {
+        now = entry;
+        pages = old.head;
+        answers = (refl, refl);
+        ends = sound told entry rep;
+        ahead = [];
+        is_ahead = none_ahead stop which;
+        passes = let both = still told entry rep in Passes-stay old.history new.history entry [] [] rep.there.device both.1;
+        exits = let both = still told entry rep in record { mark = 0; from = omega arith; there = entry.device; is_mark = IsMark-none entry [] []; stands = both.0.there.device };
+      };
     };
   };
 }
   where
-    no_damage : (s : DeviceStop) → (s ≡ device.BadRoot) ⊎ (s ≡ device.Platform) → IsDamageAt [] [] (Err (stops.Device s))
+    no_damage : (s : DeviceStop) → (s ≡ device.BadRoot) ⊎ (s ≡ device.Platform) → IsDamageAt tells new.history.present [] [] (Err (stops.Device s))
     no_damage device.BadRoot w = tt
     no_damage device.Platform w = tt
     no_damage device.Tape w = tt
+    no_damage device.Ledger w = tt
     no_damage device.Memory w = tt
     no_damage (device.BadRecord addr) (inl e) = cc
     no_damage (device.BadRecord addr) (inr e) = cc
+
+    none_ahead : (s : DeviceStop) → (s ≡ device.BadRoot) ⊎ (s ≡ device.Platform) → IsAhead (Err (stops.Device s)) []
+    none_ahead device.BadRoot w = refl
+    none_ahead device.Platform w = omega arith
+    none_ahead device.Tape w = refl
+    none_ahead device.Ledger w = refl
+    none_ahead device.Memory w = refl
+    none_ahead (device.BadRecord addr) w = refl
 
 -- the exit status
 abbrev pub exit_of : Ending → ℕ
@@ -170,19 +187,20 @@ Took-of (Err stops.Limit) taken left t = record { most = t.most; whole = λ e. a
 Took-of (Err stops.Sink) taken left t = record { most = t.most; whole = λ e. absurd (omega (arith, e)); failed = λ e. absurd (omega (arith, e)); limit = λ e. absurd (omega (arith, e)); nothing = λ e. absurd (omega (arith, e)) }
 Took-of (Err (stops.Device device.Platform)) taken left t = record { most = t.most; whole = λ e. absurd (omega (arith, e)); failed = λ e. absurd (omega (arith, e)); limit = λ e. absurd (omega (arith, e)); nothing = λ e. absurd (omega (arith, e)) }
 Took-of (Err (stops.Device device.Tape)) taken left t = record { most = t.most; whole = λ e. absurd (omega (arith, e)); failed = λ e. absurd (omega (arith, e)); limit = λ e. absurd (omega (arith, e)); nothing = λ e. absurd (omega (arith, e)) }
+Took-of (Err (stops.Device device.Ledger)) taken left t = record { most = t.most; whole = λ e. absurd (omega (arith, e)); failed = λ e. absurd (omega (arith, e)); limit = λ e. absurd (omega (arith, e)); nothing = λ e. absurd (omega (arith, e)) }
 Took-of (Err (stops.Device device.Memory)) taken left t = record { most = t.most; whole = λ e. absurd (omega (arith, e)); failed = λ e. absurd (omega (arith, e)); limit = λ e. absurd (omega (arith, e)); nothing = λ e. absurd (omega (arith, e)) }
 Took-of (Err (stops.Device device.BadRoot)) taken left t = record { most = t.most; whole = λ e. absurd (omega (arith, e)); failed = λ e. absurd (omega (arith, e)); limit = λ e. absurd (omega (arith, e)); nothing = λ e. absurd (omega (arith, e)) }
 Took-of (Err (stops.Device (device.BadRecord addr))) taken left t = record { most = t.most; whole = λ e. absurd (omega (arith, e)); failed = λ e. absurd (omega (arith, e)); limit = λ e. absurd (omega (arith, e)); nothing = λ e. absurd (omega (arith, e)) }
 
 -- a stop of the device, and what the putting of its last line ended with
-pub Ran-ended : (Old Mid New : State → Type 0) (Risen : Type 0) (stop : DeviceStop) (ended : Stop) (left left_now a b c : Option (List ℕ))
-    → Ran Old Mid no_line (Err (stops.Device stop)) left left_now a b
+pub Ran-ended : (tells : Type 0) (old new : World) (Risen : Type 0) (stop : DeviceStop) (ended : Stop) (left left_now a b c : Option (List ℕ))
+    → Ran tells old new no_line (Err (stops.Device stop)) left left_now a b
     → ((ended ≡ stops.Device stop) × Got b (damage_line stop) c) ⊎ ((ended ≡ stops.Sink) × Risen × GotPart b (damage_line stop) c × (IsSound stop → ⊥))
-    → Ran Old New damage_line (Err ended) left left_now a c
-Ran-ended Old Mid New Risen stop ended left left_now a b c r (inl (e, got)) =
-    subst (λ (s : Stop). Ran Old New damage_line (Err s) left left_now a c) (sym e) (Ran-last Old Mid New stop left left_now a b c r got)
-Ran-ended Old Mid New Risen stop ended left left_now a b c r (inr (e, risen, got, damaged)) =
-    subst (λ (s : Stop). Ran Old New damage_line (Err s) left left_now a c) (sym e) (Ran-cut Old Mid New stop left left_now a b c r got damaged)
+    → Ran tells old new damage_line (Err ended) left left_now a c
+Ran-ended tells old new Risen stop ended left left_now a b c r (inl (e, got)) =
+    subst (λ (s : Stop). Ran tells old new damage_line (Err s) left left_now a c) (sym e) (Ran-last tells old new stop left left_now a b c r got)
+Ran-ended tells old new Risen stop ended left left_now a b c r (inr (e, risen, got, damaged)) =
+    subst (λ (s : Stop). Ran tells old new damage_line (Err s) left left_now a c) (sym e) (Ran-cut tells old new stop left left_now a b c r got damaged)
 
 -- a stop before the first line is one without damage, where the cell can be served
 pub sound_of : (stop : DeviceStop) → (stop ≡ device.BadRoot) ⊎ (stop ≡ device.Platform) → (stop ≡ device.BadRoot → ⊥) → IsSound stop

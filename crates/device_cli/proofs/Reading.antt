@@ -4,7 +4,7 @@ use Rattle.std.specs.Prelude.{IfErr}
 use Rattle.sdbt_base.specs.Told.{Gave, IsAtEnd}
 use Rattle.sdbt_base.proofs.ToldLaws.{Gave-nothing, Gave-then}
 use Rattle.script_lang.specs.Lines.{whole_lines_of, rest_of, lines_of, last_line as line_at_end}
-use Rattle.script_lang.specs.Arrays.{State}
+use Rattle.device_cli.specs.World.{World}
 use Rattle.script_lang.proofs.LineLaws.{whole_lines_of-append, rest_of-append, lines_of-whole}
 use Rattle.device_cli.specs.Run.{IsOfLine, TookUntil}
 use Rattle.device_cli.specs.Kept.{IsKept, IsPending}
@@ -16,43 +16,43 @@ use Rattle.device_cli.proofs.RunLaws.{TookUntil-line}
 use Rattle.device_cli.proofs.RepliedLaws.{Handled-nothing, Handled-then, Handled-cut}
 
 -- so much was taken that with the room that is left it is the limit; the whole lines in it are handled, and this is kept of the rest
-pub record IsReading (Old New : State → Type 0) (left left_now written written_now : Option (List ℕ)) (kept : Option (List ℕ)) (room : ℕ) : Type 0 where
+pub record IsReading (tells : Type 0) (old new : World) (left left_now written written_now : Option (List ℕ)) (kept : Option (List ℕ)) (room : ℕ) : Type 0 where
   pub taken : List ℕ
   pub gave : Gave left taken left_now
   pub most : length taken + room ≡ 2 ^ 32
   pub pending : IsPending kept (rest_of taken)
-  pub handled : Handled Old New no_line (Ok tt) (whole_lines_of taken) written written_now
+  pub handled : Handled tells old new no_line (Ok tt) (whole_lines_of taken) written written_now
 
-pub IsReading-start : (Old : State → Type 0) (left written kept : Option (List ℕ)) (room : ℕ) → IsKept kept [] → room ≡ 2 ^ 32
-    → IsReading Old Old left left written written kept room
+pub IsReading-start : (tells : Type 0) (w : World) (left written kept : Option (List ℕ)) (room : ℕ) → w.head ≤ w.capacity → IsKept kept [] → room ≡ 2 ^ 32
+    → IsReading tells w w left left written written kept room
 unfolding whole_lines_of rest_of
-IsReading-start Old left written kept room clear all = record {
+IsReading-start tells w left written kept room fits clear all = record {
   taken = [];
   gave = Gave-nothing left;
   most = omega (arith, all);
   pending = record { is_kept = clear; feedless = tt };
-  handled = Handled-nothing Old Old no_line written (λ entry old. old);
+  handled = Handled-nothing tells w no_line written fits;
 }
 
 -- the lines of one piece more
-IsReading-lines : (Old Mid New : State → Type 0) (ending : Ending) (left left_now a b c kept : Option (List ℕ)) (room : ℕ) (piece : List ℕ)
-    → (r : IsReading Old Mid left left_now a b kept room) → Handled Mid New no_line ending (whole_lines_of (rest_of r.taken ++ piece)) b c
-    → Handled Old New no_line ending (whole_lines_of (r.taken ++ piece)) a c
-IsReading-lines Old Mid New ending left left_now a b c kept room piece r handled =
-    subst (λ (lines : List (List ℕ)). Handled Old New no_line ending lines a c) (sym (whole_lines_of-append r.taken piece))
-    (Handled-then Old Mid New no_line ending (whole_lines_of r.taken) (whole_lines_of (rest_of r.taken ++ piece)) a b c r.handled handled)
+IsReading-lines : (tells : Type 0) (old mid new : World) (ending : Ending) (left left_now a b c kept : Option (List ℕ)) (room : ℕ) (piece : List ℕ)
+    → (r : IsReading tells old mid left left_now a b kept room) → Handled tells mid new no_line ending (whole_lines_of (rest_of r.taken ++ piece)) b c
+    → Handled tells old new no_line ending (whole_lines_of (r.taken ++ piece)) a c
+IsReading-lines tells old mid new ending left left_now a b c kept room piece r handled =
+    subst (λ (lines : List (List ℕ)). Handled tells old new no_line ending lines a c) (sym (whole_lines_of-append r.taken piece))
+    (Handled-then tells old mid new no_line ending (whole_lines_of r.taken) (whole_lines_of (rest_of r.taken ++ piece)) a b c r.handled handled)
 
 -- one piece more
-pub IsReading-more : (Old Mid New : State → Type 0) (left mid left_now a b c kept kept_now : Option (List ℕ)) (room room_now : ℕ) (piece : List ℕ)
-    → (r : IsReading Old Mid left mid a b kept room) → Gave mid piece left_now → room ≡ length piece + room_now
-    → IsPending kept_now (rest_of (rest_of r.taken ++ piece)) → Handled Mid New no_line (Ok tt) (whole_lines_of (rest_of r.taken ++ piece)) b c
-    → IsReading Old New left left_now a c kept_now room_now
-IsReading-more Old Mid New left mid left_now a b c kept kept_now room room_now piece r gave less pending handled = record {
+pub IsReading-more : (tells : Type 0) (old mid new : World) (left half left_now a b c kept kept_now : Option (List ℕ)) (room room_now : ℕ) (piece : List ℕ)
+    → (r : IsReading tells old mid left half a b kept room) → Gave half piece left_now → room ≡ length piece + room_now
+    → IsPending kept_now (rest_of (rest_of r.taken ++ piece)) → Handled tells mid new no_line (Ok tt) (whole_lines_of (rest_of r.taken ++ piece)) b c
+    → IsReading tells old new left left_now a c kept_now room_now
+IsReading-more tells old mid new left half left_now a b c kept kept_now room room_now piece r gave less pending handled = record {
   taken = r.taken ++ piece;
-  gave = Gave-then left r.taken mid piece left_now r.gave gave;
+  gave = Gave-then left r.taken half piece left_now r.gave gave;
   most = omega (arith, r.most, less, length-append r.taken piece);
   pending = subst (λ (rest : List ℕ). IsPending kept_now rest) (sym (rest_of-append r.taken piece)) pending;
-  handled = IsReading-lines Old Mid New (Ok tt) left mid a b c kept room piece r handled;
+  handled = IsReading-lines tells old mid new (Ok tt) left half a b c kept room piece r handled;
 }
 
 AreLines-line : (stop : Stop) (taken : List ℕ) (left : Option (List ℕ)) (lines : List (List ℕ)) → IsOfLine stop → HaveCome taken left lines → AreLines (Err stop) taken left lines
@@ -62,30 +62,30 @@ AreLines-line stops.Sink taken left lines line come = come
 AreLines-line (stops.Device stop) taken left lines line come = come
 
 -- a stop at a line of one piece more
-pub IsReading-stop : (Old Mid New : State → Type 0) (left mid left_now a b c kept : Option (List ℕ)) (room : ℕ) (piece : List ℕ) (stop : Stop)
-    → (r : IsReading Old Mid left mid a b kept room) → Gave mid piece left_now → length piece ≤ room → IsOfLine stop
-    → Handled Mid New no_line (Err stop) (whole_lines_of (rest_of r.taken ++ piece)) b c → Ran Old New no_line (Err stop) left left_now a c
-IsReading-stop Old Mid New left mid left_now a b c kept room piece stop r gave less line handled = record {
+pub IsReading-stop : (tells : Type 0) (old mid new : World) (left half left_now a b c kept : Option (List ℕ)) (room : ℕ) (piece : List ℕ) (stop : Stop)
+    → (r : IsReading tells old mid left half a b kept room) → Gave half piece left_now → length piece ≤ room → IsOfLine stop
+    → Handled tells mid new no_line (Err stop) (whole_lines_of (rest_of r.taken ++ piece)) b c → Ran tells old new no_line (Err stop) left left_now a c
+IsReading-stop tells old mid new left half left_now a b c kept room piece stop r gave less line handled = record {
   taken = r.taken ++ piece;
   lines = whole_lines_of (r.taken ++ piece);
-  gave = Gave-then left r.taken mid piece left_now r.gave gave;
+  gave = Gave-then left r.taken half piece left_now r.gave gave;
   took = TookUntil-line stop (r.taken ++ piece) left_now line (omega (arith, r.most, less, length-append r.taken piece));
   come = AreLines-line stop (r.taken ++ piece) left_now (whole_lines_of (r.taken ++ piece)) line (inl refl);
-  handled = IsReading-lines Old Mid New (Err stop) left mid a b c kept room piece r handled;
+  handled = IsReading-lines tells old mid new (Err stop) left half a b c kept room piece r handled;
 }
 
 -- the end of the input
-pub IsReading-end : (Old Mid New : State → Type 0) (ending : Ending) (left left_now a b c kept : Option (List ℕ)) (room : ℕ)
-    → (r : IsReading Old Mid left left_now a b kept room) → 0 < room → IsAtEnd left_now → IfErr ending IsOfLine
-    → Handled Mid New no_line ending (line_at_end (rest_of r.taken)) b c → Ran Old New no_line ending left left_now a c
-IsReading-end Old Mid New ending left left_now a b c kept room r some end ends handled = record {
+pub IsReading-end : (tells : Type 0) (old mid new : World) (ending : Ending) (left left_now a b c kept : Option (List ℕ)) (room : ℕ)
+    → (r : IsReading tells old mid left left_now a b kept room) → 0 < room → IsAtEnd left_now → IfErr ending IsOfLine
+    → Handled tells mid new no_line ending (line_at_end (rest_of r.taken)) b c → Ran tells old new no_line ending left left_now a c
+IsReading-end tells old mid new ending left left_now a b c kept room r some end ends handled = record {
   taken = r.taken;
   lines = lines_of r.taken;
   gave = r.gave;
   took = took ending r.taken left_now ends (omega (arith, r.most, some)) end;
   come = come ending r.taken left_now ends end;
-  handled = subst (λ (lines : List (List ℕ)). Handled Old New no_line ending lines a c) (sym (lines_of-whole r.taken))
-      (Handled-then Old Mid New no_line ending (whole_lines_of r.taken) (line_at_end (rest_of r.taken)) a b c r.handled handled);
+  handled = subst (λ (lines : List (List ℕ)). Handled tells old new no_line ending lines a c) (sym (lines_of-whole r.taken))
+      (Handled-then tells old mid new no_line ending (whole_lines_of r.taken) (line_at_end (rest_of r.taken)) a b c r.handled handled);
 }
   where
     took : (e : Ending) (t : List ℕ) (l : Option (List ℕ)) → IfErr e IsOfLine → length t < 2 ^ 32 → IsAtEnd l → TookUntil e t l
@@ -97,25 +97,25 @@ IsReading-end Old Mid New ending left left_now a b c kept room r some end ends h
     come (Err stop) t l h e = AreLines-line stop t l (lines_of t) h (inr (e, refl))
 
 -- the input failed
-pub IsReading-failed : (Old New : State → Type 0) (left left_now a b kept : Option (List ℕ)) (room : ℕ)
-    → (r : IsReading Old New left left_now a b kept room) → 0 < room → Ran Old New no_line (Err stops.Source) left left_now a b
-IsReading-failed Old New left left_now a b kept room r some = record {
+pub IsReading-failed : (tells : Type 0) (old new : World) (left left_now a b kept : Option (List ℕ)) (room : ℕ)
+    → (r : IsReading tells old new left left_now a b kept room) → 0 < room → Ran tells old new no_line (Err stops.Source) left left_now a b
+IsReading-failed tells old new left left_now a b kept room r some = record {
   taken = r.taken;
   lines = whole_lines_of r.taken;
   gave = r.gave;
   took = record { most = omega (arith, r.most); whole = tt; failed = λ p. omega (arith, r.most, some); limit = λ p. cc };
   come = refl;
-  handled = (Handled-cut Old New no_line (whole_lines_of r.taken) a b r.handled).0;
+  handled = (Handled-cut tells old new no_line (whole_lines_of r.taken) a b r.handled).0;
 }
 
 -- the limit is reached
-pub IsReading-limit : (Old New : State → Type 0) (left left_now a b kept : Option (List ℕ)) (room : ℕ)
-    → (r : IsReading Old New left left_now a b kept room) → room ≡ 0 → Ran Old New no_line (Err stops.Limit) left left_now a b
-IsReading-limit Old New left left_now a b kept room r none = record {
+pub IsReading-limit : (tells : Type 0) (old new : World) (left left_now a b kept : Option (List ℕ)) (room : ℕ)
+    → (r : IsReading tells old new left left_now a b kept room) → room ≡ 0 → Ran tells old new no_line (Err stops.Limit) left left_now a b
+IsReading-limit tells old new left left_now a b kept room r none = record {
   taken = r.taken;
   lines = whole_lines_of r.taken;
   gave = r.gave;
   took = record { most = omega (arith, r.most); whole = tt; failed = λ p. cc; limit = λ p. omega (arith, r.most, none) };
   come = refl;
-  handled = (Handled-cut Old New no_line (whole_lines_of r.taken) a b r.handled).1;
+  handled = (Handled-cut tells old new no_line (whole_lines_of r.taken) a b r.handled).1;
 }

@@ -1,73 +1,229 @@
 -- How runs compose.
-use Rattle.std.proofs.Common.{◌≡◌, ℕ, ◌≤◌, ◌+◌, List, [], ◌∷◌, ◌++◌, Option, Ok, Err, length, take, inl, refl, sym, subst, arith, append_assoc, length-append}
+use Rattle.std.proofs.Common.{◌≡◌, ℕ, ◌≤◌, ◌+◌, List, [], ◌∷◌, ◌++◌, Option, Ok, Err, length, take, inl, inr, refl, sym, ◌∙◌, ap, subst, arith, append_assoc, length-append}
+use Rattle.std.specs.Prelude.{All, Result}
 use Rattle.std.proofs.lemmas.Grind.{flat_map-append, common_steps}
+use Rattle.std.proofs.lemmas.List.{append-nil}
+use Rattle.std.proofs.lemmas.List.Elements.{All-nil, All-cons, All-append, All-weaker}
+use Rattle.platform.specs.Image.{Image}
+use Rattle.platform.specs.History.{During, Turns}
+use Rattle.platform.specs.Runs.{Passes}
+use Rattle.platform.proofs.Moments.{LeavesOnly-now, During-now, During-start, Turns-not}
+use Rattle.page_store.proofs.StandsLaws.{stands_leaves}
+use Rattle.platform.proofs.RunLaws.{Turns-cases}
 use Rattle.sdbt_base.proofs.ToldLaws.{Got-nothing, Got-then}
-use Rattle.script_lang.specs.Grammar.{Spells}
+use Rattle.script_lang.specs.Grammar.{Spells, IsBad}
 use Rattle.script_lang.specs.Replies.{line_of}
 use Rattle.script_lang.specs.declared.commands.Command.{Command}
 use Rattle.script_lang.specs.Arrays.{State}
-use Rattle.script_lang.specs.Answers.{Answers, Turn}
+use Rattle.script_lang.specs.Answers.{Answers, Turn, IsMark, answer}
 use Rattle.script_lang.proofs.AnswerLaws.{Answers-append, Answers-longer}
+use Rattle.script_lang.specs.declared.devices.Device.{Device}
 use Rattle.script_lang.specs.declared.replies.Reply.{Reply}
+use Rattle.script_lang.specs.declared.replies.Reply.TheVariants.{Full, Bad}
+use Rattle.device_core.specs.Leaf.{IsServedCell}
 use Rattle.device_cli.specs.Run.{IsOfLine}
-use Rattle.device_cli.specs.Replied.{no_line, Ending, AreMany, IfNext, IsDamageAt, EndsIn, Replied, Handled, AsksForBlock, IsSound, IsOfBlock, HasPut}
+use Rattle.device_cli.specs.World.{World, is_full, IsLater}
+use Rattle.device_cli.specs.Represents.{Stood, StandsFor, Leaves}
+use Rattle.device_cli.specs.Pages.{TurnIf, AnswersOn}
+use Rattle.device_cli.specs.Replied.{no_line, Ending, AreMany, IfNext, IsDamageAt, IsAhead, HasMark, ExitsAt, EndsIn, Answered, Replied, Handled, AsksForBlock, IsSound, IsOfBlock, IsWrongPage, Halts, Serves, HasPut}
 use Rattle.device_cli.specs.declared.stop.Stop.{Stop}
 use Rattle.device_cli.specs.declared.stop.Stop.TheVariants as stops
 use Rattle.device_cli.specs.declared.stop.DeviceStop.{DeviceStop}
 use Rattle.device_cli.specs.declared.stop.DeviceStop.TheVariants as device
+use Rattle.device_cli.proofs.PageLaws.{turn_of, answers_of, AnswersOn-append, AnswersOn-longer}
+use Rattle.device_cli.proofs.PassLaws.{IsMark-none, IsMark-one, IsMark-front, IsMark-behind, Passes-nothing, Passes-stay, Passes-line, Passes-lines, Passes-longer}
 
--- no lines, and nothing put
-pub Replied-nothing : (Old New : State → Type 0) (last : DeviceStop → List ℕ) → ((entry : State) → Old entry → New entry) → Replied Old New last (Ok tt) [] []
-Replied-nothing Old New last same = record {
+-- from one world to itself, and on from one to the next
+pub IsLater-refl : (w : World) → w.head ≤ w.capacity → IsLater w w
+IsLater-refl w room = record { capacity = refl; rises = omega arith; within = room }
+
+pub IsLater-then : (a b c : World) → IsLater a b → IsLater b c → IsLater a c
+IsLater-then a b c p q = record { capacity = q.capacity ∙ p.capacity; rises = omega (arith, p.rises, q.rises); within = q.within }
+
+-- what was full stays so
+full_later : (old new : World) → IsLater old new → old.head ≡ old.capacity → new.head ≡ new.capacity
+full_later old new later full = omega (arith, later.capacity, later.rises, later.within, full)
+
+-- no lines, and nothing put, while the platform stood still
+pub Replied-idle : (tells : Type 0) (old new : World) (last : DeviceStop → List ℕ) → IsLater old new → new.head ≡ old.head
+    → (tells → (entry : State) → Stood old entry → Stood new entry × During old.history new.history (Leaves entry.device))
+    → Replied tells old new last (Ok tt) [] []
+Replied-idle tells old new last later same still = record {
   replies = [];
   part = [];
   put_is = refl;
   behind = refl;
   many = refl;
   damage = tt;
-  answered = λ entry old. record { now = entry; answers = refl; ends = same entry old };
+  later = later;
+  full = All-nil (λ (r : Reply). r ≡ Full → new.head ≡ new.capacity);
+  answered = λ told entry rep. let both = still told entry rep in record {
+    now = entry;
+    pages = new.head;
+    answers = (refl, same);
+    ends = (both.0, refl);
+    ahead = [];
+    is_ahead = refl;
+    passes = Passes-stay old.history new.history entry [] [] rep.there.device both.1;
+    exits = record { mark = 0; from = omega arith; there = entry.device; is_mark = IsMark-none entry [] []; stands = both.0.there.device };
+  };
 }
 
+-- no time passed
+still_there : (w : World) (entry : State) → Stood w entry → Stood w entry × During w.history w.history (Leaves entry.device)
+still_there w entry rep = (rep, During-start w.history (Leaves entry.device) (stands_leaves w.history.present _ rep.there.device))
+
+-- no lines, and nothing put
+pub Replied-nothing : (tells : Type 0) (w : World) (last : DeviceStop → List ℕ) → w.head ≤ w.capacity → Replied tells w w last (Ok tt) [] []
+Replied-nothing tells w last fits = Replied-idle tells w w last (IsLater-refl w fits) refl (λ told entry rep. still_there w entry rep)
+
+-- what the serving of a line did from a state: a reply that belongs to it, and the state after it
+abbrev pub Turned : World → World → State → List ℕ → Reply → Type 0
+Turned old new entry line reply =
+    (now : State) × TurnIf (is_full old) entry line reply now × Stood new now × Turns old.history new.history (Leaves entry.device) (Leaves now.device)
+
 -- a line with its reply
-pub Replied-line : (Old New : State → Type 0) (last : DeviceStop → List ℕ) (line : List ℕ) (reply : Reply)
-    → ((entry : State) → Old entry → (now : State) × Turn entry line reply now × New now) → Replied Old New last (Ok tt) (line ∷ []) (line_of reply)
-Replied-line Old New last line reply turn = record {
+pub Replied-line : (tells : Type 0) (old new : World) (last : DeviceStop → List ℕ) (line : List ℕ) (reply : Reply)
+    → IsLater old new → new.head ≤ old.head + 1 → (reply ≡ Full → new.head ≡ new.capacity)
+    → (tells → (entry : State) → Stood old entry → Turned old new entry line reply) → Replied tells old new last (Ok tt) (line ∷ []) (line_of reply)
+Replied-line tells old new last line reply later one_more full turned = record {
   replies = reply ∷ [];
   part = [];
   put_is = grind (arith, common_steps);
   behind = refl;
   many = refl;
   damage = tt;
-  answered = λ entry old. let t = turn entry old in record { now = t.0; answers = (t.0, t.1, refl); ends = t.2 };
+  later = later;
+  full = All-cons (λ (r : Reply). r ≡ Full → new.head ≡ new.capacity) reply [] full (All-nil (λ (r : Reply). r ≡ Full → new.head ≡ new.capacity));
+  answered = λ told entry rep.
+      let t = turned told entry rep in
+      let turn = turn_of (is_full old) entry line reply t.0 t.1 in
+      record {
+        now = t.0;
+        pages = new.head;
+        answers = (t.0, new.head, t.1, (later.rises, one_more), (refl, refl));
+        ends = (t.2, refl);
+        ahead = [];
+        is_ahead = refl;
+        passes = Passes-line old.history new.history entry t.0 line reply rep.there.device turn t.3;
+        exits = record { mark = 1; from = omega arith; there = t.0.device; is_mark = IsMark-one entry t.0 line reply turn; stands = t.2.there.device };
+      };
 }
 
 -- a line whose reply was put in part
-pub Replied-part : (Old New : State → Type 0) (last : DeviceStop → List ℕ) (line : List ℕ) (reply : Reply) (n : ℕ)
-    → ((entry : State) → Old entry → (now : State) × Turn entry line reply now × New now)
-    → Replied Old New last (Err stops.Sink) (line ∷ []) (take n (line_of reply))
-Replied-part Old New last line reply n turn = record {
+pub Replied-part : (tells : Type 0) (old new : World) (last : DeviceStop → List ℕ) (line : List ℕ) (reply : Reply) (n : ℕ)
+    → IsLater old new → (tells → (entry : State) → Stood old entry → Turned old new entry line reply)
+    → Replied tells old new last (Err stops.Sink) (line ∷ []) (take n (line_of reply))
+Replied-part tells old new last line reply n later turned = record {
   replies = [];
   part = take n (line_of reply);
   put_is = refl;
   behind = inl (reply, (n, refl));
   many = omega arith;
   damage = tt;
-  answered = λ entry old. let t = turn entry old in
-      record { now = entry; answers = refl; ends = (reply, t.0, (t.0, t.1, refl), (n, refl), t.2) };
+  later = later;
+  full = All-nil (λ (r : Reply). r ≡ Full → new.head ≡ new.capacity);
+  answered = λ told entry rep.
+      let t = turned told entry rep in
+      let turn = turn_of (is_full old) entry line reply t.0 t.1 in
+      record {
+        now = entry;
+        pages = old.head;
+        answers = (refl, refl);
+        ends = (reply, t.0, (t.0, turn, refl), (n, refl), t.2.there.device);
+        ahead = reply ∷ [];
+        is_ahead = omega arith;
+        passes = Passes-line old.history new.history entry t.0 line reply rep.there.device turn t.3;
+        exits = record { mark = 1; from = omega arith; there = t.0.device; is_mark = IsMark-one entry t.0 line reply turn; stands = t.2.there.device };
+      };
 }
 
+-- what a stop at a line left
+record Halted (new : World) (old : World) (entry : State) (line : List ℕ) (stop : DeviceStop) : Type 0 where
+  sound : IsSound stop
+  ahead : List Reply
+  is_ahead : IsAhead (Err (stops.Device stop)) ahead
+  passes : Passes old.history new.history (HasMark entry (line ∷ []) ahead) (length ahead)
+  exits : ExitsAt new.history.present entry (line ∷ []) [] ahead
+
+halted_still : (old new : World) (entry : State) (line : List ℕ) (stop : DeviceStop) → IsSound stop → IsAhead (Err (stops.Device stop)) [] → StandsFor old.history.present entry.device
+    → During old.history new.history (Leaves entry.device) → Halted new old entry line stop
+halted_still old new entry line stop sound none stands during = record {
+  sound = sound;
+  ahead = [];
+  is_ahead = none;
+  passes = Passes-stay old.history new.history entry (line ∷ []) [] stands during;
+  exits = record {
+    mark = 0;
+    from = omega arith;
+    there = entry.device;
+    is_mark = IsMark-none entry (line ∷ []) [];
+    stands = LeavesOnly-now new.history (λ left. StandsFor left entry.device) (During-now old.history new.history (Leaves entry.device) during);
+  };
+}
+
+halted_turned : (old new : World) (entry now : State) (line : List ℕ) (reply : Reply) → Turn entry line reply now → StandsFor old.history.present entry.device
+    → Turns old.history new.history (Leaves entry.device) (Leaves now.device) → Halted new old entry line device.Platform
+halted_turned old new entry now line reply turn stands turns = record {
+  sound = tt;
+  ahead = reply ∷ [];
+  is_ahead = omega arith;
+  passes = Passes-line old.history new.history entry now line reply stands turn turns;
+  exits = elim (Turns-cases old.history new.history (Leaves entry.device) (Leaves now.device) turns) [
+    | inl during ↦ record {
+        mark = 0;
+        from = omega arith;
+        there = entry.device;
+        is_mark = IsMark-none entry (line ∷ []) (reply ∷ []);
+        stands = LeavesOnly-now new.history (λ left. StandsFor left entry.device) (During-now old.history new.history (Leaves entry.device) during);
+      }
+    | inr left ↦ record {
+        mark = 1;
+        from = omega arith;
+        there = now.device;
+        is_mark = IsMark-one entry now line reply turn;
+        stands = LeavesOnly-now new.history (λ image. StandsFor image now.device) left;
+      }
+  ];
+}
+
+halted : (old new : World) (entry : State) (line : List ℕ) (command : Command) (stop : DeviceStop) → Spells line command → StandsFor old.history.present entry.device
+    → Halts old new entry command stop → Halted new old entry line stop
+halted old new entry line command device.Platform spells stands h =
+    let next = answer (is_full old) entry command in
+    halted_turned old new entry next.1 line next.0 (inl (command, spells, is_full old, refl)) stands h
+halted old new entry line command device.Tape spells stands h = halted_still old new entry line device.Tape tt refl stands h
+halted old new entry line command device.Ledger spells stands h = halted_still old new entry line device.Ledger tt refl stands h
+halted old new entry line command device.Memory spells stands h = halted_still old new entry line device.Memory tt refl stands h
+halted old new entry line command device.BadRoot spells stands h = absurd h
+halted old new entry line command (device.BadRecord addr) spells stands h = absurd h
+
 -- a line that the device stopped at
-pub Replied-stop : (Old New : State → Type 0) (line : List ℕ) (stop : DeviceStop)
-    → (damage : IsDamageAt [] (line ∷ []) (Err (stops.Device stop))) → ((entry : State) → Old entry → IsSound stop)
-    → Replied Old New no_line (Err (stops.Device stop)) (line ∷ []) []
-Replied-stop Old New line stop damage sound = record {
+pub Replied-stop : (tells : Type 0) (old new : World) (line : List ℕ) (command : Command) (stop : DeviceStop) → Spells line command → IsLater old new
+    → IsDamageAt tells new.history.present [] (line ∷ []) (Err (stops.Device stop))
+    → (tells → (entry : State) → Stood old entry → Halts old new entry command stop)
+    → Replied tells old new no_line (Err (stops.Device stop)) (line ∷ []) []
+Replied-stop tells old new line command stop spells later damage halts = record {
   replies = [];
   part = [];
   put_is = refl;
   behind = refl;
   many = omega arith;
   damage = damage;
-  answered = λ entry old. record { now = entry; answers = refl; ends = sound entry old };
+  later = later;
+  full = All-nil (λ (r : Reply). r ≡ Full → new.head ≡ new.capacity);
+  answered = λ told entry rep.
+      let h = halted old new entry line command stop spells rep.there.device (halts told entry rep) in
+      record {
+        now = entry;
+        pages = old.head;
+        answers = (refl, refl);
+        ends = h.sound;
+        ahead = h.ahead;
+        is_ahead = h.is_ahead;
+        passes = h.passes;
+        exits = h.exits;
+      };
 }
 
 -- the line after all of some, and then more
@@ -91,50 +247,109 @@ AreMany-then (Err stops.Limit) a b c d e h = omega (arith, e, h)
 AreMany-then (Err stops.Sink) a b c d e h = omega (arith, e, h)
 AreMany-then (Err (stops.Device stop)) a b c d e h = omega (arith, e, h)
 
-IsDamageAt-then : (ending : Ending) (lines more : List (List ℕ)) (replies others : List Reply) → length replies ≡ length lines
-    → IsDamageAt others more ending → IsDamageAt (replies ++ others) (lines ++ more) ending
-IsDamageAt-then (Ok done) lines more replies others same h = tt
-IsDamageAt-then (Err stops.Source) lines more replies others same h = tt
-IsDamageAt-then (Err stops.Limit) lines more replies others same h = tt
-IsDamageAt-then (Err stops.Sink) lines more replies others same h = tt
-IsDamageAt-then (Err (stops.Device device.Platform)) lines more replies others same h = tt
-IsDamageAt-then (Err (stops.Device device.Tape)) lines more replies others same h = tt
-IsDamageAt-then (Err (stops.Device device.Memory)) lines more replies others same h = tt
-IsDamageAt-then (Err (stops.Device device.BadRoot)) lines more replies others same h = tt
-IsDamageAt-then (Err (stops.Device (device.BadRecord addr))) lines more replies others same h = IfNext-behind AsksForBlock lines more replies others same h
+IsDamageAt-then : (tells : Type 0) (image : Image) (ending : Ending) (lines more : List (List ℕ)) (replies others : List Reply) → length replies ≡ length lines
+    → IsDamageAt tells image others more ending → IsDamageAt tells image (replies ++ others) (lines ++ more) ending
+IsDamageAt-then tells image (Ok done) lines more replies others same h = tt
+IsDamageAt-then tells image (Err stops.Source) lines more replies others same h = tt
+IsDamageAt-then tells image (Err stops.Limit) lines more replies others same h = tt
+IsDamageAt-then tells image (Err stops.Sink) lines more replies others same h = tt
+IsDamageAt-then tells image (Err (stops.Device device.Platform)) lines more replies others same h = tt
+IsDamageAt-then tells image (Err (stops.Device device.Tape)) lines more replies others same h = tt
+IsDamageAt-then tells image (Err (stops.Device device.Ledger)) lines more replies others same h = tt
+IsDamageAt-then tells image (Err (stops.Device device.Memory)) lines more replies others same h = tt
+IsDamageAt-then tells image (Err (stops.Device device.BadRoot)) lines more replies others same h = tt
+IsDamageAt-then tells image (Err (stops.Device (device.BadRecord addr))) lines more replies others same h =
+    (IfNext-behind AsksForBlock lines more replies others same h.0, h.1)
 
-EndsIn-then : (New : State → Type 0) (ending : Ending) (entry mid now : State) (lines more : List (List ℕ)) (replies others : List Reply) (part : List ℕ)
-    → length replies ≡ length lines → Answers entry lines replies mid → EndsIn New mid more others part now ending
-    → EndsIn New entry (lines ++ more) (replies ++ others) part now ending
-EndsIn-then New (Ok done) entry mid now lines more replies others part same h k = k
-EndsIn-then New (Err stops.Source) entry mid now lines more replies others part same h k = k
-EndsIn-then New (Err stops.Limit) entry mid now lines more replies others part same h k = k
-EndsIn-then New (Err (stops.Device stop)) entry mid now lines more replies others part same h k = k
-EndsIn-then New (Err stops.Sink) entry mid now lines more replies others part same h (reply, next, answers, cut, new) = (
+EndsIn-then : (new : World) (ending : Ending) (entry mid now : State) (lines more : List (List ℕ)) (replies others : List Reply) (part : List ℕ) (pages : ℕ)
+    → length replies ≡ length lines → Answers entry lines replies mid → EndsIn new mid more others part now pages ending
+    → EndsIn new entry (lines ++ more) (replies ++ others) part now pages ending
+EndsIn-then new (Ok done) entry mid now lines more replies others part pages same h k = k
+EndsIn-then new (Err stops.Source) entry mid now lines more replies others part pages same h k = k
+EndsIn-then new (Err stops.Limit) entry mid now lines more replies others part pages same h k = k
+EndsIn-then new (Err (stops.Device stop)) entry mid now lines more replies others part pages same h k = k
+EndsIn-then new (Err stops.Sink) entry mid now lines more replies others part pages same h (reply, next, answers, cut, stands) = (
   reply,
   next,
   subst (λ (all : List Reply). Answers entry (lines ++ more) all next) (sym (append_assoc replies others (reply ∷ [])))
       (Answers-append entry mid next lines more replies (others ++ reply ∷ []) same h answers),
   cut,
-  new,
+  stands,
 )
 
--- one run after another, which answered all its lines
-pub Replied-then : (Old Mid New : State → Type 0) (last : DeviceStop → List ℕ) (ending : Ending) (lines more : List (List ℕ)) (put others : List ℕ)
-    → Replied Old Mid last (Ok tt) lines put → Replied Mid New last ending more others → Replied Old New last ending (lines ++ more) (put ++ others)
-Replied-then Old Mid New last ending lines more put others p q = record {
-  replies = p.replies ++ q.replies;
-  part = q.part;
-  put_is = grind (arith, common_steps, flat_map-append line_of p.replies q.replies, p.put_is, q.put_is, p.behind);
-  behind = q.behind;
-  many = rw (length-append p.replies q.replies, length-append lines more) (AreMany-then ending _ _ _ _ p.many q.many);
-  damage = IsDamageAt-then ending lines more p.replies q.replies p.many q.damage;
-  answered = λ entry old. let first = p.answered entry old in let next = q.answered first.now first.ends in record {
-    now = next.now;
-    answers = Answers-append entry first.now next.now lines more p.replies q.replies p.many first.answers next.answers;
-    ends = EndsIn-then New ending entry first.now next.now lines more p.replies q.replies q.part p.many first.answers next.ends;
-  };
+-- no reply is ahead
+Passes-none : (first second : World) (entry : State) (lines : List (List ℕ)) (replies ahead : List Reply) → ahead ≡ []
+    → Passes first.history second.history (HasMark entry lines (replies ++ ahead)) (length replies + length ahead)
+    → Passes first.history second.history (HasMark entry lines replies) (length replies)
+Passes-none first second entry lines replies [] none p =
+    let e : length replies + length {A = Reply} [] ≡ length replies = omega arith in
+    subst (λ (n : ℕ). Passes first.history second.history (HasMark entry lines replies) n) e
+    (subst (λ (all : List Reply). Passes first.history second.history (HasMark entry lines all) (length replies + length {A = Reply} [])) (append-nil replies) p)
+Passes-none first second entry lines replies (reply ∷ ahead) none p = absurd cc
+
+Passes-ahead : (first second third : World) (entry mid : State) (lines more : List (List ℕ)) (replies others ahead : List Reply)
+    → length replies ≡ length lines → Answers entry lines replies mid
+    → Passes first.history second.history (HasMark entry lines replies) (length replies)
+    → Passes second.history third.history (HasMark mid more (others ++ ahead)) (length others + length ahead)
+    → Passes first.history third.history (HasMark entry (lines ++ more) ((replies ++ others) ++ ahead)) (length (replies ++ others) + length ahead)
+Passes-ahead first second third entry mid lines more replies others ahead same answers one two =
+    let all : (replies ++ others) ++ ahead ≡ replies ++ (others ++ ahead) = append_assoc replies others ahead in
+    let n : length replies + (length others + length ahead) ≡ length (replies ++ others) + length ahead = omega (arith, length-append replies others) in
+    subst (λ (k : ℕ). Passes first.history third.history (HasMark entry (lines ++ more) ((replies ++ others) ++ ahead)) k) n
+    (subst (λ (r : List Reply). Passes first.history third.history (HasMark entry (lines ++ more) r) (length replies + (length others + length ahead))) (sym all)
+    (Passes-lines first.history second.history third.history entry mid lines more replies (others ++ ahead) (length others + length ahead) same answers one two))
+
+ExitsAt-then : (image : Image) (entry mid : State) (lines more : List (List ℕ)) (replies others ahead : List Reply)
+    → length replies ≡ length lines → Answers entry lines replies mid → ExitsAt image mid more others ahead
+    → ExitsAt image entry (lines ++ more) (replies ++ others) ahead
+ExitsAt-then image entry mid lines more replies others ahead same answers x = record {
+  mark = length replies + x.mark;
+  from = omega (arith, x.from, length-append replies others);
+  there = x.there;
+  is_mark = subst (λ (r : List Reply). IsMark entry (lines ++ more) r (length replies + x.mark) x.there) (sym (append_assoc replies others ahead))
+      (IsMark-behind entry mid lines more replies (others ++ ahead) x.mark x.there same answers x.is_mark);
+  stands = x.stands;
 }
+
+-- what the first of two runs answered, and then the second from where it ended
+Answered-then : (old mid new : World) (ending : Ending) (entry : State) (lines more : List (List ℕ)) (replies others : List Reply) (none part : List ℕ)
+    → IsLater old mid → length replies ≡ length lines → (p : Answered old mid (Ok tt) entry lines replies none) → Answered mid new ending p.now more others part
+    → Answered old new ending entry (lines ++ more) (replies ++ others) part
+Answered-then old mid new ending entry lines more replies others none part later same p q =
+    let answers = answers_of old.capacity entry old.head lines replies p.now p.pages p.answers in
+    let more_answers : AnswersOn old.capacity p.now p.pages more others q.now q.pages =
+        subst (λ (c : ℕ). AnswersOn c p.now p.pages more others q.now q.pages) later.capacity
+        (subst (λ (n : ℕ). AnswersOn mid.capacity p.now n more others q.now q.pages) p.ends.1 q.answers) in
+    record {
+      now = q.now;
+      pages = q.pages;
+      answers = AnswersOn-append old.capacity entry old.head p.now p.pages q.now q.pages lines more replies others same p.answers more_answers;
+      ends = EndsIn-then new ending entry p.now q.now lines more replies others part q.pages same answers q.ends;
+      ahead = q.ahead;
+      is_ahead = q.is_ahead;
+      passes = Passes-ahead old mid new entry p.now lines more replies others q.ahead same answers (Passes-none old mid entry lines replies p.ahead p.is_ahead p.passes) q.passes;
+      exits = ExitsAt-then new.history.present entry p.now lines more replies others q.ahead same answers q.exits;
+    }
+
+-- one run after another, which answered all its lines
+pub Replied-then : (tells : Type 0) (old mid new : World) (last : DeviceStop → List ℕ) (ending : Ending) (lines more : List (List ℕ)) (put others : List ℕ)
+    → Replied tells old mid last (Ok tt) lines put → Replied tells mid new last ending more others → Replied tells old new last ending (lines ++ more) (put ++ others)
+Replied-then tells old mid new last ending lines more put others p q =
+    let IsFullOne : Reply → Type 0 = λ r. r ≡ Full → new.head ≡ new.capacity in
+    let earlier : All IsFullOne p.replies = All-weaker (λ (r : Reply). r ≡ Full → mid.head ≡ mid.capacity) IsFullOne (λ r full e. full_later mid new q.later (full e)) p.replies p.full in
+    record {
+      replies = p.replies ++ q.replies;
+      part = q.part;
+      put_is = grind (arith, common_steps, flat_map-append line_of p.replies q.replies, p.put_is, q.put_is, p.behind);
+      behind = q.behind;
+      many = rw (length-append p.replies q.replies, length-append lines more) (AreMany-then ending _ _ _ _ p.many q.many);
+      damage = IsDamageAt-then tells new.history.present ending lines more p.replies q.replies p.many q.damage;
+      later = IsLater-then old mid new p.later q.later;
+      full = All-append IsFullOne p.replies q.replies earlier q.full;
+      answered = λ told entry rep.
+          let first = p.answered told entry rep in
+          Answered-then old mid new ending entry lines more p.replies q.replies p.part q.part p.later p.many first (q.answered told first.now first.ends.0);
+    }
 
 AreMany-longer : (stop : Stop) (a b c : ℕ) → b ≤ c → IsOfLine stop → AreMany a b (Err stop) → AreMany a c (Err stop)
 AreMany-longer stops.Source a b c most line h = absurd line
@@ -142,94 +357,142 @@ AreMany-longer stops.Limit a b c most line h = absurd line
 AreMany-longer stops.Sink a b c most line h = omega (arith, h)
 AreMany-longer (stops.Device stop) a b c most line h = omega (arith, h)
 
-IsDamageAt-longer : (stop : Stop) (lines more : List (List ℕ)) (replies : List Reply) → IsDamageAt replies lines (Err stop) → IsDamageAt replies (lines ++ more) (Err stop)
-IsDamageAt-longer stops.Source lines more replies h = tt
-IsDamageAt-longer stops.Limit lines more replies h = tt
-IsDamageAt-longer stops.Sink lines more replies h = tt
-IsDamageAt-longer (stops.Device device.Platform) lines more replies h = tt
-IsDamageAt-longer (stops.Device device.Tape) lines more replies h = tt
-IsDamageAt-longer (stops.Device device.Memory) lines more replies h = tt
-IsDamageAt-longer (stops.Device device.BadRoot) lines more replies h = tt
-IsDamageAt-longer (stops.Device (device.BadRecord addr)) lines more replies h = IfNext-longer AsksForBlock lines more replies h
+IsDamageAt-longer : (tells : Type 0) (image : Image) (stop : Stop) (lines more : List (List ℕ)) (replies : List Reply)
+    → IsDamageAt tells image replies lines (Err stop) → IsDamageAt tells image replies (lines ++ more) (Err stop)
+IsDamageAt-longer tells image stops.Source lines more replies h = tt
+IsDamageAt-longer tells image stops.Limit lines more replies h = tt
+IsDamageAt-longer tells image stops.Sink lines more replies h = tt
+IsDamageAt-longer tells image (stops.Device device.Platform) lines more replies h = tt
+IsDamageAt-longer tells image (stops.Device device.Tape) lines more replies h = tt
+IsDamageAt-longer tells image (stops.Device device.Ledger) lines more replies h = tt
+IsDamageAt-longer tells image (stops.Device device.Memory) lines more replies h = tt
+IsDamageAt-longer tells image (stops.Device device.BadRoot) lines more replies h = tt
+IsDamageAt-longer tells image (stops.Device (device.BadRecord addr)) lines more replies h = (IfNext-longer AsksForBlock lines more replies h.0, h.1)
 
-EndsIn-longer : (New : State → Type 0) (stop : Stop) (entry now : State) (lines more : List (List ℕ)) (replies : List Reply) (part : List ℕ)
-    → EndsIn New entry lines replies part now (Err stop) → EndsIn New entry (lines ++ more) replies part now (Err stop)
-EndsIn-longer New stops.Source entry now lines more replies part k = k
-EndsIn-longer New stops.Limit entry now lines more replies part k = k
-EndsIn-longer New (stops.Device stop) entry now lines more replies part k = k
-EndsIn-longer New stops.Sink entry now lines more replies part (reply, next, answers, cut, new) =
-    (reply, next, Answers-longer entry next lines more (replies ++ reply ∷ []) answers, cut, new)
+EndsIn-longer : (new : World) (stop : Stop) (entry now : State) (lines more : List (List ℕ)) (replies : List Reply) (part : List ℕ) (pages : ℕ)
+    → EndsIn new entry lines replies part now pages (Err stop) → EndsIn new entry (lines ++ more) replies part now pages (Err stop)
+EndsIn-longer new stops.Source entry now lines more replies part pages k = k
+EndsIn-longer new stops.Limit entry now lines more replies part pages k = k
+EndsIn-longer new (stops.Device stop) entry now lines more replies part pages k = k
+EndsIn-longer new stops.Sink entry now lines more replies part pages (reply, next, answers, cut, stands) =
+    (reply, next, Answers-longer entry next lines more (replies ++ reply ∷ []) answers, cut, stands)
+
+ExitsAt-longer : (image : Image) (entry : State) (lines more : List (List ℕ)) (replies ahead : List Reply) → ExitsAt image entry lines replies ahead
+    → ExitsAt image entry (lines ++ more) replies ahead
+ExitsAt-longer image entry lines more replies ahead x = record {
+  mark = x.mark;
+  from = x.from;
+  there = x.there;
+  is_mark = let m = x.is_mark in (m.0, m.1, Answers-longer entry m.1 lines more (take x.mark (replies ++ ahead)) m.2, m.3);
+  stands = x.stands;
+}
 
 -- a run that stopped at a line may have had more of them
-pub Replied-longer : (Old New : State → Type 0) (last : DeviceStop → List ℕ) (stop : Stop) (lines more : List (List ℕ)) (put : List ℕ)
-    → IsOfLine stop → Replied Old New last (Err stop) lines put → Replied Old New last (Err stop) (lines ++ more) put
-Replied-longer Old New last stop lines more put line p = record {
+pub Replied-longer : (tells : Type 0) (old new : World) (last : DeviceStop → List ℕ) (stop : Stop) (lines more : List (List ℕ)) (put : List ℕ)
+    → IsOfLine stop → Replied tells old new last (Err stop) lines put → Replied tells old new last (Err stop) (lines ++ more) put
+Replied-longer tells old new last stop lines more put line p = record {
   replies = p.replies;
   part = p.part;
   put_is = p.put_is;
   behind = p.behind;
   many = AreMany-longer stop (length p.replies) (length lines) (length (lines ++ more)) (omega (arith, length-append lines more)) line p.many;
-  damage = IsDamageAt-longer stop lines more p.replies p.damage;
-  answered = λ entry old. let first = p.answered entry old in record {
+  damage = IsDamageAt-longer tells new.history.present stop lines more p.replies p.damage;
+  later = p.later;
+  full = p.full;
+  answered = λ told entry rep. let first = p.answered told entry rep in record {
     now = first.now;
-    answers = Answers-longer entry first.now lines more p.replies first.answers;
-    ends = EndsIn-longer New stop entry first.now lines more p.replies p.part first.ends;
+    pages = first.pages;
+    answers = AnswersOn-longer old.capacity entry old.head first.now first.pages lines more p.replies first.answers;
+    ends = EndsIn-longer new stop entry first.now lines more p.replies p.part first.pages first.ends;
+    ahead = first.ahead;
+    is_ahead = first.is_ahead;
+    passes = Passes-longer old.history new.history entry lines more (p.replies ++ first.ahead) (length p.replies + length first.ahead) first.passes;
+    exits = ExitsAt-longer new.history.present entry lines more p.replies first.ahead first.exits;
   };
 }
 
 -- the same of what an output has got
-pub Handled-nothing : (Old New : State → Type 0) (last : DeviceStop → List ℕ) (written : Option (List ℕ)) → ((entry : State) → Old entry → New entry)
-    → Handled Old New last (Ok tt) [] written written
-Handled-nothing Old New last written same = record { put = []; got = Got-nothing written; replied = Replied-nothing Old New last same }
+pub Handled-nothing : (tells : Type 0) (w : World) (last : DeviceStop → List ℕ) (written : Option (List ℕ)) → w.head ≤ w.capacity → Handled tells w w last (Ok tt) [] written written
+Handled-nothing tells w last written room = record { put = []; got = Got-nothing written; replied = Replied-nothing tells w last room }
 
-pub Handled-then : (Old Mid New : State → Type 0) (last : DeviceStop → List ℕ) (ending : Ending) (lines more : List (List ℕ)) (a b c : Option (List ℕ))
-    → Handled Old Mid last (Ok tt) lines a b → Handled Mid New last ending more b c → Handled Old New last ending (lines ++ more) a c
-Handled-then Old Mid New last ending lines more a b c p q = record {
+pub Handled-then : (tells : Type 0) (old mid new : World) (last : DeviceStop → List ℕ) (ending : Ending) (lines more : List (List ℕ)) (a b c : Option (List ℕ))
+    → Handled tells old mid last (Ok tt) lines a b → Handled tells mid new last ending more b c → Handled tells old new last ending (lines ++ more) a c
+Handled-then tells old mid new last ending lines more a b c p q = record {
   put = p.put ++ q.put;
   got = Got-then a p.put b q.put c p.got q.got;
-  replied = Replied-then Old Mid New last ending lines more p.put q.put p.replied q.replied;
+  replied = Replied-then tells old mid new last ending lines more p.put q.put p.replied q.replied;
 }
 
-pub Handled-longer : (Old New : State → Type 0) (last : DeviceStop → List ℕ) (stop : Stop) (lines more : List (List ℕ)) (a b : Option (List ℕ))
-    → IsOfLine stop → Handled Old New last (Err stop) lines a b → Handled Old New last (Err stop) (lines ++ more) a b
-Handled-longer Old New last stop lines more a b line p =
-    record { put = p.put; got = p.got; replied = Replied-longer Old New last stop lines more p.put line p.replied }
+pub Handled-longer : (tells : Type 0) (old new : World) (last : DeviceStop → List ℕ) (stop : Stop) (lines more : List (List ℕ)) (a b : Option (List ℕ))
+    → IsOfLine stop → Handled tells old new last (Err stop) lines a b → Handled tells old new last (Err stop) (lines ++ more) a b
+Handled-longer tells old new last stop lines more a b line p =
+    record { put = p.put; got = p.got; replied = Replied-longer tells old new last stop lines more p.put line p.replied }
 
 -- the input ended or failed before a next line: no line is left without its reply
-Replied-cut : (Old New : State → Type 0) (last : DeviceStop → List ℕ) (lines : List (List ℕ)) (put : List ℕ)
-    → Replied Old New last (Ok tt) lines put → Replied Old New last (Err stops.Source) lines put × Replied Old New last (Err stops.Limit) lines put
-Replied-cut Old New last lines put p = (
-  record { replies = p.replies; part = p.part; put_is = p.put_is; behind = p.behind; many = p.many; damage = tt; answered = λ entry old. let first = p.answered entry old in record { now = first.now; answers = first.answers; ends = first.ends } },
-  record { replies = p.replies; part = p.part; put_is = p.put_is; behind = p.behind; many = p.many; damage = tt; answered = λ entry old. let first = p.answered entry old in record { now = first.now; answers = first.answers; ends = first.ends } },
+Replied-cut : (tells : Type 0) (old new : World) (last : DeviceStop → List ℕ) (lines : List (List ℕ)) (put : List ℕ)
+    → Replied tells old new last (Ok tt) lines put → Replied tells old new last (Err stops.Source) lines put × Replied tells old new last (Err stops.Limit) lines put
+Replied-cut tells old new last lines put p = (
+  record {
+    replies = p.replies; part = p.part; put_is = p.put_is; behind = p.behind; many = p.many; damage = tt; later = p.later; full = p.full;
+    answered = λ told entry rep. let f = p.answered told entry rep in
+        record { now = f.now; pages = f.pages; answers = f.answers; ends = f.ends; ahead = f.ahead; is_ahead = f.is_ahead; passes = f.passes; exits = f.exits };
+  },
+  record {
+    replies = p.replies; part = p.part; put_is = p.put_is; behind = p.behind; many = p.many; damage = tt; later = p.later; full = p.full;
+    answered = λ told entry rep. let f = p.answered told entry rep in
+        record { now = f.now; pages = f.pages; answers = f.answers; ends = f.ends; ahead = f.ahead; is_ahead = f.is_ahead; passes = f.passes; exits = f.exits };
+  },
 )
 
-pub Handled-cut : (Old New : State → Type 0) (last : DeviceStop → List ℕ) (lines : List (List ℕ)) (a b : Option (List ℕ))
-    → Handled Old New last (Ok tt) lines a b → Handled Old New last (Err stops.Source) lines a b × Handled Old New last (Err stops.Limit) lines a b
-Handled-cut Old New last lines a b p = let cut = Replied-cut Old New last lines p.put p.replied in
+pub Handled-cut : (tells : Type 0) (old new : World) (last : DeviceStop → List ℕ) (lines : List (List ℕ)) (a b : Option (List ℕ))
+    → Handled tells old new last (Ok tt) lines a b → Handled tells old new last (Err stops.Source) lines a b × Handled tells old new last (Err stops.Limit) lines a b
+Handled-cut tells old new last lines a b p = let cut = Replied-cut tells old new last lines p.put p.replied in
     (record { put = p.put; got = p.got; replied = cut.0 }, record { put = p.put; got = p.got; replied = cut.1 })
 
 -- a line whose reply was put, whole or in part
-pub Handled-line : (Old New : State → Type 0) (last : DeviceStop → List ℕ) (line : List ℕ) (reply : Reply) (ending : Ending) (a b : Option (List ℕ))
-    → ((entry : State) → Old entry → (now : State) × Turn entry line reply now × New now) → HasPut (line_of reply) ending a b
-    → Handled Old New last ending (line ∷ []) a b
-Handled-line Old New last line reply (Ok done) a b turn put = record { put = line_of reply; got = put; replied = Replied-line Old New last line reply turn }
-Handled-line Old New last line reply (Err stops.Sink) a b turn (n, put) = record { put = take n (line_of reply); got = put; replied = Replied-part Old New last line reply n turn }
-Handled-line Old New last line reply (Err stops.Source) a b turn put = absurd put
-Handled-line Old New last line reply (Err stops.Limit) a b turn put = absurd put
-Handled-line Old New last line reply (Err (stops.Device stop)) a b turn put = absurd put
+pub Handled-line : (tells : Type 0) (old new : World) (last : DeviceStop → List ℕ) (line : List ℕ) (reply : Reply) (ending : Ending) (a b : Option (List ℕ))
+    → IsLater old new → new.head ≤ old.head + 1 → (reply ≡ Full → new.head ≡ new.capacity)
+    → (tells → (entry : State) → Stood old entry → Turned old new entry line reply) → HasPut (line_of reply) ending a b
+    → Handled tells old new last ending (line ∷ []) a b
+Handled-line tells old new last line reply (Ok done) a b later one_more full turned put =
+    record { put = line_of reply; got = put; replied = Replied-line tells old new last line reply later one_more full turned }
+Handled-line tells old new last line reply (Err stops.Sink) a b later one_more full turned (n, put) =
+    record { put = take n (line_of reply); got = put; replied = Replied-part tells old new last line reply n later turned }
+Handled-line tells old new last line reply (Err stops.Source) a b later one_more full turned put = absurd put
+Handled-line tells old new last line reply (Err stops.Limit) a b later one_more full turned put = absurd put
+Handled-line tells old new last line reply (Err (stops.Device stop)) a b later one_more full turned put = absurd put
+
+-- a line outside the grammar
+pub turned_bad : (w : World) (entry : State) (line : List ℕ) → IsBad line → Stood w entry → Turned w w entry line Bad
+turned_bad w entry line bad rep = (
+  entry,
+  inr (bad, refl, refl),
+  rep,
+  Turns-not w.history w.history (Leaves entry.device) (Leaves entry.device) (During-start w.history (Leaves entry.device) (stands_leaves w.history.present _ rep.there.device)),
+)
+
+-- a command's line
+pub turned_command : (old new : World) (entry : State) (line : List ℕ) (command : Command) (reply : Reply) → Spells line command
+    → IsServedCell new.history.present.cell new.head → Serves old new entry command (Ok reply) → Turned old new entry line reply
+turned_command old new entry line command reply spells served (now, is, rep, turns) =
+    (now, inl (command, spells, is), record { there = rep; served = served }, turns)
 
 -- a line that the device stopped at
-pub Handled-stop : (Old New : State → Type 0) (line : List ℕ) (stop : DeviceStop) (written : Option (List ℕ))
-    → IsDamageAt [] (line ∷ []) (Err (stops.Device stop)) → ((entry : State) → Old entry → IsSound stop)
-    → Handled Old New no_line (Err (stops.Device stop)) (line ∷ []) written written
-Handled-stop Old New line stop written damage sound =
-    record { put = []; got = Got-nothing written; replied = Replied-stop Old New line stop damage sound }
-
--- a record that doesn't fit is met at such a line
-pub IsDamageAt-line : (line : List ℕ) (command : Command) (stop : DeviceStop) → Spells line command
-    → ((addr : ℕ) → stop ≡ device.BadRecord addr → IsOfBlock command) → IsDamageAt [] (line ∷ []) (Err (stops.Device stop))
-IsDamageAt-line line command device.Platform spells of_block = tt
-IsDamageAt-line line command device.Tape spells of_block = tt
-IsDamageAt-line line command device.Memory spells of_block = tt
-IsDamageAt-line line command device.BadRoot spells of_block = tt
-IsDamageAt-line line command (device.BadRecord addr) spells of_block = (command, spells, of_block addr refl)
+pub Handled-stop : (tells : Type 0) (old new : World) (line : List ℕ) (command : Command) (stop : DeviceStop) (written : Option (List ℕ)) → Spells line command
+    → IsLater old new → ((addr : ℕ) → stop ≡ device.BadRecord addr → IsOfBlock command × (tells → IsWrongPage new.history.present addr))
+    → (tells → (entry : State) → Stood old entry → Halts old new entry command stop)
+    → Handled tells old new no_line (Err (stops.Device stop)) (line ∷ []) written written
+Handled-stop tells old new line command stop written spells later met halts = record {
+  put = [];
+  got = Got-nothing written;
+  replied = Replied-stop tells old new line command stop spells later (damage stop met) halts;
+}
+  where
+    damage : (s : DeviceStop) → ((addr : ℕ) → s ≡ device.BadRecord addr → IsOfBlock command × (tells → IsWrongPage new.history.present addr))
+        → IsDamageAt tells new.history.present [] (line ∷ []) (Err (stops.Device s))
+    damage device.Platform d = tt
+    damage device.Tape d = tt
+    damage device.Ledger d = tt
+    damage device.Memory d = tt
+    damage device.BadRoot d = tt
+    damage (device.BadRecord addr) d = let both = d addr refl in ((command, spells, both.0), both.1)

@@ -18,6 +18,7 @@ HasCause-within a b c d stops.Source p o r q = Rose-within a.input b.input c.inp
 HasCause-within a b c d stops.Sink p o r q = Rose-within a.output b.output c.output d.output p.output o.output r q.output
 HasCause-within a b c d (stops.Device device.Platform) p o r q = Rose-within a.platform b.platform c.platform d.platform p.platform o.platform r q.platform
 HasCause-within a b c d (stops.Device device.Tape) p o r q = Rose-within a.tape b.tape c.tape d.tape p.tape o.tape r q.tape
+HasCause-within a b c d (stops.Device device.Ledger) p o r q = Rose-within a.ledger b.ledger c.ledger d.ledger p.ledger o.ledger r q.ledger
 HasCause-within a b c d (stops.Device device.BadRoot) p o r q = tt
 HasCause-within a b c d (stops.Device (device.BadRecord addr)) p o r q = tt
 HasCause-within a b c d (stops.Device device.Memory) p o r q = tt

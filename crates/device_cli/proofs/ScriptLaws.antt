@@ -1,17 +1,32 @@
 -- From how a run ends to its exit status.
-use Rattle.std.proofs.Common.{◌≡◌, ◌≢◌, ℕ, ◌≤◌, List, [], Option, Ok, Err, length, ◌⊎◌, inl, inr, refl, subst, arith}
+use Rattle.std.proofs.Common.{◌≡◌, ◌≢◌, ℕ, ◌≤◌, ◌+◌, List, [], ◌∷◌, Option, None, Some, Ok, Err, length, ◌⊎◌, inl, inr, refl, sym, subst, arith}
+use Rattle.std.proofs.lemmas.List.Elements.{All-nil}
+use Rattle.platform.specs.Image.{Image}
 use Rattle.sdbt_base.specs.Told.{Got, IsAtEnd}
 use Rattle.sdbt_base.proofs.ToldLaws.{Gave-nothing, Got-nothing}
 use Rattle.script_lang.specs.Lines.{whole_lines_of, lines_of}
 use Rattle.script_lang.specs.Replies.{line_of}
 use Rattle.script_lang.specs.Arrays.{State}
+use Rattle.script_lang.specs.declared.devices.Device.{Device}
 use Rattle.script_lang.specs.declared.replies.Reply.{Reply}
-use Rattle.device_cli.specs.Replied.{Ending, IsBehind, AreMany, IsDamageAt, IfNext, AsksForBlock, IsFirstPart, EndsIn, damage_line}
-use Rattle.device_cli.specs.Ran.{Ran, AreLines, HaveCome, AnswersScript}
+use Rattle.script_lang.specs.declared.replies.Reply.TheVariants.{Full}
+use Rattle.device_core.specs.declared.session.Session.{Session}
+use Rattle.device_cli.specs.World.{World}
+use Rattle.device_cli.specs.Represents.{StandsFor, IsSessionOf, Represents, closed}
+use Rattle.device_cli.specs.Replied.{Ending, IsBehind, AreMany, IsDamageAt, IfNext, AsksForBlock, IsWrongPage, IsFirstPart, IsAhead, EndsIn, Answered, damage_line}
+use Rattle.device_cli.specs.Ran.{Ran, AreLines, HaveCome, AnswersFrom, AnswersScript}
 use Rattle.device_cli.specs.declared.stop.Stop.TheVariants as stops
 use Rattle.device_cli.specs.declared.stop.DeviceStop.{DeviceStop}
 use Rattle.device_cli.specs.declared.stop.DeviceStop.TheVariants as device
 use Rattle.device_cli.proofs.RanLaws.{exit_of}
+use Rattle.device_cli.proofs.PassLaws.{IsMark-none, Passes-nothing}
+
+-- an image that stands for a device, on which no session is open
+pub alone_on : (w : World) (there : Option Device) → w.session ≡ None → StandsFor w.history.present there → Represents w (closed there)
+alone_on w there alone stands = record {
+  device = stands;
+  session = subst (λ (s : Option Session). IsSessionOf s w.history.present there None) (sym alone) tt;
+}
 
 have_come : (ending : Ending) (taken : List ℕ) (left : Option (List ℕ)) (lines : List (List ℕ)) → AreLines ending taken left lines → HaveCome taken left lines
 have_come (Ok done) taken left lines h = inr h
@@ -36,6 +51,7 @@ all (Err stops.Sink) a b taken left lines h k e = absurd (omega (arith, e))
 all (Err (stops.Device device.Platform)) a b taken left lines h k e = absurd (omega (arith, e))
 all (Err (stops.Device device.Tape)) a b taken left lines h k e = absurd (omega (arith, e))
 all (Err (stops.Device device.Memory)) a b taken left lines h k e = absurd (omega (arith, e))
+all (Err (stops.Device device.Ledger)) a b taken left lines h k e = absurd (omega (arith, e))
 all (Err (stops.Device device.BadRoot)) a b taken left lines h k e = absurd (omega (arith, e))
 all (Err (stops.Device (device.BadRecord addr))) a b taken left lines h k e = absurd (omega (arith, e))
 
@@ -53,6 +69,7 @@ whole (Err stops.Sink) a b taken left lines h k e = absurd (not_whole 4 (λ p. o
 whole (Err (stops.Device device.Platform)) a b taken left lines h k e = absurd (not_whole 5 (λ p. omega (arith, p)) (λ p. omega (arith, p)) e)
 whole (Err (stops.Device device.Tape)) a b taken left lines h k e = absurd (not_whole 6 (λ p. omega (arith, p)) (λ p. omega (arith, p)) e)
 whole (Err (stops.Device device.Memory)) a b taken left lines h k e = absurd (not_whole 11 (λ p. omega (arith, p)) (λ p. omega (arith, p)) e)
+whole (Err (stops.Device device.Ledger)) a b taken left lines h k e = absurd (not_whole 7 (λ p. omega (arith, p)) (λ p. omega (arith, p)) e)
 whole (Err (stops.Device device.BadRoot)) a b taken left lines h k e = absurd (not_whole 8 (λ p. omega (arith, p)) (λ p. omega (arith, p)) e)
 whole (Err (stops.Device (device.BadRecord addr))) a b taken left lines h k e = absurd (not_whole 9 (λ p. omega (arith, p)) (λ p. omega (arith, p)) e)
 
@@ -65,6 +82,7 @@ no_part (Err stops.Sink) part h p q r = absurd (p refl)
 no_part (Err (stops.Device device.Platform)) part h p q r = h
 no_part (Err (stops.Device device.Tape)) part h p q r = h
 no_part (Err (stops.Device device.Memory)) part h p q r = h
+no_part (Err (stops.Device device.Ledger)) part h p q r = h
 no_part (Err (stops.Device device.BadRoot)) part h p q r = absurd (q refl)
 no_part (Err (stops.Device (device.BadRecord addr))) part h p q r = absurd (r refl)
 
@@ -76,20 +94,22 @@ bad_root (Err stops.Sink) part h e = absurd (omega (arith, e))
 bad_root (Err (stops.Device device.Platform)) part h e = absurd (omega (arith, e))
 bad_root (Err (stops.Device device.Tape)) part h e = absurd (omega (arith, e))
 bad_root (Err (stops.Device device.Memory)) part h e = absurd (omega (arith, e))
+bad_root (Err (stops.Device device.Ledger)) part h e = absurd (omega (arith, e))
 bad_root (Err (stops.Device device.BadRoot)) part h e = h
 bad_root (Err (stops.Device (device.BadRecord addr))) part h e = absurd (omega (arith, e))
 
-bad_record : (ending : Ending) (part : List ℕ) (replies : List Reply) (lines : List (List ℕ)) → IsBehind damage_line part ending → IsDamageAt replies lines ending
-    → exit_of ending ≡ 9 → (addr : ℕ) × (part ≡ damage_line (device.BadRecord addr)) × IfNext replies lines AsksForBlock
-bad_record (Ok done) part replies lines h d e = absurd (omega (arith, e))
-bad_record (Err stops.Source) part replies lines h d e = absurd (omega (arith, e))
-bad_record (Err stops.Limit) part replies lines h d e = absurd (omega (arith, e))
-bad_record (Err stops.Sink) part replies lines h d e = absurd (omega (arith, e))
-bad_record (Err (stops.Device device.Platform)) part replies lines h d e = absurd (omega (arith, e))
-bad_record (Err (stops.Device device.Tape)) part replies lines h d e = absurd (omega (arith, e))
-bad_record (Err (stops.Device device.Memory)) part replies lines h d e = absurd (omega (arith, e))
-bad_record (Err (stops.Device device.BadRoot)) part replies lines h d e = absurd (omega (arith, e))
-bad_record (Err (stops.Device (device.BadRecord addr))) part replies lines h d e = (addr, h, d)
+bad_record : (tells : Type 0) (image : Image) (ending : Ending) (part : List ℕ) (replies : List Reply) (lines : List (List ℕ)) → IsBehind damage_line part ending → IsDamageAt tells image replies lines ending
+    → exit_of ending ≡ 9 → (addr : ℕ) × (part ≡ damage_line (device.BadRecord addr)) × IfNext replies lines AsksForBlock × (tells → IsWrongPage image addr)
+bad_record tells image (Ok done) part replies lines h d e = absurd (omega (arith, e))
+bad_record tells image (Err stops.Source) part replies lines h d e = absurd (omega (arith, e))
+bad_record tells image (Err stops.Limit) part replies lines h d e = absurd (omega (arith, e))
+bad_record tells image (Err stops.Sink) part replies lines h d e = absurd (omega (arith, e))
+bad_record tells image (Err (stops.Device device.Platform)) part replies lines h d e = absurd (omega (arith, e))
+bad_record tells image (Err (stops.Device device.Tape)) part replies lines h d e = absurd (omega (arith, e))
+bad_record tells image (Err (stops.Device device.Memory)) part replies lines h d e = absurd (omega (arith, e))
+bad_record tells image (Err (stops.Device device.Ledger)) part replies lines h d e = absurd (omega (arith, e))
+bad_record tells image (Err (stops.Device device.BadRoot)) part replies lines h d e = absurd (omega (arith, e))
+bad_record tells image (Err (stops.Device (device.BadRecord addr))) part replies lines h d e = (addr, h, d.0, d.1)
 
 cut : (ending : Ending) (part : List ℕ) → IsBehind damage_line part ending → exit_of ending ≡ 4
     → ((reply : Reply) × IsFirstPart (line_of reply) part) ⊎ ((stop : DeviceStop) × IsFirstPart (damage_line stop) part)
@@ -100,6 +120,7 @@ cut (Err stops.Sink) part h e = h
 cut (Err (stops.Device device.Platform)) part h e = absurd (omega (arith, e))
 cut (Err (stops.Device device.Tape)) part h e = absurd (omega (arith, e))
 cut (Err (stops.Device device.Memory)) part h e = absurd (omega (arith, e))
+cut (Err (stops.Device device.Ledger)) part h e = absurd (omega (arith, e))
 cut (Err (stops.Device device.BadRoot)) part h e = absurd (omega (arith, e))
 cut (Err (stops.Device (device.BadRecord addr))) part h e = absurd (omega (arith, e))
 
@@ -109,46 +130,96 @@ not_ended n p q r (inl e) = p e
 not_ended n p q r (inr (inl e)) = q e
 not_ended n p q r (inr (inr e)) = r e
 
-ends : (New : State → Type 0) (ending : Ending) (entry now : State) (lines : List (List ℕ)) (replies : List Reply) (part : List ℕ)
-    → EndsIn New entry lines replies part now ending → (exit_of ending ≡ 0) ⊎ (exit_of ending ≡ 3) ⊎ (exit_of ending ≡ 12) → New now
-ends New (Ok done) entry now lines replies part h e = h
-ends New (Err stops.Source) entry now lines replies part h e = h
-ends New (Err stops.Limit) entry now lines replies part h e = h
-ends New (Err stops.Sink) entry now lines replies part h e = absurd (not_ended 4 (λ p. omega (arith, p)) (λ p. omega (arith, p)) (λ p. omega (arith, p)) e)
-ends New (Err (stops.Device device.Platform)) entry now lines replies part h e = absurd (not_ended 5 (λ p. omega (arith, p)) (λ p. omega (arith, p)) (λ p. omega (arith, p)) e)
-ends New (Err (stops.Device device.Tape)) entry now lines replies part h e = absurd (not_ended 6 (λ p. omega (arith, p)) (λ p. omega (arith, p)) (λ p. omega (arith, p)) e)
-ends New (Err (stops.Device device.Memory)) entry now lines replies part h e = absurd (not_ended 11 (λ p. omega (arith, p)) (λ p. omega (arith, p)) (λ p. omega (arith, p)) e)
-ends New (Err (stops.Device device.BadRoot)) entry now lines replies part h e = absurd h
-ends New (Err (stops.Device (device.BadRecord addr))) entry now lines replies part h e = absurd h
+ends : (new : World) (ending : Ending) (entry now : State) (lines : List (List ℕ)) (replies : List Reply) (part : List ℕ) (pages : ℕ)
+    → EndsIn new entry lines replies part now pages ending → (exit_of ending ≡ 0) ⊎ (exit_of ending ≡ 3) ⊎ (exit_of ending ≡ 12)
+    → StandsFor new.history.present now.device × (new.head ≡ pages)
+ends new (Ok done) entry now lines replies part pages h e = (h.0.there.device, h.1)
+ends new (Err stops.Source) entry now lines replies part pages h e = (h.0.there.device, h.1)
+ends new (Err stops.Limit) entry now lines replies part pages h e = (h.0.there.device, h.1)
+ends new (Err stops.Sink) entry now lines replies part pages h e = absurd (not_ended 4 (λ p. omega (arith, p)) (λ p. omega (arith, p)) (λ p. omega (arith, p)) e)
+ends new (Err (stops.Device device.Platform)) entry now lines replies part pages h e = absurd (not_ended 5 (λ p. omega (arith, p)) (λ p. omega (arith, p)) (λ p. omega (arith, p)) e)
+ends new (Err (stops.Device device.Tape)) entry now lines replies part pages h e = absurd (not_ended 6 (λ p. omega (arith, p)) (λ p. omega (arith, p)) (λ p. omega (arith, p)) e)
+ends new (Err (stops.Device device.Ledger)) entry now lines replies part pages h e = absurd (not_ended 7 (λ p. omega (arith, p)) (λ p. omega (arith, p)) (λ p. omega (arith, p)) e)
+ends new (Err (stops.Device device.Memory)) entry now lines replies part pages h e = absurd (not_ended 11 (λ p. omega (arith, p)) (λ p. omega (arith, p)) (λ p. omega (arith, p)) e)
+ends new (Err (stops.Device device.BadRoot)) entry now lines replies part pages h e = absurd h
+ends new (Err (stops.Device (device.BadRecord addr))) entry now lines replies part pages h e = absurd h
 
-next : (New : State → Type 0) (ending : Ending) (entry now : State) (lines : List (List ℕ)) (replies : List Reply) (part : List ℕ)
-    → EndsIn New entry lines replies part now ending → exit_of ending ≡ 4 → EndsIn New entry lines replies part now (Err stops.Sink)
-next New (Ok done) entry now lines replies part h e = absurd (omega (arith, e))
-next New (Err stops.Source) entry now lines replies part h e = absurd (omega (arith, e))
-next New (Err stops.Limit) entry now lines replies part h e = absurd (omega (arith, e))
-next New (Err stops.Sink) entry now lines replies part h e = h
-next New (Err (stops.Device device.Platform)) entry now lines replies part h e = absurd (omega (arith, e))
-next New (Err (stops.Device device.Tape)) entry now lines replies part h e = absurd (omega (arith, e))
-next New (Err (stops.Device device.Memory)) entry now lines replies part h e = absurd (omega (arith, e))
-next New (Err (stops.Device device.BadRoot)) entry now lines replies part h e = absurd h
-next New (Err (stops.Device (device.BadRecord addr))) entry now lines replies part h e = absurd h
+-- how an ending of this status is that of a failed output
+next : (new : World) (ending : Ending) (entry now : State) (lines : List (List ℕ)) (replies : List Reply) (part : List ℕ) (pages : ℕ)
+    → EndsIn new entry lines replies part now pages ending → exit_of ending ≡ 4 → EndsIn new entry lines replies part now pages (Err stops.Sink)
+next new (Ok done) entry now lines replies part pages h e = absurd (omega (arith, e))
+next new (Err stops.Source) entry now lines replies part pages h e = absurd (omega (arith, e))
+next new (Err stops.Limit) entry now lines replies part pages h e = absurd (omega (arith, e))
+next new (Err stops.Sink) entry now lines replies part pages h e = h
+next new (Err (stops.Device device.Platform)) entry now lines replies part pages h e = absurd (omega (arith, e))
+next new (Err (stops.Device device.Tape)) entry now lines replies part pages h e = absurd (omega (arith, e))
+next new (Err (stops.Device device.Ledger)) entry now lines replies part pages h e = absurd (omega (arith, e))
+next new (Err (stops.Device device.Memory)) entry now lines replies part pages h e = absurd (omega (arith, e))
+next new (Err (stops.Device device.BadRoot)) entry now lines replies part pages h e = absurd h
+next new (Err (stops.Device (device.BadRecord addr))) entry now lines replies part pages h e = absurd h
 
-sound : (New : State → Type 0) (ending : Ending) (entry now : State) (lines : List (List ℕ)) (replies : List Reply) (part : List ℕ)
-    → EndsIn New entry lines replies part now ending → (exit_of ending ≢ 8) × (exit_of ending ≢ 9)
-sound New (Ok done) entry now lines replies part h = (λ e. omega (arith, e), λ e. omega (arith, e))
-sound New (Err stops.Source) entry now lines replies part h = (λ e. omega (arith, e), λ e. omega (arith, e))
-sound New (Err stops.Limit) entry now lines replies part h = (λ e. omega (arith, e), λ e. omega (arith, e))
-sound New (Err stops.Sink) entry now lines replies part h = (λ e. omega (arith, e), λ e. omega (arith, e))
-sound New (Err (stops.Device device.Platform)) entry now lines replies part h = (λ e. omega (arith, e), λ e. omega (arith, e))
-sound New (Err (stops.Device device.Tape)) entry now lines replies part h = (λ e. omega (arith, e), λ e. omega (arith, e))
-sound New (Err (stops.Device device.Memory)) entry now lines replies part h = (λ e. omega (arith, e), λ e. omega (arith, e))
-sound New (Err (stops.Device device.BadRoot)) entry now lines replies part h = absurd h
-sound New (Err (stops.Device (device.BadRecord addr))) entry now lines replies part h = absurd h
+sound : (new : World) (ending : Ending) (entry now : State) (lines : List (List ℕ)) (replies : List Reply) (part : List ℕ) (pages : ℕ)
+    → EndsIn new entry lines replies part now pages ending → (exit_of ending ≢ 8) × (exit_of ending ≢ 9)
+sound new (Ok done) entry now lines replies part pages h = (λ e. omega (arith, e), λ e. omega (arith, e))
+sound new (Err stops.Source) entry now lines replies part pages h = (λ e. omega (arith, e), λ e. omega (arith, e))
+sound new (Err stops.Limit) entry now lines replies part pages h = (λ e. omega (arith, e), λ e. omega (arith, e))
+sound new (Err stops.Sink) entry now lines replies part pages h = (λ e. omega (arith, e), λ e. omega (arith, e))
+sound new (Err (stops.Device device.Platform)) entry now lines replies part pages h = (λ e. omega (arith, e), λ e. omega (arith, e))
+sound new (Err (stops.Device device.Tape)) entry now lines replies part pages h = (λ e. omega (arith, e), λ e. omega (arith, e))
+sound new (Err (stops.Device device.Ledger)) entry now lines replies part pages h = (λ e. omega (arith, e), λ e. omega (arith, e))
+sound new (Err (stops.Device device.Memory)) entry now lines replies part pages h = (λ e. omega (arith, e), λ e. omega (arith, e))
+sound new (Err (stops.Device device.BadRoot)) entry now lines replies part pages h = absurd h
+sound new (Err (stops.Device (device.BadRecord addr))) entry now lines replies part pages h = absurd h
+
+none_is : (ahead : List Reply) → ahead ≡ [] → length ahead ≤ 1
+none_is [] e = omega arith
+none_is (reply ∷ ahead) e = absurd cc
+
+one_ahead : (ending : Ending) (ahead : List Reply) → IsAhead ending ahead → length ahead ≤ 1
+one_ahead (Ok done) ahead h = none_is ahead h
+one_ahead (Err stops.Source) ahead h = none_is ahead h
+one_ahead (Err stops.Limit) ahead h = none_is ahead h
+one_ahead (Err stops.Sink) ahead h = h
+one_ahead (Err (stops.Device device.Platform)) ahead h = h
+one_ahead (Err (stops.Device device.Tape)) ahead h = none_is ahead h
+one_ahead (Err (stops.Device device.Ledger)) ahead h = none_is ahead h
+one_ahead (Err (stops.Device device.Memory)) ahead h = none_is ahead h
+one_ahead (Err (stops.Device device.BadRoot)) ahead h = none_is ahead h
+one_ahead (Err (stops.Device (device.BadRecord addr))) ahead h = none_is ahead h
+
+none_ahead : (ending : Ending) (ahead : List Reply) → IsAhead ending ahead → exit_of ending ≢ 4 → exit_of ending ≢ 5 → ahead ≡ []
+none_ahead (Ok done) ahead h p q = h
+none_ahead (Err stops.Source) ahead h p q = h
+none_ahead (Err stops.Limit) ahead h p q = h
+none_ahead (Err stops.Sink) ahead h p q = absurd (p refl)
+none_ahead (Err (stops.Device device.Platform)) ahead h p q = absurd (q refl)
+none_ahead (Err (stops.Device device.Tape)) ahead h p q = h
+none_ahead (Err (stops.Device device.Ledger)) ahead h p q = h
+none_ahead (Err (stops.Device device.Memory)) ahead h p q = h
+none_ahead (Err (stops.Device device.BadRoot)) ahead h p q = h
+none_ahead (Err (stops.Device (device.BadRecord addr))) ahead h p q = h
+
+-- what a run answered, by its status
+answers_from : (old new : World) (ending : Ending) (entry : State) (lines : List (List ℕ)) (replies : List Reply) (part : List ℕ)
+    → Answered old new ending entry lines replies part → AnswersFrom old new (exit_of ending) entry lines replies part
+answers_from old new ending entry lines replies part f = record {
+  now = f.now;
+  pages = f.pages;
+  answers = f.answers;
+  ends = ends new ending entry f.now lines replies part f.pages f.ends;
+  next = next new ending entry f.now lines replies part f.pages f.ends;
+  sound = sound new ending entry f.now lines replies part f.pages f.ends;
+  ahead = f.ahead;
+  one_ahead = one_ahead ending f.ahead f.is_ahead;
+  none_ahead = none_ahead ending f.ahead f.is_ahead;
+  passes = f.passes;
+  exits = f.exits;
+}
 
 -- a run answers the script
-pub answers_script : (Old New : State → Type 0) (ending : Ending) (left left_now written written_now : Option (List ℕ))
-    → Ran Old New damage_line ending left left_now written written_now → AnswersScript Old New (exit_of ending) left left_now written written_now
-answers_script Old New ending left left_now written written_now r = let p = r.handled.replied in record {
+pub answers_script : (tells : Type 0) (old new : World) (ending : Ending) (left left_now written written_now : Option (List ℕ)) → old.session ≡ None
+    → Ran tells old new damage_line ending left left_now written written_now → AnswersScript tells old new (exit_of ending) left left_now written written_now
+answers_script tells old new ending left left_now written written_now alone r = let p = r.handled.replied in record {
   taken = r.taken;
   gave = r.gave;
   lines = r.lines;
@@ -161,21 +232,17 @@ answers_script Old New ending left left_now written written_now r = let p = r.ha
   whole = whole ending (length p.replies) (length r.lines) r.taken left_now r.lines p.many r.come;
   no_part = no_part ending p.part p.behind;
   bad_root = bad_root ending p.part p.behind;
-  bad_record = bad_record ending p.part p.replies r.lines p.behind p.damage;
+  bad_record = bad_record tells new.history.present ending p.part p.replies r.lines p.behind p.damage;
   cut = cut ending p.part p.behind;
-  answered = λ entry old. let first = p.answered entry old in record {
-    now = first.now;
-    answers = first.answers;
-    ends = ends New ending entry first.now r.lines p.replies p.part first.ends;
-    next = next New ending entry first.now r.lines p.replies p.part first.ends;
-    sound = sound New ending entry first.now r.lines p.replies p.part first.ends;
-  };
+  full = p.full;
+  answered = λ told there stands served.
+      answers_from old new ending (closed there) r.lines p.replies p.part (p.answered told (closed there) (record { there = alone_on old there alone stands; served = served }));
 }
 
--- other words: nothing is taken, nothing put
-pub answers_nothing : (Old New : State → Type 0) (left written : Option (List ℕ)) → AnswersScript Old New 2 left left written written
+-- other words: nothing is taken, nothing put, and nothing done
+pub answers_nothing : (tells : Type 0) (w : World) (left written : Option (List ℕ)) → AnswersScript tells w w 2 left left written written
 unfolding whole_lines_of
-answers_nothing Old New left written = record {
+answers_nothing tells w left written = record {
   taken = [];
   gave = Gave-nothing left;
   lines = [];
@@ -190,11 +257,18 @@ answers_nothing Old New left written = record {
   bad_root = λ e. absurd (omega (arith, e));
   bad_record = λ e. absurd (omega (arith, e));
   cut = λ e. absurd (omega (arith, e));
-  answered = λ entry old. record {
-    now = entry;
-    answers = refl;
+  full = All-nil (λ (r : Reply). r ≡ Full → w.head ≡ w.capacity);
+  answered = λ told there stands served. record {
+    now = closed there;
+    pages = w.head;
+    answers = (refl, refl);
     ends = λ e. absurd (not_ended 2 (λ p. omega (arith, p)) (λ p. omega (arith, p)) (λ p. omega (arith, p)) e);
     next = λ e. absurd (omega (arith, e));
     sound = (λ e. omega (arith, e), λ e. omega (arith, e));
+    ahead = [];
+    one_ahead = omega arith;
+    none_ahead = λ p q. refl;
+    passes = Passes-nothing w.history (closed there) [] [] stands;
+    exits = record { mark = 0; from = omega arith; there = there; is_mark = IsMark-none (closed there) [] []; stands = stands };
   };
 }

@@ -5,3 +5,5 @@ pub mod Run
 pub mod Replied
 pub mod Ran
 pub mod Represents
+pub mod World
+pub mod Pages

@@ -1,13 +1,21 @@
 -- A run from its input to its output.
-use Rattle.std.specs.Prelude.{◌≡◌, ◌≢◌, ℕ, ◌≤◌, ◌⊎◌, List, [], ◌∷◌, ◌++◌, Option, Ok, Err, length, flat_map}
+use Rattle.std.specs.Prelude.{◌≡◌, ◌≢◌, ℕ, ◌+◌, ◌<◌, ◌≤◌, ◌^◌, ◌⊎◌, List, [], ◌∷◌, ◌++◌, All, Option, Some, Ok, Err, length, flat_map}
+use Rattle.std.specs.List.{Contains}
+use Rattle.platform.specs.Runs.{Passes}
+use Rattle.device_core.specs.Leaf.{IsServedCell}
 use Rattle.sdbt_base.specs.Told.{Gave, Got, IsAtEnd}
 use Rattle.script_lang.specs.Lines.{whole_lines_of, lines_of}
 use Rattle.script_lang.specs.Replies.{line_of}
 use Rattle.script_lang.specs.Arrays.{State}
 use Rattle.script_lang.specs.Answers.{Answers}
+use Rattle.script_lang.specs.declared.devices.Device.{Device}
 use Rattle.script_lang.specs.declared.replies.Reply.{Reply}
+use Rattle.script_lang.specs.declared.replies.Reply.TheVariants.{Full}
+use Rattle.device_cli.specs.World.{World}
+use Rattle.device_cli.specs.Represents.{StandsFor, closed}
+use Rattle.device_cli.specs.Pages.{AnswersOn}
 use Rattle.device_cli.specs.Run.{TookUntil}
-use Rattle.device_cli.specs.Replied.{Ending, Handled, IsFirstPart, IfNext, AsksForBlock, damage_line}
+use Rattle.device_cli.specs.Replied.{Ending, Handled, IsFirstPart, IfNext, AsksForBlock, IsWrongPage, HasMark, ExitsAt, damage_line}
 use Rattle.device_cli.specs.declared.stop.DeviceStop.{DeviceStop}
 use Rattle.device_cli.specs.declared.stop.DeviceStop.TheVariants as device
 use Rattle.device_cli.specs.declared.stop.Stop.TheVariants as stops
@@ -26,26 +34,36 @@ AreLines (Err stops.Sink) taken left lines = HaveCome taken left lines
 AreLines (Err (stops.Device stop)) taken left lines = HaveCome taken left lines
 
 -- a run that took its lines from an input and put its replies to an output
-pub record Ran (Old New : State → Type 0) (last : DeviceStop → List ℕ) (ending : Ending) (left left_now written written_now : Option (List ℕ)) : Type 0 where
+pub record Ran (tells : Type 0) (old new : World) (last : DeviceStop → List ℕ) (ending : Ending) (left left_now written written_now : Option (List ℕ)) : Type 0 where
   pub taken : List ℕ
   pub lines : List (List ℕ)
   pub gave : Gave left taken left_now
   pub took : TookUntil ending taken left_now
   pub come : AreLines ending taken left_now lines
-  pub handled : Handled Old New last ending lines written written_now
+  pub handled : Handled tells old new last ending lines written written_now
 
--- the replies are those of the array, from the state at entry on, where a run ends with this status: at 0, 3 and 12 in
--- the state after them; at 4 in the one that one more reply leads to, of whose line a first part was put; never by damage
-pub record AnswersFrom (New : State → Type 0) (status : ℕ) (entry : State) (lines : List (List ℕ)) (replies : List Reply) (part : List ℕ) : Type 0 where
+-- the replies are those of the array, from the state at entry on, where a run ends with this status: at 0, 3 and 12 the
+-- image at the exit stands for the state after them; at 4 for the one that one more reply leads to, of whose line a first
+-- part was put; never does damage end it
+pub record AnswersFrom (old new : World) (status : ℕ) (entry : State) (lines : List (List ℕ)) (replies : List Reply) (part : List ℕ) : Type 0 where
   pub now : State
-  pub answers : Answers entry lines replies now
-  pub ends : (status ≡ 0) ⊎ (status ≡ 3) ⊎ (status ≡ 12) → New now
-  pub next : status ≡ 4 → (reply : Reply) × (then : State) × Answers entry lines (replies ++ reply ∷ []) then × IsFirstPart (line_of reply) part × New then
+  pub pages : ℕ
+  pub answers : AnswersOn old.capacity entry old.head lines replies now pages
+  pub ends : (status ≡ 0) ⊎ (status ≡ 3) ⊎ (status ≡ 12) → StandsFor new.history.present now.device × (new.head ≡ pages)
+  pub next : status ≡ 4 → (reply : Reply) × (then : State) × Answers entry lines (replies ++ reply ∷ []) then × IsFirstPart (line_of reply) part
+      × StandsFor new.history.present then.device
   pub sound : (status ≢ 8) × (status ≢ 9)
+  -- at each moment a loss of power leaves a device that the replies passed, in their order; at 4 and 5 perhaps the one
+  -- after one more reply. The last moment has the device after all of them, or that one more
+  pub ahead : List Reply
+  pub one_ahead : length ahead ≤ 1
+  pub none_ahead : status ≢ 4 → status ≢ 5 → ahead ≡ []
+  pub passes : Passes old.history new.history (HasMark entry lines (replies ++ ahead)) (length replies + length ahead)
+  pub exits : ExitsAt new.history.present entry lines replies ahead
 
 -- a run that ends with this status: what was taken from its input, the lines of that which it handled, its replies, and
 -- the part that it put behind their lines
-pub record AnswersScript (Old New : State → Type 0) (status : ℕ) (left left_now written written_now : Option (List ℕ)) : Type 0 where
+pub record AnswersScript (tells : Type 0) (old new : World) (status : ℕ) (left left_now written written_now : Option (List ℕ)) : Type 0 where
   pub taken : List ℕ
   pub gave : Gave left taken left_now
   pub lines : List (List ℕ)
@@ -60,6 +78,25 @@ pub record AnswersScript (Old New : State → Type 0) (status : ℕ) (left left_
   -- behind the replies: nothing; the last line of 8 or 9, whole; or, where the output failed, a first part of a line
   pub no_part : status ≢ 4 → status ≢ 8 → status ≢ 9 → part ≡ []
   pub bad_root : status ≡ 8 → part ≡ damage_line device.BadRoot
-  pub bad_record : status ≡ 9 → (addr : ℕ) × (part ≡ damage_line (device.BadRecord addr)) × IfNext replies lines AsksForBlock
+  pub bad_record : status ≡ 9 → (addr : ℕ) × (part ≡ damage_line (device.BadRecord addr)) × IfNext replies lines AsksForBlock × (tells → IsWrongPage new.history.present addr)
   pub cut : status ≡ 4 → ((reply : Reply) × IsFirstPart (line_of reply) part) ⊎ ((stop : DeviceStop) × IsFirstPart (damage_line stop) part)
-  pub answered : (entry : State) → Old entry → AnswersFrom New status entry lines replies part
+  -- a reply that no page was free is true for good
+  pub full : All (λ r. r ≡ Full → new.head ≡ new.capacity) replies
+  -- over an image that stands for a device which can be served, from that device on without a session
+  pub answered : tells → (there : Option Device) → StandsFor old.history.present there → IsServedCell old.history.present.cell old.head
+      → AnswersFrom old new status (closed there) lines replies part
+
+-- a run over the whole input: one reply for each line, none of them that no page was free
+pub record IsComplete (entry : State) (text : List ℕ) (written written_now : Option (List ℕ)) : Type 0 where
+  pub replies : List Reply
+  pub got : Got written (flat_map line_of replies) written_now
+  pub now : State
+  pub answers : Answers entry (lines_of text) replies now
+  pub each : length replies ≡ length (lines_of text)
+  pub roomy : All (λ r. r ≢ Full) replies
+
+-- the input is a text of less than 2^32 bytes, and at least one page is free for each of its lines
+pub record IsAmple (left : Option (List ℕ)) (text : List ℕ) (head capacity : ℕ) : Type 0 where
+  pub text_is : left ≡ Some text
+  pub short : length text < 2 ^ 32
+  pub room : head + length (lines_of text) ≤ capacity

@@ -1,14 +1,25 @@
 -- What a run that handled some lines put, and which replies belong to them.
-use Rattle.std.specs.Prelude.{◌≡◌, ℕ, Bool, ◌≤◌, ◌⊎◌, List, [], ◌∷◌, ◌++◌, Option, Result, Ok, Err, take, length, codes, flat_map}
+use Rattle.std.specs.Prelude.{◌≡◌, ℕ, ◌+◌, ◌≤◌, ◌⊎◌, List, [], ◌∷◌, ◌++◌, All, Option, Some, Result, Ok, Err, take, length, codes, flat_map}
 use Rattle.std.specs.Fmt.{decimal}
+use Rattle.platform.specs.Image.{Image}
+use Rattle.platform.specs.History.{During, Turns}
+use Rattle.platform.specs.Runs.{Passes}
+use Rattle.root_codec.specs.declared.root.Root.{Root}
+use Rattle.root_codec.specs.RootRecord.{FitsRoot, root_bytes}
+use Rattle.device_core.specs.Damage.{IsDamaged}
 use Rattle.sdbt_base.specs.Told.{Got, GotPart}
 use Rattle.script_lang.specs.Grammar.{Spells}
 use Rattle.script_lang.specs.Replies.{line_of}
 use Rattle.script_lang.specs.Arrays.{State}
-use Rattle.script_lang.specs.Answers.{Answers, answer}
+use Rattle.script_lang.specs.Answers.{Answers, IsMark, answer}
+use Rattle.script_lang.specs.declared.devices.Device.{Device}
 use Rattle.script_lang.specs.declared.commands.Command.{Command}
 use Rattle.script_lang.specs.declared.commands.Command.TheVariants as commands
 use Rattle.script_lang.specs.declared.replies.Reply.{Reply}
+use Rattle.script_lang.specs.declared.replies.Reply.TheVariants.{Full}
+use Rattle.device_cli.specs.World.{World, is_full, IsLater}
+use Rattle.device_cli.specs.Represents.{Represents, Stood, StandsFor, Leaves}
+use Rattle.device_cli.specs.Pages.{AnswersOn}
 use Rattle.device_cli.specs.declared.stop.Stop.{Stop}
 use Rattle.device_cli.specs.declared.stop.Stop.TheVariants as stops
 use Rattle.device_cli.specs.declared.stop.DeviceStop.{DeviceStop}
@@ -24,6 +35,7 @@ damage_line device.BadRoot = codes "bad root" ++ 10 ∷ []
 damage_line (device.BadRecord addr) = codes "bad record " ++ (decimal addr ++ 10 ∷ [])
 damage_line device.Platform = []
 damage_line device.Tape = []
+damage_line device.Ledger = []
 damage_line device.Memory = []
 
 -- no last line, as long as the lines themselves are handled
@@ -69,10 +81,18 @@ IsOfBlock _ = ⊥
 abbrev pub AsksForBlock : List ℕ → Type 0
 AsksForBlock line = (command : Command) × Spells line command × IsOfBlock command
 
--- a record that doesn't fit is met only at such a line
-abbrev pub IsDamageAt : List Reply → List (List ℕ) → Ending → Type 0
-IsDamageAt replies lines (Err (stops.Device (device.BadRecord addr))) = IfNext replies lines AsksForBlock
-IsDamageAt replies lines _ = Unit {0}
+-- below the root record in the cell a place at this address doesn't fit, or it is the root node's, of which the root record
+-- counts other blocks than it has
+pub record IsWrongPage (image : Image) (addr : ℕ) : Type 0 where
+  pub root : Root
+  pub in_range : FitsRoot root
+  pub cell : image.cell ≡ Some (root_bytes root)
+  pub damaged : IsDamaged image.readable root addr
+
+-- a record that doesn't fit is met only at such a line, and is one
+abbrev pub IsDamageAt : Type 0 → Image → List Reply → List (List ℕ) → Ending → Type 0
+IsDamageAt tells image replies lines (Err (stops.Device (device.BadRecord addr))) = IfNext replies lines AsksForBlock × (tells → IsWrongPage image addr)
+IsDamageAt tells image replies lines _ = Unit {0}
 
 -- the device was not damaged
 abbrev pub IsSound : DeviceStop → Type 0
@@ -80,45 +100,94 @@ IsSound device.BadRoot = ⊥
 IsSound (device.BadRecord addr) = ⊥
 IsSound device.Platform = Unit {0}
 IsSound device.Tape = Unit {0}
+IsSound device.Ledger = Unit {0}
 IsSound device.Memory = Unit {0}
 
--- how a run over a device that stands ends, after the replies that led to the state `now`: in that state; by a fault
--- alone; or, where the output failed, in the state that one more reply leads to, with a first part of its line
-abbrev pub EndsIn : (State → Type 0) → State → List (List ℕ) → List Reply → List ℕ → State → Ending → Type 0
-EndsIn New entry lines replies part now (Ok done) = New now
-EndsIn New entry lines replies part now (Err stops.Source) = New now
-EndsIn New entry lines replies part now (Err stops.Limit) = New now
-EndsIn New entry lines replies part now (Err (stops.Device stop)) = IsSound stop
-EndsIn New entry lines replies part now (Err stops.Sink) =
-    (reply : Reply) × (next : State) × Answers entry lines (replies ++ reply ∷ []) next × IsFirstPart (line_of reply) part × New next
+-- how a run over a device that stands ends, after the replies that led to the state `now`: in that state, with so many
+-- pages; by a fault alone; or, where the output failed, with a first part of one more reply's line, for the device after it
+abbrev pub EndsIn : World → State → List (List ℕ) → List Reply → List ℕ → State → ℕ → Ending → Type 0
+EndsIn new entry lines replies part now pages (Ok done) = Stood new now × (new.head ≡ pages)
+EndsIn new entry lines replies part now pages (Err stops.Source) = Stood new now × (new.head ≡ pages)
+EndsIn new entry lines replies part now pages (Err stops.Limit) = Stood new now × (new.head ≡ pages)
+EndsIn new entry lines replies part now pages (Err (stops.Device stop)) = IsSound stop
+EndsIn new entry lines replies part now pages (Err stops.Sink) =
+    (reply : Reply) × (next : State) × Answers entry lines (replies ++ reply ∷ []) next × IsFirstPart (line_of reply) part
+    × StandsFor new.history.present next.device
 
--- the replies are those of the array, from the state at entry on
-pub record Answered (New : State → Type 0) (ending : Ending) (entry : State) (lines : List (List ℕ)) (replies : List Reply) (part : List ℕ) : Type 0 where
+-- the reply to the line in hand may have come to be where the platform or the output failed, and else none
+abbrev pub IsAhead : Ending → List Reply → Type 0
+IsAhead (Ok done) ahead = ahead ≡ []
+IsAhead (Err stops.Source) ahead = ahead ≡ []
+IsAhead (Err stops.Limit) ahead = ahead ≡ []
+IsAhead (Err stops.Sink) ahead = length ahead ≤ 1
+IsAhead (Err (stops.Device device.Platform)) ahead = length ahead ≤ 1
+IsAhead (Err (stops.Device device.Tape)) ahead = ahead ≡ []
+IsAhead (Err (stops.Device device.Ledger)) ahead = ahead ≡ []
+IsAhead (Err (stops.Device device.Memory)) ahead = ahead ≡ []
+IsAhead (Err (stops.Device device.BadRoot)) ahead = ahead ≡ []
+IsAhead (Err (stops.Device (device.BadRecord addr))) ahead = ahead ≡ []
+
+-- whatever a loss of power leaves of the image stands for the device after the first k of these replies
+abbrev pub HasMark : State → List (List ℕ) → List Reply → ℕ → Image → Type 0
+HasMark entry lines replies k image = (there : Option Device) × IsMark entry lines replies k there × Leaves there image
+
+-- the image stands for the device after all of the replies, or after those and some of the ones ahead
+pub record ExitsAt (image : Image) (entry : State) (lines : List (List ℕ)) (replies ahead : List Reply) : Type 0 where
+  pub mark : ℕ
+  pub from : length replies ≤ mark
+  pub there : Option Device
+  pub is_mark : IsMark entry lines (replies ++ ahead) mark there
+  pub stands : StandsFor image there
+
+-- the replies are those of the array, from the state at entry on, and at each moment a loss of power leaves a device that
+-- they passed, in their order
+pub record Answered (old new : World) (ending : Ending) (entry : State) (lines : List (List ℕ)) (replies : List Reply) (part : List ℕ) : Type 0 where
   pub now : State
-  pub answers : Answers entry lines replies now
-  pub ends : EndsIn New entry lines replies part now ending
+  pub pages : ℕ
+  pub answers : AnswersOn old.capacity entry old.head lines replies now pages
+  pub ends : EndsIn new entry lines replies part now pages ending
+  pub ahead : List Reply
+  pub is_ahead : IsAhead ending ahead
+  pub passes : Passes old.history new.history (HasMark entry lines (replies ++ ahead)) (length replies + length ahead)
+  pub exits : ExitsAt new.history.present entry lines replies ahead
 
 -- a run that handled these lines: what it put is the lines of its replies, and perhaps a part behind them. From each
 -- state that the start stood for, the replies are those of the array
-pub record Replied (Old New : State → Type 0) (last : DeviceStop → List ℕ) (ending : Ending) (lines : List (List ℕ)) (put : List ℕ) : Type 0 where
+pub record Replied (tells : Type 0) (old new : World) (last : DeviceStop → List ℕ) (ending : Ending) (lines : List (List ℕ)) (put : List ℕ) : Type 0 where
   pub replies : List Reply
   pub part : List ℕ
   pub put_is : put ≡ flat_map line_of replies ++ part
   pub behind : IsBehind last part ending
   pub many : AreMany (length replies) (length lines) ending
-  pub damage : IsDamageAt replies lines ending
-  pub answered : (entry : State) → Old entry → Answered New ending entry lines replies part
+  pub damage : IsDamageAt tells new.history.present replies lines ending
+  pub later : IsLater old new
+  pub full : All (λ r. r ≡ Full → new.head ≡ new.capacity) replies
+  pub answered : tells → (entry : State) → Stood old entry → Answered old new ending entry lines replies part
 
 -- the same of what an output has got
-pub record Handled (Old New : State → Type 0) (last : DeviceStop → List ℕ) (ending : Ending) (lines : List (List ℕ)) (written written_now : Option (List ℕ)) : Type 0 where
+pub record Handled (tells : Type 0) (old new : World) (last : DeviceStop → List ℕ) (ending : Ending) (lines : List (List ℕ)) (written written_now : Option (List ℕ)) : Type 0 where
   pub put : List ℕ
   pub got : Got written put written_now
-  pub replied : Replied Old New last ending lines put
+  pub replied : Replied tells old new last ending lines put
 
--- what the serving of a command did to a state: a reply of the array and the state after it, or a stop without damage
-abbrev pub Serves : (State → Type 0) → State → Command → Result Reply DeviceStop → Type 0
-Serves New entry command (Ok reply) = (full : Bool) × (now : State) × ((reply, now) ≡ answer full entry command) × New now
-Serves New entry command (Err stop) = IsSound stop
+-- what a stop at a command leaves of a device: itself at each moment; or, where the platform failed, itself until a moment
+-- from which on it leaves the device after the command
+abbrev pub Halts : World → World → State → Command → DeviceStop → Type 0
+Halts old new entry command device.Platform =
+    Turns old.history new.history (Leaves entry.device) (Leaves (answer (is_full old) entry command).1.device)
+Halts old new entry command device.Tape = During old.history new.history (Leaves entry.device)
+Halts old new entry command device.Ledger = During old.history new.history (Leaves entry.device)
+Halts old new entry command device.Memory = During old.history new.history (Leaves entry.device)
+Halts old new entry command device.BadRoot = ⊥
+Halts old new entry command (device.BadRecord addr) = ⊥
+
+-- what the serving of a command did from a state: a reply of the array, full exactly where it needs a page and none is
+-- free, and the state after it; or a stop without damage
+abbrev pub Serves : World → World → State → Command → Result Reply DeviceStop → Type 0
+Serves old new entry command (Ok reply) =
+    (now : State) × ((reply, now) ≡ answer (is_full old) entry command) × Represents new now
+    × Turns old.history new.history (Leaves entry.device) (Leaves now.device)
+Serves old new entry command (Err stop) = Halts old new entry command stop
 
 -- what the putting of a line did: all of it was got, or, where the output failed, a first part
 abbrev pub HasPut : List ℕ → Ending → Option (List ℕ) → Option (List ℕ) → Type 0

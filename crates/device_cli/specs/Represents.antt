@@ -1,16 +1,17 @@
--- What a desk and an image stand for.
+-- What a session and an image stand for.
 use Rattle.std.specs.Prelude.{◌≡◌, Option, None, Some}
 use Rattle.std.specs.Option.{option_map}
-use Rattle.platform.specs.Image.{Image}
+use Rattle.platform.specs.Image.{Image, LeavesOnly}
 use Rattle.page_store.specs.Device.{Device as StoredDevice}
 use Rattle.page_store.specs.Stands.{Stands}
 use Rattle.device_core.specs.Open.{is_touched}
 use Rattle.device_core.specs.Holds.{Holds}
+use Rattle.device_core.specs.Leaf.{IsServedCell}
 use Rattle.script_lang.specs.Arrays.{State}
 use Rattle.script_lang.specs.declared.devices.Device.{Device}
 use Rattle.script_lang.specs.declared.devices.Session.{Session as OpenSession}
 use Rattle.device_core.specs.declared.session.Session.{Session}
-use Rattle.device_cli.specs.declared.desk.Desk.{Desk}
+use Rattle.device_cli.specs.World.{World}
 
 -- a device of the array machine, as the layers below name its parts
 abbrev pub stored : Device → StoredDevice
@@ -20,6 +21,10 @@ stored device = record { blocks = device.blocks; order = device.order; number = 
 abbrev pub StandsFor : Image → Option Device → Type 0
 StandsFor image device = Stands image (option_map stored device)
 
+-- whatever a loss of power leaves of the image stands for the device
+abbrev pub Leaves : Option Device → Image → Type 0
+Leaves device image = LeavesOnly (λ left. Stands left (option_map stored device)) image
+
 -- the session, if there is one, has over the image the array of the state's session; below it is the state's device
 abbrev pub IsSessionOf : Option Session → Image → Option Device → Option OpenSession → Type 0
 IsSessionOf None image device None = Unit {0}
@@ -28,21 +33,16 @@ IsSessionOf (Some session) image device None = ⊥
 IsSessionOf (Some session) image None (Some there) = ⊥
 IsSessionOf (Some session) image (Some device) (Some there) = Holds session image (stored device) there.contents × (is_touched session ≡ there.touched)
 
--- the image stands for the state's device, and the desk has the state's session
-pub record Represents (desk : Desk) (image : Image) (state : State) : Type 0 where
-  pub device : StandsFor image state.device
-  pub session : IsSessionOf desk.session image state.device state.session
+-- the image stands for the state's device, and the session is the state's
+pub record Represents (w : World) (state : State) : Type 0 where
+  pub device : StandsFor w.history.present state.device
+  pub session : IsSessionOf w.session w.history.present state.device state.session
 
--- the same where the platform tells its image
-abbrev pub Stood : Type 0 → Desk → Image → State → Type 0
-Stood tells desk image state = tells × Represents desk image state
+-- the same, and the cell can be served
+pub record Stood (w : World) (state : State) : Type 0 where
+  pub there : Represents w state
+  pub served : IsServedCell w.history.present.cell w.head
 
--- the image stands for the state, in which no session is open
-pub record StoodAlone (tells : Type 0) (image : Image) (state : State) : Type 0 where
-  pub told : tells
-  pub device : StandsFor image state.device
-  pub alone : state.session ≡ None
-
--- the image stands for the state's device, whatever the session
-abbrev pub StoodBy : Type 0 → Image → State → Type 0
-StoodBy tells image state = tells × StandsFor image state.device
+-- the state of a device on which no session is open
+abbrev pub closed : Option Device → State
+closed device = record { device = device; session = None }

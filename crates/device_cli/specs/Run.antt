@@ -12,9 +12,10 @@ pub record Counts : Type 0 where
   pub tape : ℕ
   pub input : ℕ
   pub output : ℕ
+  pub ledger : ℕ
 
-abbrev pub counts : ℕ → ℕ → ℕ → ℕ → Counts
-counts platform tape input output = record { platform = platform; tape = tape; input = input; output = output }
+abbrev pub counts : ℕ → ℕ → ℕ → ℕ → ℕ → Counts
+counts platform tape input output ledger = record { platform = platform; tape = tape; input = input; output = output; ledger = ledger }
 
 -- no count fell
 pub record NoneFell (before now : Counts) : Type 0 where
@@ -22,6 +23,15 @@ pub record NoneFell (before now : Counts) : Type 0 where
   pub tape : before.tape ≤ now.tape
   pub input : before.input ≤ now.input
   pub output : before.output ≤ now.output
+  pub ledger : before.ledger ≤ now.ledger
+
+-- no count rose
+pub record NoneRose (before now : Counts) : Type 0 where
+  pub platform : Rose before.platform now.platform → ⊥
+  pub tape : Rose before.tape now.tape → ⊥
+  pub input : Rose before.input now.input → ⊥
+  pub output : Rose before.output now.output → ⊥
+  pub ledger : Rose before.ledger now.ledger → ⊥
 
 -- a stop that names a fault comes only where the count of that object rose
 abbrev pub HasCause : Counts → Counts → Stop → Type 0
@@ -29,6 +39,7 @@ HasCause before now stops.Source = Rose before.input now.input
 HasCause before now stops.Sink = Rose before.output now.output
 HasCause before now (stops.Device device.Platform) = Rose before.platform now.platform
 HasCause before now (stops.Device device.Tape) = Rose before.tape now.tape
+HasCause before now (stops.Device device.Ledger) = Rose before.ledger now.ledger
 HasCause before now (stops.Device device.BadRoot) = Unit {0}
 HasCause before now (stops.Device (device.BadRecord addr)) = Unit {0}
 HasCause before now (stops.Device device.Memory) = Unit {0}
@@ -40,6 +51,7 @@ status_of stops.Source = 3
 status_of stops.Sink = 4
 status_of (stops.Device device.Platform) = 5
 status_of (stops.Device device.Tape) = 6
+status_of (stops.Device device.Ledger) = 7
 status_of (stops.Device device.BadRoot) = 8
 status_of (stops.Device (device.BadRecord addr)) = 9
 status_of (stops.Device device.Memory) = 11
@@ -64,7 +76,7 @@ pub record Took (status : ℕ) (taken : List ℕ) (left : Option (List ℕ)) : T
 -- the statuses that there are
 abbrev pub IsStatus : ℕ → Type 0
 IsStatus status =
-    (status ≡ 0) ⊎ (status ≡ 2) ⊎ (status ≡ 3) ⊎ (status ≡ 4) ⊎ (status ≡ 5) ⊎ (status ≡ 6) ⊎ (status ≡ 8) ⊎ (status ≡ 9) ⊎ (status ≡ 11) ⊎ (status ≡ 12)
+    (status ≡ 0) ⊎ (status ≡ 2) ⊎ (status ≡ 3) ⊎ (status ≡ 4) ⊎ (status ≡ 5) ⊎ (status ≡ 6) ⊎ (status ≡ 7) ⊎ (status ≡ 8) ⊎ (status ≡ 9) ⊎ (status ≡ 11) ⊎ (status ≡ 12)
 
 -- a stop that a line may lead to: neither the input nor the start
 abbrev pub IsOfLine : Stop → Type 0
@@ -79,6 +91,7 @@ IsRefusal stops.Sink = Unit {0}
 IsRefusal (stops.Device device.Platform) = Unit {0}
 IsRefusal (stops.Device device.BadRoot) = Unit {0}
 IsRefusal (stops.Device device.Tape) = ⊥
+IsRefusal (stops.Device device.Ledger) = ⊥
 IsRefusal (stops.Device (device.BadRecord addr)) = ⊥
 IsRefusal (stops.Device device.Memory) = ⊥
 IsRefusal stops.Source = ⊥

@@ -1,15 +1,15 @@
 //! What a run keeps between lines, and the answer to each command.
-ghost use Rattle.std.specs.Prelude.{◌≡◌, ◌≢◌, ◌≤◌, ◌⊎◌, ℕ, IfOk, OnOk, IfErr, IsErrOf, None, Some, Ok, length};
+ghost use Rattle.std.specs.Prelude.{◌≡◌, ◌≢◌, ◌≤◌, ◌+◌, ◌⊎◌, ℕ, IfOk, OnOk, IfErr, IsErrOf, IfSome, None, Some, Ok, length};
 ghost use Rattle.arrayvec.specs.ArrayVec.{ArrayVec as Bytes};
 ghost use Rattle.sdbt_base.specs.Faults.{Rose};
 ghost use Rattle.script_lang.specs.Replies.{CanWrite};
 ghost use Rattle.script_lang.specs.Arrays.{State};
 ghost use Rattle.device_core.specs.Leaf.{IsServedCell};
 ghost use Rattle.device_cli.specs.Run.{counts, NoneFell, HasCause};
-ghost use Rattle.device_cli.specs.Replied.{IsOfBlock, Serves};
+ghost use Rattle.platform.specs.History.{During};
+ghost use Rattle.device_cli.specs.Replied.{IsOfBlock, IsWrongPage, Serves};
 
 use crate::entry::MOST_BLOCKS;
-use crate::no_ledger::NoLedger;
 use crate::stop::{DeviceStop, Stop};
 use device_core::{
     CommitFault, CommitReply, EraseRefusal, FormatRefusal, MountRefusal, ReadRefusal, Session,
@@ -17,7 +17,7 @@ use device_core::{
 };
 use platform::Platform;
 use script_lang::{Command, Reply, reply_with_content};
-use sdbt_base::{BLOCK, MAX_BLOCKS, MAX_ORDER, ROOT, Tape};
+use sdbt_base::{BLOCK, MAX_BLOCKS, MAX_ORDER, ROOT, Sink, Tape};
 use std::alloc::Global;
 
 /// What a run keeps between lines: the session, if there is one. A call takes it out, and puts it back
@@ -29,7 +29,8 @@ pub(crate) struct Desk {
 }
 
 impl Desk {
-    ghost use Rattle.device_cli.specs.Desk.{IsReady};
+    ghost use Rattle.device_cli.specs.Desk.{IsReady, IsMounted};
+    ghost use Rattle.device_cli.specs.World.{world};
     ghost use Rattle.device_cli.specs.Represents.{Represents};
 
     /// No session.
@@ -44,31 +45,45 @@ impl Desk {
     }
 
     /// The reply to a command, once it is done.
-    pub(crate) fn serve<P: Platform, T: Tape>(
+    pub(crate) fn serve<P: Platform, T: Tape, L: Sink>(
         &mut self,
         platform: &mut P,
         tape: &mut T,
+        ledger: &mut L,
         command: &Command,
     ) -> Result<Reply, DeviceStop>
         requires ready { IsReady self.old (P.head platform.old) }
         requires cell { P.tells → IsServedCell (P.history platform.old).present.cell (P.head platform.old) }
+        requires mounted { P.tells → IfSome self.old.session (IsMounted (P.history platform.old).present) }
         ensures ready { OnOk result (IsReady self.new (P.head platform.new)) }
-        ensures cell { P.tells → OnOk result (IsServedCell (P.history platform.new).present.cell (P.head platform.new)) }
+        ensures cell { P.tells → IsServedCell (P.history platform.new).present.cell (P.head platform.new) }
+        ensures mounted { P.tells → OnOk result (IfSome self.new.session (IsMounted (P.history platform.new).present)) }
         ensures reply { IfOk result CanWrite }
         ensures bad_root { P.tells → IsErrOf result DeviceStop.BadRoot → ⊥ }
-        ensures counts { NoneFell (counts (P.faults platform.old) (T.faults tape.old) 0 0) (counts (P.faults platform.new) (T.faults tape.new) 0 0) }
-        ensures cause { IfErr result (λ stop. HasCause (counts (P.faults platform.old) (T.faults tape.old) 0 0) (counts (P.faults platform.new) (T.faults tape.new) 0 0) (Stop.Device stop)) }
-        ensures bad_record { (addr : ℕ) → IsErrOf result (DeviceStop.BadRecord addr) → IsOfBlock command.now }
-        ensures answered { P.tells → (entry : State) → Represents self.old (P.history platform.old).present entry
-            → Serves (Represents self.new (P.history platform.new).present) entry command.now result }
+        ensures counts { NoneFell (counts (P.faults platform.old) (T.faults tape.old) 0 0 (L.faults ledger.old))
+            (counts (P.faults platform.new) (T.faults tape.new) 0 0 (L.faults ledger.new)) }
+        ensures cause { IfErr result (λ stop. HasCause (counts (P.faults platform.old) (T.faults tape.old) 0 0 (L.faults ledger.old))
+            (counts (P.faults platform.new) (T.faults tape.new) 0 0 (L.faults ledger.new)) (Stop.Device stop)) }
+        ensures unput { L.written ledger.new ≡ L.written ledger.old }
+        ensures capacity { P.capacity platform.new ≡ P.capacity platform.old }
+        ensures head_rises { P.head platform.old ≤ P.head platform.new }
+        ensures head_by_one { P.head platform.new ≤ P.head platform.old + 1 }
+        ensures full { IfOk result (λ reply. reply ≡ Reply.Full → P.head platform.new ≡ P.capacity platform.new) }
+        ensures of_block { (addr : ℕ) → IsErrOf result (DeviceStop.BadRecord addr) → IsOfBlock command.now }
+        ensures damage { P.tells → (addr : ℕ) → IsErrOf result (DeviceStop.BadRecord addr) → IsWrongPage (P.history platform.new).present addr }
+        ensures answered { P.tells → (entry : State) → Represents (world self.old.session (P.history platform.old) (P.head platform.old) (P.capacity platform.old)) entry
+            → Serves (world self.old.session (P.history platform.old) (P.head platform.old) (P.capacity platform.old))
+            (world self.new.session (P.history platform.new) (P.head platform.new) (P.capacity platform.new)) entry command.now result }
     {
         match command {
-            Command::Format { blocks, order } => self.format(platform, tape, *blocks, *order),
+            Command::Format { blocks, order } => {
+                self.format(platform, tape, ledger, *blocks, *order)
+            }
             Command::Mount => self.mount(platform),
             Command::Read { block } => self.read(platform, *block),
             Command::Write { block, content } => self.write(platform, tape, *block, content),
             Command::Trim { block } => self.trim(platform, *block),
-            Command::Commit => self.commit(platform, tape),
+            Command::Commit => self.commit(platform, tape, ledger),
             Command::Drop => self.give_up(platform),
             Command::Erase => self.erase(platform),
             Command::Stat => self.stat(platform),
@@ -77,24 +92,35 @@ impl Desk {
     }
 
     /// Makes a device, where the numbers are within the limits of one, and within those that are served yet.
-    fn format<P: Platform, T: Tape>(
+    fn format<P: Platform, T: Tape, L: Sink>(
         &mut self,
         platform: &mut P,
         tape: &mut T,
+        ledger: &mut L,
         blocks: u64,
         order: u64,
     ) -> Result<Reply, DeviceStop>
         requires ready { IsReady self.old (P.head platform.old) }
         requires cell { P.tells → IsServedCell (P.history platform.old).present.cell (P.head platform.old) }
+        requires mounted { P.tells → IfSome self.old.session (IsMounted (P.history platform.old).present) }
         ensures ready { OnOk result (IsReady self.new (P.head platform.new)) }
-        ensures cell { P.tells → OnOk result (IsServedCell (P.history platform.new).present.cell (P.head platform.new)) }
+        ensures cell { P.tells → IsServedCell (P.history platform.new).present.cell (P.head platform.new) }
+        ensures mounted { P.tells → OnOk result (IfSome self.new.session (IsMounted (P.history platform.new).present)) }
         ensures reply { IfOk result CanWrite }
         ensures bad_root { P.tells → IsErrOf result DeviceStop.BadRoot → ⊥ }
-        ensures counts { NoneFell (counts (P.faults platform.old) (T.faults tape.old) 0 0) (counts (P.faults platform.new) (T.faults tape.new) 0 0) }
-        ensures cause { IfErr result (λ stop. HasCause (counts (P.faults platform.old) (T.faults tape.old) 0 0) (counts (P.faults platform.new) (T.faults tape.new) 0 0) (Stop.Device stop)) }
-        ensures bad_record { (addr : ℕ) → IsErrOf result (DeviceStop.BadRecord addr) → ⊥ }
-        ensures answered { P.tells → (entry : State) → Represents self.old (P.history platform.old).present entry
-            → Serves (Represents self.new (P.history platform.new).present) entry (Command.Format blocks order) result }
+        ensures counts { NoneFell (counts (P.faults platform.old) (T.faults tape.old) 0 0 (L.faults ledger.old))
+            (counts (P.faults platform.new) (T.faults tape.new) 0 0 (L.faults ledger.new)) }
+        ensures cause { IfErr result (λ stop. HasCause (counts (P.faults platform.old) (T.faults tape.old) 0 0 (L.faults ledger.old))
+            (counts (P.faults platform.new) (T.faults tape.new) 0 0 (L.faults ledger.new)) (Stop.Device stop)) }
+        ensures unput { L.written ledger.new ≡ L.written ledger.old }
+        ensures capacity { P.capacity platform.new ≡ P.capacity platform.old }
+        ensures head_rises { P.head platform.old ≤ P.head platform.new }
+        ensures head_by_one { P.head platform.new ≤ P.head platform.old + 1 }
+        ensures full { IfOk result (λ reply. reply ≡ Reply.Full → P.head platform.new ≡ P.capacity platform.new) }
+        ensures damage { (addr : ℕ) → IsErrOf result (DeviceStop.BadRecord addr) → ⊥ }
+        ensures answered { P.tells → (entry : State) → Represents (world self.old.session (P.history platform.old) (P.head platform.old) (P.capacity platform.old)) entry
+            → Serves (world self.old.session (P.history platform.old) (P.head platform.old) (P.capacity platform.old))
+            (world self.new.session (P.history platform.new) (P.head platform.new) (P.capacity platform.new)) entry (Command.Format blocks order) result }
     {
         let is_size = (1..=MAX_BLOCKS).contains(&blocks);
         let is_order = order.is_multiple_of(2) && (4..=u64::from(MAX_ORDER)).contains(&order);
@@ -104,12 +130,13 @@ impl Desk {
         if order != u64::from(MAX_ORDER) || blocks > MOST_BLOCKS {
             return refuse_format(platform, Reply::Unbuilt);
         }
-        match device_core::format(self.alloc, platform, tape, &mut NoLedger, blocks, MAX_ORDER) {
+        match device_core::format(self.alloc, platform, tape, ledger, blocks, MAX_ORDER) {
             Ok(()) => Ok(Reply::Formatted),
             Err(FormatRefusal::NotEmpty) => Ok(Reply::NotEmpty),
             Err(FormatRefusal::Full) => Ok(Reply::Full),
-            Err(FormatRefusal::Memory | FormatRefusal::LedgerFault) => Err(DeviceStop::Memory),
+            Err(FormatRefusal::Memory) => Err(DeviceStop::Memory),
             Err(FormatRefusal::TapeFault) => Err(DeviceStop::Tape),
+            Err(FormatRefusal::LedgerFault) => Err(DeviceStop::Ledger),
             Err(FormatRefusal::PlatformFault) => Err(DeviceStop::Platform),
         }
     }
@@ -117,15 +144,24 @@ impl Desk {
     fn mount<P: Platform>(&mut self, platform: &mut P) -> Result<Reply, DeviceStop>
         requires ready { IsReady self.old (P.head platform.old) }
         requires cell { P.tells → IsServedCell (P.history platform.old).present.cell (P.head platform.old) }
+        requires mounted { P.tells → IfSome self.old.session (IsMounted (P.history platform.old).present) }
         ensures ready { OnOk result (IsReady self.new (P.head platform.new)) }
-        ensures cell { P.tells → OnOk result (IsServedCell (P.history platform.new).present.cell (P.head platform.new)) }
+        ensures cell { P.tells → IsServedCell (P.history platform.new).present.cell (P.head platform.new) }
+        ensures mounted { P.tells → OnOk result (IfSome self.new.session (IsMounted (P.history platform.new).present)) }
         ensures reply { IfOk result CanWrite }
         ensures bad_root { P.tells → IsErrOf result DeviceStop.BadRoot → ⊥ }
-        ensures count { P.faults platform.old ≤ P.faults platform.new }
-        ensures cause { IfErr result (λ stop. HasCause (counts (P.faults platform.old) 0 0 0) (counts (P.faults platform.new) 0 0 0) (Stop.Device stop)) }
-        ensures bad_record { (addr : ℕ) → IsErrOf result (DeviceStop.BadRecord addr) → ⊥ }
-        ensures answered { P.tells → (entry : State) → Represents self.old (P.history platform.old).present entry
-            → Serves (Represents self.new (P.history platform.new).present) entry (Command.Mount) result }
+        ensures counts { NoneFell (counts (P.faults platform.old) 0 0 0 0)
+            (counts (P.faults platform.new) 0 0 0 0) }
+        ensures cause { IfErr result (λ stop. HasCause (counts (P.faults platform.old) 0 0 0 0)
+            (counts (P.faults platform.new) 0 0 0 0) (Stop.Device stop)) }
+        ensures capacity { P.capacity platform.new ≡ P.capacity platform.old }
+        ensures head_rises { P.head platform.old ≤ P.head platform.new }
+        ensures head_by_one { P.head platform.new ≤ P.head platform.old + 1 }
+        ensures full { IfOk result (λ reply. reply ≡ Reply.Full → P.head platform.new ≡ P.capacity platform.new) }
+        ensures damage { (addr : ℕ) → IsErrOf result (DeviceStop.BadRecord addr) → ⊥ }
+        ensures answered { P.tells → (entry : State) → Represents (world self.old.session (P.history platform.old) (P.head platform.old) (P.capacity platform.old)) entry
+            → Serves (world self.old.session (P.history platform.old) (P.head platform.old) (P.capacity platform.old))
+            (world self.new.session (P.history platform.new) (P.head platform.new) (P.capacity platform.new)) entry Command.Mount result }
     {
         if self.session.is_some() {
             return Ok(Reply::AlreadyMounted);
@@ -146,14 +182,24 @@ impl Desk {
     fn read<P: Platform>(&mut self, platform: &mut P, block: u64) -> Result<Reply, DeviceStop>
         requires ready { IsReady self.old (P.head platform.old) }
         requires cell { P.tells → IsServedCell (P.history platform.old).present.cell (P.head platform.old) }
+        requires mounted { P.tells → IfSome self.old.session (IsMounted (P.history platform.old).present) }
         ensures ready { OnOk result (IsReady self.new (P.head platform.new)) }
-        ensures cell { P.tells → OnOk result (IsServedCell (P.history platform.new).present.cell (P.head platform.new)) }
+        ensures cell { P.tells → IsServedCell (P.history platform.new).present.cell (P.head platform.new) }
+        ensures mounted { P.tells → OnOk result (IfSome self.new.session (IsMounted (P.history platform.new).present)) }
         ensures reply { IfOk result CanWrite }
         ensures bad_root { P.tells → IsErrOf result DeviceStop.BadRoot → ⊥ }
-        ensures count { P.faults platform.old ≤ P.faults platform.new }
-        ensures cause { IfErr result (λ stop. HasCause (counts (P.faults platform.old) 0 0 0) (counts (P.faults platform.new) 0 0 0) (Stop.Device stop)) }
-        ensures answered { P.tells → (entry : State) → Represents self.old (P.history platform.old).present entry
-            → Serves (Represents self.new (P.history platform.new).present) entry (Command.Read block) result }
+        ensures counts { NoneFell (counts (P.faults platform.old) 0 0 0 0)
+            (counts (P.faults platform.new) 0 0 0 0) }
+        ensures cause { IfErr result (λ stop. HasCause (counts (P.faults platform.old) 0 0 0 0)
+            (counts (P.faults platform.new) 0 0 0 0) (Stop.Device stop)) }
+        ensures capacity { P.capacity platform.new ≡ P.capacity platform.old }
+        ensures head_rises { P.head platform.old ≤ P.head platform.new }
+        ensures head_by_one { P.head platform.new ≤ P.head platform.old + 1 }
+        ensures full { IfOk result (λ reply. reply ≡ Reply.Full → P.head platform.new ≡ P.capacity platform.new) }
+        ensures damage { P.tells → (addr : ℕ) → IsErrOf result (DeviceStop.BadRecord addr) → IsWrongPage (P.history platform.new).present addr }
+        ensures answered { P.tells → (entry : State) → Represents (world self.old.session (P.history platform.old) (P.head platform.old) (P.capacity platform.old)) entry
+            → Serves (world self.old.session (P.history platform.old) (P.head platform.old) (P.capacity platform.old))
+            (world self.new.session (P.history platform.new) (P.head platform.new) (P.capacity platform.new)) entry (Command.Read block) result }
     {
         let Some(mut session) = self.session.take() else {
             return Ok(Reply::Unmounted);
@@ -177,14 +223,25 @@ impl Desk {
         requires size { length content.now ≤ 4096 }
         requires ready { IsReady self.old (P.head platform.old) }
         requires cell { P.tells → IsServedCell (P.history platform.old).present.cell (P.head platform.old) }
+        requires mounted { P.tells → IfSome self.old.session (IsMounted (P.history platform.old).present) }
         ensures ready { OnOk result (IsReady self.new (P.head platform.new)) }
-        ensures cell { P.tells → OnOk result (IsServedCell (P.history platform.new).present.cell (P.head platform.new)) }
+        ensures cell { P.tells → IsServedCell (P.history platform.new).present.cell (P.head platform.new) }
+        ensures mounted { P.tells → OnOk result (IfSome self.new.session (IsMounted (P.history platform.new).present)) }
         ensures reply { IfOk result CanWrite }
         ensures bad_root { P.tells → IsErrOf result DeviceStop.BadRoot → ⊥ }
-        ensures counts { NoneFell (counts (P.faults platform.old) (T.faults tape.old) 0 0) (counts (P.faults platform.new) (T.faults tape.new) 0 0) }
-        ensures cause { IfErr result (λ stop. HasCause (counts (P.faults platform.old) (T.faults tape.old) 0 0) (counts (P.faults platform.new) (T.faults tape.new) 0 0) (Stop.Device stop)) }
-        ensures answered { P.tells → (entry : State) → Represents self.old (P.history platform.old).present entry
-            → (bytes : Bytes ℕ) → bytes.items ≡ content.now → Serves (Represents self.new (P.history platform.new).present) entry (Command.Write block bytes) result }
+        ensures counts { NoneFell (counts (P.faults platform.old) (T.faults tape.old) 0 0 0)
+            (counts (P.faults platform.new) (T.faults tape.new) 0 0 0) }
+        ensures cause { IfErr result (λ stop. HasCause (counts (P.faults platform.old) (T.faults tape.old) 0 0 0)
+            (counts (P.faults platform.new) (T.faults tape.new) 0 0 0) (Stop.Device stop)) }
+        ensures capacity { P.capacity platform.new ≡ P.capacity platform.old }
+        ensures head_rises { P.head platform.old ≤ P.head platform.new }
+        ensures head_by_one { P.head platform.new ≤ P.head platform.old + 1 }
+        ensures full { IfOk result (λ reply. reply ≡ Reply.Full → P.head platform.new ≡ P.capacity platform.new) }
+        ensures damage { P.tells → (addr : ℕ) → IsErrOf result (DeviceStop.BadRecord addr) → IsWrongPage (P.history platform.new).present addr }
+        ensures answered { P.tells → (entry : State) → Represents (world self.old.session (P.history platform.old) (P.head platform.old) (P.capacity platform.old)) entry
+            → (bytes : Bytes ℕ) → bytes.items ≡ content.now
+            → Serves (world self.old.session (P.history platform.old) (P.head platform.old) (P.capacity platform.old))
+            (world self.new.session (P.history platform.new) (P.head platform.new) (P.capacity platform.new)) entry (Command.Write block bytes) result }
     {
         let Some(mut session) = self.session.take() else {
             return Ok(Reply::Unmounted);
@@ -203,14 +260,24 @@ impl Desk {
     fn trim<P: Platform>(&mut self, platform: &mut P, block: u64) -> Result<Reply, DeviceStop>
         requires ready { IsReady self.old (P.head platform.old) }
         requires cell { P.tells → IsServedCell (P.history platform.old).present.cell (P.head platform.old) }
+        requires mounted { P.tells → IfSome self.old.session (IsMounted (P.history platform.old).present) }
         ensures ready { OnOk result (IsReady self.new (P.head platform.new)) }
-        ensures cell { P.tells → OnOk result (IsServedCell (P.history platform.new).present.cell (P.head platform.new)) }
+        ensures cell { P.tells → IsServedCell (P.history platform.new).present.cell (P.head platform.new) }
+        ensures mounted { P.tells → OnOk result (IfSome self.new.session (IsMounted (P.history platform.new).present)) }
         ensures reply { IfOk result CanWrite }
         ensures bad_root { P.tells → IsErrOf result DeviceStop.BadRoot → ⊥ }
-        ensures count { P.faults platform.old ≤ P.faults platform.new }
-        ensures cause { IfErr result (λ stop. HasCause (counts (P.faults platform.old) 0 0 0) (counts (P.faults platform.new) 0 0 0) (Stop.Device stop)) }
-        ensures answered { P.tells → (entry : State) → Represents self.old (P.history platform.old).present entry
-            → Serves (Represents self.new (P.history platform.new).present) entry (Command.Trim block) result }
+        ensures counts { NoneFell (counts (P.faults platform.old) 0 0 0 0)
+            (counts (P.faults platform.new) 0 0 0 0) }
+        ensures cause { IfErr result (λ stop. HasCause (counts (P.faults platform.old) 0 0 0 0)
+            (counts (P.faults platform.new) 0 0 0 0) (Stop.Device stop)) }
+        ensures capacity { P.capacity platform.new ≡ P.capacity platform.old }
+        ensures head_rises { P.head platform.old ≤ P.head platform.new }
+        ensures head_by_one { P.head platform.new ≤ P.head platform.old + 1 }
+        ensures full { IfOk result (λ reply. reply ≡ Reply.Full → P.head platform.new ≡ P.capacity platform.new) }
+        ensures damage { P.tells → (addr : ℕ) → IsErrOf result (DeviceStop.BadRecord addr) → IsWrongPage (P.history platform.new).present addr }
+        ensures answered { P.tells → (entry : State) → Represents (world self.old.session (P.history platform.old) (P.head platform.old) (P.capacity platform.old)) entry
+            → Serves (world self.old.session (P.history platform.old) (P.head platform.old) (P.capacity platform.old))
+            (world self.new.session (P.history platform.new) (P.head platform.new) (P.capacity platform.new)) entry (Command.Trim block) result }
     {
         let Some(mut session) = self.session.take() else {
             return Ok(Reply::Unmounted);
@@ -224,30 +291,42 @@ impl Desk {
         }
     }
 
-    fn commit<P: Platform, T: Tape>(
+    fn commit<P: Platform, T: Tape, L: Sink>(
         &mut self,
         platform: &mut P,
         tape: &mut T,
+        ledger: &mut L,
     ) -> Result<Reply, DeviceStop>
         requires ready { IsReady self.old (P.head platform.old) }
         requires cell { P.tells → IsServedCell (P.history platform.old).present.cell (P.head platform.old) }
+        requires mounted { P.tells → IfSome self.old.session (IsMounted (P.history platform.old).present) }
         ensures ready { OnOk result (IsReady self.new (P.head platform.new)) }
-        ensures cell { P.tells → OnOk result (IsServedCell (P.history platform.new).present.cell (P.head platform.new)) }
+        ensures cell { P.tells → IsServedCell (P.history platform.new).present.cell (P.head platform.new) }
+        ensures mounted { P.tells → OnOk result (IfSome self.new.session (IsMounted (P.history platform.new).present)) }
         ensures reply { IfOk result CanWrite }
         ensures bad_root { P.tells → IsErrOf result DeviceStop.BadRoot → ⊥ }
-        ensures counts { NoneFell (counts (P.faults platform.old) (T.faults tape.old) 0 0) (counts (P.faults platform.new) (T.faults tape.new) 0 0) }
-        ensures cause { IfErr result (λ stop. HasCause (counts (P.faults platform.old) (T.faults tape.old) 0 0) (counts (P.faults platform.new) (T.faults tape.new) 0 0) (Stop.Device stop)) }
-        ensures bad_record { (addr : ℕ) → IsErrOf result (DeviceStop.BadRecord addr) → ⊥ }
-        ensures answered { P.tells → (entry : State) → Represents self.old (P.history platform.old).present entry
-            → Serves (Represents self.new (P.history platform.new).present) entry (Command.Commit) result }
+        ensures counts { NoneFell (counts (P.faults platform.old) (T.faults tape.old) 0 0 (L.faults ledger.old))
+            (counts (P.faults platform.new) (T.faults tape.new) 0 0 (L.faults ledger.new)) }
+        ensures cause { IfErr result (λ stop. HasCause (counts (P.faults platform.old) (T.faults tape.old) 0 0 (L.faults ledger.old))
+            (counts (P.faults platform.new) (T.faults tape.new) 0 0 (L.faults ledger.new)) (Stop.Device stop)) }
+        ensures unput { L.written ledger.new ≡ L.written ledger.old }
+        ensures capacity { P.capacity platform.new ≡ P.capacity platform.old }
+        ensures head_rises { P.head platform.old ≤ P.head platform.new }
+        ensures head_by_one { P.head platform.new ≤ P.head platform.old + 1 }
+        ensures full { IfOk result (λ reply. reply ≡ Reply.Full → P.head platform.new ≡ P.capacity platform.new) }
+        ensures damage { (addr : ℕ) → IsErrOf result (DeviceStop.BadRecord addr) → ⊥ }
+        ensures answered { P.tells → (entry : State) → Represents (world self.old.session (P.history platform.old) (P.head platform.old) (P.capacity platform.old)) entry
+            → Serves (world self.old.session (P.history platform.old) (P.head platform.old) (P.capacity platform.old))
+            (world self.new.session (P.history platform.new) (P.head platform.new) (P.capacity platform.new)) entry Command.Commit result }
     {
         let Some(session) = self.session.take() else {
             return Ok(Reply::Unmounted);
         };
-        let answer = match session.commit(platform, tape, &mut NoLedger) {
+        let answer = match session.commit(platform, tape, ledger) {
             Ok(answer) => answer,
-            Err(CommitFault::Memory | CommitFault::LedgerFault) => return Err(DeviceStop::Memory),
+            Err(CommitFault::Memory) => return Err(DeviceStop::Memory),
             Err(CommitFault::TapeFault) => return Err(DeviceStop::Tape),
+            Err(CommitFault::LedgerFault) => return Err(DeviceStop::Ledger),
             Err(CommitFault::PlatformFault) => return Err(DeviceStop::Platform),
         };
         let (session, reply) = answer;
@@ -259,11 +338,13 @@ impl Desk {
 
     fn give_up<P: Platform>(&mut self, platform: &P) -> Result<Reply, DeviceStop>
         requires ready { IsReady self.old (P.head platform.now) }
-        ensures ready { OnOk result (IsReady self.new (P.head platform.now)) }
+        ensures session { self.new.session ≡ None }
         ensures reply { IfOk result CanWrite }
+        ensures full { IfOk result (λ reply. reply ≡ Reply.Full → ⊥) }
         ensures stop { IfErr result (λ stop. ⊥) }
-        ensures answered { P.tells → (entry : State) → Represents self.old (P.history platform.now).present entry
-            → Serves (Represents self.new (P.history platform.now).present) entry Command.Drop result }
+        ensures answered { P.tells → (entry : State) → Represents (world self.old.session (P.history platform.now) (P.head platform.now) (P.capacity platform.now)) entry
+            → Serves (world self.old.session (P.history platform.now) (P.head platform.now) (P.capacity platform.now))
+            (world self.new.session (P.history platform.now) (P.head platform.now) (P.capacity platform.now)) entry Command.Drop result }
     {
         let _ = platform;
         let Some(_) = self.session.take() else {
@@ -275,15 +356,24 @@ impl Desk {
     fn erase<P: Platform>(&mut self, platform: &mut P) -> Result<Reply, DeviceStop>
         requires ready { IsReady self.old (P.head platform.old) }
         requires cell { P.tells → IsServedCell (P.history platform.old).present.cell (P.head platform.old) }
+        requires mounted { P.tells → IfSome self.old.session (IsMounted (P.history platform.old).present) }
         ensures ready { OnOk result (IsReady self.new (P.head platform.new)) }
-        ensures cell { P.tells → OnOk result (IsServedCell (P.history platform.new).present.cell (P.head platform.new)) }
+        ensures cell { P.tells → IsServedCell (P.history platform.new).present.cell (P.head platform.new) }
+        ensures mounted { P.tells → OnOk result (IfSome self.new.session (IsMounted (P.history platform.new).present)) }
         ensures reply { IfOk result CanWrite }
         ensures bad_root { P.tells → IsErrOf result DeviceStop.BadRoot → ⊥ }
-        ensures count { P.faults platform.old ≤ P.faults platform.new }
-        ensures cause { IfErr result (λ stop. HasCause (counts (P.faults platform.old) 0 0 0) (counts (P.faults platform.new) 0 0 0) (Stop.Device stop)) }
-        ensures bad_record { (addr : ℕ) → IsErrOf result (DeviceStop.BadRecord addr) → ⊥ }
-        ensures answered { P.tells → (entry : State) → Represents self.old (P.history platform.old).present entry
-            → Serves (Represents self.new (P.history platform.new).present) entry (Command.Erase) result }
+        ensures counts { NoneFell (counts (P.faults platform.old) 0 0 0 0)
+            (counts (P.faults platform.new) 0 0 0 0) }
+        ensures cause { IfErr result (λ stop. HasCause (counts (P.faults platform.old) 0 0 0 0)
+            (counts (P.faults platform.new) 0 0 0 0) (Stop.Device stop)) }
+        ensures capacity { P.capacity platform.new ≡ P.capacity platform.old }
+        ensures head_rises { P.head platform.old ≤ P.head platform.new }
+        ensures head_by_one { P.head platform.new ≤ P.head platform.old + 1 }
+        ensures full { IfOk result (λ reply. reply ≡ Reply.Full → P.head platform.new ≡ P.capacity platform.new) }
+        ensures damage { (addr : ℕ) → IsErrOf result (DeviceStop.BadRecord addr) → ⊥ }
+        ensures answered { P.tells → (entry : State) → Represents (world self.old.session (P.history platform.old) (P.head platform.old) (P.capacity platform.old)) entry
+            → Serves (world self.old.session (P.history platform.old) (P.head platform.old) (P.capacity platform.old))
+            (world self.new.session (P.history platform.new) (P.head platform.new) (P.capacity platform.new)) entry Command.Erase result }
     {
         match device_core::erase(platform) {
             Ok(()) => {
@@ -298,9 +388,11 @@ impl Desk {
     fn stat<P: Platform>(&self, platform: &P) -> Result<Reply, DeviceStop>
         requires ready { IsReady self.now (P.head platform.now) }
         ensures reply { IfOk result CanWrite }
+        ensures full { IfOk result (λ reply. reply ≡ Reply.Full → ⊥) }
         ensures stop { IfErr result (λ stop. ⊥) }
-        ensures answered { P.tells → (entry : State) → Represents self.now (P.history platform.now).present entry
-            → Serves (Represents self.now (P.history platform.now).present) entry Command.Stat result }
+        ensures answered { P.tells → (entry : State) → Represents (world self.now.session (P.history platform.now) (P.head platform.now) (P.capacity platform.now)) entry
+            → Serves (world self.now.session (P.history platform.now) (P.head platform.now) (P.capacity platform.now))
+            (world self.now.session (P.history platform.now) (P.head platform.now) (P.capacity platform.now)) entry Command.Stat result }
     {
         let _ = platform;
         match &self.session {
@@ -327,8 +419,11 @@ fn refuse_format<P: Platform>(platform: &mut P, reply: Reply) -> Result<Reply, D
     requires { CanWrite reply }
     ensures replies { P.tells → IfOk result (λ now. ((now ≡ Reply.NotEmpty) × ((P.history platform.old).present.cell ≢ None))
         ⊎ ((now ≡ reply) × ((P.history platform.old).present.cell ≡ None))) }
+    ensures either { IfOk result (λ now. (now ≡ Reply.NotEmpty) ⊎ (now ≡ reply)) }
     ensures image { P.tells → (P.history platform.new).present ≡ (P.history platform.old).present }
+    ensures time { P.tells → During (P.history platform.old) (P.history platform.new) (λ image. image.cell ≡ (P.history platform.old).present.cell) }
     ensures head { P.head platform.new ≡ P.head platform.old }
+    ensures capacity { P.capacity platform.new ≡ P.capacity platform.old }
     ensures reply { IfOk result CanWrite }
     ensures count { P.faults platform.old ≤ P.faults platform.new }
     ensures cause { IfErr result (λ stop. (stop ≡ DeviceStop.Platform) × Rose (P.faults platform.old) (P.faults platform.new)) }

@@ -1,6 +1,7 @@
 //! What is looked at before the first line.
 ghost use Rattle.std.specs.Prelude.{◌≡◌, ◌≤◌, ◌⊎◌, IfErr, OnOk, IsErrOf, IfSome, IfNone, length};
 ghost use Rattle.sdbt_base.specs.Faults.{Rose};
+ghost use Rattle.platform.specs.History.{Steps};
 ghost use Rattle.root_codec.specs.declared.root.Root.{Root};
 ghost use Rattle.root_codec.specs.RootRecord.{root_bytes};
 ghost use Rattle.device_core.specs.Leaf.{IsServed, IsServedCell};
@@ -19,7 +20,9 @@ pub(crate) fn check_cell<P: Platform>(platform: &mut P) -> Result<(), DeviceStop
     ensures bad_root { P.tells → IsErrOf result DeviceStop.BadRoot → IsServedCell (P.history platform.old).present.cell (P.head platform.old) → ⊥ }
     ensures stops { IfErr result (λ stop. (stop ≡ DeviceStop.BadRoot) ⊎ ((stop ≡ DeviceStop.Platform) × Rose (P.faults platform.old) (P.faults platform.new))) }
     ensures image { P.tells → (P.history platform.new).present ≡ (P.history platform.old).present }
+    ensures time { P.tells → Steps (P.history platform.old) (P.history platform.new) }
     ensures head { P.head platform.new ≡ P.head platform.old }
+    ensures capacity { P.capacity platform.new ≡ P.capacity platform.old }
     ensures count { P.faults platform.old ≤ P.faults platform.new }
 {
     let mut cell = [0; ROOT];

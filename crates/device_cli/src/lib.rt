@@ -3,18 +3,19 @@
 //! [`run_main`] takes the words of a command line and the objects of the outside, and answers an exit status.
 #![tactic(auto)]
 
-ghost use Rattle.std.specs.Prelude.{◌≡◌, ℕ, List, ◌↔◌, ◌⊎◌, map, string_bytes};
+ghost use Rattle.std.specs.Prelude.{◌≡◌, ◌≤◌, ℕ, List, Option, None, ◌↔◌, ◌⊎◌, map, string_bytes};
 ghost use Rattle.sdbt_base.specs.Faults.{Rose};
 ghost use Rattle.sdbt_base.specs.Told.{Gave};
 ghost use Rattle.device_cli.specs.Words.{AreRunWords};
 ghost use Rattle.device_core.specs.Leaf.{IsServedCell};
-ghost use Rattle.device_cli.specs.Represents.{StoodAlone, StoodBy};
-ghost use Rattle.device_cli.specs.Ran.{AnswersScript};
-ghost use Rattle.device_cli.specs.Run.{IsStatus, Took, NoneFell, counts};
+ghost use Rattle.script_lang.specs.declared.devices.Device.{Device};
+ghost use Rattle.device_cli.specs.World.{world};
+ghost use Rattle.device_cli.specs.Represents.{StandsFor, closed};
+ghost use Rattle.device_cli.specs.Ran.{AnswersScript, IsAmple, IsComplete};
+ghost use Rattle.device_cli.specs.Run.{IsStatus, Took, NoneFell, NoneRose, counts};
 
 mod desk;
 mod entry;
-mod no_ledger;
 mod pending;
 mod run;
 mod stop;
@@ -30,7 +31,7 @@ use words::are_run_words;
 ///
 /// With no words, or `run`, it serves the script that `input` gives: each whole line before more input is
 /// taken, one reply for each line, put to `output` in one put. Statuses: 0, the input was served to its end;
-/// 2, other words; 3, 4, 5 and 6, `input`, `output`, the platform or the tape failed; 8, the root cell is full and
+/// 2, other words; 3 to 7, `input`, `output`, the platform, the tape or `ledger` failed; 8, the root cell is full and
 /// its root record can't be served; 9, a record was not what the tree wants there; 11, no memory;
 /// 12, the limit of 2^32 bytes of input was reached. Nothing is put to `ledger` yet.
 pub fn run_main<P: Platform, T: Tape, I: Source, O: Sink, L: Sink>(
@@ -51,8 +52,9 @@ pub fn run_main<P: Platform, T: Tape, I: Source, O: Sink, L: Sink>(
     ensures output_fault { result ≡ 4 → Rose (O.faults output.old) (O.faults output.new) }
     ensures platform_fault { result ≡ 5 → Rose (P.faults platform.old) (P.faults platform.new) }
     ensures tape_fault { result ≡ 6 → Rose (T.faults tape.old) (T.faults tape.new) }
-    ensures counts { NoneFell (counts (P.faults platform.old) (T.faults tape.old) (I.faults input.old) (O.faults output.old))
-        (counts (P.faults platform.new) (T.faults tape.new) (I.faults input.new) (O.faults output.new)) }
+    ensures ledger_fault { result ≡ 7 → Rose (L.faults ledger.old) (L.faults ledger.new) }
+    ensures counts { NoneFell (counts (P.faults platform.old) (T.faults tape.old) (I.faults input.old) (O.faults output.old) (L.faults ledger.old))
+        (counts (P.faults platform.new) (T.faults tape.new) (I.faults input.new) (O.faults output.new) (L.faults ledger.new)) }
 
     // 8 exactly where the cell at the start is full and can't be served, unless that could not be told or not be said.
     ensures bad_root_only { P.tells → result ≡ 8 → IsServedCell (P.history platform.old).present.cell (P.head platform.old) → ⊥ }
@@ -60,20 +62,33 @@ pub fn run_main<P: Platform, T: Tape, I: Source, O: Sink, L: Sink>(
         → (result ≡ 8) ⊎ (result ≡ 4) ⊎ (result ≡ 5) }
 
     // The bytes put are the lines of replies, one for each line in turn, and perhaps a part behind them; on a device that
-    // stands they are the replies of an array of blocks.
-    ensures answers { AnswersScript (λ state. StoodAlone P.tells (P.history platform.old).present state × IsServedCell (P.history platform.old).present.cell (P.head platform.old))
-        (StoodBy P.tells (P.history platform.new).present) result (I.left input.old) (I.left input.new) (O.written output.old) (O.written output.new) }
+    // stands they are the replies of an array of blocks, and at each moment a loss of power leaves a device that they passed.
+    ensures answers { AnswersScript P.tells (world None (P.history platform.old) (P.head platform.old) (P.capacity platform.old))
+        (world None (P.history platform.new) (P.head platform.new) (P.capacity platform.new))
+        result (I.left input.old) (I.left input.new) (O.written output.old) (O.written output.new) }
+
+    // With room for a page a line, a short input and no fault, each line has its reply, unless no memory is given.
+    ensures complete { P.tells → (there : Option Device) → StandsFor (P.history platform.old).present there
+        → IsServedCell (P.history platform.old).present.cell (P.head platform.old) → AreRunWords (map string_bytes words.now)
+        → (text : List ℕ) → IsAmple (I.left input.old) text (P.head platform.old) (P.capacity platform.old)
+        → NoneRose (counts (P.faults platform.old) (T.faults tape.old) (I.faults input.old) (O.faults output.old) (L.faults ledger.old))
+        (counts (P.faults platform.new) (T.faults tape.new) (I.faults input.new) (O.faults output.new) (L.faults ledger.new))
+        → (result ≡ 11) ⊎ ((result ≡ 0) × IsComplete (closed there) text (O.written output.old) (O.written output.new)) }
+
+    // A cell that can be served stays one, and pages are only added.
+    ensures served { P.tells → IsServedCell (P.history platform.old).present.cell (P.head platform.old) → IsServedCell (P.history platform.new).present.cell (P.head platform.new) }
+    ensures head { P.head platform.old ≤ P.head platform.new }
+    ensures capacity { P.capacity platform.new ≡ P.capacity platform.old }
 
     // 0 and 3 before the limit of input, and 12 at it.
     ensures taken { (taken : List ℕ) × Gave (I.left input.old) taken (I.left input.new) × Took result taken (I.left input.new) }
     ensures nothing_put { result ≡ 2 → O.written output.new ≡ O.written output.old }
     ensures ledger { L.written ledger.new ≡ L.written ledger.old }
 {
-    let _ = ledger;
     if !are_run_words(words) {
         return 2;
     }
-    match run(alloc, platform, tape, input, output) {
+    match run(alloc, platform, tape, input, output, ledger) {
         Ok(()) => 0,
         Err(stop) => stop.status(),
     }

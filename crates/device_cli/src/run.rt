@@ -1,5 +1,5 @@
 //! Serves a script line by line.
-ghost use Rattle.std.specs.Prelude.{◌≡◌, ◌≤◌, ◌⊎◌, ◌∷◌, [], ◌++◌, ℕ, List, IfErr, OnOk, IsOk, IsErrOf, ◌+◌, length, IfSome, IfNone, option_copied};
+ghost use Rattle.std.specs.Prelude.{◌≡◌, ◌≤◌, ◌⊎◌, ◌∷◌, [], ◌++◌, ℕ, List, IfErr, OnOk, IsOk, IsErrOf, ◌+◌, length, IfSome, IfNone, Option, None, option_copied};
 ghost use Rattle.arrayvec.specs.ArrayVec.{array_vec_len};
 ghost use Rattle.sdbt_base.specs.Faults.{Rose};
 ghost use Rattle.sdbt_base.specs.Told.{Got, GotPart};
@@ -7,10 +7,11 @@ ghost use Rattle.script_lang.specs.Grammar.{Spells, IsBad, HasNone};
 ghost use Rattle.script_lang.specs.Lines.{whole_lines_of, rest_of, last_line as line_at_end};
 ghost use Rattle.script_lang.specs.Replies.{CanWrite, line_of};
 ghost use Rattle.device_core.specs.Leaf.{IsServedCell};
-ghost use Rattle.device_cli.specs.Desk.{IsReady};
+ghost use Rattle.device_core.specs.declared.session.Session.{Session};
+ghost use Rattle.device_cli.specs.Desk.{IsReady, IsMounted};
+ghost use Rattle.device_cli.specs.World.{world};
 ghost use Rattle.device_cli.specs.Run.{counts, NoneFell, HasCause, IsOfLine, IsRefusal, status_of};
 ghost use Rattle.device_cli.specs.Kept.{IsKept, IsPending};
-ghost use Rattle.device_cli.specs.Represents.{Stood, StoodAlone, StoodBy};
 ghost use Rattle.device_cli.specs.Replied.{Handled, HasPut, IsSound, no_line, damage_line};
 ghost use Rattle.device_cli.specs.Ran.{Ran};
 
@@ -28,26 +29,32 @@ use std::alloc::Global;
 const PIECE: usize = 4096;
 
 /// Serves the script that the input gives, where the root cell is empty or its record can be served.
-pub(crate) fn run<P: Platform, T: Tape, I: Source, O: Sink>(
+pub(crate) fn run<P: Platform, T: Tape, I: Source, O: Sink, L: Sink>(
     alloc: Global,
     platform: &mut P,
     tape: &mut T,
     input: &mut I,
     output: &mut O,
+    ledger: &mut L,
 ) -> Result<(), Stop>
     ensures refused_only { P.tells → IfErr result (λ stop. status_of stop ≡ 8 → IsServedCell (P.history platform.old).present.cell (P.head platform.old) → ⊥) }
     ensures refused { P.tells → (IsServedCell (P.history platform.old).present.cell (P.head platform.old) → ⊥) → IfErr result (λ stop. IsRefusal stop) × (IsOk result → ⊥) }
-    ensures counts { NoneFell (counts (P.faults platform.old) (T.faults tape.old) (I.faults input.old) (O.faults output.old)) (counts (P.faults platform.new) (T.faults tape.new) (I.faults input.new) (O.faults output.new)) }
-    ensures cause { IfErr result (HasCause (counts (P.faults platform.old) (T.faults tape.old) (I.faults input.old) (O.faults output.old)) (counts (P.faults platform.new) (T.faults tape.new) (I.faults input.new) (O.faults output.new))) }
-    ensures ran { Ran (λ state. StoodAlone P.tells (P.history platform.old).present state × IsServedCell (P.history platform.old).present.cell (P.head platform.old))
-        (StoodBy P.tells (P.history platform.new).present) damage_line result (I.left input.old) (I.left input.new) (O.written output.old) (O.written output.new) }
+    ensures counts { NoneFell (counts (P.faults platform.old) (T.faults tape.old) (I.faults input.old) (O.faults output.old) (L.faults ledger.old)) 
+        (counts (P.faults platform.new) (T.faults tape.new) (I.faults input.new) (O.faults output.new) (L.faults ledger.new)) }
+    ensures cause { IfErr result (HasCause (counts (P.faults platform.old) (T.faults tape.old) (I.faults input.old) (O.faults output.old) (L.faults ledger.old)) 
+        (counts (P.faults platform.new) (T.faults tape.new) (I.faults input.new) (O.faults output.new) (L.faults ledger.new))) }
+    ensures cell { P.tells → IsServedCell (P.history platform.old).present.cell (P.head platform.old) → IsServedCell (P.history platform.new).present.cell (P.head platform.new) }
+    ensures unput { L.written ledger.new ≡ L.written ledger.old }
+    ensures ran { (session : Option Session) × Ran P.tells (world None (P.history platform.old) (P.head platform.old) (P.capacity platform.old))
+        (world session (P.history platform.new) (P.head platform.new) (P.capacity platform.new))
+        damage_line result (I.left input.old) (I.left input.new) (O.written output.old) (O.written output.new) }
 {
     match check_cell(platform) {
         Ok(()) => {}
         Err(stop) => return Err(last_line(stop, output)),
     }
     let mut desk = Desk::new(alloc);
-    let Err(stop) = serve_input(&mut desk, platform, tape, input, output) else {
+    let Err(stop) = serve_input(&mut desk, platform, tape, input, output, ledger) else {
         return Ok(());
     };
     match stop {
@@ -57,19 +64,26 @@ pub(crate) fn run<P: Platform, T: Tape, I: Source, O: Sink>(
 }
 
 /// Takes pieces of the input to its end, or to the limit, and serves the lines in them.
-fn serve_input<P: Platform, T: Tape, I: Source, O: Sink>(
+fn serve_input<P: Platform, T: Tape, I: Source, O: Sink, L: Sink>(
     desk: &mut Desk,
     platform: &mut P,
     tape: &mut T,
     input: &mut I,
     output: &mut O,
+    ledger: &mut L,
 ) -> Result<(), Stop>
     requires ready { IsReady desk.old (P.head platform.old) }
     requires cell { P.tells → IsServedCell (P.history platform.old).present.cell (P.head platform.old) }
+    requires mounted { P.tells → IfSome desk.old.session (IsMounted (P.history platform.old).present) }
     ensures bad_root { P.tells → IsErrOf result (Stop.Device DeviceStop.BadRoot) → ⊥ }
-    ensures counts { NoneFell (counts (P.faults platform.old) (T.faults tape.old) (I.faults input.old) (O.faults output.old)) (counts (P.faults platform.new) (T.faults tape.new) (I.faults input.new) (O.faults output.new)) }
-    ensures cause { IfErr result (HasCause (counts (P.faults platform.old) (T.faults tape.old) (I.faults input.old) (O.faults output.old)) (counts (P.faults platform.new) (T.faults tape.new) (I.faults input.new) (O.faults output.new))) }
-    ensures ran { Ran (Stood P.tells desk.old (P.history platform.old).present) (Stood P.tells desk.new (P.history platform.new).present)
+    ensures counts { NoneFell (counts (P.faults platform.old) (T.faults tape.old) (I.faults input.old) (O.faults output.old) (L.faults ledger.old)) 
+        (counts (P.faults platform.new) (T.faults tape.new) (I.faults input.new) (O.faults output.new) (L.faults ledger.new)) }
+    ensures cause { IfErr result (HasCause (counts (P.faults platform.old) (T.faults tape.old) (I.faults input.old) (O.faults output.old) (L.faults ledger.old)) 
+        (counts (P.faults platform.new) (T.faults tape.new) (I.faults input.new) (O.faults output.new) (L.faults ledger.new))) }
+    ensures cell { P.tells → IsServedCell (P.history platform.new).present.cell (P.head platform.new) }
+    ensures unput { L.written ledger.new ≡ L.written ledger.old }
+    ensures ran { Ran P.tells (world desk.old.session (P.history platform.old) (P.head platform.old) (P.capacity platform.old))
+        (world desk.new.session (P.history platform.new) (P.head platform.new) (P.capacity platform.new))
         no_line result (I.left input.old) (I.left input.new) (O.written output.old) (O.written output.new) }
 {
     let mut piece = [0; PIECE];
@@ -81,9 +95,17 @@ fn serve_input<P: Platform, T: Tape, I: Source, O: Sink>(
             return Err(Stop::Source);
         };
         if count == 0 {
-            return serve_end(desk, &pending, platform, tape, output);
+            return serve_end(desk, &pending, platform, tape, output, ledger);
         }
-        match serve_piece(desk, &mut pending, platform, tape, output, &piece[..count]) {
+        match serve_piece(
+            desk,
+            &mut pending,
+            platform,
+            tape,
+            output,
+            ledger,
+            &piece[..count],
+        ) {
             Ok(()) => {}
             Err(stop) => return Err(stop),
         }
@@ -93,30 +115,37 @@ fn serve_input<P: Platform, T: Tape, I: Source, O: Sink>(
 }
 
 /// Serves each line that a piece ends, and keeps what comes behind the last line feed.
-fn serve_piece<P: Platform, T: Tape, O: Sink>(
+fn serve_piece<P: Platform, T: Tape, O: Sink, L: Sink>(
     desk: &mut Desk,
     pending: &mut Pending,
     platform: &mut P,
     tape: &mut T,
     output: &mut O,
+    ledger: &mut L,
     piece: &[u8],
 ) -> Result<(), Stop>
     requires ready { IsReady desk.old (P.head platform.old) }
     requires cell { P.tells → IsServedCell (P.history platform.old).present.cell (P.head platform.old) }
+    requires mounted { P.tells → IfSome desk.old.session (IsMounted (P.history platform.old).present) }
     ensures ready { OnOk result (IsReady desk.new (P.head platform.new)) }
-    ensures cell { P.tells → OnOk result (IsServedCell (P.history platform.new).present.cell (P.head platform.new)) }
+    ensures cell { P.tells → IsServedCell (P.history platform.new).present.cell (P.head platform.new) }
+    ensures mounted { P.tells → OnOk result (IfSome desk.new.session (IsMounted (P.history platform.new).present)) }
+    ensures unput { L.written ledger.new ≡ L.written ledger.old }
     ensures bad_root { P.tells → IsErrOf result (Stop.Device DeviceStop.BadRoot) → ⊥ }
-    ensures counts { NoneFell (counts (P.faults platform.old) (T.faults tape.old) 0 (O.faults output.old)) (counts (P.faults platform.new) (T.faults tape.new) 0 (O.faults output.new)) }
-    ensures cause { IfErr result (HasCause (counts (P.faults platform.old) (T.faults tape.old) 0 (O.faults output.old)) (counts (P.faults platform.new) (T.faults tape.new) 0 (O.faults output.new))) }
+    ensures counts { NoneFell (counts (P.faults platform.old) (T.faults tape.old) 0 (O.faults output.old) (L.faults ledger.old)) 
+        (counts (P.faults platform.new) (T.faults tape.new) 0 (O.faults output.new) (L.faults ledger.new)) }
+    ensures cause { IfErr result (HasCause (counts (P.faults platform.old) (T.faults tape.old) 0 (O.faults output.old) (L.faults ledger.old)) 
+        (counts (P.faults platform.new) (T.faults tape.new) 0 (O.faults output.new) (L.faults ledger.new))) }
     ensures stops { IfErr result IsOfLine }
     ensures pending { (rest : List ℕ) → IsPending pending.old rest → OnOk result (IsPending pending.new (rest_of (rest ++ piece.now))) }
-    ensures handled { (rest : List ℕ) → IsPending pending.old rest → Handled (Stood P.tells desk.old (P.history platform.old).present) (Stood P.tells desk.new (P.history platform.new).present)
+    ensures handled { (rest : List ℕ) → IsPending pending.old rest → Handled P.tells (world desk.old.session (P.history platform.old) (P.head platform.old) (P.capacity platform.old))
+        (world desk.new.session (P.history platform.new) (P.head platform.new) (P.capacity platform.new))
         no_line result (whole_lines_of (rest ++ piece.now)) (O.written output.old) (O.written output.new) }
 {
     let mut rest = piece;
     while let Some((front, behind)) = split_line(rest) {
         pending.push(front);
-        if let Err(stop) = answer(desk, pending.line(), platform, tape, output) {
+        if let Err(stop) = answer(desk, pending.line(), platform, tape, output, ledger) {
             return Err(stop);
         }
         pending.clear();
@@ -137,53 +166,67 @@ fn split_line(text: &[u8]) -> Option<(&[u8], &[u8])>
 }
 
 /// Serves a last line that lacks its line feed.
-fn serve_end<P: Platform, T: Tape, O: Sink>(
+fn serve_end<P: Platform, T: Tape, O: Sink, L: Sink>(
     desk: &mut Desk,
     pending: &Pending,
     platform: &mut P,
     tape: &mut T,
     output: &mut O,
+    ledger: &mut L,
 ) -> Result<(), Stop>
     requires ready { IsReady desk.old (P.head platform.old) }
     requires cell { P.tells → IsServedCell (P.history platform.old).present.cell (P.head platform.old) }
+    requires mounted { P.tells → IfSome desk.old.session (IsMounted (P.history platform.old).present) }
     ensures ready { OnOk result (IsReady desk.new (P.head platform.new)) }
-    ensures cell { P.tells → OnOk result (IsServedCell (P.history platform.new).present.cell (P.head platform.new)) }
+    ensures cell { P.tells → IsServedCell (P.history platform.new).present.cell (P.head platform.new) }
+    ensures mounted { P.tells → OnOk result (IfSome desk.new.session (IsMounted (P.history platform.new).present)) }
+    ensures unput { L.written ledger.new ≡ L.written ledger.old }
     ensures bad_root { P.tells → IsErrOf result (Stop.Device DeviceStop.BadRoot) → ⊥ }
-    ensures counts { NoneFell (counts (P.faults platform.old) (T.faults tape.old) 0 (O.faults output.old)) (counts (P.faults platform.new) (T.faults tape.new) 0 (O.faults output.new)) }
-    ensures cause { IfErr result (HasCause (counts (P.faults platform.old) (T.faults tape.old) 0 (O.faults output.old)) (counts (P.faults platform.new) (T.faults tape.new) 0 (O.faults output.new))) }
+    ensures counts { NoneFell (counts (P.faults platform.old) (T.faults tape.old) 0 (O.faults output.old) (L.faults ledger.old)) 
+        (counts (P.faults platform.new) (T.faults tape.new) 0 (O.faults output.new) (L.faults ledger.new)) }
+    ensures cause { IfErr result (HasCause (counts (P.faults platform.old) (T.faults tape.old) 0 (O.faults output.old) (L.faults ledger.old)) 
+        (counts (P.faults platform.new) (T.faults tape.new) 0 (O.faults output.new) (L.faults ledger.new))) }
     ensures stops { IfErr result IsOfLine }
-    ensures handled { (rest : List ℕ) → IsPending pending.now rest → Handled (Stood P.tells desk.old (P.history platform.old).present) (Stood P.tells desk.new (P.history platform.new).present)
+    ensures handled { (rest : List ℕ) → IsPending pending.now rest → Handled P.tells (world desk.old.session (P.history platform.old) (P.head platform.old) (P.capacity platform.old))
+        (world desk.new.session (P.history platform.new) (P.head platform.new) (P.capacity platform.new))
         no_line result (line_at_end rest) (O.written output.old) (O.written output.new) }
 {
     if pending.is_empty() {
         return Ok(());
     }
-    answer(desk, pending.line(), platform, tape, output)
+    answer(desk, pending.line(), platform, tape, output, ledger)
 }
 
 /// Serves a line and puts its reply. None is a line that is too long for the grammar.
-fn answer<P: Platform, T: Tape, O: Sink>(
+fn answer<P: Platform, T: Tape, O: Sink, L: Sink>(
     desk: &mut Desk,
     line: Option<&[u8]>,
     platform: &mut P,
     tape: &mut T,
     output: &mut O,
+    ledger: &mut L,
 ) -> Result<(), Stop>
     requires ready { IsReady desk.old (P.head platform.old) }
     requires cell { P.tells → IsServedCell (P.history platform.old).present.cell (P.head platform.old) }
+    requires mounted { P.tells → IfSome desk.old.session (IsMounted (P.history platform.old).present) }
     ensures ready { OnOk result (IsReady desk.new (P.head platform.new)) }
-    ensures cell { P.tells → OnOk result (IsServedCell (P.history platform.new).present.cell (P.head platform.new)) }
+    ensures cell { P.tells → IsServedCell (P.history platform.new).present.cell (P.head platform.new) }
+    ensures mounted { P.tells → OnOk result (IfSome desk.new.session (IsMounted (P.history platform.new).present)) }
+    ensures unput { L.written ledger.new ≡ L.written ledger.old }
     ensures bad_root { P.tells → IsErrOf result (Stop.Device DeviceStop.BadRoot) → ⊥ }
-    ensures counts { NoneFell (counts (P.faults platform.old) (T.faults tape.old) 0 (O.faults output.old)) (counts (P.faults platform.new) (T.faults tape.new) 0 (O.faults output.new)) }
-    ensures cause { IfErr result (HasCause (counts (P.faults platform.old) (T.faults tape.old) 0 (O.faults output.old)) (counts (P.faults platform.new) (T.faults tape.new) 0 (O.faults output.new))) }
+    ensures counts { NoneFell (counts (P.faults platform.old) (T.faults tape.old) 0 (O.faults output.old) (L.faults ledger.old)) 
+        (counts (P.faults platform.new) (T.faults tape.new) 0 (O.faults output.new) (L.faults ledger.new)) }
+    ensures cause { IfErr result (HasCause (counts (P.faults platform.old) (T.faults tape.old) 0 (O.faults output.old) (L.faults ledger.old)) 
+        (counts (P.faults platform.new) (T.faults tape.new) 0 (O.faults output.new) (L.faults ledger.new))) }
     ensures stops { IfErr result IsOfLine }
-    ensures handled { (text : List ℕ) → IsKept (option_copied line.entry) text → Handled (Stood P.tells desk.old (P.history platform.old).present) (Stood P.tells desk.new (P.history platform.new).present)
+    ensures handled { (text : List ℕ) → IsKept (option_copied line.entry) text → Handled P.tells (world desk.old.session (P.history platform.old) (P.head platform.old) (P.capacity platform.old))
+        (world desk.new.session (P.history platform.new) (P.head platform.new) (P.capacity platform.new))
         no_line result (text ∷ []) (O.written output.old) (O.written output.new) }
 {
     let Some(command) = read_line(line) else {
         return put_reply(&Reply::Bad, output);
     };
-    match desk.serve(platform, tape, &command) {
+    match desk.serve(platform, tape, ledger, &command) {
         Ok(reply) => put_reply(&reply, output),
         Err(stop) => Err(Stop::Device(stop)),
     }
@@ -242,7 +285,7 @@ fn damage_text(stop: DeviceStop) -> ArrayVec<u8, 40>
             push_text(&mut line, itoa::Buffer::new().format(addr).as_bytes());
             push_text(&mut line, b"\n");
         }
-        DeviceStop::Platform | DeviceStop::Tape | DeviceStop::Memory => {}
+        DeviceStop::Platform | DeviceStop::Tape | DeviceStop::Ledger | DeviceStop::Memory => {}
     }
     line
 }

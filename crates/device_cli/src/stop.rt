@@ -7,6 +7,8 @@ pub(crate) enum DeviceStop {
     Platform,
     /// The tape gave no key.
     Tape,
+    /// The ledger failed.
+    Ledger,
     /// The cell is full, and not with a root record that is served.
     BadRoot,
     /// The page at this address holds no record that fits its place.
@@ -41,6 +43,7 @@ impl Stop {
             Stop::Sink => 4,
             Stop::Device(DeviceStop::Platform) => 5,
             Stop::Device(DeviceStop::Tape) => 6,
+            Stop::Device(DeviceStop::Ledger) => 7,
             Stop::Device(DeviceStop::BadRoot) => 8,
             Stop::Device(DeviceStop::BadRecord { .. }) => 9,
             Stop::Device(DeviceStop::Memory) => 11,

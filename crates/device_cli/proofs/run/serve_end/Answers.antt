@@ -1,8 +1,7 @@
 use Rattle.std.proofs.Common.{◌≡◌, ℕ, List, [], Ok, sym, subst, rules}
 use Rattle.script_lang.specs.Lines.{last_line as line_at_end}
-use Rattle.script_lang.specs.Arrays.{State}
 use Rattle.device_cli.specs.Replied.{Handled, no_line}
-use Rattle.device_cli.specs.Represents.{Stood}
+use Rattle.device_cli.specs.World.{World, world}
 use Rattle.device_cli.proofs.RepliedLaws.{Handled-nothing}
 use Rattle.device_cli.proofs.run.serve_end.Goals as goal
 
@@ -10,7 +9,7 @@ pub returns-then-is_empty-clause-handled : goal.returns-then-is_empty-clause-han
 returns-then-is_empty-clause-handled g c rest pending =
     let P = g.P.Platform in
     let written = g.O.Sink.written c.args.output.now in
-    let Old : State → Type 0 = Stood P.tells c.args.desk.now (P.history c.args.platform.now).present in
+    let old : World = world c.args.desk.now.session (P.history c.args.platform.now) (P.head c.args.platform.now) (P.capacity c.args.platform.now) in
     let empty : rest ≡ [] = (c.is_empty.ensures rest pending.is_kept).0 (search rules) in
-    subst (λ (line : List ℕ). Handled Old Old no_line (Ok tt) (line_at_end line) written written) (sym empty)
-    (Handled-nothing Old Old no_line written (λ entry old. old))
+    subst (λ (line : List ℕ). Handled P.tells old old no_line (Ok tt) (line_at_end line) written written) (sym empty)
+    (Handled-nothing P.tells old no_line written (g.met.P.Platform.has_room c.args.platform.now))

@@ -1,11 +1,10 @@
-use Rattle.std.proofs.Common.{◌≡◌, ℕ, ◌+◌, ◌-◌, ◌≤◌, List, [], ◌++◌, None, Some, take, drop, length, sym, ◌∙◌, ap, subst, arith, length-take, length-append}
+use Rattle.std.proofs.Common.{◌≡◌, ℕ, ◌+◌, ◌-◌, ◌≤◌, List, [], ◌++◌, None, Some, refl, take, drop, length, sym, ◌∙◌, ap, subst, arith, length-take, length-append}
 use Rattle.std.proofs.lemmas.List.{take-append-le}
 use Rattle.std.proofs.lemmas.Grind.{common_steps}
 use Rattle.std.specs.Prelude.{◌↔◌, Option, IfSome}
 use Rattle.sdbt_base.specs.Told.{Gave, IsAtEnd}
 use Rattle.script_lang.specs.Lines.{rest_of}
-use Rattle.script_lang.specs.Arrays.{State}
-use Rattle.device_cli.specs.Represents.{Stood}
+use Rattle.device_cli.specs.World.{World, world}
 use Rattle.device_cli.proofs.Reading.{IsReading, IsReading-start, IsReading-more, IsReading-stop, IsReading-end, IsReading-failed}
 use Rattle.device_cli.proofs.run.serve_input.Goals as goal
 
@@ -29,9 +28,11 @@ loop-left-init g c =
     record {
       ready = c.requires.ready;
       cell = c.requires.cell;
+      mounted = c.requires.mounted;
+      unput = refl;
       counts = grind (arith, common_steps);
-      reading = IsReading-start (Stood P.tells c.args.desk.now (P.history c.args.platform.now).present) (g.I.Source.left c.args.input.now)
-          (g.O.Sink.written c.args.output.now) c.new-pending.result _ c.new-pending.ensures (omega arith);
+      reading = IsReading-start (world c.args.desk.now.session (P.history c.args.platform.now) (P.head c.args.platform.now) (P.capacity c.args.platform.now)) (g.I.Source.left c.args.input.now)
+          (g.O.Sink.written c.args.output.now) c.new-pending.result _ (g.met.P.Platform.has_room c.args.platform.now) c.new-pending.ensures (omega arith);
     }
 
 pub returns-in_default-clause-ran : goal.returns-in_default-clause-ran
@@ -39,11 +40,11 @@ returns-in_default-clause-ran g c =
     let P = g.P.Platform in
     let left = g.I.Source.left in
     let written = g.O.Sink.written in
-    let Old : State → Type 0 = Stood P.tells c.args.desk.now (P.history c.args.platform.now).present in
-    let Mid : State → Type 0 = Stood P.tells c.loop-left.desk (P.history c.loop-left.platform).present in
+    let old : World = world c.args.desk.now.session (P.history c.args.platform.now) (P.head c.args.platform.now) (P.capacity c.args.platform.now) in
+    let mid : World = world c.loop-left.desk.session (P.history c.loop-left.platform) (P.head c.loop-left.platform) (P.capacity c.loop-left.platform) in
     let same : left c.take.new.self ≡ left c.loop-left.input = c.in_default.ensures.nothing_taken in
-    IsReading-failed Old Mid (left c.args.input.now) (left c.take.new.self) (written c.args.output.now) (written c.loop-left.output) c.loop-left.pending c.loop-left.left
-    (subst (λ (l : Option (List ℕ)). IsReading Old Mid (left c.args.input.now) l (written c.args.output.now) (written c.loop-left.output) c.loop-left.pending c.loop-left.left)
+    IsReading-failed P.tells old mid (left c.args.input.now) (left c.take.new.self) (written c.args.output.now) (written c.loop-left.output) c.loop-left.pending c.loop-left.left
+    (subst (λ (l : Option (List ℕ)). IsReading P.tells old mid (left c.args.input.now) l (written c.args.output.now) (written c.loop-left.output) c.loop-left.pending c.loop-left.left)
     (sym same) c.loop-left.invariant.reading)
     c.loop-left-test.true
 
@@ -52,15 +53,15 @@ returns-then-count-eq0-clause-ran g c =
     let P = g.P.Platform in
     let left = g.I.Source.left in
     let written = g.O.Sink.written in
-    let Old : State → Type 0 = Stood P.tells c.args.desk.now (P.history c.args.platform.now).present in
-    let Mid : State → Type 0 = Stood P.tells c.loop-left.desk (P.history c.loop-left.platform).present in
-    let New : State → Type 0 = Stood P.tells c.serve_end.new.desk (P.history c.serve_end.new.platform).present in
+    let old : World = world c.args.desk.now.session (P.history c.args.platform.now) (P.head c.args.platform.now) (P.capacity c.args.platform.now) in
+    let mid : World = world c.loop-left.desk.session (P.history c.loop-left.platform) (P.head c.loop-left.platform) (P.capacity c.loop-left.platform) in
+    let new : World = world c.serve_end.new.desk.session (P.history c.serve_end.new.platform) (P.head c.serve_end.new.platform) (P.capacity c.serve_end.new.platform) in
     let into : List ℕ = c.take.new.into in
     let same : left c.loop-left.input ≡ left c.take.new.self = none_given (left c.loop-left.input) (left c.take.new.self) into c.in-Ok.count c.if-count-eq0.true c.in-Ok.ensures.taken in
-    let reading = subst (λ (l : Option (List ℕ)). IsReading Old Mid (left c.args.input.now) l (written c.args.output.now) (written c.loop-left.output) c.loop-left.pending c.loop-left.left)
+    let reading = subst (λ (l : Option (List ℕ)). IsReading P.tells old mid (left c.args.input.now) l (written c.args.output.now) (written c.loop-left.output) c.loop-left.pending c.loop-left.left)
     same c.loop-left.invariant.reading in
     let end = subst (λ (l : Option (List ℕ)). IsAtEnd l) same (nothing_left (left c.loop-left.input) c.in-Ok.count c.if-count-eq0.true c.in-Ok.ensures.end) in
-    IsReading-end Old Mid New c.serve_end.result (left c.args.input.now) (left c.take.new.self) (written c.args.output.now) (written c.loop-left.output) (written c.serve_end.new.output)
+    IsReading-end P.tells old mid new c.serve_end.result (left c.args.input.now) (left c.take.new.self) (written c.args.output.now) (written c.loop-left.output) (written c.serve_end.new.output)
     c.loop-left.pending c.loop-left.left reading c.loop-left-test.true end c.serve_end.ensures.stops
     (c.serve_end.ensures.handled (rest_of reading.taken) reading.pending)
 
@@ -69,9 +70,9 @@ returns-in-Err-clause-ran g c =
     let P = g.P.Platform in
     let left = g.I.Source.left in
     let written = g.O.Sink.written in
-    let Old : State → Type 0 = Stood P.tells c.args.desk.now (P.history c.args.platform.now).present in
-    let Mid : State → Type 0 = Stood P.tells c.loop-left.desk (P.history c.loop-left.platform).present in
-    let New : State → Type 0 = Stood P.tells c.serve_piece.new.desk (P.history c.serve_piece.new.platform).present in
+    let old : World = world c.args.desk.now.session (P.history c.args.platform.now) (P.head c.args.platform.now) (P.capacity c.args.platform.now) in
+    let mid : World = world c.loop-left.desk.session (P.history c.loop-left.platform) (P.head c.loop-left.platform) (P.capacity c.loop-left.platform) in
+    let new : World = world c.serve_piece.new.desk.session (P.history c.serve_piece.new.platform) (P.head c.serve_piece.new.platform) (P.capacity c.serve_piece.new.platform) in
     let reading = c.loop-left.invariant.reading in
     let into : List ℕ = c.take.new.into in
     let behind : List ℕ = drop c.min-room.result c.loop-left.piece in
@@ -80,7 +81,7 @@ returns-in-Err-clause-ran g c =
     let bound : c.in-Ok.count ≤ length into = omega (arith, c.in-Ok.ensures.bound, c.take.auto.into) in
     let gave = subst (λ (bytes : List ℕ). Gave (left c.loop-left.input) bytes (left c.take.new.self)) (front into behind c.in-Ok.count bound) c.in-Ok.ensures.taken in
     let short : length piece ≤ c.loop-left.left = omega (arith, length-take c.in-Ok.count (into ++ behind), length-append into behind) in
-    IsReading-stop Old Mid New (left c.args.input.now) (left c.loop-left.input) (left c.take.new.self) (written c.args.output.now) (written c.loop-left.output) (written c.serve_piece.new.output)
+    IsReading-stop P.tells old mid new (left c.args.input.now) (left c.loop-left.input) (left c.take.new.self) (written c.args.output.now) (written c.loop-left.output) (written c.serve_piece.new.output)
     c.loop-left.pending c.loop-left.left piece c.in-Err.stop reading gave short c.in-Err.ensures.stops
     (c.in-Err.ensures.handled (rest_of reading.taken) reading.pending)
 
@@ -89,9 +90,9 @@ loop-left-preserved g c =
     let P = g.P.Platform in
     let left = g.I.Source.left in
     let written = g.O.Sink.written in
-    let Old : State → Type 0 = Stood P.tells c.args.desk.now (P.history c.args.platform.now).present in
-    let Mid : State → Type 0 = Stood P.tells c.loop-left.desk (P.history c.loop-left.platform).present in
-    let New : State → Type 0 = Stood P.tells c.serve_piece.new.desk (P.history c.serve_piece.new.platform).present in
+    let old : World = world c.args.desk.now.session (P.history c.args.platform.now) (P.head c.args.platform.now) (P.capacity c.args.platform.now) in
+    let mid : World = world c.loop-left.desk.session (P.history c.loop-left.platform) (P.head c.loop-left.platform) (P.capacity c.loop-left.platform) in
+    let new : World = world c.serve_piece.new.desk.session (P.history c.serve_piece.new.platform) (P.head c.serve_piece.new.platform) (P.capacity c.serve_piece.new.platform) in
     let reading = c.loop-left.invariant.reading in
     let into : List ℕ = c.take.new.into in
     let behind : List ℕ = drop c.min-room.result c.loop-left.piece in
@@ -103,8 +104,10 @@ loop-left-preserved g c =
     record {
       ready = c.in-Ok-serve_piece.ensures.ready;
       cell = c.in-Ok-serve_piece.ensures.cell;
+      mounted = c.in-Ok-serve_piece.ensures.mounted;
+      unput = c.serve_piece.ensures.unput ∙ c.loop-left.invariant.unput;
       counts = grind (arith, c.loop-left.invariant.counts, c.serve_piece.ensures.counts, c.take.ensures.count);
-      reading = IsReading-more Old Mid New (left c.args.input.now) (left c.loop-left.input) (left c.take.new.self) (written c.args.output.now) (written c.loop-left.output) (written c.serve_piece.new.output)
+      reading = IsReading-more P.tells old mid new (left c.args.input.now) (left c.loop-left.input) (left c.take.new.self) (written c.args.output.now) (written c.loop-left.output) (written c.serve_piece.new.output)
           c.loop-left.pending c.serve_piece.new.pending c.loop-left.left (c.loop-left.left - c.in-Ok.count) piece reading gave less
           (c.in-Ok-serve_piece.ensures.pending (rest_of reading.taken) reading.pending) (c.in-Ok-serve_piece.ensures.handled (rest_of reading.taken) reading.pending);
     }

@@ -1,7 +1,9 @@
+use Rattle.std.proofs.Common.{◌≡◌}
+use Rattle.std.specs.Prelude.{IfSome}
 use Rattle.device_core.specs.Leaf.{IsServedCell}
-use Rattle.device_cli.specs.Desk.{IsReady}
+use Rattle.device_cli.specs.Desk.{IsReady, IsMounted}
 use Rattle.device_cli.specs.Run.{counts, NoneFell}
-use Rattle.device_cli.specs.Represents.{Stood}
+use Rattle.device_cli.specs.World.{world}
 use Rattle.device_cli.proofs.Reading.{IsReading}
 use Rattle.device_cli.proofs.run.serve_input.Given as goal
 
@@ -11,11 +13,14 @@ invariant-loop-left g l =
     let T = g.T.Tape in
     let I = g.I.Source in
     let O = g.O.Sink in
+    let L = g.L.Sink in
     record {
       ready : IsReady l.desk (P.head l.platform);
       cell : P.tells → IsServedCell (P.history l.platform).present.cell (P.head l.platform);
-      counts : NoneFell (counts (P.faults l.fn.platform) (T.faults l.fn.tape) (I.faults l.fn.input) (O.faults l.fn.output)) (counts (P.faults l.platform) (T.faults l.tape) (I.faults l.input) (O.faults l.output));
-      reading : IsReading (Stood P.tells l.fn.desk (P.history l.fn.platform).present) (Stood P.tells l.desk (P.history l.platform).present)
+      mounted : P.tells → IfSome l.desk.session (IsMounted (P.history l.platform).present);
+      unput : L.written l.ledger ≡ L.written l.fn.ledger;
+      counts : NoneFell (counts (P.faults l.fn.platform) (T.faults l.fn.tape) (I.faults l.fn.input) (O.faults l.fn.output) (L.faults l.fn.ledger)) (counts (P.faults l.platform) (T.faults l.tape) (I.faults l.input) (O.faults l.output) (L.faults l.ledger));
+      reading : IsReading P.tells (world l.fn.desk.session (P.history l.fn.platform) (P.head l.fn.platform) (P.capacity l.fn.platform)) (world l.desk.session (P.history l.platform) (P.head l.platform) (P.capacity l.platform))
           (I.left l.fn.input) (I.left l.input) (O.written l.fn.output) (O.written l.output) l.pending l.left;
     }
 

@@ -1,10 +1,9 @@
-use Rattle.std.proofs.Common.{ℕ, List, ◌++◌, sym, subst}
+use Rattle.std.proofs.Common.{ℕ, List, ◌++◌, refl, sym, ◌∙◌, subst}
 use Rattle.std.proofs.lemmas.Grind.{common_steps}
 use Rattle.std.proofs.Common.{arith}
 use Rattle.std.specs.Prelude.{Option}
-use Rattle.script_lang.specs.Arrays.{State}
 use Rattle.device_cli.specs.Kept.{IsKept}
-use Rattle.device_cli.specs.Represents.{Stood}
+use Rattle.device_cli.specs.World.{World, world}
 use Rattle.device_cli.proofs.Serving.{IsServing-start, IsServing-line, IsServing-stop, IsServing-end}
 use Rattle.device_cli.proofs.run.serve_piece.Goals as goal
 
@@ -14,27 +13,31 @@ loop-front-init g c =
     record {
       ready = c.requires.ready;
       cell = c.requires.cell;
+      mounted = c.requires.mounted;
+      unput = refl;
       counts = grind (arith, common_steps);
-      serving = λ rest pending. IsServing-start (Stood P.tells c.args.desk.now (P.history c.args.platform.now).present)
-          (g.O.Sink.written c.args.output.now) c.args.pending.now rest c.args.piece.now pending;
+      serving = λ rest pending. IsServing-start (world c.args.desk.now.session (P.history c.args.platform.now) (P.head c.args.platform.now) (P.capacity c.args.platform.now))
+          (g.O.Sink.written c.args.output.now) c.args.pending.now rest c.args.piece.now (g.met.P.Platform.has_room c.args.platform.now) pending;
     }
 
 pub loop-front-preserved : goal.loop-front-preserved
 loop-front-preserved g c =
     let P = g.P.Platform in
     let written = g.O.Sink.written in
-    let Old : State → Type 0 = Stood P.tells c.args.desk.now (P.history c.args.platform.now).present in
-    let Mid : State → Type 0 = Stood P.tells c.loop-front.desk (P.history c.loop-front.platform).present in
-    let New : State → Type 0 = Stood P.tells c.answer.new.desk (P.history c.answer.new.platform).present in
+    let old : World = world c.args.desk.now.session (P.history c.args.platform.now) (P.head c.args.platform.now) (P.capacity c.args.platform.now) in
+    let mid : World = world c.loop-front.desk.session (P.history c.loop-front.platform) (P.head c.loop-front.platform) (P.capacity c.loop-front.platform) in
+    let new : World = world c.answer.new.desk.session (P.history c.answer.new.platform) (P.head c.answer.new.platform) (P.capacity c.answer.new.platform) in
     record {
       ready = c.in_default-answer.ensures.ready;
       cell = c.in_default-answer.ensures.cell;
+      mounted = c.in_default-answer.ensures.mounted;
+      unput = c.in_default-answer.ensures.unput ∙ c.loop-front.invariant.unput;
       counts = grind (arith, c.loop-front.invariant.counts, c.answer.ensures.counts);
       serving = λ rest pending.
           let so_far = c.loop-front.invariant.serving rest pending in
           let line : List ℕ = so_far.line ++ c.in-Some.front.now in
           let kept = subst (λ (k : Option (List ℕ)). IsKept k line) (sym c.line.ensures) (c.push.ensures so_far.line so_far.pending.is_kept) in
-          IsServing-line Old Mid New (written c.args.output.now) (written c.loop-front.output) (written c.answer.new.output) (rest ++ c.args.piece.now)
+          IsServing-line P.tells old mid new (written c.args.output.now) (written c.loop-front.output) (written c.answer.new.output) (rest ++ c.args.piece.now)
           c.loop-front.pending c.clear.new.self c.loop-front.rest.now c.in-Some.front.now c.in-Some.behind.now
           so_far c.in-Some.ensures.found.0 c.in-Some.ensures.found.1 c.clear.ensures (c.in_default-answer.ensures.handled line kept);
     }
@@ -43,13 +46,13 @@ pub returns-in-Err-clause-handled : goal.returns-in-Err-clause-handled
 returns-in-Err-clause-handled g c rest pending =
     let P = g.P.Platform in
     let written = g.O.Sink.written in
-    let Old : State → Type 0 = Stood P.tells c.args.desk.now (P.history c.args.platform.now).present in
-    let Mid : State → Type 0 = Stood P.tells c.loop-front.desk (P.history c.loop-front.platform).present in
-    let New : State → Type 0 = Stood P.tells c.answer.new.desk (P.history c.answer.new.platform).present in
+    let old : World = world c.args.desk.now.session (P.history c.args.platform.now) (P.head c.args.platform.now) (P.capacity c.args.platform.now) in
+    let mid : World = world c.loop-front.desk.session (P.history c.loop-front.platform) (P.head c.loop-front.platform) (P.capacity c.loop-front.platform) in
+    let new : World = world c.answer.new.desk.session (P.history c.answer.new.platform) (P.head c.answer.new.platform) (P.capacity c.answer.new.platform) in
     let so_far = c.loop-front.invariant.serving rest pending in
     let line : List ℕ = so_far.line ++ c.in-Some.front.now in
     let kept = subst (λ (k : Option (List ℕ)). IsKept k line) (sym c.line.ensures) (c.push.ensures so_far.line so_far.pending.is_kept) in
-    IsServing-stop Old Mid New (written c.args.output.now) (written c.loop-front.output) (written c.answer.new.output) (rest ++ c.args.piece.now)
+    IsServing-stop P.tells old mid new (written c.args.output.now) (written c.loop-front.output) (written c.answer.new.output) (rest ++ c.args.piece.now)
     c.loop-front.pending c.loop-front.rest.now c.in-Some.front.now c.in-Some.behind.now c.in-Err.stop
     so_far c.in-Some.ensures.found.0 c.in-Some.ensures.found.1 c.in-Err.ensures.stops (c.in-Err.ensures.handled line kept)
 
@@ -57,7 +60,7 @@ pub returns-clause-pending : goal.returns-clause-pending
 returns-clause-pending g c rest pending =
     let P = g.P.Platform in
     let so_far = c.loop-front.invariant.serving rest pending in
-    let end = IsServing-end (Stood P.tells c.args.desk.now (P.history c.args.platform.now).present) (Stood P.tells c.loop-front.desk (P.history c.loop-front.platform).present)
+    let end = IsServing-end P.tells (world c.args.desk.now.session (P.history c.args.platform.now) (P.head c.args.platform.now) (P.capacity c.args.platform.now)) (world c.loop-front.desk.session (P.history c.loop-front.platform) (P.head c.loop-front.platform) (P.capacity c.loop-front.platform))
     (g.O.Sink.written c.args.output.now) (g.O.Sink.written c.loop-front.output) (rest ++ c.args.piece.now) c.loop-front.pending c.loop-front.rest.now
     so_far c.in_default.ensures.none in
     rw end.1 (record { is_kept = c.push-2.ensures so_far.line so_far.pending.is_kept; feedless = end.2 })
@@ -66,6 +69,6 @@ pub returns-clause-handled : goal.returns-clause-handled
 returns-clause-handled g c rest pending =
     let P = g.P.Platform in
     let so_far = c.loop-front.invariant.serving rest pending in
-    (IsServing-end (Stood P.tells c.args.desk.now (P.history c.args.platform.now).present) (Stood P.tells c.loop-front.desk (P.history c.loop-front.platform).present)
+    (IsServing-end P.tells (world c.args.desk.now.session (P.history c.args.platform.now) (P.head c.args.platform.now) (P.capacity c.args.platform.now)) (world c.loop-front.desk.session (P.history c.loop-front.platform) (P.head c.loop-front.platform) (P.capacity c.loop-front.platform))
     (g.O.Sink.written c.args.output.now) (g.O.Sink.written c.loop-front.output) (rest ++ c.args.piece.now) c.loop-front.pending c.loop-front.rest.now
     so_far c.in_default.ensures.none).0

@@ -1,9 +1,10 @@
-use Rattle.std.proofs.Common.{ℕ, List, ◌++◌, length}
+use Rattle.std.proofs.Common.{◌≡◌, ℕ, List, ◌++◌, length}
+use Rattle.std.specs.Prelude.{IfSome}
 use Rattle.device_core.specs.Leaf.{IsServedCell}
-use Rattle.device_cli.specs.Desk.{IsReady}
+use Rattle.device_cli.specs.Desk.{IsReady, IsMounted}
 use Rattle.device_cli.specs.Run.{counts, NoneFell}
 use Rattle.device_cli.specs.Kept.{IsPending}
-use Rattle.device_cli.specs.Represents.{Stood}
+use Rattle.device_cli.specs.World.{world}
 use Rattle.device_cli.proofs.Serving.{IsServing}
 use Rattle.device_cli.proofs.run.serve_piece.Given as goal
 
@@ -12,12 +13,15 @@ invariant-loop-front g l =
     let P = g.P.Platform in
     let T = g.T.Tape in
     let O = g.O.Sink in
+    let L = g.L.Sink in
     record {
       ready : IsReady l.desk (P.head l.platform);
       cell : P.tells → IsServedCell (P.history l.platform).present.cell (P.head l.platform);
-      counts : NoneFell (counts (P.faults l.fn.platform) (T.faults l.fn.tape) 0 (O.faults l.fn.output)) (counts (P.faults l.platform) (T.faults l.tape) 0 (O.faults l.output));
+      mounted : P.tells → IfSome l.desk.session (IsMounted (P.history l.platform).present);
+      unput : L.written l.ledger ≡ L.written l.fn.ledger;
+      counts : NoneFell (counts (P.faults l.fn.platform) (T.faults l.fn.tape) 0 (O.faults l.fn.output) (L.faults l.fn.ledger)) (counts (P.faults l.platform) (T.faults l.tape) 0 (O.faults l.output) (L.faults l.ledger));
       serving : (rest : List ℕ) → IsPending l.fn.pending rest
-          → IsServing (Stood P.tells l.fn.desk (P.history l.fn.platform).present) (Stood P.tells l.desk (P.history l.platform).present)
+          → IsServing P.tells (world l.fn.desk.session (P.history l.fn.platform) (P.head l.fn.platform) (P.capacity l.fn.platform)) (world l.desk.session (P.history l.platform) (P.head l.platform) (P.capacity l.platform))
           (O.written l.fn.output) (O.written l.output) (rest ++ l.fn.piece) l.pending l.rest;
     }
 

@@ -1,63 +1,90 @@
-use Rattle.std.proofs.Common.{◌≡◌, ◌+◌, ℕ, Some, sym, ◌∙◌, ap, subst}
-use Rattle.std.specs.Prelude.{Result}
-use Rattle.device_core.specs.Replies.{device_after}
-use Rattle.device_core.specs.Open.{is_touched}
-use Rattle.device_core.specs.Holds.{Holds}
-use Rattle.device_core.specs.declared.refusals.CommitReply.{CommitReply}
-use Rattle.script_lang.specs.Arrays.{State, session_on, committed}
-use Rattle.script_lang.specs.declared.commands.Command.TheVariants as commands
+use Rattle.std.proofs.Common.{◌≡◌, ◌≢◌, ◌+◌, ◌<◌, ◌≤◌, ℕ, Bool, true, false, Option, None, Some, Ok, Err, inl, inr, refl, sym, ◌∙◌, ap, subst, arith}
+use Rattle.std.specs.Prelude.{Result, ◌⊎◌, ◌||◌}
+use Rattle.std.proofs.lemmas.Grind.{common_steps}
+use Rattle.script_lang.specs.Arrays.{State}
 use Rattle.script_lang.specs.declared.replies.Reply.{Reply}
 use Rattle.device_cli.specs.declared.stop.DeviceStop.{DeviceStop}
-use Rattle.device_cli.specs.Replied.{Serves}
+use Rattle.device_cli.specs.declared.stop.DeviceStop.TheVariants as device
+use Rattle.device_cli.specs.World.{World, world}
+use Rattle.device_cli.specs.Replied.{Serves, Halts}
 use Rattle.device_cli.specs.Represents.{stored, Represents}
-use Rattle.device_cli.proofs.ServedLaws.{at, with_session, has_session, unchanged, commit_committed, commit_refused}
+use Rattle.device_core.specs.Open.{is_touched}
+use Rattle.device_core.specs.declared.refusals.CommitReply.{CommitReply}
+use Rattle.script_lang.specs.declared.commands.Command.TheVariants.{Commit}
+use Rattle.device_cli.proofs.ServedLaws.{halts_still, gives_unmounted_commit}
+use Rattle.device_cli.proofs.ServingLaws.{KeepsCell, serves_unmounted, serves_committed, serves_commit_full, halts_commit, keeps_same}
 use Rattle.device_cli.proofs.desk.Desk.commit.Goals as goal
+
+not_these : {X Y Z : Type 0} → (X → ⊥) → (Y → ⊥) → X ⊎ (Y ⊎ Z) → Z
+not_these no_x no_y (inl x) = absurd (no_x x)
+not_these no_x no_y (inr (inl y)) = absurd (no_y y)
+not_these no_x no_y (inr (inr z)) = z
+
+pub returns-in_default-clause-answered : goal.returns-in_default-clause-answered
+returns-in_default-clause-answered g c told entry rep =
+    let P = g.P.Platform in
+    let none : c.args.self.now.session ≡ None = grind (arith, common_steps, c.take.ensures.value, c.in_default.is) in
+    serves_unmounted c.args.self.now.session c.take.new.self (P.history c.args.platform.now) (P.head c.args.platform.now) (P.capacity c.args.platform.now) entry _ none c.take.ensures.after
+    (λ full there. gives_unmounted_commit full there) rep
 
 pub returns-in-Committed-clause-answered : goal.returns-in-Committed-clause-answered
 returns-in-Committed-clause-answered g c told entry rep =
     let P = g.P.Platform in
-    let image = (P.history c.args.platform.now).present in
-    let image_now = (P.history c.commit.new.platform).present in
-    let session = c.in-Some.session in
-    let now = c.in-Ok.answer.0 in
-    let desk_now = c.keep.new.self in
-    let New : State → Type 0 = Represents desk_now image_now in
-    let taken : c.args.self.now.session ≡ Some session = cc (c.take.ensures.value, c.in-Some.is) in
-    with_session c.args.self.now image session entry taken rep (λ state. Serves New state commands.Commit c.keep.result)
-    (λ d t holds touched.
-    let after = subst (λ (r : CommitReply). Holds now image_now (device_after r (stored d) t.contents) t.contents) c.in-Committed.is (c.in-Ok.ensures.holds told (stored d) t.contents holds) in
-    subst (λ (r : Result Reply DeviceStop). Serves New (at d t) commands.Commit r) (sym c.keep.ensures.reply)
-    (commit_committed New d t session.root.commit c.in-Committed.number (P.head c.args.platform.now) (P.capacity c.args.platform.now) (is_touched session) c.in-Ok.answer.1 c.in-Committed.is
-    touched holds.stands.number
-    (λ e. let idle = c.in-Ok.ensures.idle e in
-    let still : image_now ≡ image = cc (idle.0) in
-    (idle.3.1, unchanged desk_now image image_now session now d t c.keep.ensures.session idle.3.0 still holds touched))
+    let old : World = world c.args.self.now.session (P.history c.args.platform.now) (P.head c.args.platform.now) (P.capacity c.args.platform.now) in
+    let new : World = world c.keep.new.self.session (P.history c.commit.new.platform) (P.head c.commit.new.platform) (P.capacity c.commit.new.platform) in
+    let taken : c.args.self.now.session ≡ Some c.in-Some.session = cc (c.take.ensures.value, c.in-Some.is) in
+    subst (λ (r : Result Reply DeviceStop). Serves old new entry Commit r) (sym c.keep.ensures.reply)
+    (serves_committed old new entry c.in-Some.session c.in-Ok.answer.0 c.in-Committed.number c.in-Ok.answer.1 taken c.keep.ensures.session c.in-Committed.is
+    (λ e. let idle = c.in-Ok.ensures.idle e in (idle.3.1, idle.3.0, ap (λ p. (P.history p).present) idle.0, keeps_same old new (ap (λ p. P.history p) idle.0)))
     (λ e f. (c.in-Ok.ensures.full e f).3.1)
-    (λ e f. let raised = c.in-Ok.ensures.raised e f in
-    let n : c.in-Committed.number ≡ session.root.commit + 1 = cc (raised.0) in
-    let m : c.in-Committed.number ≡ d.number + 1 = n ∙ ap (λ (k : ℕ). k + 1) holds.stands.number in (
-      raised.0,
-      has_session desk_now image_now now (committed d t) (session_on (committed d t)) c.keep.ensures.session
-          (subst (λ (k : ℕ). Holds now image_now (record (stored d) { number = k; contents = t.contents }) t.contents) m after) raised.2,
-    ))))
+    (λ e f. let raised = c.in-Ok.ensures.raised e f in (raised.0, raised.2))
+    (λ d t holds. (c.in-Ok.ensures.holds told (stored d) t.contents holds, c.commit.ensures.time told (stored d) t.contents holds))
+    rep)
 
 pub returns-in-Full-clause-answered : goal.returns-in-Full-clause-answered
 returns-in-Full-clause-answered g c told entry rep =
     let P = g.P.Platform in
-    let image = (P.history c.args.platform.now).present in
-    let image_now = (P.history c.commit.new.platform).present in
-    let session = c.in-Some.session in
-    let now = c.in-Ok.answer.0 in
-    let desk_now = c.keep-in-Full.new.self in
-    let New : State → Type 0 = Represents desk_now image_now in
-    let taken : c.args.self.now.session ≡ Some session = cc (c.take.ensures.value, c.in-Some.is) in
-    with_session c.args.self.now image session entry taken rep (λ state. Serves New state commands.Commit c.keep-in-Full.result)
-    (λ d t holds touched.
-    subst (λ (r : Result Reply DeviceStop). Serves New (at d t) commands.Commit r) (sym c.keep-in-Full.ensures.reply)
-    (commit_refused New d t session.root.commit c.in-Full.needed c.in-Full.free (P.head c.args.platform.now) (P.capacity c.args.platform.now) (is_touched session) c.in-Ok.answer.1 c.in-Full.is
-    touched
+    let old : World = world c.args.self.now.session (P.history c.args.platform.now) (P.head c.args.platform.now) (P.capacity c.args.platform.now) in
+    let new : World = world c.keep-in-Full.new.self.session (P.history c.commit.new.platform) (P.head c.commit.new.platform) (P.capacity c.commit.new.platform) in
+    let taken : c.args.self.now.session ≡ Some c.in-Some.session = cc (c.take.ensures.value, c.in-Some.is) in
+    subst (λ (r : Result Reply DeviceStop). Serves old new entry Commit r) (sym c.keep-in-Full.ensures.reply)
+    (serves_commit_full old new entry c.in-Some.session c.in-Ok.answer.0 c.in-Full.needed c.in-Full.free c.in-Ok.answer.1 taken c.keep-in-Full.ensures.session c.in-Full.is
     (λ e. (c.in-Ok.ensures.idle e).3.1)
-    (λ e f. let full = c.in-Ok.ensures.full e f in
-    let still : image_now ≡ image = cc (full.0) in
-    unchanged desk_now image image_now session now d t c.keep-in-Full.ensures.session full.3.0 still holds touched)
-    (λ e f. (c.in-Ok.ensures.raised e f).0)))
+    (λ e f. let full = c.in-Ok.ensures.full e f in (full.3.0, ap (λ p. (P.history p).present) full.0, keeps_same old new (ap (λ p. P.history p) full.0)))
+    (λ e f. (c.in-Ok.ensures.raised e f).0)
+    rep)
+
+pub returns-in-Err-Memory-clause-answered : goal.returns-in-Err-Memory-clause-answered
+returns-in-Err-Memory-clause-answered g c told entry rep =
+    let P = g.P.Platform in
+    let old : World = world c.args.self.now.session (P.history c.args.platform.now) (P.head c.args.platform.now) (P.capacity c.args.platform.now) in
+    let new : World = world c.take.new.self (P.history c.commit.new.platform) (P.head c.commit.new.platform) (P.capacity c.commit.new.platform) in
+    let keeps = not_these (λ ok. grind (arith, common_steps, ok)) (λ e. grind (arith, common_steps, e)) (c.commit.ensures.still told) in
+    halts_still old new entry Commit device.Memory tt rep keeps
+
+pub returns-in-Err-TapeFault-clause-answered : goal.returns-in-Err-TapeFault-clause-answered
+returns-in-Err-TapeFault-clause-answered g c told entry rep =
+    let P = g.P.Platform in
+    let old : World = world c.args.self.now.session (P.history c.args.platform.now) (P.head c.args.platform.now) (P.capacity c.args.platform.now) in
+    let new : World = world c.take.new.self (P.history c.commit.new.platform) (P.head c.commit.new.platform) (P.capacity c.commit.new.platform) in
+    let keeps = not_these (λ ok. grind (arith, common_steps, ok)) (λ e. grind (arith, common_steps, e)) (c.commit.ensures.still told) in
+    halts_still old new entry Commit device.Tape tt rep keeps
+
+pub returns-in-Err-LedgerFault-clause-answered : goal.returns-in-Err-LedgerFault-clause-answered
+returns-in-Err-LedgerFault-clause-answered g c told entry rep =
+    let P = g.P.Platform in
+    let old : World = world c.args.self.now.session (P.history c.args.platform.now) (P.head c.args.platform.now) (P.capacity c.args.platform.now) in
+    let new : World = world c.take.new.self (P.history c.commit.new.platform) (P.head c.commit.new.platform) (P.capacity c.commit.new.platform) in
+    let keeps = not_these (λ ok. grind (arith, common_steps, ok)) (λ e. grind (arith, common_steps, e)) (c.commit.ensures.still told) in
+    halts_still old new entry Commit device.Ledger tt rep keeps
+
+pub returns-in-Err-PlatformFault-clause-answered : goal.returns-in-Err-PlatformFault-clause-answered
+returns-in-Err-PlatformFault-clause-answered g c told entry rep =
+    let P = g.P.Platform in
+    let old : World = world c.args.self.now.session (P.history c.args.platform.now) (P.head c.args.platform.now) (P.capacity c.args.platform.now) in
+    let new : World = world c.take.new.self (P.history c.commit.new.platform) (P.head c.commit.new.platform) (P.capacity c.commit.new.platform) in
+    let taken : c.args.self.now.session ≡ Some c.in-Some.session = cc (c.take.ensures.value, c.in-Some.is) in
+    halts_commit old new entry c.in-Some.session taken
+    ?
+    ?
+    (λ d t holds. c.commit.ensures.time told (stored d) t.contents holds) rep

@@ -1,12 +1,41 @@
-use Rattle.std.proofs.Common.{None, refl}
+use Rattle.std.proofs.Common.{◌≡◌, ◌≢◌, ◌+◌, ◌<◌, ◌≤◌, ℕ, Bool, true, false, Option, None, Some, Ok, Err, inl, inr, refl, sym, ◌∙◌, ap, subst, arith}
+use Rattle.std.specs.Prelude.{Result, ◌⊎◌, ◌||◌}
+use Rattle.std.proofs.lemmas.Grind.{common_steps}
 use Rattle.script_lang.specs.Arrays.{State}
-use Rattle.device_cli.specs.Represents.{Represents}
-use Rattle.device_cli.proofs.ServedLaws.{has_none, erased_any}
+use Rattle.script_lang.specs.declared.replies.Reply.{Reply}
+use Rattle.device_cli.specs.declared.stop.DeviceStop.{DeviceStop}
+use Rattle.device_cli.specs.declared.stop.DeviceStop.TheVariants as device
+use Rattle.device_cli.specs.World.{World, world}
+use Rattle.device_cli.specs.Replied.{Serves, Halts}
+use Rattle.device_cli.specs.Represents.{stored, Represents}
+use Rattle.script_lang.specs.declared.commands.Command.TheVariants as commands
+use Rattle.device_cli.proofs.ServedLaws.{halts_still}
+use Rattle.device_cli.proofs.ServingLaws.{KeepsCell, serves_erased, serves_erase_none, halts_erase}
 use Rattle.device_cli.proofs.desk.Desk.erase.Goals as goal
 
 pub returns-in-Ok-clause-answered : goal.returns-in-Ok-clause-answered
 returns-in-Ok-clause-answered g c told entry rep =
     let P = g.P.Platform in
-    let New : State → Type 0 = Represents (record { alloc = c.args.self.now.alloc; session = None }) (P.history c.erase.new.platform).present in
-    erased_any New (P.history c.args.platform.now).present entry.device entry.session rep.device (c.in-Ok.ensures.device told)
-    (has_none (record { alloc = c.args.self.now.alloc; session = None }) (P.history c.erase.new.platform).present None refl (c.in-Ok.ensures.erased told))
+    let old : World = world c.args.self.now.session (P.history c.args.platform.now) (P.head c.args.platform.now) (P.capacity c.args.platform.now) in
+    let new : World = world None (P.history c.erase.new.platform) (P.head c.erase.new.platform) (P.capacity c.erase.new.platform) in
+    serves_erased old new entry (c.in-Ok.ensures.device told) refl (c.in-Ok.ensures.erased told) (c.erase.ensures.time told _ rep.device) rep
+
+not_these : {X Y Z : Type 0} → (X → ⊥) → (Y → ⊥) → X ⊎ (Y ⊎ Z) → Z
+not_these no_x no_y (inl x) = absurd (no_x x)
+not_these no_x no_y (inr (inl y)) = absurd (no_y y)
+not_these no_x no_y (inr (inr z)) = z
+
+pub returns-in-Err-NoDevice-clause-answered : goal.returns-in-Err-NoDevice-clause-answered
+returns-in-Err-NoDevice-clause-answered g c told entry rep =
+    let P = g.P.Platform in
+    let old : World = world c.args.self.now.session (P.history c.args.platform.now) (P.head c.args.platform.now) (P.capacity c.args.platform.now) in
+    let new : World = world c.args.self.now.session (P.history c.erase.new.platform) (P.head c.erase.new.platform) (P.capacity c.erase.new.platform) in
+    let keeps = not_these (λ ok. grind (arith, common_steps, ok)) (λ e. grind (arith, common_steps, e)) (c.erase.ensures.still told) in
+    serves_erase_none old new entry (c.erase.ensures.no_device told (cc)) refl (c.erase.ensures.same told (cc)) keeps rep
+
+pub returns-in-Err-PlatformFault-clause-answered : goal.returns-in-Err-PlatformFault-clause-answered
+returns-in-Err-PlatformFault-clause-answered g c told entry rep =
+    let P = g.P.Platform in
+    let old : World = world c.args.self.now.session (P.history c.args.platform.now) (P.head c.args.platform.now) (P.capacity c.args.platform.now) in
+    let new : World = world c.args.self.now.session (P.history c.erase.new.platform) (P.head c.erase.new.platform) (P.capacity c.erase.new.platform) in
+    halts_erase old new entry (c.erase.ensures.time told _ rep.device)

@@ -1,17 +1,27 @@
-use Rattle.std.proofs.Common.{◌≡◌, Ok, Some}
+use Rattle.std.proofs.Common.{◌≡◌, ◌≢◌, ◌+◌, ◌<◌, ◌≤◌, ℕ, Bool, true, false, Option, None, Some, Ok, Err, inl, inr, refl, sym, ◌∙◌, ap, subst, arith}
+use Rattle.std.specs.Prelude.{Result, ◌⊎◌, ◌||◌}
+use Rattle.std.proofs.lemmas.Grind.{common_steps}
 use Rattle.script_lang.specs.Arrays.{State}
+use Rattle.script_lang.specs.declared.replies.Reply.{Reply}
+use Rattle.device_cli.specs.declared.stop.DeviceStop.{DeviceStop}
+use Rattle.device_cli.specs.declared.stop.DeviceStop.TheVariants as device
+use Rattle.device_cli.specs.World.{World, world}
+use Rattle.device_cli.specs.Replied.{Serves, Halts}
+use Rattle.device_cli.specs.Represents.{stored, Represents}
 use Rattle.script_lang.specs.declared.commands.Command.TheVariants as commands
-use Rattle.script_lang.specs.declared.replies.Reply.TheVariants as replies
-use Rattle.device_cli.specs.Replied.{Serves}
-use Rattle.device_cli.specs.Represents.{Represents}
-use Rattle.device_cli.proofs.ServedLaws.{with_session, has_none, dropped, holds_stands}
+use Rattle.device_cli.proofs.ServedLaws.{gives_unmounted_drop}
+use Rattle.device_cli.proofs.ServingLaws.{serves_unmounted, serves_drop}
 use Rattle.device_cli.proofs.desk.Desk.give_up.Goals as goal
+
+pub returns-in_default-clause-answered : goal.returns-in_default-clause-answered
+returns-in_default-clause-answered g c told entry rep =
+    let P = g.P.Platform in
+    let none : c.args.self.now.session ≡ None = grind (arith, common_steps, c.take.ensures.value, c.in_default.is) in
+    serves_unmounted c.args.self.now.session c.take.new.self (P.history c.args.platform.now) (P.head c.args.platform.now) (P.capacity c.args.platform.now) entry _ none c.take.ensures.after
+    (λ full there. gives_unmounted_drop full there) rep
 
 pub returns-clause-answered : goal.returns-clause-answered
 returns-clause-answered g c told entry rep =
-    let image = (g.P.Platform.history c.args.platform.now).present in
-    let New : State → Type 0 = Represents (record { alloc = c.args.self.now.alloc; session = c.take.new.self }) image in
+    let P = g.P.Platform in
     let taken : c.args.self.now.session ≡ Some c.in-Some.field-0 = cc (c.take.ensures.value, c.in-Some.is) in
-    with_session c.args.self.now image c.in-Some.field-0 entry taken rep (λ state. Serves New state commands.Drop (Ok replies.Dropped))
-    (λ d t holds touched. dropped New d t (has_none (record { alloc = c.args.self.now.alloc; session = c.take.new.self }) image (Some d) c.take.ensures.after
-    (holds_stands c.in-Some.field-0 image d t.contents holds)))
+    serves_drop c.args.self.now.session c.take.new.self (P.history c.args.platform.now) (P.head c.args.platform.now) (P.capacity c.args.platform.now) entry c.in-Some.field-0 taken c.take.ensures.after rep

@@ -1,22 +1,69 @@
-use Rattle.std.proofs.Common.{◌≡◌, Ok, Some, None, refl, ◌∙◌, arith}
+use Rattle.std.proofs.Common.{◌≡◌, ◌≢◌, ◌+◌, ◌<◌, ◌≤◌, ℕ, Bool, true, false, Option, None, Some, Ok, Err, inl, inr, refl, sym, ◌∙◌, ap, subst, arith}
+use Rattle.std.specs.Prelude.{Result, ◌⊎◌, ◌||◌}
 use Rattle.std.proofs.lemmas.Grind.{common_steps}
-use Rattle.script_lang.specs.Arrays.{State, session_on}
-use Rattle.script_lang.specs.declared.commands.Command.TheVariants as commands
-use Rattle.script_lang.specs.declared.replies.Reply.TheVariants as replies
-use Rattle.device_cli.specs.Replied.{Serves}
+use Rattle.script_lang.specs.Arrays.{State}
+use Rattle.script_lang.specs.declared.replies.Reply.{Reply}
+use Rattle.device_cli.specs.declared.stop.DeviceStop.{DeviceStop}
+use Rattle.device_cli.specs.declared.stop.DeviceStop.TheVariants as device
+use Rattle.device_cli.specs.World.{World, world}
+use Rattle.device_cli.specs.Replied.{Serves, Halts}
 use Rattle.device_cli.specs.Represents.{stored, Represents}
-use Rattle.device_cli.proofs.ServedLaws.{without_session, has_session, mounted_any}
+use Rattle.script_lang.specs.declared.commands.Command.TheVariants as commands
+use Rattle.script_lang.specs.declared.devices.Device.{Device}
+use Rattle.device_core.specs.declared.session.Session.{Session}
+use Rattle.device_cli.specs.Represents.{StandsFor}
+use Rattle.device_cli.proofs.ServedLaws.{halts_still}
+use Rattle.device_cli.proofs.ServingLaws.{serves_already, serves_mounted, serves_no_device}
 use Rattle.device_cli.proofs.desk.Desk.mount.Goals as goal
+
+some_of : (s : Option Session) → (s ≡ None → ⊥) → (Goal : Type 0) → ((session : Session) → s ≡ Some session → Goal) → Goal
+some_of None some Goal k = absurd (some refl)
+some_of (Some session) some Goal k = k session refl
+
+pub returns-then-is_some-clause-answered : goal.returns-then-is_some-clause-answered
+returns-then-is_some-clause-answered g c told entry rep =
+    let P = g.P.Platform in
+    let old : World = world c.args.self.now.session (P.history c.args.platform.now) (P.head c.args.platform.now) (P.capacity c.args.platform.now) in
+    some_of c.args.self.now.session (λ none. grind (arith, common_steps, none, c.is_some.ensures, c.if-is_some.true)) (Serves old old entry commands.Mount _)
+    (λ session some. serves_already c.args.self.now.session (P.history c.args.platform.now) (P.head c.args.platform.now) (P.capacity c.args.platform.now) entry session some rep)
 
 pub returns-in-Ok-clause-answered : goal.returns-in-Ok-clause-answered
 returns-in-Ok-clause-answered g c told entry rep =
     let P = g.P.Platform in
-    let image = (P.history c.args.platform.now).present in
-    let image_now = (P.history c.mount.new.platform).present in
-    let New : State → Type 0 = Represents (record { alloc = c.args.self.now.alloc; session = Some c.in-Ok.session }) image_now in
+    let old : World = world c.args.self.now.session (P.history c.args.platform.now) (P.head c.args.platform.now) (P.capacity c.args.platform.now) in
+    let new : World = world (Some c.in-Ok.session) (P.history c.mount.new.platform) (P.head c.mount.new.platform) (P.capacity c.mount.new.platform) in
     let none : c.args.self.now.session ≡ None = grind (arith, common_steps, c.is_some.ensures, c.if-is_some.false) in
     let found = c.in-Ok.ensures.found told in
-    without_session c.args.self.now image entry none rep (λ state. Serves New state commands.Mount (Ok (replies.Mounted c.number-number.result)))
-    (λ stands. mounted_any New image entry.device c.number-number.result stands (λ e. cc)
-    (λ d stands_for. let holds = c.in-Ok.ensures.holds told (stored d) stands_for in
-    (c.number-number.ensures ∙ holds.stands.number, has_session (record { alloc = c.args.self.now.alloc; session = Some c.in-Ok.session }) image_now c.in-Ok.session d (session_on d) refl holds c.in-Ok.ensures.untouched)))
+    serves_mounted old new entry c.in-Ok.session c.number-number.result none (λ e. cc) refl c.in-Ok.ensures.untouched
+    (λ d stands. let holds = c.in-Ok.ensures.holds told (stored d) stands in (holds, c.number-number.ensures ∙ holds.stands.number))
+    (c.mount.ensures.time told) rep
+
+pub returns-in-Err-NoDevice-clause-answered : goal.returns-in-Err-NoDevice-clause-answered
+returns-in-Err-NoDevice-clause-answered g c told entry rep =
+    let P = g.P.Platform in
+    let old : World = world c.args.self.now.session (P.history c.args.platform.now) (P.head c.args.platform.now) (P.capacity c.args.platform.now) in
+    let new : World = world c.args.self.now.session (P.history c.mount.new.platform) (P.head c.mount.new.platform) (P.capacity c.mount.new.platform) in
+    let none : c.args.self.now.session ≡ None = grind (arith, common_steps, c.is_some.ensures, c.if-is_some.false) in
+    serves_no_device old new entry none (c.mount.ensures.no_device told (cc)) none (c.mount.ensures.image told) (c.mount.ensures.time told) rep
+
+pub returns-in-Err-PlatformFault-clause-answered : goal.returns-in-Err-PlatformFault-clause-answered
+returns-in-Err-PlatformFault-clause-answered g c told entry rep =
+    let P = g.P.Platform in
+    let old : World = world c.args.self.now.session (P.history c.args.platform.now) (P.head c.args.platform.now) (P.capacity c.args.platform.now) in
+    let new : World = world c.args.self.now.session (P.history c.mount.new.platform) (P.head c.mount.new.platform) (P.capacity c.mount.new.platform) in
+    halts_still old new entry commands.Mount device.Platform tt rep (c.mount.ensures.time told)
+
+pub returns-in-Err-Memory-clause-answered : goal.returns-in-Err-Memory-clause-answered
+returns-in-Err-Memory-clause-answered g c told entry rep =
+    let P = g.P.Platform in
+    let old : World = world c.args.self.now.session (P.history c.args.platform.now) (P.head c.args.platform.now) (P.capacity c.args.platform.now) in
+    let new : World = world c.args.self.now.session (P.history c.mount.new.platform) (P.head c.mount.new.platform) (P.capacity c.mount.new.platform) in
+    halts_still old new entry commands.Mount device.Memory tt rep (c.mount.ensures.time told)
+
+pub returns-in-Err-BadRoot-clause-answered : goal.returns-in-Err-BadRoot-clause-answered
+returns-in-Err-BadRoot-clause-answered g c told entry rep =
+    let P = g.P.Platform in
+    let old : World = world c.args.self.now.session (P.history c.args.platform.now) (P.head c.args.platform.now) (P.capacity c.args.platform.now) in
+    let new : World = world c.args.self.now.session (P.history c.mount.new.platform) (P.head c.mount.new.platform) (P.capacity c.mount.new.platform) in
+    let bad = c.mount.ensures.bad_root told (cc) in
+    ?

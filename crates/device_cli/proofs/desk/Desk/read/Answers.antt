@@ -1,14 +1,16 @@
-use Rattle.std.proofs.Common.{◌≡◌, ◌<◌, ◌≤◌, ℕ, Ok, Err, Some, sym, ◌∙◌, ap, subst, arith}
-use Rattle.std.specs.Prelude.{Result}
+use Rattle.std.proofs.Common.{◌≡◌, ◌≢◌, ◌+◌, ◌<◌, ◌≤◌, ℕ, Bool, true, false, Option, None, Some, Ok, Err, inl, inr, refl, sym, ◌∙◌, ap, subst, arith}
+use Rattle.std.specs.Prelude.{Result, ◌⊎◌, ◌||◌}
 use Rattle.std.proofs.lemmas.Grind.{common_steps}
 use Rattle.script_lang.specs.Arrays.{State}
-use Rattle.script_lang.specs.declared.commands.Command.TheVariants.{Read}
 use Rattle.script_lang.specs.declared.replies.Reply.{Reply}
 use Rattle.device_cli.specs.declared.stop.DeviceStop.{DeviceStop}
 use Rattle.device_cli.specs.declared.stop.DeviceStop.TheVariants as device
-use Rattle.device_cli.specs.Replied.{Serves}
+use Rattle.device_cli.specs.World.{World, world}
+use Rattle.device_cli.specs.Replied.{Serves, Halts}
 use Rattle.device_cli.specs.Represents.{stored, Represents}
-use Rattle.device_cli.proofs.ServedLaws.{at, with_session, has_session, read_content, read_range}
+use Rattle.script_lang.specs.declared.commands.Command.TheVariants.{Read}
+use Rattle.device_cli.proofs.ServedLaws.{at, with_session, has_session, serves_still, halts_still, gives_unmounted_read, gives_content, gives_read_range}
+use Rattle.device_cli.proofs.ServingLaws.{serves_unmounted}
 use Rattle.device_cli.proofs.desk.Desk.read.Goals as goal
 
 -- a number that isn't past another is below it
@@ -18,41 +20,53 @@ inside n m h = grind (arith, common_steps)
 not_both : {T E : Type 0} (r : Result T E) (x : T) (e : E) → r ≡ Ok x → r ≡ Err e → ⊥
 not_both r x e p q = cc
 
+pub returns-in_default-clause-answered : goal.returns-in_default-clause-answered
+returns-in_default-clause-answered g c told entry rep =
+    let P = g.P.Platform in
+    let none : c.args.self.now.session ≡ None = grind (arith, common_steps, c.take.ensures.value, c.in_default.is) in
+    serves_unmounted c.args.self.now.session c.take.new.self (P.history c.args.platform.now) (P.head c.args.platform.now) (P.capacity c.args.platform.now) entry _ none c.take.ensures.after
+    (λ full there. gives_unmounted_read full there c.args.block) rep
+
 pub returns-in-Ok-clause-answered : goal.returns-in-Ok-clause-answered
 returns-in-Ok-clause-answered g c told entry rep =
     let P = g.P.Platform in
-    let image = (P.history c.args.platform.now).present in
-    let New : State → Type 0 = Represents c.keep.new.self (P.history c.read.new.platform).present in
+    let old : World = world c.args.self.now.session (P.history c.args.platform.now) (P.head c.args.platform.now) (P.capacity c.args.platform.now) in
+    let new : World = world c.keep.new.self.session (P.history c.read.new.platform) (P.head c.read.new.platform) (P.capacity c.read.new.platform) in
     let taken : c.args.self.now.session ≡ Some c.in-Some.session = cc (c.take.ensures.value, c.in-Some.is) in
-    with_session c.args.self.now image c.in-Some.session entry taken rep (λ state. Serves New state (Read c.args.block) c.keep.result)
+    with_session old c.in-Some.session entry taken rep (λ state. Serves old new state (Read c.args.block) c.keep.result)
     (λ d t holds touched.
     let within : c.args.block < d.blocks = inside c.args.block d.blocks (λ past. not_both c.read.result _ _ c.in-Ok.is (c.read.ensures.range.1 (subst (λ (n : ℕ). n ≤ c.args.block) (sym holds.stands.blocks) past))) in
-    let now = has_session c.keep.new.self (P.history c.read.new.platform).present c.read.new.self d t c.keep.ensures.session
-    (c.in-Ok.ensures.holds told (stored d) t.contents holds) (c.in-Ok.ensures.same.2 ∙ touched) in
-    subst (λ (r : Result Reply DeviceStop). Serves New (at d t) (Read c.args.block) r) (sym (c.keep.ensures.reply ∙ ap Ok c.reply_with_content.ensures.value))
-    (read_content New d t c.args.block c.read.new.out within (c.in-Ok.ensures.content told (stored d) t.contents holds) now)
-    )
+    let after = has_session new c.read.new.self d t c.keep.ensures.session (c.in-Ok.ensures.holds told (stored d) t.contents holds) (c.in-Ok.ensures.same.2 ∙ touched) in
+    subst (λ (r : Result Reply DeviceStop). Serves old new (at d t) (Read c.args.block) r) (sym (c.keep.ensures.reply ∙ ap Ok c.reply_with_content.ensures.value))
+    (serves_still old new (at d t) (at d t) (Read c.args.block) _ (has_session old c.in-Some.session d t taken holds touched)
+    (gives_content _ d t c.args.block c.read.new.out within (c.in-Ok.ensures.content told (stored d) t.contents holds)) after (c.read.ensures.time told)))
 
 pub returns-in-Err-Range-clause-answered : goal.returns-in-Err-Range-clause-answered
 returns-in-Err-Range-clause-answered g c told entry rep =
     let P = g.P.Platform in
-    let image = (P.history c.args.platform.now).present in
-    let New : State → Type 0 = Represents c.keep-in-Err-Range.new.self (P.history c.read.new.platform).present in
+    let old : World = world c.args.self.now.session (P.history c.args.platform.now) (P.head c.args.platform.now) (P.capacity c.args.platform.now) in
+    let new : World = world c.keep-in-Err-Range.new.self.session (P.history c.read.new.platform) (P.head c.read.new.platform) (P.capacity c.read.new.platform) in
     let taken : c.args.self.now.session ≡ Some c.in-Some.session = cc (c.take.ensures.value, c.in-Some.is) in
-    with_session c.args.self.now image c.in-Some.session entry taken rep (λ state. Serves New state (Read c.args.block) c.keep-in-Err-Range.result)
+    with_session old c.in-Some.session entry taken rep (λ state. Serves old new state (Read c.args.block) c.keep-in-Err-Range.result)
     (λ d t holds touched.
     let past : d.blocks ≤ c.args.block = subst (λ (n : ℕ). n ≤ c.args.block) holds.stands.blocks (c.read.ensures.range.0 (cc)) in
-    let now = has_session c.keep-in-Err-Range.new.self (P.history c.read.new.platform).present c.read.new.self d t c.keep-in-Err-Range.ensures.session
-    (c.read.ensures.holds told (stored d) t.contents holds) (c.read.ensures.same.2 ∙ touched) in
-    subst (λ (r : Result Reply DeviceStop). Serves New (at d t) (Read c.args.block) r) (sym (c.keep-in-Err-Range.ensures.reply))
-    (read_range New d t c.args.block past now)
-    )
+    let after = has_session new c.read.new.self d t c.keep-in-Err-Range.ensures.session (c.read.ensures.holds told (stored d) t.contents holds) (c.read.ensures.same.2 ∙ touched) in
+    subst (λ (r : Result Reply DeviceStop). Serves old new (at d t) (Read c.args.block) r) (sym c.keep-in-Err-Range.ensures.reply)
+    (serves_still old new (at d t) (at d t) (Read c.args.block) _ (has_session old c.in-Some.session d t taken holds touched)
+    (gives_read_range _ d t c.args.block past) after (c.read.ensures.time told)))
 
 pub returns-in-Err-BadRecord-clause-answered : goal.returns-in-Err-BadRecord-clause-answered
 returns-in-Err-BadRecord-clause-answered g c told entry rep =
     let P = g.P.Platform in
-    let image = (P.history c.args.platform.now).present in
-    let New : State → Type 0 = Represents (record { alloc = c.args.self.now.alloc; session = c.take.new.self }) (P.history c.read.new.platform).present in
+    let old : World = world c.args.self.now.session (P.history c.args.platform.now) (P.head c.args.platform.now) (P.capacity c.args.platform.now) in
+    let new : World = world c.take.new.self (P.history c.read.new.platform) (P.head c.read.new.platform) (P.capacity c.read.new.platform) in
     let taken : c.args.self.now.session ≡ Some c.in-Some.session = cc (c.take.ensures.value, c.in-Some.is) in
-    with_session c.args.self.now image c.in-Some.session entry taken rep (λ state. Serves New state (Read c.args.block) (Err (device.BadRecord c.in-Err-BadRecord.addr)))
+    with_session old c.in-Some.session entry taken rep (λ state. Serves old new state (Read c.args.block) (Err (device.BadRecord c.in-Err-BadRecord.addr)))
     (λ d t holds touched. absurd (c.read.ensures.sound told (stored d) t.contents holds c.in-Err-BadRecord.addr (cc)))
+
+pub returns-in-Err-PlatformFault-clause-answered : goal.returns-in-Err-PlatformFault-clause-answered
+returns-in-Err-PlatformFault-clause-answered g c told entry rep =
+    let P = g.P.Platform in
+    let old : World = world c.args.self.now.session (P.history c.args.platform.now) (P.head c.args.platform.now) (P.capacity c.args.platform.now) in
+    let new : World = world c.take.new.self (P.history c.read.new.platform) (P.head c.read.new.platform) (P.capacity c.read.new.platform) in
+    halts_still old new entry (Read c.args.block) device.Platform tt rep (c.read.ensures.time told)

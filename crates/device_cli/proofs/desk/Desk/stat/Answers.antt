@@ -1,20 +1,32 @@
-use Rattle.std.proofs.Common.{Ok, Option, ◌∙◌, subst}
+use Rattle.std.proofs.Common.{◌≡◌, ◌≢◌, ◌+◌, ◌<◌, ◌≤◌, ℕ, Bool, true, false, Option, None, Some, Ok, Err, inl, inr, refl, sym, ◌∙◌, ap, subst, arith}
+use Rattle.std.specs.Prelude.{Result, ◌⊎◌, ◌||◌}
+use Rattle.std.proofs.lemmas.Grind.{common_steps}
 use Rattle.script_lang.specs.Arrays.{State}
-use Rattle.script_lang.specs.declared.commands.Command.TheVariants as commands
-use Rattle.script_lang.specs.declared.replies.Reply.TheVariants as replies
-use Rattle.device_cli.specs.Replied.{Serves}
+use Rattle.script_lang.specs.declared.replies.Reply.{Reply}
+use Rattle.device_cli.specs.declared.stop.DeviceStop.{DeviceStop}
+use Rattle.device_cli.specs.declared.stop.DeviceStop.TheVariants as device
+use Rattle.device_cli.specs.World.{World, world}
+use Rattle.device_cli.specs.Replied.{Serves, Halts}
 use Rattle.device_cli.specs.Represents.{stored, Represents}
-use Rattle.device_cli.proofs.ServedLaws.{with_session, has_session, stat_of}
 use Rattle.std.specs.Prelude.{IfSome}
 use Rattle.device_core.specs.Open.{IsOpen}
 use Rattle.device_core.specs.declared.session.Session.{Session}
-use Rattle.device_cli.proofs.StatLaws.{mapped_len}
+use Rattle.device_core.proofs.CountLaws.{mapped_len}
+use Rattle.script_lang.specs.declared.commands.Command.TheVariants as commands
+use Rattle.device_cli.proofs.ServedLaws.{gives_unmounted_stat}
+use Rattle.device_cli.proofs.ServingLaws.{serves_unmounted, serves_stat}
 use Rattle.device_cli.proofs.desk.Desk.stat.Goals as goal
 
 pub returns-in-Some-clause-answered : goal.returns-in-Some-clause-answered
 returns-in-Some-clause-answered g c told entry rep =
-    let image = (g.P.Platform.history c.args.platform.now).present in
-    let New : State → Type 0 = Represents c.args.self.now image in
-    with_session c.args.self.now image c.in-Some.session entry c.in-Some.is rep (λ state. Serves New state commands.Stat (Ok (replies.Stat c.mapped.result c.number.result)))
-    (λ d t holds touched. stat_of New d t c.mapped.result c.number.result (c.mapped.ensures ∙ mapped_len c.in-Some.session image (stored d) t.contents (g.P.Platform.head c.args.platform.now) (subst (λ (s : Option Session). IfSome s (λ session. IsOpen session (g.P.Platform.head c.args.platform.now))) c.in-Some.is c.requires.ready) holds) (c.number.ensures ∙ holds.stands.number)
-    (has_session c.args.self.now image c.in-Some.session d t c.in-Some.is holds touched))
+    let P = g.P.Platform in
+    let head = P.head c.args.platform.now in
+    let open = subst (λ (s : Option Session). IfSome s (λ session. IsOpen session head)) c.in-Some.is c.requires.ready in
+    serves_stat c.args.self.now.session (P.history c.args.platform.now) head (P.capacity c.args.platform.now) entry c.in-Some.session c.mapped.result c.number.result c.in-Some.is
+    (λ d t holds. (c.mapped.ensures ∙ mapped_len c.in-Some.session (P.history c.args.platform.now).present (stored d) t.contents head open holds, c.number.ensures ∙ holds.stands.number)) rep
+
+pub returns-in-None-clause-answered : goal.returns-in-None-clause-answered
+returns-in-None-clause-answered g c told entry rep =
+    let P = g.P.Platform in
+    serves_unmounted c.args.self.now.session c.args.self.now.session (P.history c.args.platform.now) (P.head c.args.platform.now) (P.capacity c.args.platform.now) entry _ c.in-None.is c.in-None.is
+    (λ full there. gives_unmounted_stat full there) rep

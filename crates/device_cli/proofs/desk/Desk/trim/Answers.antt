@@ -1,16 +1,19 @@
-use Rattle.std.proofs.Common.{◌≡◌, ◌<◌, ◌≤◌, ℕ, Ok, Err, Some, sym, ◌∙◌, ap, subst, arith}
-use Rattle.std.specs.Prelude.{Result, Bool, ◌||◌}
-use Rattle.std.specs.FinMap.{contains_key}
-use Rattle.device_core.specs.declared.refusals.TrimRefusal.TheVariants as refusals
+use Rattle.std.proofs.Common.{◌≡◌, ◌≢◌, ◌+◌, ◌<◌, ◌≤◌, ℕ, Bool, true, false, Option, None, Some, Ok, Err, inl, inr, refl, sym, ◌∙◌, ap, subst, arith}
+use Rattle.std.specs.Prelude.{Result, ◌⊎◌, ◌||◌}
 use Rattle.std.proofs.lemmas.Grind.{common_steps}
-use Rattle.script_lang.specs.Arrays.{State, unmapped}
-use Rattle.script_lang.specs.declared.commands.Command.TheVariants.{Trim}
+use Rattle.script_lang.specs.Arrays.{State}
 use Rattle.script_lang.specs.declared.replies.Reply.{Reply}
 use Rattle.device_cli.specs.declared.stop.DeviceStop.{DeviceStop}
 use Rattle.device_cli.specs.declared.stop.DeviceStop.TheVariants as device
-use Rattle.device_cli.specs.Replied.{Serves}
+use Rattle.device_cli.specs.World.{World, world}
+use Rattle.device_cli.specs.Replied.{Serves, Halts}
 use Rattle.device_cli.specs.Represents.{stored, Represents}
-use Rattle.device_cli.proofs.ServedLaws.{at, with_session, has_session, trim_done, trim_range}
+use Rattle.std.specs.FinMap.{contains_key}
+use Rattle.device_core.specs.declared.refusals.TrimRefusal.TheVariants as refusals
+use Rattle.script_lang.specs.Arrays.{unmapped}
+use Rattle.script_lang.specs.declared.commands.Command.TheVariants.{Trim}
+use Rattle.device_cli.proofs.ServedLaws.{at, with_session, has_session, serves_still, halts_still, gives_unmounted_trim, gives_trimmed, gives_trim_range}
+use Rattle.device_cli.proofs.ServingLaws.{serves_unmounted}
 use Rattle.device_cli.proofs.desk.Desk.trim.Goals as goal
 
 -- a number that isn't past another is below it
@@ -20,44 +23,64 @@ inside n m h = grind (arith, common_steps)
 not_both : {T E : Type 0} (r : Result T E) (x : T) (e : E) → r ≡ Ok x → r ≡ Err e → ⊥
 not_both r x e p q = cc
 
+pub returns-in_default-clause-answered : goal.returns-in_default-clause-answered
+returns-in_default-clause-answered g c told entry rep =
+    let P = g.P.Platform in
+    let none : c.args.self.now.session ≡ None = grind (arith, common_steps, c.take.ensures.value, c.in_default.is) in
+    serves_unmounted c.args.self.now.session c.take.new.self (P.history c.args.platform.now) (P.head c.args.platform.now) (P.capacity c.args.platform.now) entry _ none c.take.ensures.after
+    (λ full there. gives_unmounted_trim full there c.args.block) rep
+
 pub returns-in-Ok-clause-answered : goal.returns-in-Ok-clause-answered
 returns-in-Ok-clause-answered g c told entry rep =
     let P = g.P.Platform in
-    let image = (P.history c.args.platform.now).present in
-    let New : State → Type 0 = Represents c.keep.new.self (P.history c.trim.new.platform).present in
+    let old : World = world c.args.self.now.session (P.history c.args.platform.now) (P.head c.args.platform.now) (P.capacity c.args.platform.now) in
+    let new : World = world c.keep.new.self.session (P.history c.trim.new.platform) (P.head c.trim.new.platform) (P.capacity c.trim.new.platform) in
     let taken : c.args.self.now.session ≡ Some c.in-Some.session = cc (c.take.ensures.value, c.in-Some.is) in
-    with_session c.args.self.now image c.in-Some.session entry taken rep (λ state. Serves New state (Trim c.args.block) c.keep.result)
+    with_session old c.in-Some.session entry taken rep (λ state. Serves old new state (Trim c.args.block) c.keep.result)
     (λ d t holds touched.
     let within : c.args.block < d.blocks = inside c.args.block d.blocks (λ past. not_both c.trim.result _ _ c.in-Ok.is (c.trim.ensures.range.1 (subst (λ (n : ℕ). n ≤ c.args.block) (sym holds.stands.blocks) past))) in
-    let now = has_session c.keep.new.self (P.history c.trim.new.platform).present c.trim.new.self d (unmapped t c.args.block) c.keep.ensures.session
-    (c.in-Ok.ensures.trimmed told (stored d) t.contents holds) (c.in-Ok.ensures.touched told (stored d) t.contents holds ∙ ap (λ (b : Bool). b || contains_key t.contents c.args.block) touched) in
-    subst (λ (r : Result Reply DeviceStop). Serves New (at d t) (Trim c.args.block) r) (sym (c.keep.ensures.reply))
-    (trim_done New d t c.args.block within now)
-    )
+    let after = has_session new c.trim.new.self d (unmapped t c.args.block) c.keep.ensures.session (c.in-Ok.ensures.trimmed told (stored d) t.contents holds)
+    (c.in-Ok.ensures.touched told (stored d) t.contents holds ∙ ap (λ (b : Bool). b || contains_key t.contents c.args.block) touched) in
+    subst (λ (r : Result Reply DeviceStop). Serves old new (at d t) (Trim c.args.block) r) (sym c.keep.ensures.reply)
+    (serves_still old new (at d t) (at d (unmapped t c.args.block)) (Trim c.args.block) _ (has_session old c.in-Some.session d t taken holds touched)
+    (gives_trimmed _ d t c.args.block within) after (c.trim.ensures.time told)))
 
 pub returns-in-Err-Range-clause-answered : goal.returns-in-Err-Range-clause-answered
 returns-in-Err-Range-clause-answered g c told entry rep =
     let P = g.P.Platform in
-    let image = (P.history c.args.platform.now).present in
-    let New : State → Type 0 = Represents c.keep-in-Err-Range.new.self (P.history c.trim.new.platform).present in
+    let old : World = world c.args.self.now.session (P.history c.args.platform.now) (P.head c.args.platform.now) (P.capacity c.args.platform.now) in
+    let new : World = world c.keep-in-Err-Range.new.self.session (P.history c.trim.new.platform) (P.head c.trim.new.platform) (P.capacity c.trim.new.platform) in
     let taken : c.args.self.now.session ≡ Some c.in-Some.session = cc (c.take.ensures.value, c.in-Some.is) in
-    with_session c.args.self.now image c.in-Some.session entry taken rep (λ state. Serves New state (Trim c.args.block) c.keep-in-Err-Range.result)
+    with_session old c.in-Some.session entry taken rep (λ state. Serves old new state (Trim c.args.block) c.keep-in-Err-Range.result)
     (λ d t holds touched.
     let past : d.blocks ≤ c.args.block = subst (λ (n : ℕ). n ≤ c.args.block) holds.stands.blocks (c.trim.ensures.range.0 (cc)) in
     let refused = c.trim.ensures.refused told (stored d) t.contents holds in
     let untouched = c.trim.ensures.untouched in
     let e : c.trim.result ≡ Err refusals.Range = cc in
-    let now = has_session c.keep-in-Err-Range.new.self (P.history c.trim.new.platform).present c.trim.new.self d t c.keep-in-Err-Range.ensures.session
-    (rw e at refused) ((rw e at untouched) ∙ touched) in
-    subst (λ (r : Result Reply DeviceStop). Serves New (at d t) (Trim c.args.block) r) (sym (c.keep-in-Err-Range.ensures.reply))
-    (trim_range New d t c.args.block past now)
-    )
+    let after = has_session new c.trim.new.self d t c.keep-in-Err-Range.ensures.session (rw e at refused) ((rw e at untouched) ∙ touched) in
+    subst (λ (r : Result Reply DeviceStop). Serves old new (at d t) (Trim c.args.block) r) (sym c.keep-in-Err-Range.ensures.reply)
+    (serves_still old new (at d t) (at d t) (Trim c.args.block) _ (has_session old c.in-Some.session d t taken holds touched)
+    (gives_trim_range _ d t c.args.block past) after (c.trim.ensures.time told)))
 
 pub returns-in-Err-BadRecord-clause-answered : goal.returns-in-Err-BadRecord-clause-answered
 returns-in-Err-BadRecord-clause-answered g c told entry rep =
     let P = g.P.Platform in
-    let image = (P.history c.args.platform.now).present in
-    let New : State → Type 0 = Represents (record { alloc = c.args.self.now.alloc; session = c.take.new.self }) (P.history c.trim.new.platform).present in
+    let old : World = world c.args.self.now.session (P.history c.args.platform.now) (P.head c.args.platform.now) (P.capacity c.args.platform.now) in
+    let new : World = world c.take.new.self (P.history c.trim.new.platform) (P.head c.trim.new.platform) (P.capacity c.trim.new.platform) in
     let taken : c.args.self.now.session ≡ Some c.in-Some.session = cc (c.take.ensures.value, c.in-Some.is) in
-    with_session c.args.self.now image c.in-Some.session entry taken rep (λ state. Serves New state (Trim c.args.block) (Err (device.BadRecord c.in-Err-BadRecord.addr)))
+    with_session old c.in-Some.session entry taken rep (λ state. Serves old new state (Trim c.args.block) (Err (device.BadRecord c.in-Err-BadRecord.addr)))
     (λ d t holds touched. absurd (c.trim.ensures.sound told (stored d) t.contents holds c.in-Err-BadRecord.addr (cc)))
+
+pub returns-in-Err-PlatformFault-clause-answered : goal.returns-in-Err-PlatformFault-clause-answered
+returns-in-Err-PlatformFault-clause-answered g c told entry rep =
+    let P = g.P.Platform in
+    let old : World = world c.args.self.now.session (P.history c.args.platform.now) (P.head c.args.platform.now) (P.capacity c.args.platform.now) in
+    let new : World = world c.take.new.self (P.history c.trim.new.platform) (P.head c.trim.new.platform) (P.capacity c.trim.new.platform) in
+    halts_still old new entry (Trim c.args.block) device.Platform tt rep (c.trim.ensures.time told)
+
+pub returns-in-Err-Memory-clause-answered : goal.returns-in-Err-Memory-clause-answered
+returns-in-Err-Memory-clause-answered g c told entry rep =
+    let P = g.P.Platform in
+    let old : World = world c.args.self.now.session (P.history c.args.platform.now) (P.head c.args.platform.now) (P.capacity c.args.platform.now) in
+    let new : World = world c.take.new.self (P.history c.trim.new.platform) (P.head c.trim.new.platform) (P.capacity c.trim.new.platform) in
+    halts_still old new entry (Trim c.args.block) device.Memory tt rep (c.trim.ensures.time told)

@@ -1,0 +1,158 @@
+-- How the marks that runs pass compose.
+use Rattle.std.proofs.Common.{◌≡◌, ◌⊎◌, inl, inr, true, false, ℕ, ◌+◌, ◌<◌, ◌≤◌, List, [], ◌∷◌, ◌++◌, Option, length, take, refl, sym, ◌∙◌, subst, arith, append_assoc, length-append}
+use Rattle.std.specs.Prelude.{if◌then◌else◌, nat_lt}
+use Rattle.std.proofs.lemmas.Bool.{cases_lt}
+use Rattle.std.proofs.lemmas.Bool.Decides.{nat_tests}
+use Rattle.std.proofs.lemmas.List.{take-append-le}
+use Rattle.platform.specs.Image.{Image}
+use Rattle.platform.specs.History.{History, During, Turns, image_at, moment}
+use Rattle.platform.specs.Runs.{Passes}
+use Rattle.platform.proofs.Moments.{Extends-trans, image_at-now}
+use Rattle.platform.proofs.RunLaws.{Passes-start, Passes-during, Passes-turns}
+use Rattle.page_store.proofs.StandsLaws.{stands_leaves, stands_during}
+use Rattle.script_lang.specs.Arrays.{State}
+use Rattle.script_lang.specs.Answers.{Turn, Answers, IsMark}
+use Rattle.script_lang.proofs.AnswerLaws.{Answers-append, Answers-longer}
+use Rattle.script_lang.specs.declared.devices.Device.{Device}
+use Rattle.script_lang.specs.declared.replies.Reply.{Reply}
+use Rattle.device_cli.specs.Represents.{stored, StandsFor, Leaves}
+use Rattle.device_cli.specs.Replied.{HasMark}
+
+-- one function below n, and another from n on
+until : ℕ → (ℕ → ℕ) → (ℕ → ℕ) → ℕ → ℕ
+until n first later i = if nat_lt i n then first i else later i
+
+until-before : (n : ℕ) (first later : ℕ → ℕ) (i : ℕ) → i < n → until n first later i ≡ first i
+unfolding until
+until-before n first later i before = let passes : nat_lt i n ≡ true = grind (arith, nat_tests) in rw passes refl
+
+until-after : (n : ℕ) (first later : ℕ → ℕ) (i : ℕ) → n ≤ i → until n first later i ≡ later i
+unfolding until
+until-after n first later i after = let fails : nat_lt i n ≡ false = grind (arith, nat_tests) in rw fails refl
+
+-- one run after another: the marks of the second come after the first's
+pub Passes-then : (first second third : History) (One Two Mark : ℕ → Image → Type 0) (n last : ℕ)
+    → ((k : ℕ) (image : Image) → k ≤ n → One k image → Mark k image) → ((k : ℕ) (image : Image) → Two k image → Mark (n + k) image)
+    → Passes first second One n → Passes second third Two last → Passes first third Mark (n + last)
+Passes-then first second third One Two Mark n last from to one two =
+    let m = moment second in
+    let later : ℕ → ℕ = λ i. n + two.mark i in
+    record {
+      extends = Extends-trans first second third one.extends two.extends;
+      mark = until m one.mark later;
+      rises = λ i j order. elim (cases_lt j m) [
+        | inl before ↦ rw (until-before m one.mark later i (omega arith), until-before m one.mark later j before) (one.rises i j order)
+        | inr after ↦ elim (cases_lt i m) [
+          | inl before ↦ rw (until-before m one.mark later i before, until-after m one.mark later j after) (let a = one.within i in omega arith)
+          | inr late ↦ rw (until-after m one.mark later i late, until-after m one.mark later j after) (let a = two.rises i j order in omega arith)
+        ]
+      ];
+      within = λ i. elim (cases_lt i m) [
+        | inl before ↦ rw (until-before m one.mark later i before) (let a = one.within i in omega arith)
+        | inr after ↦ rw (until-after m one.mark later i after) (let a = two.within i in omega arith)
+      ];
+      each = λ i start end. elim (cases_lt i m) [
+        | inl before ↦ rw (until-before m one.mark later i before)
+            (subst (Mark (one.mark i)) (sym (two.extends.same i (omega arith))) (from (one.mark i) (image_at second i) (one.within i) (one.each i start (omega arith))))
+        | inr after ↦ rw (until-after m one.mark later i after) (to (two.mark i) (image_at third i) (two.each i after end))
+      ];
+    }
+
+-- the same marks under another name
+pub Passes-same : (old new : History) (One Mark : ℕ → Image → Type 0) (last : ℕ) → ((k : ℕ) (image : Image) → One k image → Mark k image)
+    → Passes old new One last → Passes old new Mark last
+Passes-same old new One Mark last to p = record {
+  extends = p.extends;
+  mark = p.mark;
+  rises = p.rises;
+  within = p.within;
+  each = λ i start end. to (p.mark i) (image_at new i) (p.each i start end);
+}
+
+-- the first n of some replies, where more come behind them
+take_front : (n : ℕ) (replies more : List Reply) → n ≤ length replies → take n (replies ++ more) ≡ take n replies
+take_front n replies more within = take-append-le n replies more within
+
+-- all of some replies, and the first n of those behind them
+take_behind : (replies more : List Reply) (n : ℕ) → take (length replies + n) (replies ++ more) ≡ replies ++ take n more
+take_behind [] more n = let e : 0 + n ≡ n = omega arith in rw e refl
+take_behind (reply ∷ replies) more n =
+    let e : length (reply ∷ replies) + n ≡ (length replies + n) + 1 = omega arith in
+    rw e (rw (take_behind replies more n) refl)
+
+pub IsMark-front : (entry : State) (lines more : List (List ℕ)) (replies others : List Reply) (k : ℕ) (device : Option Device)
+    → IsMark entry lines replies k device → IsMark entry (lines ++ more) (replies ++ others) k device
+IsMark-front entry lines more replies others k device (within, new, answers, is) = (
+  omega (arith, within, length-append replies others),
+  new,
+  subst (λ (front : List Reply). Answers entry (lines ++ more) front new) (sym (take_front k replies others within))
+      (Answers-longer entry new lines more (take k replies) answers),
+  is,
+)
+
+pub IsMark-behind : (entry mid : State) (lines more : List (List ℕ)) (replies others : List Reply) (k : ℕ) (device : Option Device)
+    → length replies ≡ length lines → Answers entry lines replies mid
+    → IsMark mid more others k device → IsMark entry (lines ++ more) (replies ++ others) (length replies + k) device
+IsMark-behind entry mid lines more replies others k device same first (within, new, answers, is) = (
+  omega (arith, within, length-append replies others),
+  new,
+  subst (λ (front : List Reply). Answers entry (lines ++ more) front new) (sym (take_behind replies others k))
+      (Answers-append entry mid new lines more replies (take k others) same first answers),
+  is,
+)
+
+-- one line, before and after its reply
+pub IsMark-none : (entry : State) (lines : List (List ℕ)) (replies : List Reply) → IsMark entry lines replies 0 entry.device
+IsMark-none entry lines replies = (omega arith, entry, refl, refl)
+
+pub IsMark-one : (entry now : State) (line : List ℕ) (reply : Reply) → Turn entry line reply now → IsMark entry (line ∷ []) (reply ∷ []) 1 now.device
+IsMark-one entry now line reply turn = (omega arith, now, (now, turn, refl), refl)
+
+-- an image that stands for the device at entry has the first mark
+pub HasMark-none : (entry : State) (lines : List (List ℕ)) (replies : List Reply) (image : Image) → StandsFor image entry.device → HasMark entry lines replies 0 image
+HasMark-none entry lines replies image stands = (entry.device, IsMark-none entry lines replies, stands_leaves image _ stands)
+
+-- no time passed
+pub Passes-nothing : (history : History) (entry : State) (lines : List (List ℕ)) (replies : List Reply) → StandsFor history.present entry.device
+    → Passes history history (HasMark entry lines replies) 0
+Passes-nothing history entry lines replies stands = Passes-start history (HasMark entry lines replies) 0 (HasMark-none entry lines replies history.present stands)
+
+-- a line that left the device as it was
+pub Passes-stay : (old new : History) (entry : State) (lines : List (List ℕ)) (replies : List Reply) → StandsFor old.present entry.device
+    → During old new (Leaves entry.device) → Passes old new (HasMark entry lines replies) 0
+Passes-stay old new entry lines replies stands during =
+    Passes-during old old new (HasMark entry lines replies) 0 (Passes-nothing old entry lines replies stands)
+    record { extends = during.extends; each = λ i start end. (entry.device, IsMark-none entry lines replies, during.each i start end) }
+
+-- a line that may have changed it
+pub Passes-line : (old new : History) (entry now : State) (line : List ℕ) (reply : Reply) → StandsFor old.present entry.device → Turn entry line reply now
+    → Turns old new (Leaves entry.device) (Leaves now.device) → Passes old new (HasMark entry (line ∷ []) (reply ∷ [])) 1
+Passes-line old new entry now line reply stands turn turns =
+    Passes-turns old old new (HasMark entry (line ∷ []) (reply ∷ [])) 0 (Passes-nothing old entry (line ∷ []) (reply ∷ []) stands)
+    record {
+      extends = turns.extends;
+      turn = turns.turn;
+      before = λ i start end early. (entry.device, IsMark-none entry (line ∷ []) (reply ∷ []), turns.before i start end early);
+      after = λ i start end late. (now.device, IsMark-one entry now line reply turn, turns.after i start end late);
+    }
+
+-- the lines of one run, and then those of another
+pub Passes-lines : (first second third : History) (entry mid : State) (lines more : List (List ℕ)) (replies others : List Reply) (last : ℕ)
+    → length replies ≡ length lines → Answers entry lines replies mid
+    → Passes first second (HasMark entry lines replies) (length replies) → Passes second third (HasMark mid more others) last
+    → Passes first third (HasMark entry (lines ++ more) (replies ++ others)) (length replies + last)
+Passes-lines first second third entry mid lines more replies others last same answers one two =
+    Passes-then first second third (HasMark entry lines replies) (HasMark mid more others) (HasMark entry (lines ++ more) (replies ++ others)) (length replies) last
+    (λ k image within has. (has.0, IsMark-front entry lines more replies others k has.0 has.1, has.2))
+    (λ k image has. (has.0, IsMark-behind entry mid lines more replies others k has.0 same answers has.1, has.2))
+    one two
+
+-- lines may be left over
+pub Passes-longer : (old new : History) (entry : State) (lines more : List (List ℕ)) (replies : List Reply) (last : ℕ)
+    → Passes old new (HasMark entry lines replies) last → Passes old new (HasMark entry (lines ++ more) replies) last
+Passes-longer old new entry lines more replies last p =
+    Passes-same old new (HasMark entry lines replies) (HasMark entry (lines ++ more) replies) last
+    (λ k image has. (has.0, IsMark-longer k has.0 has.1, has.2)) p
+  where
+    IsMark-longer : (k : ℕ) (device : Option Device) → IsMark entry lines replies k device → IsMark entry (lines ++ more) replies k device
+    IsMark-longer k device (within, new, answers, is) = (within, new, Answers-longer entry new lines more (take k replies) answers, is)

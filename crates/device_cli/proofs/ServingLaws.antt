@@ -1,0 +1,319 @@
+-- What each call of a desk makes of the state that its world stands for.
+use Rattle.std.proofs.Common.{◌≡◌, ◌≢◌, ℕ, ◌+◌, ◌<◌, ◌≤◌, Bool, true, false, List, Option, None, Some, Ok, Err, inl, inr, refl, sym, ◌∙◌, subst, ap, arith}
+use Rattle.std.specs.Prelude.{Result, ◌⊎◌, ◌||◌, is_some}
+use Rattle.std.specs.FinMap as map
+use Rattle.std.proofs.lemmas.Grind.{common_steps}
+use Rattle.std.proofs.lemmas.Bool.Decides.{eqb_tells}
+use Rattle.platform.specs.Image.{Image}
+use Rattle.platform.specs.History.{History, During, Turns}
+use Rattle.platform.proofs.Moments.{During-start, Turns-not}
+use Rattle.page_store.specs.Buffer.{padded}
+use Rattle.page_store.proofs.StandsLaws.{stands_leaves}
+use Rattle.device_core.specs.Blocks.{Blocks, block_content}
+use Rattle.device_core.specs.Open.{is_touched, blocks_of, number_of}
+use Rattle.device_core.specs.Holds.{Holds}
+use Rattle.device_core.specs.Replies.{device_after, committed_device}
+use Rattle.device_core.specs.declared.session.Session.{Session}
+use Rattle.device_core.specs.declared.refusals.CommitReply.{CommitReply}
+use Rattle.device_core.specs.declared.refusals.CommitReply.TheVariants as commits
+use Rattle.arrayvec.specs.ArrayVec.{ArrayVec as Bytes}
+use Rattle.script_lang.specs.declared.commands.Command.{Command}
+use Rattle.script_lang.specs.declared.commands.Command.TheVariants.{Format, Mount, Read, Write, Trim, Commit, Drop, Erase, Seize}
+use Rattle.script_lang.specs.declared.commands.Command.TheVariants as commands
+use Rattle.script_lang.specs.declared.replies.Reply.{Reply}
+use Rattle.script_lang.specs.declared.replies.Reply.TheVariants.{Formatted, Mounted, Done, Committed, Dropped, Erased, Unmounted, AlreadyMounted, NotEmpty, NoDevice, Range, Full, Unbuilt}
+use Rattle.script_lang.specs.declared.replies.Reply.TheVariants as replies
+use Rattle.script_lang.specs.declared.devices.Device.{Device}
+use Rattle.script_lang.specs.declared.devices.Session.{Session as OpenSession}
+use Rattle.script_lang.specs.Arrays.{State, zeros, content_reply, in_limits, new_device, session_on, committed, written, unmapped}
+use Rattle.script_lang.specs.Answers.{answer}
+use Rattle.device_cli.specs.World.{World, is_full, world}
+use Rattle.device_cli.specs.Replied.{Serves, Halts, IsSound}
+use Rattle.device_cli.specs.Represents.{stored, StandsFor, Leaves, IsSessionOf, Represents, closed}
+use Rattle.device_cli.specs.declared.stop.DeviceStop.TheVariants as device
+use Rattle.device_cli.proofs.ServedLaws.{at, on, with_session, without_session, holds_stands, has_session, has_none, leaves_still, serves_still, halts_still, is_full_true, is_full_false, gives_unmounted_read, gives_raised, gives_idle, gives_commit_full, gives_stat, gives_formatted, gives_format_full}
+
+-- the cell stays at each moment
+abbrev pub KeepsCell : World → World → Type 0
+KeepsCell old new = During old.history new.history (λ image. image.cell ≡ old.history.present.cell)
+
+-- no time passed
+pub keeps_same : (old new : World) → new.history ≡ old.history → KeepsCell old new
+keeps_same old new same =
+    subst (λ (h : History). During old.history h (λ image. image.cell ≡ old.history.present.cell)) (sym same)
+    (During-start old.history (λ image. image.cell ≡ old.history.present.cell) refl)
+
+-- a reply that needed no call
+serves_at : (s now : Option Session) (h : History) (head capacity : ℕ) (entry next : State) (command : Command) (reply : Reply) → Represents (world s h head capacity) entry
+    → (reply, next) ≡ answer (is_full (world s h head capacity)) entry command → Represents (world now h head capacity) next
+    → Serves (world s h head capacity) (world now h head capacity) entry command (Ok reply)
+serves_at s now h head capacity entry next command reply rep is after =
+    (next, is, after, Turns-not h h (Leaves entry.device) (Leaves next.device) (During-start h (Leaves entry.device) (stands_leaves h.present _ rep.device)))
+
+pub serves_unmounted : (s now : Option Session) (h : History) (head capacity : ℕ) (entry : State) (command : Command) → s ≡ None → now ≡ None
+    → ((full : Bool) (there : Option Device) → (Unmounted, closed there) ≡ answer full (closed there) command)
+    → Represents (world s h head capacity) entry → Serves (world s h head capacity) (world now h head capacity) entry command (Ok Unmounted)
+serves_unmounted s now h head capacity entry command none none_now gives rep =
+    let old = world s h head capacity in
+    without_session old entry none rep (λ state. Serves old (world now h head capacity) state command (Ok Unmounted))
+    (λ stands. serves_at s now h head capacity (closed entry.device) (closed entry.device) command Unmounted (has_none old entry.device none stands)
+    (gives (is_full old) entry.device) (has_none (world now h head capacity) entry.device none_now stands))
+
+pub serves_seize : (s : Option Session) (h : History) (head capacity : ℕ) (entry : State) → Represents (world s h head capacity) entry
+    → Serves (world s h head capacity) (world s h head capacity) entry Seize (Ok Unbuilt)
+serves_seize s h head capacity entry rep = serves_at s s h head capacity entry entry Seize Unbuilt rep refl rep
+
+pub serves_drop : (s now : Option Session) (h : History) (head capacity : ℕ) (entry : State) (session : Session) → s ≡ Some session → now ≡ None
+    → Represents (world s h head capacity) entry → Serves (world s h head capacity) (world now h head capacity) entry Drop (Ok Dropped)
+serves_drop s now h head capacity entry session some none rep =
+    let old = world s h head capacity in
+    with_session old session entry some rep (λ state. Serves old (world now h head capacity) state Drop (Ok Dropped))
+    (λ d t holds touched. serves_at s now h head capacity (at d t) (closed (Some d)) Drop Dropped (has_session old session d t some holds touched) refl
+    (has_none (world now h head capacity) (Some d) none (holds_stands session h.present d t.contents holds)))
+
+pub serves_stat : (s : Option Session) (h : History) (head capacity : ℕ) (entry : State) (session : Session) (mapped number : ℕ) → s ≡ Some session
+    → ((d : Device) (t : OpenSession) → Holds session h.present (stored d) t.contents → (mapped ≡ map.len t.contents) × (number ≡ d.number))
+    → Represents (world s h head capacity) entry → Serves (world s h head capacity) (world s h head capacity) entry commands.Stat (Ok (replies.Stat mapped number))
+serves_stat s h head capacity entry session mapped number some tells rep =
+    let old = world s h head capacity in
+    with_session old session entry some rep (λ state. Serves old old state commands.Stat (Ok (replies.Stat mapped number)))
+    (λ d t holds touched. let both = tells d t holds in
+    let there = has_session old session d t some holds touched in
+    serves_at s s h head capacity (at d t) (at d t) commands.Stat (replies.Stat mapped number) there (gives_stat (is_full old) d t mapped number both.0 both.1) there)
+
+pub serves_already : (s : Option Session) (h : History) (head capacity : ℕ) (entry : State) (session : Session) → s ≡ Some session → Represents (world s h head capacity) entry
+    → Serves (world s h head capacity) (world s h head capacity) entry Mount (Ok AlreadyMounted)
+serves_already s h head capacity entry session some rep =
+    let old = world s h head capacity in
+    with_session old session entry some rep (λ state. Serves old old state Mount (Ok AlreadyMounted))
+    (λ d t holds touched. let there = has_session old session d t some holds touched in
+    serves_at s s h head capacity (at d t) (at d t) Mount AlreadyMounted there refl there)
+
+-- a session on what is there
+serves_mounted_at : (old new : World) (there : Option Device) (session : Session) (number : ℕ) → old.session ≡ None → StandsFor old.history.present there
+    → old.history.present.cell ≢ None → new.session ≡ Some session → is_touched session ≡ false
+    → ((d : Device) → StandsFor old.history.present (Some d) → Holds session new.history.present (stored d) d.contents × (number ≡ d.number))
+    → KeepsCell old new → Serves old new (closed there) Mount (Ok (Mounted number))
+serves_mounted_at old new None session number none stands full some fresh holds keeps = absurd (full stands)
+serves_mounted_at old new (Some d) session number none stands full some fresh holds keeps =
+    let both = holds d stands in
+    serves_still old new (closed (Some d)) (at d (session_on d)) Mount (Mounted number) (has_none old (Some d) none stands)
+    (ap (λ (n : ℕ). (Mounted n, at d (session_on d))) both.1) (has_session new session d (session_on d) some both.0 fresh) keeps
+
+pub serves_mounted : (old new : World) (entry : State) (session : Session) (number : ℕ) → old.session ≡ None → old.history.present.cell ≢ None
+    → new.session ≡ Some session → is_touched session ≡ false
+    → ((d : Device) → StandsFor old.history.present (Some d) → Holds session new.history.present (stored d) d.contents × (number ≡ d.number))
+    → KeepsCell old new → Represents old entry → Serves old new entry Mount (Ok (Mounted number))
+serves_mounted old new entry session number none full some fresh holds keeps rep =
+    without_session old entry none rep (λ state. Serves old new state Mount (Ok (Mounted number)))
+    (λ stands. serves_mounted_at old new entry.device session number none stands full some fresh holds keeps)
+
+-- an image that stands with an empty cell stands for no device
+none_stands : (image : Image) (there : Option Device) → StandsFor image there → image.cell ≡ None → there ≡ None
+none_stands image None stands empty = refl
+none_stands image (Some d) stands empty = absurd (let e = stands.2.cell in cc)
+
+-- nothing is there, and nothing changed
+same_there : (old new : World) (entry : State) → new.session ≡ old.session → new.history.present ≡ old.history.present → Represents old entry → Represents new entry
+same_there old new entry session image rep = record {
+  device = subst (λ (i : Image). StandsFor i entry.device) (sym image) rep.device;
+  session = subst (λ (s : Option Session). IsSessionOf s new.history.present entry.device entry.session) (sym session)
+      (subst (λ (i : Image). IsSessionOf old.session i entry.device entry.session) (sym image) rep.session);
+}
+
+pub serves_no_device : (old new : World) (entry : State) → old.session ≡ None → old.history.present.cell ≡ None → new.session ≡ None → new.history.present ≡ old.history.present
+    → KeepsCell old new → Represents old entry → Serves old new entry Mount (Ok NoDevice)
+serves_no_device old new entry none empty none_now image keeps rep =
+    without_session old entry none rep (λ state. Serves old new state Mount (Ok NoDevice))
+    (λ stands. let is = none_stands old.history.present entry.device stands empty in
+    subst (λ (there : Option Device). Serves old new (closed there) Mount (Ok NoDevice)) (sym is)
+    (serves_still old new (closed None) (closed None) Mount NoDevice (has_none old None none empty) refl
+    (has_none new None none_now (subst (λ (i : Image). i.cell ≡ None) (sym image) empty)) keeps))
+
+-- an erasure
+serves_erased_at : (old new : World) (there : Option Device) (open : Option OpenSession) → old.history.present.cell ≢ None → StandsFor old.history.present there
+    → Represents new (closed None) → Turns old.history new.history (Leaves there) (Leaves None) → Serves old new (on there open) Erase (Ok Erased)
+serves_erased_at old new None open full stands after turns = absurd (full stands)
+serves_erased_at old new (Some d) open full stands after turns = (closed None, refl, after, turns)
+
+pub serves_erased : (old new : World) (entry : State) → old.history.present.cell ≢ None → new.session ≡ None → StandsFor new.history.present None
+    → Turns old.history new.history (Leaves entry.device) (Leaves None) → Represents old entry → Serves old new entry Erase (Ok Erased)
+serves_erased old new entry full none stands turns rep =
+    serves_erased_at old new entry.device entry.session full rep.device (has_none new None none stands) turns
+
+serves_none_at : (old new : World) (there : Option Device) (open : Option OpenSession) → there ≡ None → Represents old (on there open) → Represents new (on there open)
+    → KeepsCell old new → Serves old new (on there open) Erase (Ok NoDevice)
+serves_none_at old new None open is rep after keeps = serves_still old new (on None open) (on None open) Erase NoDevice rep refl after keeps
+serves_none_at old new (Some d) open is rep after keeps = absurd cc
+
+pub serves_erase_none : (old new : World) (entry : State) → old.history.present.cell ≡ None → new.session ≡ old.session → new.history.present ≡ old.history.present
+    → KeepsCell old new → Represents old entry → Serves old new entry Erase (Ok NoDevice)
+serves_erase_none old new entry empty session image keeps rep =
+    serves_none_at old new entry.device entry.session (none_stands old.history.present entry.device rep.device empty) rep
+    (same_there old new entry session image rep) keeps
+
+erase_next : (full : Bool) (there : Option Device) (open : Option OpenSession) → (answer full (on there open) Erase).1.device ≡ None
+erase_next full None open = refl
+erase_next full (Some d) open = refl
+
+pub halts_erase : (old new : World) (entry : State) → Turns old.history new.history (Leaves entry.device) (Leaves None) → Halts old new entry Erase device.Platform
+halts_erase old new entry turns =
+    subst (λ (there : Option Device). Turns old.history new.history (Leaves entry.device) (Leaves there)) (sym (erase_next (is_full old) entry.device entry.session)) turns
+
+-- no session stands over no device
+no_session : (s : Option Session) (image : Image) (there : Option Device) (open : Option OpenSession) → IsSessionOf s image there open → there ≡ None → (s ≡ None) × (open ≡ None)
+no_session None image there None h is = (refl, refl)
+no_session None image there (Some t) h is = absurd h
+no_session (Some s) image there None h is = absurd h
+no_session (Some s) image None (Some t) h is = absurd h
+no_session (Some s) image (Some d) (Some t) h is = absurd cc
+
+-- what stands with an empty cell
+pub with_nothing : (w : World) (entry : State) → w.history.present.cell ≡ None → Represents w entry → (Goal : State → Type 0) → (w.session ≡ None → Goal (closed None)) → Goal entry
+with_nothing w entry empty rep Goal k =
+    let is = none_stands w.history.present entry.device rep.device empty in
+    let none = no_session w.session w.history.present entry.device entry.session rep.session is in
+    subst (λ (there : Option Device). Goal (on there entry.session)) (sym is) (subst (λ (open : Option OpenSession). Goal (on None open)) (sym none.1) (k none.0))
+
+-- a format
+pub serves_formatted : (old new : World) (entry : State) (blocks order : ℕ) → old.history.present.cell ≡ None → new.session ≡ old.session → order ≡ 64 → 1 ≤ blocks → blocks ≤ 64
+    → (old.head ≡ old.capacity → ⊥) → StandsFor new.history.present (Some (new_device blocks 64))
+    → ((there : Option Device) → StandsFor old.history.present there → Turns old.history new.history (Leaves there) (Leaves (Some (new_device blocks 64))))
+    → Represents old entry → Serves old new entry (Format blocks order) (Ok Formatted)
+serves_formatted old new entry blocks order empty session is least most room stands turns rep =
+    subst (λ (n : ℕ). Serves old new entry (Format blocks n) (Ok Formatted)) (sym is)
+    (with_nothing old entry empty rep (λ state. Serves old new state (Format blocks 64) (Ok Formatted))
+    (λ none. (
+      closed (Some (new_device blocks 64)),
+      gives_formatted (is_full old) None blocks (is_full_false old room) least most,
+      has_none new (Some (new_device blocks 64)) (session ∙ none) stands,
+      turns None empty,
+    )))
+
+pub serves_format_full : (old new : World) (entry : State) (blocks order : ℕ) → old.history.present.cell ≡ None → new.session ≡ old.session → new.history.present ≡ old.history.present
+    → order ≡ 64 → 1 ≤ blocks → blocks ≤ 64 → old.head ≡ old.capacity → KeepsCell old new → Represents old entry → Serves old new entry (Format blocks order) (Ok Full)
+serves_format_full old new entry blocks order empty session image is least most none_free keeps rep =
+    subst (λ (n : ℕ). Serves old new entry (Format blocks n) (Ok Full)) (sym is)
+    (with_nothing old entry empty rep (λ state. Serves old new state (Format blocks 64) (Ok Full))
+    (λ none. serves_still old new (closed None) (closed None) (Format blocks 64) Full (has_none old None none empty)
+    (gives_format_full (is_full old) None blocks (is_full_true old none_free) least most)
+    (has_none new None (session ∙ none) (subst (λ (i : Image). i.cell ≡ None) (sym image) empty)) keeps))
+
+serves_not_empty_at : (old new : World) (there : Option Device) (open : Option OpenSession) (blocks order : ℕ) → old.history.present.cell ≢ None → StandsFor old.history.present there
+    → Represents old (on there open) → Represents new (on there open) → KeepsCell old new → Serves old new (on there open) (Format blocks order) (Ok NotEmpty)
+serves_not_empty_at old new None open blocks order full stands rep after keeps = absurd (full stands)
+serves_not_empty_at old new (Some d) open blocks order full stands rep after keeps =
+    serves_still old new (on (Some d) open) (on (Some d) open) (Format blocks order) NotEmpty rep refl after keeps
+
+pub serves_not_empty : (old new : World) (entry : State) (blocks order : ℕ) → old.history.present.cell ≢ None → new.session ≡ old.session → new.history.present ≡ old.history.present
+    → KeepsCell old new → Represents old entry → Serves old new entry (Format blocks order) (Ok NotEmpty)
+serves_not_empty old new entry blocks order full session image keeps rep =
+    serves_not_empty_at old new entry.device entry.session blocks order full rep.device rep (same_there old new entry session image rep) keeps
+
+-- a format that is refused, after it was looked for a device
+pub serves_refused : (old new : World) (entry : State) (blocks order : ℕ) (reply given : Reply) → new.session ≡ old.session → new.history.present ≡ old.history.present
+    → KeepsCell old new → ((full : Bool) (open : Option OpenSession) → (given, on None open) ≡ answer full (on None open) (Format blocks order))
+    → ((reply ≡ NotEmpty) × (old.history.present.cell ≢ None)) ⊎ ((reply ≡ given) × (old.history.present.cell ≡ None))
+    → Represents old entry → Serves old new entry (Format blocks order) (Ok reply)
+serves_refused old new entry blocks order reply given session image keeps gives (inl (e, full)) rep =
+    subst (λ (r : Reply). Serves old new entry (Format blocks order) (Ok r)) (sym e) (serves_not_empty old new entry blocks order full session image keeps rep)
+serves_refused old new entry blocks order reply given session image keeps gives (inr (e, empty)) rep =
+    subst (λ (r : Reply). Serves old new entry (Format blocks order) (Ok r)) (sym e)
+    (with_nothing old entry empty rep (λ state. Serves old new state (Format blocks order) (Ok given))
+    (λ none. serves_still old new (closed None) (closed None) (Format blocks order) given (has_none old None none empty) (gives (is_full old) None)
+    (has_none new None (session ∙ none) (subst (λ (i : Image). i.cell ≡ None) (sym image) empty)) keeps))
+
+-- a format at which the platform failed: where it would have made a device, it may have
+pub halts_format : (old new : World) (entry : State) (blocks order : ℕ) → order ≡ 64 → 1 ≤ blocks → blocks ≤ 64
+    → ((old.history.present.cell ≢ None) ⊎ (old.head ≡ old.capacity) → KeepsCell old new)
+    → ((there : Option Device) → StandsFor old.history.present there → Turns old.history new.history (Leaves there) (Leaves (Some (new_device blocks 64))))
+    → Represents old entry → Halts old new entry (Format blocks order) device.Platform
+halts_format old new entry blocks order is least most keeps turns rep =
+    subst (λ (n : ℕ). Halts old new entry (Format blocks n) device.Platform) (sym is) (cases entry.device entry.session rep)
+  where
+    made : (open : Option OpenSession) → is_full old ≡ false → (answer (is_full old) (on None open) (Format blocks 64)).1.device ≡ Some (new_device blocks 64)
+    made open room = sym (ap (λ (p : Reply × State). p.1.device) (gives_formatted (is_full old) open blocks room least most))
+
+    cases : (there : Option Device) (open : Option OpenSession) → Represents old (on there open) → Halts old new (on there open) (Format blocks 64) device.Platform
+    cases (Some d) open r = halts_still old new (on (Some d) open) (Format blocks 64) device.Platform tt r (keeps (inl (λ e. let c = r.device.2.cell in cc)))
+    cases None open r = elim (eqb_tells old.head old.capacity) [
+      | inl equal ↦ halts_still old new (on None open) (Format blocks 64) device.Platform tt r (keeps (inr equal.1))
+      | inr differ ↦ subst (λ (there : Option Device). Turns old.history new.history (Leaves None) (Leaves there)) (sym (made open differ.0)) (turns None r.device)
+    ]
+
+-- a commit
+pub serves_committed : (old new : World) (entry : State) (session now : Session) (number : ℕ) (reply : CommitReply) → old.session ≡ Some session → new.session ≡ Some now
+    → reply ≡ commits.Committed number
+    → (is_touched session ≡ false → (reply ≡ commits.Committed (number_of session)) × (now ≡ session) × (new.history.present ≡ old.history.present) × KeepsCell old new)
+    → (is_touched session ≡ true → old.head ≡ old.capacity → reply ≡ commits.Full 1 0)
+    → (is_touched session ≡ true → (old.head ≡ old.capacity → ⊥) → (reply ≡ commits.Committed (number_of session + 1)) × (is_touched now ≡ false))
+    → ((d : Device) (t : OpenSession) → Holds session old.history.present (stored d) t.contents
+        → Holds now new.history.present (device_after reply (stored d) t.contents) t.contents
+        × Turns old.history new.history (Leaves (Some d)) (Leaves (Some (committed d t))))
+    → Represents old entry → Serves old new entry Commit (Ok (Committed number))
+serves_committed old new entry session now number reply some some_now is idle full raised after rep =
+    with_session old session entry some rep (λ state. Serves old new state Commit (Ok (Committed number)))
+    (λ d t holds touched. cases d t holds (is_touched session) refl touched)
+  where
+    cases : (d : Device) (t : OpenSession) → Holds session old.history.present (stored d) t.contents → (b : Bool) → is_touched session ≡ b → is_touched session ≡ t.touched
+        → Serves old new (at d t) Commit (Ok (Committed number))
+    cases d t holds false b same =
+        let i = idle b in
+        let e : number ≡ d.number = (let a : commits.Committed number ≡ commits.Committed (number_of session) = sym is ∙ i.0 in let n : number ≡ number_of session = cc in n) ∙ holds.stands.number in
+        subst (λ (n : ℕ). Serves old new (at d t) Commit (Ok (Committed n))) (sym e)
+        (serves_still old new (at d t) (at d t) Commit (Committed d.number) (has_session old session d t some holds same) (gives_idle (is_full old) d t (sym same ∙ b))
+        (has_session new now d t some_now
+        (subst (λ (s : Session). Holds s new.history.present (stored d) t.contents) (sym i.1) (subst (λ (image : Image). Holds session image (stored d) t.contents) (sym i.2) holds))
+        (subst (λ (s : Session). is_touched s ≡ t.touched) (sym i.1) same)) i.3)
+    cases d t holds true b same = elim (eqb_tells old.head old.capacity) [
+      | inl equal ↦ absurd (let f = full b equal.1 in cc)
+      | inr differ ↦
+          let room = is_full_false old differ.1 in
+          let both = raised b differ.1 in
+          let a = after d t holds in
+          let e : number ≡ d.number + 1 = (let x : commits.Committed number ≡ commits.Committed (number_of session + 1) = sym is ∙ both.0 in let n : number ≡ number_of session + 1 = cc in n)
+              ∙ ap (λ (k : ℕ). k + 1) holds.stands.number in
+          let has = subst (λ (r : CommitReply). Holds now new.history.present (device_after r (stored d) t.contents) t.contents) is a.0 in
+          let has_now = subst (λ (k : ℕ). Holds now new.history.present (record (stored d) { number = k; contents = t.contents }) t.contents) e has in
+          subst (λ (n : ℕ). Serves old new (at d t) Commit (Ok (Committed n))) (sym e)
+          (
+            at (committed d t) (session_on (committed d t)),
+            gives_raised (is_full old) d t room (sym same ∙ b),
+            has_session new now (committed d t) (session_on (committed d t)) some_now has_now both.1,
+            a.1,
+          )
+    ]
+
+pub serves_commit_full : (old new : World) (entry : State) (session now : Session) (needed free : ℕ) (reply : CommitReply) → old.session ≡ Some session → new.session ≡ Some now
+    → reply ≡ commits.Full needed free
+    → (is_touched session ≡ false → reply ≡ commits.Committed (number_of session))
+    → (is_touched session ≡ true → old.head ≡ old.capacity → (now ≡ session) × (new.history.present ≡ old.history.present) × KeepsCell old new)
+    → (is_touched session ≡ true → (old.head ≡ old.capacity → ⊥) → reply ≡ commits.Committed (number_of session + 1))
+    → Represents old entry → Serves old new entry Commit (Ok Full)
+serves_commit_full old new entry session now needed free reply some some_now is idle full raised rep =
+    with_session old session entry some rep (λ state. Serves old new state Commit (Ok Full))
+    (λ d t holds touched. cases d t holds (is_touched session) refl touched)
+  where
+    cases : (d : Device) (t : OpenSession) → Holds session old.history.present (stored d) t.contents → (b : Bool) → is_touched session ≡ b → is_touched session ≡ t.touched
+        → Serves old new (at d t) Commit (Ok Full)
+    cases d t holds false b same = absurd (let i = idle b in cc)
+    cases d t holds true b same = elim (eqb_tells old.head old.capacity) [
+      | inl equal ↦
+          let f = full b equal.1 in
+          serves_still old new (at d t) (at d t) Commit Full (has_session old session d t some holds same) (gives_commit_full (is_full old) d t (is_full_true old equal.1) (sym same ∙ b))
+          (has_session new now d t some_now
+          (subst (λ (s : Session). Holds s new.history.present (stored d) t.contents) (sym f.0) (subst (λ (image : Image). Holds session image (stored d) t.contents) (sym f.1) holds))
+          (subst (λ (s : Session). is_touched s ≡ t.touched) (sym f.0) same)) f.2
+      | inr differ ↦ absurd (let r = raised b differ.1 in cc)
+    ]
+
+-- a commit at which the platform failed
+pub halts_commit : (old new : World) (entry : State) (session : Session) → old.session ≡ Some session → is_touched session ≡ true → (old.head ≡ old.capacity → ⊥)
+    → ((d : Device) (t : OpenSession) → Holds session old.history.present (stored d) t.contents → Turns old.history new.history (Leaves (Some d)) (Leaves (Some (committed d t))))
+    → Represents old entry → Halts old new entry Commit device.Platform
+halts_commit old new entry session some touched room turns rep =
+    with_session old session entry some rep (λ state. Halts old new state Commit device.Platform)
+    (λ d t holds same.
+    let made : (answer (is_full old) (at d t) Commit).1.device ≡ Some (committed d t) =
+        sym (ap (λ (p : Reply × State). p.1.device) (gives_raised (is_full old) d t (is_full_false old room) (sym same ∙ touched))) in
+    subst (λ (there : Option Device). Turns old.history new.history (Leaves (Some d)) (Leaves there)) (sym made) (turns d t holds))

@@ -1,0 +1,24 @@
+-- What a run works on.
+use Rattle.std.specs.Prelude.{◌≡◌, ℕ, ◌+◌, ◌≤◌, Bool, ◌==◌, Option}
+use Rattle.platform.specs.History.{History}
+use Rattle.device_core.specs.declared.session.Session.{Session}
+
+-- the session, if one is open; the moments of the platform; how many pages it has, and how many it can have
+pub record World : Type 0 where
+  pub session : Option Session
+  pub history : History
+  pub head : ℕ
+  pub capacity : ℕ
+
+abbrev pub world : Option Session → History → ℕ → ℕ → World
+world session history head capacity = record { session = session; history = history; head = head; capacity = capacity }
+
+-- whether no page is free
+abbrev pub is_full : World → Bool
+is_full w = w.head == w.capacity
+
+-- the one world comes from the other: pages are only added, and no more than there is room for
+pub record IsLater (old new : World) : Type 0 where
+  pub capacity : new.capacity ≡ old.capacity
+  pub rises : old.head ≤ new.head
+  pub within : new.head ≤ new.capacity
