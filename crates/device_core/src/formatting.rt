@@ -52,6 +52,9 @@ pub fn format<P: Platform, T: Tape, L: Sink>(
     // The cell is as it was at each moment, if not for the new device or a fault of the platform.
     ensures still { P.tells → IsOk result ⊎ (IsErrOf result FormatRefusal.PlatformFault
         ⊎ During (P.history platform.old) (P.history platform.new) (λ image. image.cell ≡ (P.history platform.old).present.cell)) }
+    // Where there is a device already, or no page is free, the cell is as it was at each moment, whatever the answer.
+    ensures kept { P.tells → ((P.history platform.old).present.cell ≢ None) ⊎ (P.head platform.old ≡ P.capacity platform.old)
+        → During (P.history platform.old) (P.history platform.new) (λ image. image.cell ≡ (P.history platform.old).present.cell) }
     ensures stays_served { P.tells → IsServedCell (P.history platform.old).present.cell (P.head platform.old)
         → IsServedCell (P.history platform.new).present.cell (P.head platform.new) }
     ensures unput { L.written ledger.new ≡ L.written ledger.old }

@@ -1,4 +1,4 @@
-use Rattle.std.proofs.Common.{◌≡◌, ◌∙◌, ◌+◌, ◌≤◌, ◌<◌, ◌^◌, ℕ, List, [], Option, Some, refl, ap, sym, subst, inr, arith}
+use Rattle.std.proofs.Common.{◌≡◌, ◌∙◌, ◌+◌, ◌≤◌, ◌<◌, ◌^◌, ℕ, List, [], Option, None, Some, Bool, false, refl, ap, sym, subst, inl, inr, arith, rules}
 use Rattle.sdbt_base.specs.Bytes.{IsBytes}
 use Rattle.platform.specs.Image.{Image, with_page}
 use Rattle.seal_record.specs.Sealing.{masked}
@@ -6,6 +6,8 @@ use Rattle.node_codec.specs.Record.{NodeRecord, record_bytes}
 use Rattle.page_store.specs.Buffer.{Held}
 use Rattle.device_core.specs.Leaf.{IsServed, IsServedCell}
 use Rattle.device_core.specs.Blocks.{new_device}
+use Rattle.std.specs.Prelude.{IsTrue, IsSome, ◌↔◌, ◌≢◌}
+use Rattle.std.proofs.lemmas.Grind.{common_steps}
 use Rattle.device_core.proofs.MomentLaws.{one_look, call_more}
 use Rattle.device_core.proofs.HoldLaws.{during_stands, first_root, first_fits, first_one, no_entries_fit, format_turns, format_made}
 use Rattle.device_core.proofs.ServedLaws.{served_same, served_published}
@@ -207,3 +209,40 @@ returns-clause-stays_served g c = λ told served.
 
 pub returns-in-Err-TapeFault-clause-unmade : goal.returns-in-Err-TapeFault-clause-unmade
 returns-in-Err-TapeFault-clause-unmade g c = λ told is. c.append.ensures.unchanged told (cc) ∙ c.load_root.ensures.image told
+
+pub returns-in_default-clause-kept : goal.returns-in_default-clause-kept
+returns-in_default-clause-kept g c = λ told before. one_look _ _ (c.load_root.ensures.time told) (c.load_root.ensures.image told)
+
+pub returns-then-is_full-clause-kept : goal.returns-then-is_full-clause-kept
+returns-then-is_full-clause-kept g c = λ told before. one_look _ _ (c.load_root.ensures.time told) (c.load_root.ensures.image told)
+
+pub returns-then-head-capacity-clause-kept : goal.returns-then-head-capacity-clause-kept
+returns-then-head-capacity-clause-kept g c = λ told before. one_look _ _ (c.load_root.ensures.time told) (c.load_root.ensures.image told)
+
+pub returns-in_default-new-clause-kept : goal.returns-in_default-new-clause-kept
+returns-in_default-new-clause-kept g c = λ told before. one_look _ _ (c.load_root.ensures.time told) (c.load_root.ensures.image told)
+
+pub returns-in-Err-TapeFault-clause-kept : goal.returns-in-Err-TapeFault-clause-kept
+returns-in-Err-TapeFault-clause-kept g c = λ told before.
+    call_more _ _ _ (one_look _ _ (c.load_root.ensures.time told) (c.load_root.ensures.image told)) (c.append.ensures.time told) (c.append.ensures.cell told)
+
+pub returns-in-Err-PlatformFault-clause-kept : goal.returns-in-Err-PlatformFault-clause-kept
+returns-in-Err-PlatformFault-clause-kept g c = λ told before.
+    call_more _ _ _ (one_look _ _ (c.load_root.ensures.time told) (c.load_root.ensures.image told)) (c.append.ensures.time told) (c.append.ensures.cell told)
+
+-- a cell that is not full is empty
+not_full : (full : Bool) (cell : Option (List ℕ)) → full ≡ false → IsTrue full ↔ IsSome cell → cell ≢ None → ⊥
+not_full full None not_so same is = is refl
+not_full full (Some bytes) not_so same is = let t : IsTrue full = same.1 (search rules) in grind (arith, common_steps, t, not_so)
+
+pub returns-in-Ok-publish-clause-kept : goal.returns-in-Ok-publish-clause-kept
+returns-in-Ok-publish-clause-kept g c = λ told before. elim before [
+  | inl there ↦ absurd (not_full c.in-Ok.is_full (g.P.Platform.history c.args.platform.now).present.cell c.if-is_full.false (c.in-Ok.ensures.full told) there)
+  | inr none ↦ absurd (omega (arith, none, c.head.ensures.value, c.capacity.ensures.value, c.load_root.ensures.head, c.load_root.ensures.capacity, c.if-head-capacity.false))
+]
+
+pub returns-clause-kept : goal.returns-clause-kept
+returns-clause-kept g c = λ told before. elim before [
+  | inl there ↦ absurd (not_full c.in-Ok.is_full (g.P.Platform.history c.args.platform.now).present.cell c.if-is_full.false (c.in-Ok.ensures.full told) there)
+  | inr none ↦ absurd (omega (arith, none, c.head.ensures.value, c.capacity.ensures.value, c.load_root.ensures.head, c.load_root.ensures.capacity, c.if-head-capacity.false))
+]
