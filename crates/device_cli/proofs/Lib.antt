@@ -8,5 +8,6 @@ pub mod Reading
 pub mod RanLaws
 pub mod StillLaws
 pub mod ScriptLaws
+pub mod CompleteLaws
 pub mod ServedLaws
 pub mod ServingLaws

@@ -1,5 +1,5 @@
 -- How the marks that runs pass compose.
-use Rattle.std.proofs.Common.{◌≡◌, ◌⊎◌, inl, inr, true, false, ℕ, ◌+◌, ◌<◌, ◌≤◌, List, [], ◌∷◌, ◌++◌, Option, length, take, refl, sym, ◌∙◌, subst, arith, append_assoc, length-append}
+use Rattle.std.proofs.Common.{◌≡◌, ◌⊎◌, inl, inr, true, false, ℕ, suc, ◌+◌, ◌<◌, ◌≤◌, List, [], ◌∷◌, ◌++◌, Option, length, take, refl, sym, ◌∙◌, ap, subst, arith, append_assoc, length-append}
 use Rattle.std.specs.Prelude.{if◌then◌else◌, nat_lt}
 use Rattle.std.proofs.lemmas.Bool.{cases_lt}
 use Rattle.std.proofs.lemmas.Bool.Decides.{nat_tests}
@@ -77,8 +77,8 @@ take_front n replies more within = take-append-le n replies more within
 take_behind : (replies more : List Reply) (n : ℕ) → take (length replies + n) (replies ++ more) ≡ replies ++ take n more
 take_behind [] more n = let e : 0 + n ≡ n = omega arith in rw e refl
 take_behind (reply ∷ replies) more n =
-    let e : length (reply ∷ replies) + n ≡ (length replies + n) + 1 = omega arith in
-    rw e (rw (take_behind replies more n) refl)
+    let e : length (reply ∷ replies) + n ≡ suc (length replies + n) = omega arith in
+    rw e (ap (λ (rest : List Reply). reply ∷ rest) (take_behind replies more n))
 
 pub IsMark-front : (entry : State) (lines more : List (List ℕ)) (replies others : List Reply) (k : ℕ) (device : Option Device)
     → IsMark entry lines replies k device → IsMark entry (lines ++ more) (replies ++ others) k device

@@ -143,7 +143,7 @@ record Halted (new : World) (old : World) (entry : State) (line : List ℕ) (sto
   sound : IsSound stop
   ahead : List Reply
   is_ahead : IsAhead (Err (stops.Device stop)) ahead
-  passes : Passes old.history new.history (HasMark entry (line ∷ []) ahead) (length ahead)
+  passes : Passes old.history new.history (HasMark entry (line ∷ []) ahead) (0 + length ahead)
   exits : ExitsAt new.history.present entry (line ∷ []) [] ahead
 
 halted_still : (old new : World) (entry : State) (line : List ℕ) (stop : DeviceStop) → IsSound stop → IsAhead (Err (stops.Device stop)) [] → StandsFor old.history.present entry.device

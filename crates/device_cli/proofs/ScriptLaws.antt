@@ -11,7 +11,8 @@ use Rattle.script_lang.specs.declared.devices.Device.{Device}
 use Rattle.script_lang.specs.declared.replies.Reply.{Reply}
 use Rattle.script_lang.specs.declared.replies.Reply.TheVariants.{Full}
 use Rattle.device_core.specs.declared.session.Session.{Session}
-use Rattle.device_cli.specs.World.{World}
+use Rattle.platform.specs.History.{History}
+use Rattle.device_cli.specs.World.{World, world}
 use Rattle.device_cli.specs.Represents.{StandsFor, IsSessionOf, Represents, closed}
 use Rattle.device_cli.specs.Replied.{Ending, IsBehind, AreMany, IsDamageAt, IfNext, AsksForBlock, IsWrongPage, IsFirstPart, IsAhead, EndsIn, Answered, damage_line}
 use Rattle.device_cli.specs.Ran.{Ran, AreLines, HaveCome, AnswersFrom, AnswersScript}
@@ -216,10 +217,28 @@ answers_from old new ending entry lines replies part f = record {
   exits = f.exits;
 }
 
--- a run answers the script
-pub answers_script : (tells : Type 0) (old new : World) (ending : Ending) (left left_now written written_now : Option (List ℕ)) → old.session ≡ None
-    → Ran tells old new damage_line ending left left_now written written_now → AnswersScript tells old new (exit_of ending) left left_now written written_now
-answers_script tells old new ending left left_now written written_now alone r = let p = r.handled.replied in record {
+-- what is said of a run's end says nothing of its session
+forget : (old : World) (session : Option Session) (history : History) (head capacity : ℕ) (status : ℕ) (entry : State) (lines : List (List ℕ)) (replies : List Reply) (part : List ℕ)
+    → AnswersFrom old (world session history head capacity) status entry lines replies part → AnswersFrom old (world None history head capacity) status entry lines replies part
+forget old session history head capacity status entry lines replies part f = record {
+  now = f.now;
+  pages = f.pages;
+  answers = f.answers;
+  ends = f.ends;
+  next = f.next;
+  sound = f.sound;
+  ahead = f.ahead;
+  one_ahead = f.one_ahead;
+  none_ahead = f.none_ahead;
+  passes = f.passes;
+  exits = f.exits;
+}
+
+-- a run answers the script, whatever session it ends with
+pub answers_script : (tells : Type 0) (old : World) (session : Option Session) (history : History) (head capacity : ℕ) (ending : Ending) (left left_now written written_now : Option (List ℕ))
+    → old.session ≡ None → Ran tells old (world session history head capacity) damage_line ending left left_now written written_now
+    → AnswersScript tells old (world None history head capacity) (exit_of ending) left left_now written written_now
+answers_script tells old session history head capacity ending left left_now written written_now alone r = let p = r.handled.replied in record {
   taken = r.taken;
   gave = r.gave;
   lines = r.lines;
@@ -232,11 +251,13 @@ answers_script tells old new ending left left_now written written_now alone r = 
   whole = whole ending (length p.replies) (length r.lines) r.taken left_now r.lines p.many r.come;
   no_part = no_part ending p.part p.behind;
   bad_root = bad_root ending p.part p.behind;
-  bad_record = bad_record tells new.history.present ending p.part p.replies r.lines p.behind p.damage;
+  bad_record = bad_record tells history.present ending p.part p.replies r.lines p.behind p.damage;
   cut = cut ending p.part p.behind;
   full = p.full;
   answered = λ told there stands served.
-      answers_from old new ending (closed there) r.lines p.replies p.part (p.answered told (closed there) (record { there = alone_on old there alone stands; served = served }));
+      forget old session history head capacity (exit_of ending) (closed there) r.lines p.replies p.part
+      (answers_from old (world session history head capacity) ending (closed there) r.lines p.replies p.part
+      (p.answered told (closed there) (record { there = alone_on old there alone stands; served = served })));
 }
 
 -- other words: nothing is taken, nothing put, and nothing done

@@ -3,6 +3,7 @@ use Rattle.std.proofs.Common.{◌≡◌, ◌≢◌, ℕ, ◌+◌, ◌<◌, ◌�
 use Rattle.std.specs.Prelude.{Result, ◌⊎◌, ◌||◌, is_some}
 use Rattle.std.specs.FinMap as map
 use Rattle.std.proofs.lemmas.Grind.{common_steps}
+use Rattle.std.proofs.lemmas.Bool.{cases_Bool}
 use Rattle.std.proofs.lemmas.Bool.Decides.{eqb_tells}
 use Rattle.platform.specs.Image.{Image}
 use Rattle.platform.specs.History.{History, During, Turns}
@@ -131,20 +132,20 @@ serves_no_device old new entry none empty none_now image keeps rep =
     (has_none new None none_now (subst (λ (i : Image). i.cell ≡ None) (sym image) empty)) keeps))
 
 -- an erasure
-serves_erased_at : (old new : World) (there : Option Device) (open : Option OpenSession) → old.history.present.cell ≢ None → StandsFor old.history.present there
-    → Represents new (closed None) → Turns old.history new.history (Leaves there) (Leaves None) → Serves old new (on there open) Erase (Ok Erased)
-serves_erased_at old new None open full stands after turns = absurd (full stands)
-serves_erased_at old new (Some d) open full stands after turns = (closed None, refl, after, turns)
+serves_erased_at : (old new : World) (there : Option Device) (opened : Option OpenSession) → old.history.present.cell ≢ None → StandsFor old.history.present there
+    → Represents new (closed None) → Turns old.history new.history (Leaves there) (Leaves None) → Serves old new (on there opened) Erase (Ok Erased)
+serves_erased_at old new None opened full stands after turns = absurd (full stands)
+serves_erased_at old new (Some d) opened full stands after turns = (closed None, refl, after, turns)
 
 pub serves_erased : (old new : World) (entry : State) → old.history.present.cell ≢ None → new.session ≡ None → StandsFor new.history.present None
     → Turns old.history new.history (Leaves entry.device) (Leaves None) → Represents old entry → Serves old new entry Erase (Ok Erased)
 serves_erased old new entry full none stands turns rep =
     serves_erased_at old new entry.device entry.session full rep.device (has_none new None none stands) turns
 
-serves_none_at : (old new : World) (there : Option Device) (open : Option OpenSession) → there ≡ None → Represents old (on there open) → Represents new (on there open)
-    → KeepsCell old new → Serves old new (on there open) Erase (Ok NoDevice)
-serves_none_at old new None open is rep after keeps = serves_still old new (on None open) (on None open) Erase NoDevice rep refl after keeps
-serves_none_at old new (Some d) open is rep after keeps = absurd cc
+serves_none_at : (old new : World) (there : Option Device) (opened : Option OpenSession) → there ≡ None → Represents old (on there opened) → Represents new (on there opened)
+    → KeepsCell old new → Serves old new (on there opened) Erase (Ok NoDevice)
+serves_none_at old new None opened is rep after keeps = serves_still old new (on None opened) (on None opened) Erase NoDevice rep refl after keeps
+serves_none_at old new (Some d) opened is rep after keeps = absurd cc
 
 pub serves_erase_none : (old new : World) (entry : State) → old.history.present.cell ≡ None → new.session ≡ old.session → new.history.present ≡ old.history.present
     → KeepsCell old new → Represents old entry → Serves old new entry Erase (Ok NoDevice)
@@ -152,16 +153,16 @@ serves_erase_none old new entry empty session image keeps rep =
     serves_none_at old new entry.device entry.session (none_stands old.history.present entry.device rep.device empty) rep
     (same_there old new entry session image rep) keeps
 
-erase_next : (full : Bool) (there : Option Device) (open : Option OpenSession) → (answer full (on there open) Erase).1.device ≡ None
-erase_next full None open = refl
-erase_next full (Some d) open = refl
+erase_next : (full : Bool) (there : Option Device) (opened : Option OpenSession) → (answer full (on there opened) Erase).1.device ≡ None
+erase_next full None opened = refl
+erase_next full (Some d) opened = refl
 
 pub halts_erase : (old new : World) (entry : State) → Turns old.history new.history (Leaves entry.device) (Leaves None) → Halts old new entry Erase device.Platform
 halts_erase old new entry turns =
     subst (λ (there : Option Device). Turns old.history new.history (Leaves entry.device) (Leaves there)) (sym (erase_next (is_full old) entry.device entry.session)) turns
 
 -- no session stands over no device
-no_session : (s : Option Session) (image : Image) (there : Option Device) (open : Option OpenSession) → IsSessionOf s image there open → there ≡ None → (s ≡ None) × (open ≡ None)
+no_session : (s : Option Session) (image : Image) (there : Option Device) (opened : Option OpenSession) → IsSessionOf s image there opened → there ≡ None → (s ≡ None) × (opened ≡ None)
 no_session None image there None h is = (refl, refl)
 no_session None image there (Some t) h is = absurd h
 no_session (Some s) image there None h is = absurd h
@@ -173,7 +174,7 @@ pub with_nothing : (w : World) (entry : State) → w.history.present.cell ≡ No
 with_nothing w entry empty rep Goal k =
     let is = none_stands w.history.present entry.device rep.device empty in
     let none = no_session w.session w.history.present entry.device entry.session rep.session is in
-    subst (λ (there : Option Device). Goal (on there entry.session)) (sym is) (subst (λ (open : Option OpenSession). Goal (on None open)) (sym none.1) (k none.0))
+    subst (λ (there : Option Device). Goal (on there entry.session)) (sym is) (subst (λ (opened : Option OpenSession). Goal (on None opened)) (sym none.1) (k none.0))
 
 -- a format
 pub serves_formatted : (old new : World) (entry : State) (blocks order : ℕ) → old.history.present.cell ≡ None → new.session ≡ old.session → order ≡ 64 → 1 ≤ blocks → blocks ≤ 64
@@ -199,11 +200,11 @@ serves_format_full old new entry blocks order empty session image is least most 
     (gives_format_full (is_full old) None blocks (is_full_true old none_free) least most)
     (has_none new None (session ∙ none) (subst (λ (i : Image). i.cell ≡ None) (sym image) empty)) keeps))
 
-serves_not_empty_at : (old new : World) (there : Option Device) (open : Option OpenSession) (blocks order : ℕ) → old.history.present.cell ≢ None → StandsFor old.history.present there
-    → Represents old (on there open) → Represents new (on there open) → KeepsCell old new → Serves old new (on there open) (Format blocks order) (Ok NotEmpty)
-serves_not_empty_at old new None open blocks order full stands rep after keeps = absurd (full stands)
-serves_not_empty_at old new (Some d) open blocks order full stands rep after keeps =
-    serves_still old new (on (Some d) open) (on (Some d) open) (Format blocks order) NotEmpty rep refl after keeps
+serves_not_empty_at : (old new : World) (there : Option Device) (opened : Option OpenSession) (blocks order : ℕ) → old.history.present.cell ≢ None → StandsFor old.history.present there
+    → Represents old (on there opened) → Represents new (on there opened) → KeepsCell old new → Serves old new (on there opened) (Format blocks order) (Ok NotEmpty)
+serves_not_empty_at old new None opened blocks order full stands rep after keeps = absurd (full stands)
+serves_not_empty_at old new (Some d) opened blocks order full stands rep after keeps =
+    serves_still old new (on (Some d) opened) (on (Some d) opened) (Format blocks order) NotEmpty rep refl after keeps
 
 pub serves_not_empty : (old new : World) (entry : State) (blocks order : ℕ) → old.history.present.cell ≢ None → new.session ≡ old.session → new.history.present ≡ old.history.present
     → KeepsCell old new → Represents old entry → Serves old new entry (Format blocks order) (Ok NotEmpty)
@@ -212,7 +213,7 @@ serves_not_empty old new entry blocks order full session image keeps rep =
 
 -- a format that is refused, after it was looked for a device
 pub serves_refused : (old new : World) (entry : State) (blocks order : ℕ) (reply given : Reply) → new.session ≡ old.session → new.history.present ≡ old.history.present
-    → KeepsCell old new → ((full : Bool) (open : Option OpenSession) → (given, on None open) ≡ answer full (on None open) (Format blocks order))
+    → KeepsCell old new → ((full : Bool) (opened : Option OpenSession) → (given, on None opened) ≡ answer full (on None opened) (Format blocks order))
     → ((reply ≡ NotEmpty) × (old.history.present.cell ≢ None)) ⊎ ((reply ≡ given) × (old.history.present.cell ≡ None))
     → Represents old entry → Serves old new entry (Format blocks order) (Ok reply)
 serves_refused old new entry blocks order reply given session image keeps gives (inl (e, full)) rep =
@@ -231,14 +232,14 @@ pub halts_format : (old new : World) (entry : State) (blocks order : ℕ) → or
 halts_format old new entry blocks order is least most keeps turns rep =
     subst (λ (n : ℕ). Halts old new entry (Format blocks n) device.Platform) (sym is) (cases entry.device entry.session rep)
   where
-    made : (open : Option OpenSession) → is_full old ≡ false → (answer (is_full old) (on None open) (Format blocks 64)).1.device ≡ Some (new_device blocks 64)
-    made open room = sym (ap (λ (p : Reply × State). p.1.device) (gives_formatted (is_full old) open blocks room least most))
+    made : (opened : Option OpenSession) → is_full old ≡ false → (answer (is_full old) (on None opened) (Format blocks 64)).1.device ≡ Some (new_device blocks 64)
+    made opened room = sym (ap (λ (p : Reply × State). p.1.device) (gives_formatted (is_full old) opened blocks room least most))
 
-    cases : (there : Option Device) (open : Option OpenSession) → Represents old (on there open) → Halts old new (on there open) (Format blocks 64) device.Platform
-    cases (Some d) open r = halts_still old new (on (Some d) open) (Format blocks 64) device.Platform tt r (keeps (inl (λ e. let c = r.device.2.cell in cc)))
-    cases None open r = elim (eqb_tells old.head old.capacity) [
-      | inl equal ↦ halts_still old new (on None open) (Format blocks 64) device.Platform tt r (keeps (inr equal.1))
-      | inr differ ↦ subst (λ (there : Option Device). Turns old.history new.history (Leaves None) (Leaves there)) (sym (made open differ.0)) (turns None r.device)
+    cases : (there : Option Device) (opened : Option OpenSession) → Represents old (on there opened) → Halts old new (on there opened) (Format blocks 64) device.Platform
+    cases (Some d) opened r = halts_still old new (on (Some d) opened) (Format blocks 64) device.Platform tt r (keeps (inl (λ e. let c = r.device.2.cell in cc)))
+    cases None opened r = elim (eqb_tells old.head old.capacity) [
+      | inl equal ↦ halts_still old new (on None opened) (Format blocks 64) device.Platform tt r (keeps (inr equal.1))
+      | inr differ ↦ subst (λ (there : Option Device). Turns old.history new.history (Leaves None) (Leaves there)) (sym (made opened differ.0)) (turns None r.device)
     ]
 
 -- a commit
@@ -308,12 +309,16 @@ serves_commit_full old new entry session now needed free reply some some_now is 
     ]
 
 -- a commit at which the platform failed
-pub halts_commit : (old new : World) (entry : State) (session : Session) → old.session ≡ Some session → is_touched session ≡ true → (old.head ≡ old.capacity → ⊥)
+pub halts_commit : (old new : World) (entry : State) (session : Session) → old.session ≡ Some session → (is_touched session ≡ false → ⊥)
+    → (is_touched session ≡ true → old.head ≡ old.capacity → ⊥)
     → ((d : Device) (t : OpenSession) → Holds session old.history.present (stored d) t.contents → Turns old.history new.history (Leaves (Some d)) (Leaves (Some (committed d t))))
     → Represents old entry → Halts old new entry Commit device.Platform
-halts_commit old new entry session some touched room turns rep =
+halts_commit old new entry session some busy room turns rep =
     with_session old session entry some rep (λ state. Halts old new state Commit device.Platform)
-    (λ d t holds same.
-    let made : (answer (is_full old) (at d t) Commit).1.device ≡ Some (committed d t) =
-        sym (ap (λ (p : Reply × State). p.1.device) (gives_raised (is_full old) d t (is_full_false old room) (sym same ∙ touched))) in
-    subst (λ (there : Option Device). Turns old.history new.history (Leaves (Some d)) (Leaves there)) (sym made) (turns d t holds))
+    (λ d t holds same. elim (cases_Bool (is_touched session)) [
+      | inr idle ↦ absurd (busy idle)
+      | inl touched ↦
+          let made : (answer (is_full old) (at d t) Commit).1.device ≡ Some (committed d t) =
+              sym (ap (λ (p : Reply × State). p.1.device) (gives_raised (is_full old) d t (is_full_false old (room touched)) (sym same ∙ touched))) in
+          subst (λ (there : Option Device). Turns old.history new.history (Leaves (Some d)) (Leaves there)) (sym made) (turns d t holds)
+    ])

@@ -1,9 +1,9 @@
 //! What a run keeps between lines, and the answer to each command.
-ghost use Rattle.std.specs.Prelude.{◌≡◌, ◌≢◌, ◌≤◌, ◌+◌, ◌⊎◌, ℕ, IfOk, OnOk, IfErr, IsErrOf, IfSome, None, Some, Ok, length};
+ghost use Rattle.std.specs.Prelude.{◌≡◌, ◌≢◌, ◌<◌, ◌≤◌, ◌+◌, ◌⊎◌, ℕ, true, false, IsNone, IfOk, OnOk, IfErr, IsErrOf, IfSome, None, Some, Ok, length};
 ghost use Rattle.arrayvec.specs.ArrayVec.{ArrayVec as Bytes};
 ghost use Rattle.sdbt_base.specs.Faults.{Rose};
 ghost use Rattle.script_lang.specs.Replies.{CanWrite};
-ghost use Rattle.script_lang.specs.Arrays.{State};
+ghost use Rattle.script_lang.specs.Arrays.{State, in_limits};
 ghost use Rattle.device_core.specs.Leaf.{IsServedCell};
 ghost use Rattle.device_cli.specs.Run.{counts, NoneFell, HasCause};
 ghost use Rattle.platform.specs.History.{During};
@@ -122,13 +122,8 @@ impl Desk {
             → Serves (world self.old.session (P.history platform.old) (P.head platform.old) (P.capacity platform.old))
             (world self.new.session (P.history platform.new) (P.head platform.new) (P.capacity platform.new)) entry (Command.Format blocks order) result }
     {
-        let is_size = (1..=MAX_BLOCKS).contains(&blocks);
-        let is_order = order.is_multiple_of(2) && (4..=u64::from(MAX_ORDER)).contains(&order);
-        if !is_size || !is_order {
-            return refuse_format(platform, Reply::Range);
-        }
-        if order != u64::from(MAX_ORDER) || blocks > MOST_BLOCKS {
-            return refuse_format(platform, Reply::Unbuilt);
+        if let Some(reply) = refused_size(blocks, order) {
+            return refuse_format(platform, reply);
         }
         match device_core::format(self.alloc, platform, tape, ledger, blocks, MAX_ORDER) {
             Ok(()) => Ok(Reply::Formatted),
@@ -412,6 +407,25 @@ impl Desk {
         self.session = Some(session);
         Ok(reply)
     }
+}
+
+/// The reply to a `format` of these numbers where it is not tried: they are outside the limits of a device, or of
+/// those devices that are served yet.
+fn refused_size(blocks: u64, order: u64) -> Option<Reply>
+    ensures either { IfSome result (λ reply. (reply ≡ Reply.Range) ⊎ (reply ≡ Reply.Unbuilt)) }
+    ensures range { result ≡ Some Reply.Range → in_limits blocks order ≡ false }
+    ensures unbuilt { result ≡ Some Reply.Unbuilt → (in_limits blocks order ≡ true) × ((order ≢ 64) ⊎ (64 < blocks)) }
+    ensures none { IsNone result → (1 ≤ blocks) × (blocks ≤ 64) × (order ≡ 64) }
+{
+    let is_size = (1..=MAX_BLOCKS).contains(&blocks);
+    let is_order = order.is_multiple_of(2) && (4..=u64::from(MAX_ORDER)).contains(&order);
+    if !is_size || !is_order {
+        return Some(Reply::Range);
+    }
+    if order != u64::from(MAX_ORDER) || blocks > MOST_BLOCKS {
+        return Some(Reply::Unbuilt);
+    }
+    None
 }
 
 /// The reply to a `format` that is not done: that there is a device already comes first.

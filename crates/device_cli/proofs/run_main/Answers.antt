@@ -1,37 +1,67 @@
-use Rattle.std.proofs.Common.{Ok, Err, ℕ, sym, subst}
-use Rattle.script_lang.specs.Arrays.{State}
-use Rattle.device_core.specs.Leaf.{IsServedCell}
-use Rattle.device_cli.specs.Represents.{StoodAlone, StoodBy}
+use Rattle.std.proofs.Common.{◌≡◌, ◌⊎◌, Ok, Err, None, ℕ, refl, sym, subst}
+use Rattle.device_cli.specs.World.{World, world}
 use Rattle.device_cli.specs.Ran.{AnswersScript}
 use Rattle.device_cli.proofs.ScriptLaws.{answers_script, answers_nothing}
+use Rattle.device_cli.specs.Ran.{IsComplete}
+use Rattle.device_cli.specs.Run.{counts}
+use Rattle.device_cli.specs.Represents.{closed}
+use Rattle.device_cli.proofs.CompleteLaws.{complete_ending}
 use Rattle.device_cli.proofs.run_main.Goals as goal
 
 pub returns-then-not-are_run_words-clause-answers : goal.returns-then-not-are_run_words-clause-answers
 returns-then-not-are_run_words-clause-answers g c =
     let P = g.P.Platform in
-    let image = (P.history c.args.platform.now).present in
-    let Old : State → Type 0 = λ state. StoodAlone P.tells image state × IsServedCell image.cell (P.head c.args.platform.now) in
-    answers_nothing Old (StoodBy P.tells image) (g.I.Source.left c.args.input.now) (g.O.Sink.written c.args.output.now)
+    answers_nothing P.tells (world None (P.history c.args.platform.now) (P.head c.args.platform.now) (P.capacity c.args.platform.now)) (g.I.Source.left c.args.input.now) (g.O.Sink.written c.args.output.now)
 
 pub returns-in-Ok-clause-answers : goal.returns-in-Ok-clause-answers
 returns-in-Ok-clause-answers g c =
     let P = g.P.Platform in
     let left = g.I.Source.left in
     let written = g.O.Sink.written in
-    let image = (P.history c.args.platform.now).present in
-    let Old : State → Type 0 = λ state. StoodAlone P.tells image state × IsServedCell image.cell (P.head c.args.platform.now) in
-    answers_script Old (StoodBy P.tells (P.history c.run.new.platform).present) (Ok tt) (left c.args.input.now) (left c.run.new.input)
-    (written c.args.output.now) (written c.run.new.output) c.in-Ok.ensures.ran
+    let old : World = world None (P.history c.args.platform.now) (P.head c.args.platform.now) (P.capacity c.args.platform.now) in
+    let ran = c.in-Ok.ensures.ran in
+    answers_script P.tells old ran.0 (P.history c.run.new.platform) (P.head c.run.new.platform) (P.capacity c.run.new.platform) (Ok tt) (left c.args.input.now) (left c.run.new.input)
+    (written c.args.output.now) (written c.run.new.output) refl ran.1
 
 pub returns-in-Err-clause-answers : goal.returns-in-Err-clause-answers
 returns-in-Err-clause-answers g c =
     let P = g.P.Platform in
     let left = g.I.Source.left in
     let written = g.O.Sink.written in
-    let image = (P.history c.args.platform.now).present in
-    let Old : State → Type 0 = λ state. StoodAlone P.tells image state × IsServedCell image.cell (P.head c.args.platform.now) in
-    let New : State → Type 0 = StoodBy P.tells (P.history c.run.new.platform).present in
-    subst (λ (status : ℕ). AnswersScript Old New status (left c.args.input.now) (left c.run.new.input) (written c.args.output.now) (written c.run.new.output))
+    let old : World = world None (P.history c.args.platform.now) (P.head c.args.platform.now) (P.capacity c.args.platform.now) in
+    let new : World = world None (P.history c.run.new.platform) (P.head c.run.new.platform) (P.capacity c.run.new.platform) in
+    let ran = c.in-Err.ensures.ran in
+    subst (λ (status : ℕ). AnswersScript P.tells old new status (left c.args.input.now) (left c.run.new.input) (written c.args.output.now) (written c.run.new.output))
     (sym c.status.ensures)
-    (answers_script Old New (Err c.in-Err.stop) (left c.args.input.now) (left c.run.new.input)
-    (written c.args.output.now) (written c.run.new.output) c.in-Err.ensures.ran)
+    (answers_script P.tells old ran.0 (P.history c.run.new.platform) (P.head c.run.new.platform) (P.capacity c.run.new.platform) (Err c.in-Err.stop) (left c.args.input.now) (left c.run.new.input)
+    (written c.args.output.now) (written c.run.new.output) refl ran.1)
+
+pub returns-in-Ok-clause-complete : goal.returns-in-Ok-clause-complete
+returns-in-Ok-clause-complete g c told there stands served words text ample quiet =
+    let P = g.P.Platform in
+    let left = g.I.Source.left in
+    let written = g.O.Sink.written in
+    let old : World = world None (P.history c.args.platform.now) (P.head c.args.platform.now) (P.capacity c.args.platform.now) in
+    let new : World = world None (P.history c.run.new.platform) (P.head c.run.new.platform) (P.capacity c.run.new.platform) in
+    let ran = c.in-Ok.ensures.ran.1 in
+    complete_ending P.tells old new (Ok tt) (counts (P.faults c.args.platform.now) (g.T.Tape.faults c.args.tape.now) (g.I.Source.faults c.args.input.now) (g.O.Sink.faults c.args.output.now) (g.L.Sink.faults c.args.ledger.now))
+    (counts (P.faults c.run.new.platform) (g.T.Tape.faults c.run.new.tape) (g.I.Source.faults c.run.new.input) (g.O.Sink.faults c.run.new.output) (g.L.Sink.faults c.run.new.ledger))
+    (left c.args.input.now) (left c.run.new.input) (written c.args.output.now) (written c.run.new.output) text there told stands served
+    (returns-in-Ok-clause-answers g c) ran.taken ran.gave ran.took tt quiet ample
+
+pub returns-in-Err-clause-complete : goal.returns-in-Err-clause-complete
+returns-in-Err-clause-complete g c told there stands served words text ample quiet =
+    let P = g.P.Platform in
+    let left = g.I.Source.left in
+    let written = g.O.Sink.written in
+    let old : World = world None (P.history c.args.platform.now) (P.head c.args.platform.now) (P.capacity c.args.platform.now) in
+    let new : World = world None (P.history c.run.new.platform) (P.head c.run.new.platform) (P.capacity c.run.new.platform) in
+    let ran = c.in-Err.ensures.ran.1 in
+    let Done : ℕ → Type 0 = λ status. (status ≡ 11) ⊎ ((status ≡ 0) × IsComplete (closed there) text (written c.args.output.now) (written c.run.new.output)) in
+    subst Done (sym c.status.ensures)
+    (complete_ending P.tells old new (Err c.in-Err.stop) (counts (P.faults c.args.platform.now) (g.T.Tape.faults c.args.tape.now) (g.I.Source.faults c.args.input.now) (g.O.Sink.faults c.args.output.now) (g.L.Sink.faults c.args.ledger.now))
+    (counts (P.faults c.run.new.platform) (g.T.Tape.faults c.run.new.tape) (g.I.Source.faults c.run.new.input) (g.O.Sink.faults c.run.new.output) (g.L.Sink.faults c.run.new.ledger))
+    (left c.args.input.now) (left c.run.new.input) (written c.args.output.now) (written c.run.new.output) text there told stands served
+    (subst (λ (status : ℕ). AnswersScript P.tells old new status (left c.args.input.now) (left c.run.new.input) (written c.args.output.now) (written c.run.new.output))
+    c.status.ensures (returns-in-Err-clause-answers g c))
+    ran.taken ran.gave ran.took c.in-Err.ensures.cause quiet ample)

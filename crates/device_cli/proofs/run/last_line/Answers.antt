@@ -16,6 +16,7 @@ silent : (stop : DeviceStop) → IsSound stop → length (damage_line stop) ≡ 
 unfolding damage_line
 silent device.Platform sound = refl
 silent device.Tape sound = refl
+silent device.Ledger sound = refl
 silent device.Memory sound = refl
 silent device.BadRoot sound = absurd sound
 silent (device.BadRecord addr) sound = absurd sound

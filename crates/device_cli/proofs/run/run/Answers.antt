@@ -1,4 +1,4 @@
-use Rattle.std.proofs.Common.{◌≡◌, ◌⊎◌, inl, inr, None, Err, refl, arith}
+use Rattle.std.proofs.Common.{◌≡◌, ◌⊎◌, inl, inr, None, Ok, Err, refl, arith}
 use Rattle.sdbt_base.specs.Faults.{Rose}
 use Rattle.device_cli.specs.Replied.{no_line}
 use Rattle.device_cli.specs.World.{World, IsLater, world}
@@ -68,4 +68,22 @@ returns-clause-ran g c =
           later c.check_cell.ensures.head
           (λ told entry rep. still_after old mid entry c.new-desk.ensures.session (c.check_cell.ensures.image told) (c.check_cell.ensures.time told) c.check_cell.ensures.head rep)
           c.in-Err-serve_input.ensures.ran),
+    )
+
+pub returns-in_default-clause-ran : goal.returns-in_default-clause-ran
+returns-in_default-clause-ran g c =
+    let P = g.P.Platform in
+    let left = g.I.Source.left in
+    let written = g.O.Sink.written in
+    let old : World = world None (P.history c.args.platform.now) (P.head c.args.platform.now) (P.capacity c.args.platform.now) in
+    let mid : World = world c.new-desk.result.session (P.history c.check_cell.new.platform) (P.head c.check_cell.new.platform) (P.capacity c.check_cell.new.platform) in
+    let new : World = world c.serve_input.new.desk.session (P.history c.serve_input.new.platform) (P.head c.serve_input.new.platform) (P.capacity c.serve_input.new.platform) in
+    let later : IsLater old mid = record { capacity = c.check_cell.ensures.capacity; rises = omega (arith, c.check_cell.ensures.head); within = g.met.P.Platform.has_room c.check_cell.new.platform } in (
+      c.serve_input.new.desk.session,
+      Ran-other P.tells old new (Ok tt) (left c.args.input.now) (left c.serve_input.new.input) (written c.args.output.now) (written c.serve_input.new.output)
+          (λ stop e. cc)
+          (Ran-after P.tells old mid new no_line (Ok tt) (left c.args.input.now) (left c.serve_input.new.input) (written c.args.output.now) (written c.serve_input.new.output)
+          later c.check_cell.ensures.head
+          (λ told entry rep. still_after old mid entry c.new-desk.ensures.session (c.check_cell.ensures.image told) (c.check_cell.ensures.time told) c.check_cell.ensures.head rep)
+          c.in_default.ensures.ran),
     )

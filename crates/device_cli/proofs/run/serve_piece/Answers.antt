@@ -16,7 +16,7 @@ loop-front-init g c =
       mounted = c.requires.mounted;
       unput = refl;
       counts = grind (arith, common_steps);
-      serving = λ rest pending. IsServing-start (world c.args.desk.now.session (P.history c.args.platform.now) (P.head c.args.platform.now) (P.capacity c.args.platform.now))
+      serving = λ rest pending. IsServing-start P.tells (world c.args.desk.now.session (P.history c.args.platform.now) (P.head c.args.platform.now) (P.capacity c.args.platform.now))
           (g.O.Sink.written c.args.output.now) c.args.pending.now rest c.args.piece.now (g.met.P.Platform.has_room c.args.platform.now) pending;
     }
 

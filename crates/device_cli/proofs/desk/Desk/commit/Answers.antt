@@ -1,11 +1,12 @@
 use Rattle.std.proofs.Common.{◌≡◌, ◌≢◌, ◌+◌, ◌<◌, ◌≤◌, ℕ, Bool, true, false, Option, None, Some, Ok, Err, inl, inr, refl, sym, ◌∙◌, ap, subst, arith}
 use Rattle.std.specs.Prelude.{Result, ◌⊎◌, ◌||◌}
 use Rattle.std.proofs.lemmas.Grind.{common_steps}
-use Rattle.script_lang.specs.Arrays.{State}
+use Rattle.script_lang.specs.Arrays.{State, content_reply}
 use Rattle.script_lang.specs.declared.replies.Reply.{Reply}
 use Rattle.device_cli.specs.declared.stop.DeviceStop.{DeviceStop}
 use Rattle.device_cli.specs.declared.stop.DeviceStop.TheVariants as device
-use Rattle.device_cli.specs.World.{World, world}
+use Rattle.device_cli.specs.World.{World, is_full, world}
+use Rattle.script_lang.specs.declared.replies.Reply.TheVariants as replies
 use Rattle.device_cli.specs.Replied.{Serves, Halts}
 use Rattle.device_cli.specs.Represents.{stored, Represents}
 use Rattle.device_core.specs.Open.{is_touched}
@@ -24,7 +25,7 @@ pub returns-in_default-clause-answered : goal.returns-in_default-clause-answered
 returns-in_default-clause-answered g c told entry rep =
     let P = g.P.Platform in
     let none : c.args.self.now.session ≡ None = grind (arith, common_steps, c.take.ensures.value, c.in_default.is) in
-    serves_unmounted c.args.self.now.session c.take.new.self (P.history c.args.platform.now) (P.head c.args.platform.now) (P.capacity c.args.platform.now) entry _ none c.take.ensures.after
+    serves_unmounted c.args.self.now.session c.take.new.self (P.history c.args.platform.now) (P.head c.args.platform.now) (P.capacity c.args.platform.now) entry Commit none c.take.ensures.after
     (λ full there. gives_unmounted_commit full there) rep
 
 pub returns-in-Committed-clause-answered : goal.returns-in-Committed-clause-answered
@@ -85,6 +86,6 @@ returns-in-Err-PlatformFault-clause-answered g c told entry rep =
     let new : World = world c.take.new.self (P.history c.commit.new.platform) (P.head c.commit.new.platform) (P.capacity c.commit.new.platform) in
     let taken : c.args.self.now.session ≡ Some c.in-Some.session = cc (c.take.ensures.value, c.in-Some.is) in
     halts_commit old new entry c.in-Some.session taken
-    ?
-    ?
+    (λ e. let ok = c.commit.ensures.idle_ok e in grind (arith, common_steps, ok))
+    (λ e f. let ok = c.commit.ensures.full_ok e f in grind (arith, common_steps, ok))
     (λ d t holds. c.commit.ensures.time told (stored d) t.contents holds) rep

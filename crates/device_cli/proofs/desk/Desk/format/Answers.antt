@@ -1,35 +1,68 @@
-use Rattle.std.proofs.Common.{◌≡◌, ◌≢◌, ◌+◌, ◌<◌, ◌≤◌, ℕ, Bool, true, false, Option, None, Some, Ok, Err, inl, inr, refl, sym, ◌∙◌, ap, subst, arith}
-use Rattle.std.specs.Prelude.{Result, ◌⊎◌, ◌||◌}
+use Rattle.std.proofs.Common.{◌≡◌, ◌≢◌, ◌+◌, ◌<◌, ◌≤◌, ℕ, Bool, true, false, Option, None, Some, Ok, Err, inl, inr, refl, sym, ◌∙◌, ap, subst, arith, rules}
+use Rattle.std.specs.Prelude.{Result, IfOk, IfErr, ◌⊎◌, ◌||◌}
+use Rattle.sdbt_base.specs.Faults.{Rose}
 use Rattle.std.proofs.lemmas.Grind.{common_steps}
-use Rattle.script_lang.specs.Arrays.{State}
+use Rattle.script_lang.specs.Arrays.{State, content_reply}
 use Rattle.script_lang.specs.declared.replies.Reply.{Reply}
 use Rattle.device_cli.specs.declared.stop.DeviceStop.{DeviceStop}
 use Rattle.device_cli.specs.declared.stop.DeviceStop.TheVariants as device
-use Rattle.device_cli.specs.World.{World, world}
+use Rattle.device_cli.specs.World.{World, is_full, world}
+use Rattle.script_lang.specs.declared.replies.Reply.TheVariants as replies
 use Rattle.device_cli.specs.Replied.{Serves, Halts}
 use Rattle.device_cli.specs.Represents.{stored, Represents}
 use Rattle.script_lang.specs.Arrays.{new_device, in_limits}
 use Rattle.script_lang.specs.declared.commands.Command.TheVariants.{Format}
-use Rattle.script_lang.specs.declared.replies.Reply.TheVariants as replies
-use Rattle.device_cli.proofs.ServedLaws.{halts_still, gives_format_range, gives_format_unbuilt}
+use Rattle.std.specs.Option.{option_map}
+use Rattle.script_lang.specs.Answers.{answer}
+use Rattle.script_lang.specs.declared.devices.Session.{Session as OpenSession}
+use Rattle.device_cli.proofs.ServedLaws.{on, halts_still, gives_format_range, gives_format_unbuilt}
 use Rattle.device_cli.proofs.ServingLaws.{KeepsCell, serves_formatted, serves_format_full, serves_not_empty, serves_refused, halts_format}
 use Rattle.device_cli.proofs.desk.Desk.format.Goals as goal
+
+-- what the looking for a device ended with
+refused_result : (old new : World) (entry : State) (blocks order : ℕ) (given : Reply) (result : Result Reply DeviceStop) (Risen : Type 0)
+    → IfOk result (λ now. ((now ≡ replies.NotEmpty) × (old.history.present.cell ≢ None)) ⊎ ((now ≡ given) × (old.history.present.cell ≡ None)))
+    → IfErr result (λ stop. (stop ≡ device.Platform) × Risen) → new.history.present ≡ old.history.present → KeepsCell old new
+    → ((full : Bool) (there : Option OpenSession) → (given, on None there) ≡ answer full (on None there) (Format blocks order))
+    → new.session ≡ old.session → Represents old entry → Serves old new entry (Format blocks order) result
+refused_result old new entry blocks order given (Ok reply) Risen replied cause image keeps gives session rep =
+    serves_refused old new entry blocks order reply given session image keeps gives replied rep
+refused_result old new entry blocks order given (Err stop) Risen replied cause image keeps gives session rep =
+    subst (λ (s : DeviceStop). Halts old new entry (Format blocks order) s) (sym cause.0) (halts_still old new entry (Format blocks order) device.Platform tt rep keeps)
+
+-- what belongs to such numbers where no device is there
+gives_refused : (blocks order : ℕ) (reply : Reply) → (reply ≡ replies.Range) ⊎ (reply ≡ replies.Unbuilt)
+    → (reply ≡ replies.Range → in_limits blocks order ≡ false)
+    → (reply ≡ replies.Unbuilt → (in_limits blocks order ≡ true) × ((order ≢ 64) ⊎ (64 < blocks)))
+    → (full : Bool) (there : Option OpenSession) → (reply, on None there) ≡ answer full (on None there) (Format blocks order)
+gives_refused blocks order reply (inl e) range unbuilt full there =
+    subst (λ (r : Reply). (r, on None there) ≡ answer full (on None there) (Format blocks order)) (sym e) (gives_format_range full there blocks order (range e))
+gives_refused blocks order reply (inr e) range unbuilt full there =
+    let both = unbuilt e in
+    subst (λ (r : Reply). (r, on None there) ≡ answer full (on None there) (Format blocks order)) (sym e) (gives_format_unbuilt full there blocks order both.0 both.1)
 
 not_these : {X Y Z : Type 0} → (X → ⊥) → (Y → ⊥) → X ⊎ (Y ⊎ Z) → Z
 not_these no_x no_y (inl x) = absurd (no_x x)
 not_these no_x no_y (inr (inl y)) = absurd (no_y y)
 not_these no_x no_y (inr (inr z)) = z
 
+none_of : {X Y Z : Type 0} → (X → ⊥) → (Y → ⊥) → (Z → ⊥) → X ⊎ (Y ⊎ Z) → ⊥
+none_of no_x no_y no_z (inl x) = no_x x
+none_of no_x no_y no_z (inr (inl y)) = no_y y
+none_of no_x no_y no_z (inr (inr z)) = no_z z
+
 pub returns-in-Ok-clause-answered : goal.returns-in-Ok-clause-answered
 returns-in-Ok-clause-answered g c told entry rep =
     let P = g.P.Platform in
     let old : World = world c.args.self.now.session (P.history c.args.platform.now) (P.head c.args.platform.now) (P.capacity c.args.platform.now) in
     let new : World = world c.args.self.now.session (P.history c.format.new.platform) (P.head c.format.new.platform) (P.capacity c.format.new.platform) in
-    let least : 1 ≤ c.args.blocks = grind (arith, common_steps, c.if-not-is_size.ensures.cases, c.contains-is_size.ensures.value) in
-    let most : c.args.blocks ≤ 64 = c.if-blocks-gt-MOST_BLOCKS.false in
-    let is : c.args.order ≡ 64 = grind (arith, common_steps, c.if-order-from.false, c.from-2.ensures) in
+    let size = c.refused_size.ensures.none (search rules) in
+    let least : 1 ≤ c.args.blocks = size.0 in
+    let most : c.args.blocks ≤ 64 = size.1 in
+    let is : c.args.order ≡ 64 = size.2 in
     serves_formatted old new entry c.args.blocks c.args.order (c.in-Ok.ensures.empty told) refl is least most
-    (λ e. not_these (λ x. grind (arith, common_steps, x)) (λ y. grind (arith, common_steps, y)) (c.format.ensures.no_room e)) (c.in-Ok.ensures.made told) (c.format.ensures.time told) rep
+    (λ e. none_of (λ x. grind (arith, common_steps, x)) (λ y. grind (arith, common_steps, y)) (λ z. grind (arith, common_steps, z)) (c.format.ensures.no_room e)) (c.in-Ok.ensures.made told)
+    (λ there stands. c.format.ensures.time told (option_map stored there) stands) rep
 
 pub returns-in-Err-NotEmpty-clause-answered : goal.returns-in-Err-NotEmpty-clause-answered
 returns-in-Err-NotEmpty-clause-answered g c told entry rep =
@@ -44,9 +77,10 @@ returns-in-Err-Full-clause-answered g c told entry rep =
     let P = g.P.Platform in
     let old : World = world c.args.self.now.session (P.history c.args.platform.now) (P.head c.args.platform.now) (P.capacity c.args.platform.now) in
     let new : World = world c.args.self.now.session (P.history c.format.new.platform) (P.head c.format.new.platform) (P.capacity c.format.new.platform) in
-    let least : 1 ≤ c.args.blocks = grind (arith, common_steps, c.if-not-is_size.ensures.cases, c.contains-is_size.ensures.value) in
-    let most : c.args.blocks ≤ 64 = c.if-blocks-gt-MOST_BLOCKS.false in
-    let is : c.args.order ≡ 64 = grind (arith, common_steps, c.if-order-from.false, c.from-2.ensures) in
+    let size = c.refused_size.ensures.none (search rules) in
+    let least : 1 ≤ c.args.blocks = size.0 in
+    let most : c.args.blocks ≤ 64 = size.1 in
+    let is : c.args.order ≡ 64 = size.2 in
     let keeps = not_these (λ ok. grind (arith, common_steps, ok)) (λ e. grind (arith, common_steps, e)) (c.format.ensures.still told) in
     serves_format_full old new entry c.args.blocks c.args.order (c.format.ensures.full told (cc)) refl (c.format.ensures.same told (inr (cc))) is least most (c.format.ensures.no_page (cc)) keeps rep
 
@@ -79,7 +113,20 @@ returns-in-Err-PlatformFault-clause-answered g c told entry rep =
     let P = g.P.Platform in
     let old : World = world c.args.self.now.session (P.history c.args.platform.now) (P.head c.args.platform.now) (P.capacity c.args.platform.now) in
     let new : World = world c.args.self.now.session (P.history c.format.new.platform) (P.head c.format.new.platform) (P.capacity c.format.new.platform) in
-    let least : 1 ≤ c.args.blocks = grind (arith, common_steps, c.if-not-is_size.ensures.cases, c.contains-is_size.ensures.value) in
-    let most : c.args.blocks ≤ 64 = c.if-blocks-gt-MOST_BLOCKS.false in
-    let is : c.args.order ≡ 64 = grind (arith, common_steps, c.if-order-from.false, c.from-2.ensures) in
-    halts_format old new entry c.args.blocks c.args.order is least most (c.format.ensures.kept told) (c.format.ensures.time told) rep
+    let size = c.refused_size.ensures.none (search rules) in
+    let least : 1 ≤ c.args.blocks = size.0 in
+    let most : c.args.blocks ≤ 64 = size.1 in
+    let is : c.args.order ≡ 64 = size.2 in
+    halts_format old new entry c.args.blocks c.args.order is least most (c.format.ensures.kept told)
+    (λ there stands. c.format.ensures.time told (option_map stored there) stands) rep
+
+pub returns-in-Some-clause-answered : goal.returns-in-Some-clause-answered
+returns-in-Some-clause-answered g c told entry rep =
+    let P = g.P.Platform in
+    let old : World = world c.args.self.now.session (P.history c.args.platform.now) (P.head c.args.platform.now) (P.capacity c.args.platform.now) in
+    let new : World = world c.args.self.now.session (P.history c.refuse_format.new.platform) (P.head c.refuse_format.new.platform) (P.capacity c.refuse_format.new.platform) in
+    refused_result old new entry c.args.blocks c.args.order c.in-Some.reply c.refuse_format.result (Rose (P.faults c.args.platform.now) (P.faults c.refuse_format.new.platform))
+    (c.refuse_format.ensures.replies told) c.refuse_format.ensures.cause (c.refuse_format.ensures.image told) (c.refuse_format.ensures.time told)
+    (gives_refused c.args.blocks c.args.order c.in-Some.reply c.in-Some.ensures.either
+    (λ e. c.in-Some.ensures.range (ap (λ (r : Reply). Some r) e)) (λ e. c.in-Some.ensures.unbuilt (ap (λ (r : Reply). Some r) e)))
+    refl rep

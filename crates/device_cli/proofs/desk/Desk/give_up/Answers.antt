@@ -1,11 +1,12 @@
 use Rattle.std.proofs.Common.{◌≡◌, ◌≢◌, ◌+◌, ◌<◌, ◌≤◌, ℕ, Bool, true, false, Option, None, Some, Ok, Err, inl, inr, refl, sym, ◌∙◌, ap, subst, arith}
 use Rattle.std.specs.Prelude.{Result, ◌⊎◌, ◌||◌}
 use Rattle.std.proofs.lemmas.Grind.{common_steps}
-use Rattle.script_lang.specs.Arrays.{State}
+use Rattle.script_lang.specs.Arrays.{State, content_reply}
 use Rattle.script_lang.specs.declared.replies.Reply.{Reply}
 use Rattle.device_cli.specs.declared.stop.DeviceStop.{DeviceStop}
 use Rattle.device_cli.specs.declared.stop.DeviceStop.TheVariants as device
-use Rattle.device_cli.specs.World.{World, world}
+use Rattle.device_cli.specs.World.{World, is_full, world}
+use Rattle.script_lang.specs.declared.replies.Reply.TheVariants as replies
 use Rattle.device_cli.specs.Replied.{Serves, Halts}
 use Rattle.device_cli.specs.Represents.{stored, Represents}
 use Rattle.script_lang.specs.declared.commands.Command.TheVariants as commands
@@ -17,7 +18,7 @@ pub returns-in_default-clause-answered : goal.returns-in_default-clause-answered
 returns-in_default-clause-answered g c told entry rep =
     let P = g.P.Platform in
     let none : c.args.self.now.session ≡ None = grind (arith, common_steps, c.take.ensures.value, c.in_default.is) in
-    serves_unmounted c.args.self.now.session c.take.new.self (P.history c.args.platform.now) (P.head c.args.platform.now) (P.capacity c.args.platform.now) entry _ none c.take.ensures.after
+    serves_unmounted c.args.self.now.session c.take.new.self (P.history c.args.platform.now) (P.head c.args.platform.now) (P.capacity c.args.platform.now) entry commands.Drop none c.take.ensures.after
     (λ full there. gives_unmounted_drop full there) rep
 
 pub returns-clause-answered : goal.returns-clause-answered

@@ -1,17 +1,20 @@
 use Rattle.std.proofs.Common.{◌≡◌, ◌≢◌, ◌+◌, ◌<◌, ◌≤◌, ℕ, Bool, true, false, Option, None, Some, Ok, Err, inl, inr, refl, sym, ◌∙◌, ap, subst, arith}
 use Rattle.std.specs.Prelude.{Result, ◌⊎◌, ◌||◌}
 use Rattle.std.proofs.lemmas.Grind.{common_steps}
-use Rattle.script_lang.specs.Arrays.{State}
+use Rattle.script_lang.specs.Arrays.{State, content_reply}
 use Rattle.script_lang.specs.declared.replies.Reply.{Reply}
 use Rattle.device_cli.specs.declared.stop.DeviceStop.{DeviceStop}
 use Rattle.device_cli.specs.declared.stop.DeviceStop.TheVariants as device
-use Rattle.device_cli.specs.World.{World, world}
+use Rattle.device_cli.specs.World.{World, is_full, world}
+use Rattle.script_lang.specs.declared.replies.Reply.TheVariants as replies
 use Rattle.device_cli.specs.Replied.{Serves, Halts}
 use Rattle.device_cli.specs.Represents.{stored, Represents}
 use Rattle.script_lang.specs.declared.commands.Command.TheVariants as commands
 use Rattle.script_lang.specs.declared.devices.Device.{Device}
 use Rattle.device_core.specs.declared.session.Session.{Session}
 use Rattle.device_cli.specs.Represents.{StandsFor}
+use Rattle.std.specs.Prelude.{List}
+use Rattle.device_core.specs.Leaf.{IsServedCell, IsRefusedCell}
 use Rattle.device_cli.proofs.ServedLaws.{halts_still}
 use Rattle.device_cli.proofs.ServingLaws.{serves_already, serves_mounted, serves_no_device}
 use Rattle.device_cli.proofs.desk.Desk.mount.Goals as goal
@@ -20,11 +23,16 @@ some_of : (s : Option Session) → (s ≡ None → ⊥) → (Goal : Type 0) → 
 some_of None some Goal k = absurd (some refl)
 some_of (Some session) some Goal k = k session refl
 
+-- a cell that can be served is not one that can't
+refused_served : (cell : Option (List ℕ)) (head : ℕ) → IsServedCell cell head → IsRefusedCell cell head → ⊥
+refused_served None head served refused = refused.full refl
+refused_served (Some bytes) head (root, served, same) refused = refused.bad root served (ap (λ (b : List ℕ). Some b) same)
+
 pub returns-then-is_some-clause-answered : goal.returns-then-is_some-clause-answered
 returns-then-is_some-clause-answered g c told entry rep =
     let P = g.P.Platform in
     let old : World = world c.args.self.now.session (P.history c.args.platform.now) (P.head c.args.platform.now) (P.capacity c.args.platform.now) in
-    some_of c.args.self.now.session (λ none. grind (arith, common_steps, none, c.is_some.ensures, c.if-is_some.true)) (Serves old old entry commands.Mount _)
+    some_of c.args.self.now.session (λ none. grind (arith, common_steps, none, c.is_some.ensures, c.if-is_some.true)) (Serves old old entry commands.Mount (Ok replies.AlreadyMounted))
     (λ session some. serves_already c.args.self.now.session (P.history c.args.platform.now) (P.head c.args.platform.now) (P.capacity c.args.platform.now) entry session some rep)
 
 pub returns-in-Ok-clause-answered : goal.returns-in-Ok-clause-answered
@@ -65,5 +73,4 @@ returns-in-Err-BadRoot-clause-answered g c told entry rep =
     let P = g.P.Platform in
     let old : World = world c.args.self.now.session (P.history c.args.platform.now) (P.head c.args.platform.now) (P.capacity c.args.platform.now) in
     let new : World = world c.args.self.now.session (P.history c.mount.new.platform) (P.head c.mount.new.platform) (P.capacity c.mount.new.platform) in
-    let bad = c.mount.ensures.bad_root told (cc) in
-    ?
+    absurd (refused_served old.history.present.cell old.head (c.requires.cell told) (c.mount.ensures.bad_root told (cc)))

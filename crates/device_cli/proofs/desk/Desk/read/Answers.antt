@@ -1,11 +1,12 @@
 use Rattle.std.proofs.Common.{◌≡◌, ◌≢◌, ◌+◌, ◌<◌, ◌≤◌, ℕ, Bool, true, false, Option, None, Some, Ok, Err, inl, inr, refl, sym, ◌∙◌, ap, subst, arith}
 use Rattle.std.specs.Prelude.{Result, ◌⊎◌, ◌||◌}
 use Rattle.std.proofs.lemmas.Grind.{common_steps}
-use Rattle.script_lang.specs.Arrays.{State}
+use Rattle.script_lang.specs.Arrays.{State, content_reply}
 use Rattle.script_lang.specs.declared.replies.Reply.{Reply}
 use Rattle.device_cli.specs.declared.stop.DeviceStop.{DeviceStop}
 use Rattle.device_cli.specs.declared.stop.DeviceStop.TheVariants as device
-use Rattle.device_cli.specs.World.{World, world}
+use Rattle.device_cli.specs.World.{World, is_full, world}
+use Rattle.script_lang.specs.declared.replies.Reply.TheVariants as replies
 use Rattle.device_cli.specs.Replied.{Serves, Halts}
 use Rattle.device_cli.specs.Represents.{stored, Represents}
 use Rattle.script_lang.specs.declared.commands.Command.TheVariants.{Read}
@@ -24,7 +25,7 @@ pub returns-in_default-clause-answered : goal.returns-in_default-clause-answered
 returns-in_default-clause-answered g c told entry rep =
     let P = g.P.Platform in
     let none : c.args.self.now.session ≡ None = grind (arith, common_steps, c.take.ensures.value, c.in_default.is) in
-    serves_unmounted c.args.self.now.session c.take.new.self (P.history c.args.platform.now) (P.head c.args.platform.now) (P.capacity c.args.platform.now) entry _ none c.take.ensures.after
+    serves_unmounted c.args.self.now.session c.take.new.self (P.history c.args.platform.now) (P.head c.args.platform.now) (P.capacity c.args.platform.now) entry (Read c.args.block) none c.take.ensures.after
     (λ full there. gives_unmounted_read full there c.args.block) rep
 
 pub returns-in-Ok-clause-answered : goal.returns-in-Ok-clause-answered
@@ -38,8 +39,8 @@ returns-in-Ok-clause-answered g c told entry rep =
     let within : c.args.block < d.blocks = inside c.args.block d.blocks (λ past. not_both c.read.result _ _ c.in-Ok.is (c.read.ensures.range.1 (subst (λ (n : ℕ). n ≤ c.args.block) (sym holds.stands.blocks) past))) in
     let after = has_session new c.read.new.self d t c.keep.ensures.session (c.in-Ok.ensures.holds told (stored d) t.contents holds) (c.in-Ok.ensures.same.2 ∙ touched) in
     subst (λ (r : Result Reply DeviceStop). Serves old new (at d t) (Read c.args.block) r) (sym (c.keep.ensures.reply ∙ ap Ok c.reply_with_content.ensures.value))
-    (serves_still old new (at d t) (at d t) (Read c.args.block) _ (has_session old c.in-Some.session d t taken holds touched)
-    (gives_content _ d t c.args.block c.read.new.out within (c.in-Ok.ensures.content told (stored d) t.contents holds)) after (c.read.ensures.time told)))
+    (serves_still old new (at d t) (at d t) (Read c.args.block) (content_reply c.read.new.out) (has_session old c.in-Some.session d t taken holds touched)
+    (gives_content (is_full old) d t c.args.block c.read.new.out within (c.in-Ok.ensures.content told (stored d) t.contents holds)) after (c.read.ensures.time told)))
 
 pub returns-in-Err-Range-clause-answered : goal.returns-in-Err-Range-clause-answered
 returns-in-Err-Range-clause-answered g c told entry rep =
@@ -52,8 +53,8 @@ returns-in-Err-Range-clause-answered g c told entry rep =
     let past : d.blocks ≤ c.args.block = subst (λ (n : ℕ). n ≤ c.args.block) holds.stands.blocks (c.read.ensures.range.0 (cc)) in
     let after = has_session new c.read.new.self d t c.keep-in-Err-Range.ensures.session (c.read.ensures.holds told (stored d) t.contents holds) (c.read.ensures.same.2 ∙ touched) in
     subst (λ (r : Result Reply DeviceStop). Serves old new (at d t) (Read c.args.block) r) (sym c.keep-in-Err-Range.ensures.reply)
-    (serves_still old new (at d t) (at d t) (Read c.args.block) _ (has_session old c.in-Some.session d t taken holds touched)
-    (gives_read_range _ d t c.args.block past) after (c.read.ensures.time told)))
+    (serves_still old new (at d t) (at d t) (Read c.args.block) replies.Range (has_session old c.in-Some.session d t taken holds touched)
+    (gives_read_range (is_full old) d t c.args.block past) after (c.read.ensures.time told)))
 
 pub returns-in-Err-BadRecord-clause-answered : goal.returns-in-Err-BadRecord-clause-answered
 returns-in-Err-BadRecord-clause-answered g c told entry rep =

@@ -1,11 +1,12 @@
 use Rattle.std.proofs.Common.{◌≡◌, ◌≢◌, ◌+◌, ◌<◌, ◌≤◌, ℕ, Bool, true, false, Option, None, Some, Ok, Err, inl, inr, refl, sym, ◌∙◌, ap, subst, arith}
 use Rattle.std.specs.Prelude.{Result, ◌⊎◌, ◌||◌}
 use Rattle.std.proofs.lemmas.Grind.{common_steps}
-use Rattle.script_lang.specs.Arrays.{State}
+use Rattle.script_lang.specs.Arrays.{State, content_reply}
 use Rattle.script_lang.specs.declared.replies.Reply.{Reply}
 use Rattle.device_cli.specs.declared.stop.DeviceStop.{DeviceStop}
 use Rattle.device_cli.specs.declared.stop.DeviceStop.TheVariants as device
-use Rattle.device_cli.specs.World.{World, world}
+use Rattle.device_cli.specs.World.{World, is_full, world}
+use Rattle.script_lang.specs.declared.replies.Reply.TheVariants as replies
 use Rattle.device_cli.specs.Replied.{Serves, Halts}
 use Rattle.device_cli.specs.Represents.{stored, Represents}
 use Rattle.script_lang.specs.declared.commands.Command.{Command}
@@ -25,5 +26,5 @@ pub returns-in-Seize-clause-answered : goal.returns-in-Seize-clause-answered
 returns-in-Seize-clause-answered g c told entry rep =
     let P = g.P.Platform in
     let old : World = world c.args.self.now.session (P.history c.args.platform.now) (P.head c.args.platform.now) (P.capacity c.args.platform.now) in
-    subst (λ (command : Command). Serves old old entry command _) (sym c.in-Seize.is)
+    subst (λ (command : Command). Serves old old entry command (Ok replies.Unbuilt)) (sym c.in-Seize.is)
     (serves_seize c.args.self.now.session (P.history c.args.platform.now) (P.head c.args.platform.now) (P.capacity c.args.platform.now) entry rep)

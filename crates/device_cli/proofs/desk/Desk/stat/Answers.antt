@@ -1,11 +1,12 @@
 use Rattle.std.proofs.Common.{◌≡◌, ◌≢◌, ◌+◌, ◌<◌, ◌≤◌, ℕ, Bool, true, false, Option, None, Some, Ok, Err, inl, inr, refl, sym, ◌∙◌, ap, subst, arith}
 use Rattle.std.specs.Prelude.{Result, ◌⊎◌, ◌||◌}
 use Rattle.std.proofs.lemmas.Grind.{common_steps}
-use Rattle.script_lang.specs.Arrays.{State}
+use Rattle.script_lang.specs.Arrays.{State, content_reply}
 use Rattle.script_lang.specs.declared.replies.Reply.{Reply}
 use Rattle.device_cli.specs.declared.stop.DeviceStop.{DeviceStop}
 use Rattle.device_cli.specs.declared.stop.DeviceStop.TheVariants as device
-use Rattle.device_cli.specs.World.{World, world}
+use Rattle.device_cli.specs.World.{World, is_full, world}
+use Rattle.script_lang.specs.declared.replies.Reply.TheVariants as replies
 use Rattle.device_cli.specs.Replied.{Serves, Halts}
 use Rattle.device_cli.specs.Represents.{stored, Represents}
 use Rattle.std.specs.Prelude.{IfSome}
@@ -21,12 +22,12 @@ pub returns-in-Some-clause-answered : goal.returns-in-Some-clause-answered
 returns-in-Some-clause-answered g c told entry rep =
     let P = g.P.Platform in
     let head = P.head c.args.platform.now in
-    let open = subst (λ (s : Option Session). IfSome s (λ session. IsOpen session head)) c.in-Some.is c.requires.ready in
+    let opened = subst (λ (s : Option Session). IfSome s (λ session. IsOpen session head)) c.in-Some.is c.requires.ready in
     serves_stat c.args.self.now.session (P.history c.args.platform.now) head (P.capacity c.args.platform.now) entry c.in-Some.session c.mapped.result c.number.result c.in-Some.is
-    (λ d t holds. (c.mapped.ensures ∙ mapped_len c.in-Some.session (P.history c.args.platform.now).present (stored d) t.contents head open holds, c.number.ensures ∙ holds.stands.number)) rep
+    (λ d t holds. (c.mapped.ensures ∙ mapped_len c.in-Some.session (P.history c.args.platform.now).present (stored d) t.contents head opened holds, c.number.ensures ∙ holds.stands.number)) rep
 
 pub returns-in-None-clause-answered : goal.returns-in-None-clause-answered
 returns-in-None-clause-answered g c told entry rep =
     let P = g.P.Platform in
-    serves_unmounted c.args.self.now.session c.args.self.now.session (P.history c.args.platform.now) (P.head c.args.platform.now) (P.capacity c.args.platform.now) entry _ c.in-None.is c.in-None.is
+    serves_unmounted c.args.self.now.session c.args.self.now.session (P.history c.args.platform.now) (P.head c.args.platform.now) (P.capacity c.args.platform.now) entry commands.Stat c.in-None.is c.in-None.is
     (λ full there. gives_unmounted_stat full there) rep

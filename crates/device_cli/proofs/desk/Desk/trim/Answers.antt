@@ -1,11 +1,12 @@
 use Rattle.std.proofs.Common.{◌≡◌, ◌≢◌, ◌+◌, ◌<◌, ◌≤◌, ℕ, Bool, true, false, Option, None, Some, Ok, Err, inl, inr, refl, sym, ◌∙◌, ap, subst, arith}
 use Rattle.std.specs.Prelude.{Result, ◌⊎◌, ◌||◌}
 use Rattle.std.proofs.lemmas.Grind.{common_steps}
-use Rattle.script_lang.specs.Arrays.{State}
+use Rattle.script_lang.specs.Arrays.{State, content_reply}
 use Rattle.script_lang.specs.declared.replies.Reply.{Reply}
 use Rattle.device_cli.specs.declared.stop.DeviceStop.{DeviceStop}
 use Rattle.device_cli.specs.declared.stop.DeviceStop.TheVariants as device
-use Rattle.device_cli.specs.World.{World, world}
+use Rattle.device_cli.specs.World.{World, is_full, world}
+use Rattle.script_lang.specs.declared.replies.Reply.TheVariants as replies
 use Rattle.device_cli.specs.Replied.{Serves, Halts}
 use Rattle.device_cli.specs.Represents.{stored, Represents}
 use Rattle.std.specs.FinMap.{contains_key}
@@ -27,7 +28,7 @@ pub returns-in_default-clause-answered : goal.returns-in_default-clause-answered
 returns-in_default-clause-answered g c told entry rep =
     let P = g.P.Platform in
     let none : c.args.self.now.session ≡ None = grind (arith, common_steps, c.take.ensures.value, c.in_default.is) in
-    serves_unmounted c.args.self.now.session c.take.new.self (P.history c.args.platform.now) (P.head c.args.platform.now) (P.capacity c.args.platform.now) entry _ none c.take.ensures.after
+    serves_unmounted c.args.self.now.session c.take.new.self (P.history c.args.platform.now) (P.head c.args.platform.now) (P.capacity c.args.platform.now) entry (Trim c.args.block) none c.take.ensures.after
     (λ full there. gives_unmounted_trim full there c.args.block) rep
 
 pub returns-in-Ok-clause-answered : goal.returns-in-Ok-clause-answered
@@ -42,8 +43,8 @@ returns-in-Ok-clause-answered g c told entry rep =
     let after = has_session new c.trim.new.self d (unmapped t c.args.block) c.keep.ensures.session (c.in-Ok.ensures.trimmed told (stored d) t.contents holds)
     (c.in-Ok.ensures.touched told (stored d) t.contents holds ∙ ap (λ (b : Bool). b || contains_key t.contents c.args.block) touched) in
     subst (λ (r : Result Reply DeviceStop). Serves old new (at d t) (Trim c.args.block) r) (sym c.keep.ensures.reply)
-    (serves_still old new (at d t) (at d (unmapped t c.args.block)) (Trim c.args.block) _ (has_session old c.in-Some.session d t taken holds touched)
-    (gives_trimmed _ d t c.args.block within) after (c.trim.ensures.time told)))
+    (serves_still old new (at d t) (at d (unmapped t c.args.block)) (Trim c.args.block) replies.Done (has_session old c.in-Some.session d t taken holds touched)
+    (gives_trimmed (is_full old) d t c.args.block within) after (c.trim.ensures.time told)))
 
 pub returns-in-Err-Range-clause-answered : goal.returns-in-Err-Range-clause-answered
 returns-in-Err-Range-clause-answered g c told entry rep =
@@ -59,8 +60,8 @@ returns-in-Err-Range-clause-answered g c told entry rep =
     let e : c.trim.result ≡ Err refusals.Range = cc in
     let after = has_session new c.trim.new.self d t c.keep-in-Err-Range.ensures.session (rw e at refused) ((rw e at untouched) ∙ touched) in
     subst (λ (r : Result Reply DeviceStop). Serves old new (at d t) (Trim c.args.block) r) (sym c.keep-in-Err-Range.ensures.reply)
-    (serves_still old new (at d t) (at d t) (Trim c.args.block) _ (has_session old c.in-Some.session d t taken holds touched)
-    (gives_trim_range _ d t c.args.block past) after (c.trim.ensures.time told)))
+    (serves_still old new (at d t) (at d t) (Trim c.args.block) replies.Range (has_session old c.in-Some.session d t taken holds touched)
+    (gives_trim_range (is_full old) d t c.args.block past) after (c.trim.ensures.time told)))
 
 pub returns-in-Err-BadRecord-clause-answered : goal.returns-in-Err-BadRecord-clause-answered
 returns-in-Err-BadRecord-clause-answered g c told entry rep =

@@ -1,11 +1,12 @@
 use Rattle.std.proofs.Common.{◌≡◌, ◌≢◌, ◌+◌, ◌<◌, ◌≤◌, ℕ, Bool, true, false, Option, None, Some, Ok, Err, inl, inr, refl, sym, ◌∙◌, ap, subst, arith}
 use Rattle.std.specs.Prelude.{Result, ◌⊎◌, ◌||◌}
 use Rattle.std.proofs.lemmas.Grind.{common_steps}
-use Rattle.script_lang.specs.Arrays.{State}
+use Rattle.script_lang.specs.Arrays.{State, content_reply}
 use Rattle.script_lang.specs.declared.replies.Reply.{Reply}
 use Rattle.device_cli.specs.declared.stop.DeviceStop.{DeviceStop}
 use Rattle.device_cli.specs.declared.stop.DeviceStop.TheVariants as device
-use Rattle.device_cli.specs.World.{World, world}
+use Rattle.device_cli.specs.World.{World, is_full, world}
+use Rattle.script_lang.specs.declared.replies.Reply.TheVariants as replies
 use Rattle.device_cli.specs.Replied.{Serves, Halts}
 use Rattle.device_cli.specs.Represents.{stored, Represents}
 use Rattle.std.specs.Prelude.{List, OnOk}
@@ -30,7 +31,7 @@ pub returns-in_default-clause-answered : goal.returns-in_default-clause-answered
 returns-in_default-clause-answered g c told entry rep bytes same =
     let P = g.P.Platform in
     let none : c.args.self.now.session ≡ None = grind (arith, common_steps, c.take.ensures.value, c.in_default.is) in
-    serves_unmounted c.args.self.now.session c.take.new.self (P.history c.args.platform.now) (P.head c.args.platform.now) (P.capacity c.args.platform.now) entry _ none c.take.ensures.after
+    serves_unmounted c.args.self.now.session c.take.new.self (P.history c.args.platform.now) (P.head c.args.platform.now) (P.capacity c.args.platform.now) entry (Write c.args.block bytes) none c.take.ensures.after
     (λ full there. gives_unmounted_write full there c.args.block bytes) rep
 
 pub returns-in-Ok-clause-answered : goal.returns-in-Ok-clause-answered
@@ -47,8 +48,8 @@ returns-in-Ok-clause-answered g c told entry rep bytes same =
     let holds_now = subst (λ (content : List ℕ). Holds c.write.new.self (P.history c.write.new.platform).present (stored d) (insert t.contents c.args.block (padded content))) (sym same) (c.in-Ok.ensures.written told (stored d) t.contents holds) in
     let after = has_session new c.write.new.self d (written t c.args.block bytes.items) c.keep.ensures.session holds_now c.in-Ok.ensures.touched in
     subst (λ (r : Result Reply DeviceStop). Serves old new (at d t) (Write c.args.block bytes) r) (sym c.keep.ensures.reply)
-    (serves_still old new (at d t) (at d (written t c.args.block bytes.items)) (Write c.args.block bytes) _ (has_session old c.in-Some.session d t taken holds touched)
-    (gives_written _ d t c.args.block bytes room within) after (c.write.ensures.time told)))
+    (serves_still old new (at d t) (at d (written t c.args.block bytes.items)) (Write c.args.block bytes) replies.Done (has_session old c.in-Some.session d t taken holds touched)
+    (gives_written (is_full old) d t c.args.block bytes room within) after (c.write.ensures.time told)))
 
 pub returns-in-Err-Range-clause-answered : goal.returns-in-Err-Range-clause-answered
 returns-in-Err-Range-clause-answered g c told entry rep bytes same =
@@ -64,8 +65,8 @@ returns-in-Err-Range-clause-answered g c told entry rep bytes same =
     let e : c.write.result ≡ Err refusals.Range = cc in
     let after = has_session new c.write.new.self d t c.keep-in-Err-Range.ensures.session (rw e at refused) ((rw e at untouched) ∙ touched) in
     subst (λ (r : Result Reply DeviceStop). Serves old new (at d t) (Write c.args.block bytes) r) (sym c.keep-in-Err-Range.ensures.reply)
-    (serves_still old new (at d t) (at d t) (Write c.args.block bytes) _ (has_session old c.in-Some.session d t taken holds touched)
-    (gives_write_range _ d t c.args.block bytes past) after (c.write.ensures.time told)))
+    (serves_still old new (at d t) (at d t) (Write c.args.block bytes) replies.Range (has_session old c.in-Some.session d t taken holds touched)
+    (gives_write_range (is_full old) d t c.args.block bytes past) after (c.write.ensures.time told)))
 
 pub returns-in-Err-Full-clause-answered : goal.returns-in-Err-Full-clause-answered
 returns-in-Err-Full-clause-answered g c told entry rep bytes same =
@@ -82,8 +83,8 @@ returns-in-Err-Full-clause-answered g c told entry rep bytes same =
     let within : c.args.block < d.blocks = subst (λ (n : ℕ). c.args.block < n) holds.stands.blocks both.0 in
     let after = has_session new c.write.new.self d t c.keep-in-Err-Full.ensures.session (rw e at refused) ((rw e at untouched) ∙ touched) in
     subst (λ (r : Result Reply DeviceStop). Serves old new (at d t) (Write c.args.block bytes) r) (sym c.keep-in-Err-Full.ensures.reply)
-    (serves_still old new (at d t) (at d t) (Write c.args.block bytes) _ (has_session old c.in-Some.session d t taken holds touched)
-    (gives_write_full _ d t c.args.block bytes (is_full_true old both.1) within) after (c.write.ensures.time told)))
+    (serves_still old new (at d t) (at d t) (Write c.args.block bytes) replies.Full (has_session old c.in-Some.session d t taken holds touched)
+    (gives_write_full (is_full old) d t c.args.block bytes (is_full_true old both.1) within) after (c.write.ensures.time told)))
 
 pub returns-in-Err-BadRecord-clause-answered : goal.returns-in-Err-BadRecord-clause-answered
 returns-in-Err-BadRecord-clause-answered g c told entry rep bytes same =

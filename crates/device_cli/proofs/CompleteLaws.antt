@@ -1,0 +1,214 @@
+-- A run with room for a page a line, a short input and no fault answers each line, and none that no page was free.
+use Rattle.std.proofs.Common.{◌≡◌, ◌≢◌, ℕ, ◌+◌, ◌<◌, ◌≤◌, ◌^◌, ◌==◌, Bool, true, false, List, [], ◌∷◌, ◌++◌, Option, None, Some, length, ◌⊎◌, inl, inr, refl, sym, ◌∙◌, subst, ap, arith, length-append}
+use Rattle.std.specs.Prelude.{All, ◌&&◌, nat_lt, flat_map, if◌then◌else◌}
+use Rattle.std.proofs.lemmas.Bool.{cases_Bool}
+use Rattle.std.proofs.lemmas.Bool.Decides.{eqb_tells}
+use Rattle.std.proofs.lemmas.List.{append-nil}
+use Rattle.std.proofs.lemmas.List.Elements.{All-nil, All-cons}
+use Rattle.sdbt_base.specs.Told.{Gave, Got, IsAtEnd}
+use Rattle.script_lang.specs.Lines.{lines_of}
+use Rattle.script_lang.specs.Replies.{line_of}
+use Rattle.script_lang.specs.Arrays.{State, in_limits, needs_room, step, step_if}
+use Rattle.script_lang.specs.Answers.{Answers, answer, is_unbuilt}
+use Rattle.script_lang.specs.declared.commands.Command.{Command}
+use Rattle.script_lang.specs.declared.commands.Command.TheVariants.{Format, Mount, Read, Write, Trim, Commit, Drop, Erase, Seize}
+use Rattle.script_lang.specs.declared.commands.Command.TheVariants as commands
+use Rattle.script_lang.specs.declared.devices.Device.{Device}
+use Rattle.script_lang.specs.declared.devices.Session.{Session as OpenSession}
+use Rattle.script_lang.specs.declared.replies.Reply.{Reply}
+use Rattle.script_lang.specs.declared.replies.Reply.TheVariants.{Full}
+use Rattle.device_core.specs.Leaf.{IsServedCell}
+use Rattle.device_cli.specs.World.{World}
+use Rattle.device_cli.specs.Represents.{StandsFor, closed}
+use Rattle.device_cli.specs.Pages.{TurnIf, AnswersOn}
+use Rattle.std.proofs.Common.{Ok, Err}
+use Rattle.std.specs.Prelude.{IfErr}
+use Rattle.device_cli.specs.Run.{Counts, NoneRose, HasCause, IsStatus, Took, TookUntil}
+use Rattle.device_cli.specs.Replied.{Ending}
+use Rattle.device_cli.specs.declared.stop.Stop.TheVariants as stops
+use Rattle.device_cli.specs.declared.stop.DeviceStop.TheVariants as device
+use Rattle.device_cli.proofs.RanLaws.{exit_of, Took-of}
+use Rattle.device_cli.specs.Ran.{AnswersScript, AnswersFrom, IsAmple, IsComplete}
+use Rattle.device_cli.proofs.PageLaws.{answers_of}
+
+-- a state of these parts
+abbrev parts : Option Device → Option OpenSession → State
+parts there opened = record { device = there; session = opened }
+
+-- the array itself never answers that no page is free
+step_room : (there : Option Device) (opened : Option OpenSession) (command : Command) → (step (parts there opened) command).0 ≡ Full → ⊥
+step_room None opened (Format blocks order) e = elim (cases_Bool (in_limits blocks order)) [
+  | inl holds ↦ let f = rw holds at e in cc
+  | inr fails ↦ let f = rw fails at e in cc
+]
+step_room (Some d) opened (Format blocks order) e = cc
+step_room None None Mount e = cc
+step_room (Some d) None Mount e = cc
+step_room there (Some t) Mount e = cc
+step_room None opened (Read block) e = cc
+step_room (Some d) None (Read block) e = cc
+step_room (Some d) (Some t) (Read block) e = elim (cases_Bool (nat_lt block d.blocks)) [
+  | inl holds ↦ let f = rw holds at e in cc
+  | inr fails ↦ let f = rw fails at e in cc
+]
+step_room None opened (Write block content) e = cc
+step_room (Some d) None (Write block content) e = cc
+step_room (Some d) (Some t) (Write block content) e = elim (cases_Bool (nat_lt block d.blocks)) [
+  | inl holds ↦ let f = rw holds at e in cc
+  | inr fails ↦ let f = rw fails at e in cc
+]
+step_room None opened (Trim block) e = cc
+step_room (Some d) None (Trim block) e = cc
+step_room (Some d) (Some t) (Trim block) e = elim (cases_Bool (nat_lt block d.blocks)) [
+  | inl holds ↦ let f = rw holds at e in cc
+  | inr fails ↦ let f = rw fails at e in cc
+]
+step_room None opened Commit e = cc
+step_room (Some d) None Commit e = cc
+step_room (Some d) (Some t) Commit e = elim (cases_Bool t.touched) [
+  | inl holds ↦ let f = rw holds at e in cc
+  | inr fails ↦ let f = rw fails at e in cc
+]
+step_room None opened Drop e = cc
+step_room (Some d) None Drop e = cc
+step_room (Some d) (Some t) Drop e = cc
+step_room None opened Erase e = cc
+step_room (Some d) opened Erase e = cc
+step_room None opened commands.Stat e = cc
+step_room (Some d) None commands.Stat e = cc
+step_room (Some d) (Some t) commands.Stat e = cc
+step_room there opened Seize e = cc
+
+and_false : (b : Bool) → (b && false) ≡ false
+and_false true = refl
+and_false false = refl
+
+-- on a medium that is not full no reply says that it is
+answer_room : (state : State) (command : Command) → (answer false state command).0 ≡ Full → ⊥
+answer_room state command e = elim (cases_Bool (is_unbuilt state command)) [
+  | inl holds ↦ let f = rw holds at e in cc
+  | inr fails ↦
+      let f = rw fails at e in
+      let g = rw (and_false (needs_room state command)) at f in
+      step_room state.device state.session command g
+]
+
+turn_room : (full : Bool) (old : State) (line : List ℕ) (reply : Reply) (new : State) → full ≡ false → TurnIf full old line reply new → reply ≢ Full
+turn_room full old line reply new room (inl (command, spells, is)) e =
+    answer_room old command
+    (subst (λ (b : Bool). (answer b old command).0 ≡ Full) room (sym (ap (λ (p : Reply × State). p.0) is) ∙ e))
+turn_room full old line reply new room (inr (bad, is, same)) e = cc
+
+-- with a page for each line
+roomy : (capacity : ℕ) (old : State) (pages : ℕ) (lines : List (List ℕ)) (replies : List Reply) (new : State) (pages_now : ℕ) → pages + length lines ≤ capacity
+    → AnswersOn capacity old pages lines replies new pages_now → All (λ r. r ≢ Full) replies
+roomy capacity old pages lines [] new pages_now room h = All-nil (λ (r : Reply). r ≢ Full)
+roomy capacity old pages [] (reply ∷ replies) new pages_now room h = absurd h
+roomy capacity old pages (line ∷ lines) (reply ∷ replies) new pages_now room (mid, between, turn, one_more, rest) =
+    let free : (pages == capacity) ≡ false = elim (eqb_tells pages capacity) [
+      | inl equal ↦ absurd (omega (arith, room, equal.1))
+      | inr differ ↦ differ.0
+    ] in
+    All-cons (λ (r : Reply). r ≢ Full) reply replies (turn_room (pages == capacity) old line reply mid free turn)
+    (roomy capacity mid between lines replies new pages_now (omega (arith, room, one_more.1)) rest)
+
+-- what was taken of a text, where nothing is left, is all of it
+all_taken : (text taken : List ℕ) (left left_now : Option (List ℕ)) → left ≡ Some text → Gave left taken left_now → IsAtEnd left_now → taken ≡ text
+all_taken text taken left None is gave end = absurd cc
+all_taken text taken left (Some rest) is gave end =
+    let e : Some text ≡ Some (taken ++ rest) = sym is ∙ gave in
+    let f : text ≡ taken ++ rest = cc in
+    sym (f ∙ ap (λ (r : List ℕ). taken ++ r) end ∙ append-nil taken)
+
+-- no more is taken than there is
+some_taken : (text taken : List ℕ) (left left_now : Option (List ℕ)) → left ≡ Some text → Gave left taken left_now → length taken ≤ length text
+some_taken text taken left None is gave = absurd cc
+some_taken text taken left (Some rest) is gave =
+    let e : Some text ≡ Some (taken ++ rest) = sym is ∙ gave in
+    let f : text ≡ taken ++ rest = cc in
+    omega (arith, ap (λ (t : List ℕ). length t) f, length-append taken rest)
+
+complete_at : (tells : Type 0) (old new : World) (left left_now written written_now : Option (List ℕ)) (text : List ℕ) (there : Option Device)
+    → (script : AnswersScript tells old new 0 left left_now written written_now) → AnswersFrom old new 0 (closed there) script.lines script.replies script.part
+    → IsAmple left text old.head old.capacity → IsComplete (closed there) text written written_now
+complete_at tells old new left left_now written written_now text there script from ample =
+    let all = script.all refl in
+    let taken : script.taken ≡ text = all_taken text script.taken left left_now ample.text_is script.gave all.0 in
+    let lines : script.lines ≡ lines_of text = all.1 ∙ ap (λ (t : List ℕ). lines_of t) taken in
+    let none : script.part ≡ [] = script.no_part (λ e. omega (arith, e)) (λ e. omega (arith, e)) (λ e. omega (arith, e)) in
+    record {
+      replies = script.replies;
+      got = subst (λ (bytes : List ℕ). Got written bytes written_now)
+          (ap (λ (part : List ℕ). flat_map line_of script.replies ++ part) none ∙ append-nil (flat_map line_of script.replies)) script.got;
+      now = from.now;
+      answers = subst (λ (l : List (List ℕ)). Answers (closed there) l script.replies from.now) lines
+          (answers_of old.capacity (closed there) old.head script.lines script.replies from.now from.pages from.answers);
+      each = all.2 ∙ ap (λ (l : List (List ℕ)). length l) lines;
+      roomy = roomy old.capacity (closed there) old.head script.lines script.replies from.now from.pages
+          (omega (arith, ample.room, ap (λ (l : List (List ℕ)). length l) lines)) from.answers;
+    }
+
+pub complete : (tells : Type 0) (old new : World) (status : ℕ) (left left_now written written_now : Option (List ℕ)) (text : List ℕ) (there : Option Device)
+    → tells → StandsFor old.history.present there → IsServedCell old.history.present.cell old.head
+    → (script : AnswersScript tells old new status left left_now written written_now)
+    → ((taken : List ℕ) × Gave left taken left_now × Took status taken left_now) → IsStatus status
+    → (status ≡ 2 → ⊥) → (status ≡ 3 → ⊥) → (status ≡ 4 → ⊥) → (status ≡ 5 → ⊥) → (status ≡ 6 → ⊥) → (status ≡ 7 → ⊥)
+    → IsAmple left text old.head old.capacity → (status ≡ 11) ⊎ ((status ≡ 0) × IsComplete (closed there) text written written_now)
+complete tells old new status left left_now written written_now text there told stands served script (taken, gave, took) is no2 no3 no4 no5 no6 no7 ample =
+    let from = script.answered told there stands served in
+    which is from.sound.0 from.sound.1
+    (λ e. let limit = took.limit e in omega (arith, limit, some_taken text taken left left_now ample.text_is gave, ample.short))
+    (λ zero.
+    let script0 = subst (λ (n : ℕ). AnswersScript tells old new n left left_now written written_now) zero script in
+    complete_at tells old new left left_now written written_now text there script0 (script0.answered told there stands served) ample)
+  where
+    which : IsStatus status → (status ≢ 8) → (status ≢ 9) → (status ≡ 12 → ⊥) → (status ≡ 0 → IsComplete (closed there) text written written_now)
+        → (status ≡ 11) ⊎ ((status ≡ 0) × IsComplete (closed there) text written written_now)
+    which (inl e) p q r k = inr (e, k e)
+    which (inr (inl e)) p q r k = absurd (no2 e)
+    which (inr (inr (inl e))) p q r k = absurd (no3 e)
+    which (inr (inr (inr (inl e)))) p q r k = absurd (no4 e)
+    which (inr (inr (inr (inr (inl e))))) p q r k = absurd (no5 e)
+    which (inr (inr (inr (inr (inr (inl e)))))) p q r k = absurd (no6 e)
+    which (inr (inr (inr (inr (inr (inr (inl e))))))) p q r k = absurd (no7 e)
+    which (inr (inr (inr (inr (inr (inr (inr (inl e)))))))) p q r k = absurd (p e)
+    which (inr (inr (inr (inr (inr (inr (inr (inr (inl e))))))))) p q r k = absurd (q e)
+    which (inr (inr (inr (inr (inr (inr (inr (inr (inr (inl e)))))))))) p q r k = inl e
+    which (inr (inr (inr (inr (inr (inr (inr (inr (inr (inr e)))))))))) p q r k = absurd (r e)
+
+-- where no count rose, no status says so
+quiet_exit : (ending : Ending) (before now : Counts) → IfErr ending (HasCause before now) → NoneRose before now
+    → (exit_of ending ≢ 2) × (exit_of ending ≢ 3) × (exit_of ending ≢ 4) × (exit_of ending ≢ 5) × (exit_of ending ≢ 6) × (exit_of ending ≢ 7)
+quiet_exit (Ok done) before now h quiet = (λ e. omega (arith, e), λ e. omega (arith, e), λ e. omega (arith, e), λ e. omega (arith, e), λ e. omega (arith, e), λ e. omega (arith, e))
+quiet_exit (Err stops.Source) before now h quiet = (λ e. omega (arith, e), λ e. quiet.input h, λ e. omega (arith, e), λ e. omega (arith, e), λ e. omega (arith, e), λ e. omega (arith, e))
+quiet_exit (Err stops.Sink) before now h quiet = (λ e. omega (arith, e), λ e. omega (arith, e), λ e. quiet.output h, λ e. omega (arith, e), λ e. omega (arith, e), λ e. omega (arith, e))
+quiet_exit (Err (stops.Device device.Platform)) before now h quiet = (λ e. omega (arith, e), λ e. omega (arith, e), λ e. omega (arith, e), λ e. quiet.platform h, λ e. omega (arith, e), λ e. omega (arith, e))
+quiet_exit (Err (stops.Device device.Tape)) before now h quiet = (λ e. omega (arith, e), λ e. omega (arith, e), λ e. omega (arith, e), λ e. omega (arith, e), λ e. quiet.tape h, λ e. omega (arith, e))
+quiet_exit (Err (stops.Device device.Ledger)) before now h quiet = (λ e. omega (arith, e), λ e. omega (arith, e), λ e. omega (arith, e), λ e. omega (arith, e), λ e. omega (arith, e), λ e. quiet.ledger h)
+quiet_exit (Err (stops.Device device.Memory)) before now h quiet = (λ e. omega (arith, e), λ e. omega (arith, e), λ e. omega (arith, e), λ e. omega (arith, e), λ e. omega (arith, e), λ e. omega (arith, e))
+quiet_exit (Err (stops.Device device.BadRoot)) before now h quiet = (λ e. omega (arith, e), λ e. omega (arith, e), λ e. omega (arith, e), λ e. omega (arith, e), λ e. omega (arith, e), λ e. omega (arith, e))
+quiet_exit (Err (stops.Device (device.BadRecord addr))) before now h quiet = (λ e. omega (arith, e), λ e. omega (arith, e), λ e. omega (arith, e), λ e. omega (arith, e), λ e. omega (arith, e), λ e. omega (arith, e))
+quiet_exit (Err stops.Limit) before now h quiet = (λ e. omega (arith, e), λ e. omega (arith, e), λ e. omega (arith, e), λ e. omega (arith, e), λ e. omega (arith, e), λ e. omega (arith, e))
+
+is_exit : (ending : Ending) → IsStatus (exit_of ending)
+is_exit (Ok done) = inl refl
+is_exit (Err stops.Source) = inr (inr (inl refl))
+is_exit (Err stops.Sink) = inr (inr (inr (inl refl)))
+is_exit (Err (stops.Device device.Platform)) = inr (inr (inr (inr (inl refl))))
+is_exit (Err (stops.Device device.Tape)) = inr (inr (inr (inr (inr (inl refl)))))
+is_exit (Err (stops.Device device.Ledger)) = inr (inr (inr (inr (inr (inr (inl refl))))))
+is_exit (Err (stops.Device device.BadRoot)) = inr (inr (inr (inr (inr (inr (inr (inl refl)))))))
+is_exit (Err (stops.Device (device.BadRecord addr))) = inr (inr (inr (inr (inr (inr (inr (inr (inl refl))))))))
+is_exit (Err (stops.Device device.Memory)) = inr (inr (inr (inr (inr (inr (inr (inr (inr (inl refl)))))))))
+is_exit (Err stops.Limit) = inr (inr (inr (inr (inr (inr (inr (inr (inr (inr (refl))))))))))
+
+-- the same of a run that ends so
+pub complete_ending : (tells : Type 0) (old new : World) (ending : Ending) (before now : Counts) (left left_now written written_now : Option (List ℕ)) (text : List ℕ) (there : Option Device)
+    → tells → StandsFor old.history.present there → IsServedCell old.history.present.cell old.head
+    → AnswersScript tells old new (exit_of ending) left left_now written written_now
+    → (taken : List ℕ) → Gave left taken left_now → TookUntil ending taken left_now → IfErr ending (HasCause before now) → NoneRose before now
+    → IsAmple left text old.head old.capacity → (exit_of ending ≡ 11) ⊎ ((exit_of ending ≡ 0) × IsComplete (closed there) text written written_now)
+complete_ending tells old new ending before now left left_now written written_now text there told stands served script taken gave took cause quiet ample =
+    let q = quiet_exit ending before now cause quiet in
+    complete tells old new (exit_of ending) left left_now written written_now text there told stands served script
+    (taken, gave, Took-of ending taken left_now took) (is_exit ending) q.0 q.1 q.2 q.3 q.4 q.5 ample
