@@ -1,0 +1,22 @@
+use Rattle.std.proofs.Common.{None, length, sym, subst}
+use Rattle.platform.specs.Mem.{mem_history, image_of_now, capacity_of}
+use Rattle.device_cli.specs.World.{World, world}
+use Rattle.two_runs.proofs.LossLaws.{goes_on, served_left}
+use Rattle.two_runs.proofs.run_twice.Goals as goal
+
+pub returns : goal.returns
+returns g c =
+    let old : World = world None (mem_history c.args.platform.now) (length (image_of_now c.args.platform.now).recorded) (capacity_of c.args.platform.now) in
+    let mid : World = world None (mem_history c.run_main-status.new.platform) (length (image_of_now c.run_main-status.new.platform).recorded) (capacity_of c.run_main-status.new.platform) in
+    let cut : World = world None (mem_history c.lose_power.new.platform) (length (image_of_now c.lose_power.new.platform).recorded) (capacity_of c.lose_power.new.platform) in
+    let new : World = world None (mem_history c.run_main-other.new.platform) (length (image_of_now c.run_main-other.new.platform).recorded) (capacity_of c.run_main-other.new.platform) in
+    record {
+      mid = mid;
+      cut = cut;
+      written_then = g.O.Sink.written c.run_main-status.new.output;
+      one = c.run_main-status.ensures.answers;
+      lost = c.lose_power.ensures.left;
+      two = c.run_main-other.ensures.answers;
+      goes_on = λ there stands served. goes_on old mid cut new _ _ _ _ _ _ _ _ _ c.run_main-status.ensures.answers c.lose_power.ensures.left c.run_main-other.ensures.answers there stands served
+          (served_left (image_of_now c.run_main-status.new.platform) (image_of_now c.lose_power.new.platform) c.lose_power.ensures.left (c.run_main-status.ensures.served tt served));
+    }

@@ -1,0 +1,62 @@
+//! Two runs over one platform in memory, with a loss of power between them.
+#![tactic(auto)]
+
+ghost use Rattle.std.specs.Prelude.{◌≡◌, ◌≤◌, None, length};
+ghost use Rattle.platform.specs.Image.{MayLeave};
+ghost use Rattle.platform.specs.Mem.{mem_history, image_of_now, capacity_of};
+ghost use Rattle.device_cli.specs.World.{world};
+ghost use Rattle.two_runs.specs.TwoRuns.{TwoRuns};
+
+use device_cli::run_main;
+use platform::{MemPlatform, Platform};
+use sdbt_base::{Sink, Source, Tape};
+use std::alloc::Global;
+
+/// Serves the script that `first` gives, loses the power, and serves the script that `second` gives over what is left.
+///
+/// `torn` names pages that read as zero bytes from the loss of power on; those in it that a loss of power leaves as
+/// they are, and those that there are not, stay as they are. It answers the exit statuses of both runs: see
+/// [`run_main`]. On a device that stands, the second run finds the device after the replies of the first that stand
+/// whole in the output, or the one after one more.
+pub fn run_twice<T: Tape, I: Source, O: Sink, L: Sink>(
+    alloc: Global,
+    platform: &mut MemPlatform,
+    tape: &mut T,
+    first: &mut I,
+    second: &mut I,
+    output: &mut O,
+    ledger: &mut L,
+    torn: &[u64],
+) -> (u8, u8)
+    ensures { TwoRuns (world None (mem_history platform.old) (length (image_of_now platform.old).recorded) (capacity_of platform.old))
+        (world None (mem_history platform.new) (length (image_of_now platform.new).recorded) (capacity_of platform.new))
+        result.0 result.1 (I.left first.old) (I.left first.new) (I.left second.old) (I.left second.new) (O.written output.old) (O.written output.new) }
+{
+    let status = run_main(alloc, &[], platform, tape, first, output, ledger);
+    lose_power(platform, torn);
+    let other = run_main(alloc, &[], platform, tape, second, output, ledger);
+    (status, other)
+}
+
+/// The power is lost: the pages of the list that may be torn read as zero bytes from now on.
+fn lose_power(platform: &mut MemPlatform, torn: &[u64])
+    ensures left { MayLeave (image_of_now platform.old) (image_of_now platform.new) }
+    ensures capacity { capacity_of platform.new ≡ capacity_of platform.old }
+{
+    platform.power_cut(&[]);
+    for addr in torn {
+        tear_page(platform, *addr);
+    }
+}
+
+/// A page reads as zero bytes from now on, if it is one that a loss of power may tear.
+fn tear_page(platform: &mut MemPlatform, addr: u64)
+    ensures left { MayLeave (image_of_now platform.old) (image_of_now platform.new) }
+    ensures capacity { capacity_of platform.new ≡ capacity_of platform.old }
+{
+    if platform.synced() <= addr && addr < platform.head() {
+        platform.power_cut(&[addr]);
+    } else {
+        platform.power_cut(&[]);
+    }
+}
