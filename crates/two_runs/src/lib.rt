@@ -7,6 +7,9 @@ ghost use Rattle.platform.specs.Mem.{mem_history, image_of_now, capacity_of};
 ghost use Rattle.device_cli.specs.World.{world};
 ghost use Rattle.two_runs.specs.TwoRuns.{TwoRuns};
 
+#[cfg(test)]
+mod tests;
+
 use device_cli::run_main;
 use platform::{MemPlatform, Platform};
 use sdbt_base::{Sink, Source, Tape};
