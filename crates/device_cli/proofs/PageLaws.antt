@@ -1,11 +1,10 @@
 -- How the answers to some lines and to the next ones make those to all, with the pages that there are.
-use Rattle.std.proofs.Common.{◌≡◌, ℕ, ◌+◌, ◌≤◌, ◌==◌, List, [], ◌∷◌, ◌++◌, length, inl, inr, refl, subst, arith}
+use Rattle.std.proofs.Common.{◌≡◌, ℕ, ◌==◌, List, [], ◌∷◌, ◌++◌, length, inl, inr, subst, arith}
 use Rattle.script_lang.specs.Arrays.{State}
 use Rattle.script_lang.specs.Answers.{Turn, Answers}
-use Rattle.script_lang.specs.Grammar.{Spells, IsBad}
 use Rattle.script_lang.specs.declared.replies.Reply.{Reply}
 use Rattle.std.specs.Prelude.{Bool}
-use Rattle.device_cli.specs.Pages.{TurnIf, IsOneMore, AnswersOn}
+use Rattle.device_cli.specs.Pages.{TurnIf, AnswersOn}
 
 -- a reply that belongs to a line on a medium that is full, or isn't
 pub turn_of : (full : Bool) (old : State) (line : List ℕ) (reply : Reply) (new : State) → TurnIf full old line reply new → Turn old line reply new

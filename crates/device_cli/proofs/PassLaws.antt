@@ -1,5 +1,5 @@
 -- How the marks that runs pass compose.
-use Rattle.std.proofs.Common.{◌≡◌, ◌⊎◌, inl, inr, true, false, ℕ, suc, ◌+◌, ◌<◌, ◌≤◌, List, [], ◌∷◌, ◌++◌, Option, length, take, refl, sym, ◌∙◌, ap, subst, arith, append_assoc, length-append}
+use Rattle.std.proofs.Common.{◌≡◌, inl, inr, true, false, ℕ, suc, ◌+◌, ◌<◌, ◌≤◌, List, [], ◌∷◌, ◌++◌, Option, length, take, refl, sym, ap, subst, arith, length-append}
 use Rattle.std.specs.Prelude.{if◌then◌else◌, nat_lt}
 use Rattle.std.proofs.lemmas.Bool.{cases_lt}
 use Rattle.std.proofs.lemmas.Bool.Decides.{nat_tests}
@@ -7,15 +7,15 @@ use Rattle.std.proofs.lemmas.List.{take-append-le}
 use Rattle.platform.specs.Image.{Image}
 use Rattle.platform.specs.History.{History, During, Turns, image_at, moment}
 use Rattle.platform.specs.Runs.{Passes}
-use Rattle.platform.proofs.Moments.{Extends-trans, image_at-now}
+use Rattle.platform.proofs.Moments.{Extends-trans}
 use Rattle.platform.proofs.RunLaws.{Passes-start, Passes-during, Passes-turns}
-use Rattle.page_store.proofs.StandsLaws.{stands_leaves, stands_during}
+use Rattle.page_store.proofs.StandsLaws.{stands_leaves}
 use Rattle.script_lang.specs.Arrays.{State}
 use Rattle.script_lang.specs.Answers.{Turn, Answers, IsMark}
 use Rattle.script_lang.proofs.AnswerLaws.{Answers-append, Answers-longer}
 use Rattle.script_lang.specs.declared.devices.Device.{Device}
 use Rattle.script_lang.specs.declared.replies.Reply.{Reply}
-use Rattle.device_cli.specs.Represents.{stored, StandsFor, Leaves}
+use Rattle.device_cli.specs.Represents.{StandsFor, Leaves}
 use Rattle.device_cli.specs.Replied.{HasMark}
 
 -- one function below n, and another from n on

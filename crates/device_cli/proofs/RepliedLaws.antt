@@ -1,6 +1,6 @@
 -- How runs compose.
-use Rattle.std.proofs.Common.{◌≡◌, ℕ, ◌≤◌, ◌+◌, List, [], ◌∷◌, ◌++◌, Option, Ok, Err, length, take, inl, inr, refl, sym, ◌∙◌, ap, subst, arith, append_assoc, length-append}
-use Rattle.std.specs.Prelude.{All, Result}
+use Rattle.std.proofs.Common.{◌≡◌, ℕ, ◌≤◌, ◌+◌, List, [], ◌∷◌, ◌++◌, Option, Ok, Err, length, take, inl, inr, refl, sym, ◌∙◌, subst, arith, append_assoc, length-append}
+use Rattle.std.specs.Prelude.{All}
 use Rattle.std.proofs.lemmas.Grind.{flat_map-append, common_steps}
 use Rattle.std.proofs.lemmas.List.{append-nil}
 use Rattle.std.proofs.lemmas.List.Elements.{All-nil, All-cons, All-append, All-weaker}
@@ -17,7 +17,6 @@ use Rattle.script_lang.specs.declared.commands.Command.{Command}
 use Rattle.script_lang.specs.Arrays.{State}
 use Rattle.script_lang.specs.Answers.{Answers, Turn, IsMark, answer}
 use Rattle.script_lang.proofs.AnswerLaws.{Answers-append, Answers-longer}
-use Rattle.script_lang.specs.declared.devices.Device.{Device}
 use Rattle.script_lang.specs.declared.replies.Reply.{Reply}
 use Rattle.script_lang.specs.declared.replies.Reply.TheVariants.{Full, Bad}
 use Rattle.device_core.specs.Leaf.{IsServedCell}
@@ -31,7 +30,7 @@ use Rattle.device_cli.specs.declared.stop.Stop.TheVariants as stops
 use Rattle.device_cli.specs.declared.stop.DeviceStop.{DeviceStop}
 use Rattle.device_cli.specs.declared.stop.DeviceStop.TheVariants as device
 use Rattle.device_cli.proofs.PageLaws.{turn_of, answers_of, AnswersOn-append, AnswersOn-longer}
-use Rattle.device_cli.proofs.PassLaws.{IsMark-none, IsMark-one, IsMark-front, IsMark-behind, Passes-nothing, Passes-stay, Passes-line, Passes-lines, Passes-longer}
+use Rattle.device_cli.proofs.PassLaws.{IsMark-none, IsMark-one, IsMark-behind, Passes-stay, Passes-line, Passes-lines, Passes-longer}
 
 -- from one world to itself, and on from one to the next
 pub IsLater-refl : (w : World) → w.head ≤ w.capacity → IsLater w w
@@ -171,19 +170,19 @@ halted_turned old new entry now line reply turn stands turns = record {
   passes = Passes-line old.history new.history entry now line reply stands turn turns;
   exits = elim (Turns-cases old.history new.history (Leaves entry.device) (Leaves now.device) turns) [
     | inl during ↦ record {
-        mark = 0;
-        from = omega arith;
-        there = entry.device;
-        is_mark = IsMark-none entry (line ∷ []) (reply ∷ []);
-        stands = LeavesOnly-now new.history (λ left. StandsFor left entry.device) (During-now old.history new.history (Leaves entry.device) during);
-      }
+      mark = 0;
+      from = omega arith;
+      there = entry.device;
+      is_mark = IsMark-none entry (line ∷ []) (reply ∷ []);
+      stands = LeavesOnly-now new.history (λ left. StandsFor left entry.device) (During-now old.history new.history (Leaves entry.device) during);
+    }
     | inr left ↦ record {
-        mark = 1;
-        from = omega arith;
-        there = now.device;
-        is_mark = IsMark-one entry now line reply turn;
-        stands = LeavesOnly-now new.history (λ image. StandsFor image now.device) left;
-      }
+      mark = 1;
+      from = omega arith;
+      there = now.device;
+      is_mark = IsMark-one entry now line reply turn;
+      stands = LeavesOnly-now new.history (λ image. StandsFor image now.device) left;
+    }
   ];
 }
 
@@ -318,8 +317,8 @@ Answered-then : (old mid new : World) (ending : Ending) (entry : State) (lines m
 Answered-then old mid new ending entry lines more replies others none part later same p q =
     let answers = answers_of old.capacity entry old.head lines replies p.now p.pages p.answers in
     let more_answers : AnswersOn old.capacity p.now p.pages more others q.now q.pages =
-        subst (λ (c : ℕ). AnswersOn c p.now p.pages more others q.now q.pages) later.capacity
-        (subst (λ (n : ℕ). AnswersOn mid.capacity p.now n more others q.now q.pages) p.ends.1 q.answers) in
+    subst (λ (c : ℕ). AnswersOn c p.now p.pages more others q.now q.pages) later.capacity
+    (subst (λ (n : ℕ). AnswersOn mid.capacity p.now n more others q.now q.pages) p.ends.1 q.answers) in
     record {
       now = q.now;
       pages = q.pages;
@@ -433,12 +432,26 @@ Replied-cut : (tells : Type 0) (old new : World) (last : DeviceStop → List ℕ
     → Replied tells old new last (Ok tt) lines put → Replied tells old new last (Err stops.Source) lines put × Replied tells old new last (Err stops.Limit) lines put
 Replied-cut tells old new last lines put p = (
   record {
-    replies = p.replies; part = p.part; put_is = p.put_is; behind = p.behind; many = p.many; damage = tt; later = p.later; full = p.full;
+    replies = p.replies;
+    part = p.part;
+    put_is = p.put_is;
+    behind = p.behind;
+    many = p.many;
+    damage = tt;
+    later = p.later;
+    full = p.full;
     answered = λ told entry rep. let f = p.answered told entry rep in
         record { now = f.now; pages = f.pages; answers = f.answers; ends = f.ends; ahead = f.ahead; is_ahead = f.is_ahead; passes = f.passes; exits = f.exits };
   },
   record {
-    replies = p.replies; part = p.part; put_is = p.put_is; behind = p.behind; many = p.many; damage = tt; later = p.later; full = p.full;
+    replies = p.replies;
+    part = p.part;
+    put_is = p.put_is;
+    behind = p.behind;
+    many = p.many;
+    damage = tt;
+    later = p.later;
+    full = p.full;
     answered = λ told entry rep. let f = p.answered told entry rep in
         record { now = f.now; pages = f.pages; answers = f.answers; ends = f.ends; ahead = f.ahead; is_ahead = f.is_ahead; passes = f.passes; exits = f.exits };
   },

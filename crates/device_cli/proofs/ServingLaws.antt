@@ -1,23 +1,19 @@
 -- What each call of a desk makes of the state that its world stands for.
-use Rattle.std.proofs.Common.{◌≡◌, ◌≢◌, ℕ, ◌+◌, ◌<◌, ◌≤◌, Bool, true, false, List, Option, None, Some, Ok, Err, inl, inr, refl, sym, ◌∙◌, subst, ap, arith}
-use Rattle.std.specs.Prelude.{Result, ◌⊎◌, ◌||◌, is_some}
+use Rattle.std.proofs.Common.{◌≡◌, ◌≢◌, ℕ, ◌+◌, ◌≤◌, Bool, true, false, Option, None, Some, Ok, inl, inr, refl, sym, ◌∙◌, subst, ap}
+use Rattle.std.specs.Prelude.{◌⊎◌}
 use Rattle.std.specs.FinMap as map
-use Rattle.std.proofs.lemmas.Grind.{common_steps}
 use Rattle.std.proofs.lemmas.Bool.{cases_Bool}
 use Rattle.std.proofs.lemmas.Bool.Decides.{eqb_tells}
 use Rattle.platform.specs.Image.{Image}
 use Rattle.platform.specs.History.{History, During, Turns}
 use Rattle.platform.proofs.Moments.{During-start, Turns-not}
-use Rattle.page_store.specs.Buffer.{padded}
 use Rattle.page_store.proofs.StandsLaws.{stands_leaves}
-use Rattle.device_core.specs.Blocks.{Blocks, block_content}
-use Rattle.device_core.specs.Open.{is_touched, blocks_of, number_of}
+use Rattle.device_core.specs.Open.{is_touched, number_of}
 use Rattle.device_core.specs.Holds.{Holds}
-use Rattle.device_core.specs.Replies.{device_after, committed_device}
+use Rattle.device_core.specs.Replies.{device_after}
 use Rattle.device_core.specs.declared.session.Session.{Session}
 use Rattle.device_core.specs.declared.refusals.CommitReply.{CommitReply}
 use Rattle.device_core.specs.declared.refusals.CommitReply.TheVariants as commits
-use Rattle.arrayvec.specs.ArrayVec.{ArrayVec as Bytes}
 use Rattle.script_lang.specs.declared.commands.Command.{Command}
 use Rattle.script_lang.specs.declared.commands.Command.TheVariants.{Format, Mount, Read, Write, Trim, Commit, Drop, Erase, Seize}
 use Rattle.script_lang.specs.declared.commands.Command.TheVariants as commands
@@ -26,13 +22,13 @@ use Rattle.script_lang.specs.declared.replies.Reply.TheVariants.{Formatted, Moun
 use Rattle.script_lang.specs.declared.replies.Reply.TheVariants as replies
 use Rattle.script_lang.specs.declared.devices.Device.{Device}
 use Rattle.script_lang.specs.declared.devices.Session.{Session as OpenSession}
-use Rattle.script_lang.specs.Arrays.{State, zeros, content_reply, in_limits, new_device, session_on, committed, written, unmapped}
+use Rattle.script_lang.specs.Arrays.{State, new_device, session_on, committed}
 use Rattle.script_lang.specs.Answers.{answer}
 use Rattle.device_cli.specs.World.{World, is_full, world}
-use Rattle.device_cli.specs.Replied.{Serves, Halts, IsSound}
+use Rattle.device_cli.specs.Replied.{Serves, Halts}
 use Rattle.device_cli.specs.Represents.{stored, StandsFor, Leaves, IsSessionOf, Represents, closed}
 use Rattle.device_cli.specs.declared.stop.DeviceStop.TheVariants as device
-use Rattle.device_cli.proofs.ServedLaws.{at, on, with_session, without_session, holds_stands, has_session, has_none, leaves_still, serves_still, halts_still, is_full_true, is_full_false, gives_unmounted_read, gives_raised, gives_idle, gives_commit_full, gives_stat, gives_formatted, gives_format_full}
+use Rattle.device_cli.proofs.ServedLaws.{at, on, with_session, without_session, holds_stands, has_session, has_none, serves_still, halts_still, is_full_true, is_full_false, gives_raised, gives_idle, gives_commit_full, gives_stat, gives_formatted, gives_format_full}
 
 -- the cell stays at each moment
 abbrev pub KeepsCell : World → World → Type 0
@@ -249,8 +245,8 @@ pub serves_committed : (old new : World) (entry : State) (session now : Session)
     → (is_touched session ≡ true → old.head ≡ old.capacity → reply ≡ commits.Full 1 0)
     → (is_touched session ≡ true → (old.head ≡ old.capacity → ⊥) → (reply ≡ commits.Committed (number_of session + 1)) × (is_touched now ≡ false))
     → ((d : Device) (t : OpenSession) → Holds session old.history.present (stored d) t.contents
-        → Holds now new.history.present (device_after reply (stored d) t.contents) t.contents
-        × Turns old.history new.history (Leaves (Some d)) (Leaves (Some (committed d t))))
+    → Holds now new.history.present (device_after reply (stored d) t.contents) t.contents
+    × Turns old.history new.history (Leaves (Some d)) (Leaves (Some (committed d t))))
     → Represents old entry → Serves old new entry Commit (Ok (Committed number))
 serves_committed old new entry session now number reply some some_now is idle full raised after rep =
     with_session old session entry some rep (λ state. Serves old new state Commit (Ok (Committed number)))
@@ -273,11 +269,10 @@ serves_committed old new entry session now number reply some some_now is idle fu
           let both = raised b differ.1 in
           let a = after d t holds in
           let e : number ≡ d.number + 1 = (let x : commits.Committed number ≡ commits.Committed (number_of session + 1) = sym is ∙ both.0 in let n : number ≡ number_of session + 1 = cc in n)
-              ∙ ap (λ (k : ℕ). k + 1) holds.stands.number in
+          ∙ ap (λ (k : ℕ). k + 1) holds.stands.number in
           let has = subst (λ (r : CommitReply). Holds now new.history.present (device_after r (stored d) t.contents) t.contents) is a.0 in
           let has_now = subst (λ (k : ℕ). Holds now new.history.present (record (stored d) { number = k; contents = t.contents }) t.contents) e has in
-          subst (λ (n : ℕ). Serves old new (at d t) Commit (Ok (Committed n))) (sym e)
-          (
+          subst (λ (n : ℕ). Serves old new (at d t) Commit (Ok (Committed n))) (sym e) (
             at (committed d t) (session_on (committed d t)),
             gives_raised (is_full old) d t room (sym same ∙ b),
             has_session new now (committed d t) (session_on (committed d t)) some_now has_now both.1,
@@ -319,6 +314,6 @@ halts_commit old new entry session some busy room turns rep =
       | inr idle ↦ absurd (busy idle)
       | inl touched ↦
           let made : (answer (is_full old) (at d t) Commit).1.device ≡ Some (committed d t) =
-              sym (ap (λ (p : Reply × State). p.1.device) (gives_raised (is_full old) d t (is_full_false old (room touched)) (sym same ∙ touched))) in
+          sym (ap (λ (p : Reply × State). p.1.device) (gives_raised (is_full old) d t (is_full_false old (room touched)) (sym same ∙ touched))) in
           subst (λ (there : Option Device). Turns old.history new.history (Leaves (Some d)) (Leaves there)) (sym made) (turns d t holds)
     ])

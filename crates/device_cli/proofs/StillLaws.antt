@@ -8,7 +8,7 @@ use Rattle.script_lang.specs.Arrays.{State}
 use Rattle.device_core.specs.Leaf.{IsServedCell}
 use Rattle.device_core.specs.declared.session.Session.{Session}
 use Rattle.device_cli.specs.World.{World}
-use Rattle.device_cli.specs.Represents.{StandsFor, IsSessionOf, Represents, Stood, Leaves}
+use Rattle.device_cli.specs.Represents.{StandsFor, IsSessionOf, Stood, Leaves}
 
 -- the cell is what it was
 HasCell : (image : Image) → Image → Type 0

@@ -1,6 +1,5 @@
 -- A run from its input to its output.
 use Rattle.std.specs.Prelude.{◌≡◌, ◌≢◌, ℕ, ◌+◌, ◌<◌, ◌≤◌, ◌^◌, ◌⊎◌, List, [], ◌∷◌, ◌++◌, All, Option, Some, Ok, Err, length, flat_map}
-use Rattle.std.specs.List.{Contains}
 use Rattle.platform.specs.Runs.{Passes}
 use Rattle.device_core.specs.Leaf.{IsServedCell}
 use Rattle.sdbt_base.specs.Told.{Gave, Got, IsAtEnd}

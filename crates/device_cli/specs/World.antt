@@ -1,5 +1,5 @@
 -- What a run works on.
-use Rattle.std.specs.Prelude.{◌≡◌, ℕ, ◌+◌, ◌≤◌, Bool, ◌==◌, Option}
+use Rattle.std.specs.Prelude.{◌≡◌, ℕ, ◌≤◌, Bool, ◌==◌, Option}
 use Rattle.platform.specs.History.{History}
 use Rattle.device_core.specs.declared.session.Session.{Session}
 

@@ -39,9 +39,9 @@ pub(crate) fn run<P: Platform, T: Tape, I: Source, O: Sink, L: Sink>(
 ) -> Result<(), Stop>
     ensures refused_only { P.tells → IfErr result (λ stop. status_of stop ≡ 8 → IsServedCell (P.history platform.old).present.cell (P.head platform.old) → ⊥) }
     ensures refused { P.tells → (IsServedCell (P.history platform.old).present.cell (P.head platform.old) → ⊥) → IfErr result (λ stop. IsRefusal stop) × (IsOk result → ⊥) }
-    ensures counts { NoneFell (counts (P.faults platform.old) (T.faults tape.old) (I.faults input.old) (O.faults output.old) (L.faults ledger.old)) 
+    ensures counts { NoneFell (counts (P.faults platform.old) (T.faults tape.old) (I.faults input.old) (O.faults output.old) (L.faults ledger.old))
         (counts (P.faults platform.new) (T.faults tape.new) (I.faults input.new) (O.faults output.new) (L.faults ledger.new)) }
-    ensures cause { IfErr result (HasCause (counts (P.faults platform.old) (T.faults tape.old) (I.faults input.old) (O.faults output.old) (L.faults ledger.old)) 
+    ensures cause { IfErr result (HasCause (counts (P.faults platform.old) (T.faults tape.old) (I.faults input.old) (O.faults output.old) (L.faults ledger.old))
         (counts (P.faults platform.new) (T.faults tape.new) (I.faults input.new) (O.faults output.new) (L.faults ledger.new))) }
     ensures cell { P.tells → IsServedCell (P.history platform.old).present.cell (P.head platform.old) → IsServedCell (P.history platform.new).present.cell (P.head platform.new) }
     ensures unput { L.written ledger.new ≡ L.written ledger.old }
@@ -76,9 +76,9 @@ fn serve_input<P: Platform, T: Tape, I: Source, O: Sink, L: Sink>(
     requires cell { P.tells → IsServedCell (P.history platform.old).present.cell (P.head platform.old) }
     requires mounted { P.tells → IfSome desk.old.session (IsMounted (P.history platform.old).present) }
     ensures bad_root { P.tells → IsErrOf result (Stop.Device DeviceStop.BadRoot) → ⊥ }
-    ensures counts { NoneFell (counts (P.faults platform.old) (T.faults tape.old) (I.faults input.old) (O.faults output.old) (L.faults ledger.old)) 
+    ensures counts { NoneFell (counts (P.faults platform.old) (T.faults tape.old) (I.faults input.old) (O.faults output.old) (L.faults ledger.old))
         (counts (P.faults platform.new) (T.faults tape.new) (I.faults input.new) (O.faults output.new) (L.faults ledger.new)) }
-    ensures cause { IfErr result (HasCause (counts (P.faults platform.old) (T.faults tape.old) (I.faults input.old) (O.faults output.old) (L.faults ledger.old)) 
+    ensures cause { IfErr result (HasCause (counts (P.faults platform.old) (T.faults tape.old) (I.faults input.old) (O.faults output.old) (L.faults ledger.old))
         (counts (P.faults platform.new) (T.faults tape.new) (I.faults input.new) (O.faults output.new) (L.faults ledger.new))) }
     ensures cell { P.tells → IsServedCell (P.history platform.new).present.cell (P.head platform.new) }
     ensures unput { L.written ledger.new ≡ L.written ledger.old }
@@ -132,9 +132,9 @@ fn serve_piece<P: Platform, T: Tape, O: Sink, L: Sink>(
     ensures mounted { P.tells → OnOk result (IfSome desk.new.session (IsMounted (P.history platform.new).present)) }
     ensures unput { L.written ledger.new ≡ L.written ledger.old }
     ensures bad_root { P.tells → IsErrOf result (Stop.Device DeviceStop.BadRoot) → ⊥ }
-    ensures counts { NoneFell (counts (P.faults platform.old) (T.faults tape.old) 0 (O.faults output.old) (L.faults ledger.old)) 
+    ensures counts { NoneFell (counts (P.faults platform.old) (T.faults tape.old) 0 (O.faults output.old) (L.faults ledger.old))
         (counts (P.faults platform.new) (T.faults tape.new) 0 (O.faults output.new) (L.faults ledger.new)) }
-    ensures cause { IfErr result (HasCause (counts (P.faults platform.old) (T.faults tape.old) 0 (O.faults output.old) (L.faults ledger.old)) 
+    ensures cause { IfErr result (HasCause (counts (P.faults platform.old) (T.faults tape.old) 0 (O.faults output.old) (L.faults ledger.old))
         (counts (P.faults platform.new) (T.faults tape.new) 0 (O.faults output.new) (L.faults ledger.new))) }
     ensures stops { IfErr result IsOfLine }
     ensures pending { (rest : List ℕ) → IsPending pending.old rest → OnOk result (IsPending pending.new (rest_of (rest ++ piece.now))) }
@@ -182,9 +182,9 @@ fn serve_end<P: Platform, T: Tape, O: Sink, L: Sink>(
     ensures mounted { P.tells → OnOk result (IfSome desk.new.session (IsMounted (P.history platform.new).present)) }
     ensures unput { L.written ledger.new ≡ L.written ledger.old }
     ensures bad_root { P.tells → IsErrOf result (Stop.Device DeviceStop.BadRoot) → ⊥ }
-    ensures counts { NoneFell (counts (P.faults platform.old) (T.faults tape.old) 0 (O.faults output.old) (L.faults ledger.old)) 
+    ensures counts { NoneFell (counts (P.faults platform.old) (T.faults tape.old) 0 (O.faults output.old) (L.faults ledger.old))
         (counts (P.faults platform.new) (T.faults tape.new) 0 (O.faults output.new) (L.faults ledger.new)) }
-    ensures cause { IfErr result (HasCause (counts (P.faults platform.old) (T.faults tape.old) 0 (O.faults output.old) (L.faults ledger.old)) 
+    ensures cause { IfErr result (HasCause (counts (P.faults platform.old) (T.faults tape.old) 0 (O.faults output.old) (L.faults ledger.old))
         (counts (P.faults platform.new) (T.faults tape.new) 0 (O.faults output.new) (L.faults ledger.new))) }
     ensures stops { IfErr result IsOfLine }
     ensures handled { (rest : List ℕ) → IsPending pending.now rest → Handled P.tells (world desk.old.session (P.history platform.old) (P.head platform.old) (P.capacity platform.old))
@@ -214,9 +214,9 @@ fn answer<P: Platform, T: Tape, O: Sink, L: Sink>(
     ensures mounted { P.tells → OnOk result (IfSome desk.new.session (IsMounted (P.history platform.new).present)) }
     ensures unput { L.written ledger.new ≡ L.written ledger.old }
     ensures bad_root { P.tells → IsErrOf result (Stop.Device DeviceStop.BadRoot) → ⊥ }
-    ensures counts { NoneFell (counts (P.faults platform.old) (T.faults tape.old) 0 (O.faults output.old) (L.faults ledger.old)) 
+    ensures counts { NoneFell (counts (P.faults platform.old) (T.faults tape.old) 0 (O.faults output.old) (L.faults ledger.old))
         (counts (P.faults platform.new) (T.faults tape.new) 0 (O.faults output.new) (L.faults ledger.new)) }
-    ensures cause { IfErr result (HasCause (counts (P.faults platform.old) (T.faults tape.old) 0 (O.faults output.old) (L.faults ledger.old)) 
+    ensures cause { IfErr result (HasCause (counts (P.faults platform.old) (T.faults tape.old) 0 (O.faults output.old) (L.faults ledger.old))
         (counts (P.faults platform.new) (T.faults tape.new) 0 (O.faults output.new) (L.faults ledger.new))) }
     ensures stops { IfErr result IsOfLine }
     ensures handled { (text : List ℕ) → IsKept (option_copied line.entry) text → Handled P.tells (world desk.old.session (P.history platform.old) (P.head platform.old) (P.capacity platform.old))

@@ -1,14 +1,13 @@
 -- What is left after losses of power.
-use Rattle.std.proofs.Common.{◌≡◌, ℕ, ◌≤◌, List, Option, length, ◌∙◌, sym, ap, subst}
+use Rattle.std.proofs.Common.{◌≡◌, ℕ, List, Option, length, ◌∙◌, sym, ap, subst}
 use Rattle.std.specs.Prelude.{take}
 use Rattle.platform.specs.Image.{Image, MayLeave}
 use Rattle.page_store.proofs.StandsLaws.{stands_left}
 use Rattle.device_core.specs.Leaf.{IsServedCell}
-use Rattle.script_lang.specs.Arrays.{State}
 use Rattle.script_lang.specs.declared.devices.Device.{Device}
 use Rattle.device_cli.specs.World.{World}
 use Rattle.device_cli.specs.Represents.{StandsFor, closed}
-use Rattle.device_cli.specs.Ran.{AnswersScript, AnswersFrom}
+use Rattle.device_cli.specs.Ran.{AnswersScript}
 use Rattle.two_runs.specs.TwoRuns.{GoesOn}
 
 -- one loss of power after another

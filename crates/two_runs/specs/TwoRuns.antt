@@ -1,5 +1,5 @@
 -- Two runs with a loss of power between them.
-use Rattle.std.specs.Prelude.{◌≡◌, ℕ, ◌≤◌, List, ◌++◌, Option, length}
+use Rattle.std.specs.Prelude.{ℕ, ◌≤◌, List, ◌++◌, Option, length}
 use Rattle.platform.specs.Image.{MayLeave}
 use Rattle.script_lang.specs.Arrays.{State}
 use Rattle.script_lang.specs.Answers.{IsMark}

@@ -1,4 +1,4 @@
-use Rattle.std.proofs.Common.{None, length, sym, subst}
+use Rattle.std.proofs.Common.{None, length}
 use Rattle.platform.specs.Mem.{mem_history, image_of_now, capacity_of}
 use Rattle.device_cli.specs.World.{World, world}
 use Rattle.two_runs.proofs.LossLaws.{goes_on, served_left}

@@ -1,19 +1,15 @@
-use Rattle.std.proofs.Common.{◌≡◌, ◌≢◌, ◌+◌, ◌<◌, ◌≤◌, ℕ, Bool, true, false, Option, None, Some, Ok, Err, inl, inr, refl, sym, ◌∙◌, ap, subst, arith}
-use Rattle.std.specs.Prelude.{Result, ◌⊎◌, ◌||◌}
+use Rattle.std.proofs.Common.{◌≡◌, None, Some, inl, inr, sym, ap, subst, arith}
+use Rattle.std.specs.Prelude.{Result, ◌⊎◌}
 use Rattle.std.proofs.lemmas.Grind.{common_steps}
-use Rattle.script_lang.specs.Arrays.{State, content_reply}
 use Rattle.script_lang.specs.declared.replies.Reply.{Reply}
 use Rattle.device_cli.specs.declared.stop.DeviceStop.{DeviceStop}
 use Rattle.device_cli.specs.declared.stop.DeviceStop.TheVariants as device
-use Rattle.device_cli.specs.World.{World, is_full, world}
-use Rattle.script_lang.specs.declared.replies.Reply.TheVariants as replies
-use Rattle.device_cli.specs.Replied.{Serves, Halts}
-use Rattle.device_cli.specs.Represents.{stored, Represents}
-use Rattle.device_core.specs.Open.{is_touched}
-use Rattle.device_core.specs.declared.refusals.CommitReply.{CommitReply}
+use Rattle.device_cli.specs.World.{World, world}
+use Rattle.device_cli.specs.Replied.{Serves}
+use Rattle.device_cli.specs.Represents.{stored}
 use Rattle.script_lang.specs.declared.commands.Command.TheVariants.{Commit}
 use Rattle.device_cli.proofs.ServedLaws.{halts_still, gives_unmounted_commit}
-use Rattle.device_cli.proofs.ServingLaws.{KeepsCell, serves_unmounted, serves_committed, serves_commit_full, halts_commit, keeps_same}
+use Rattle.device_cli.proofs.ServingLaws.{serves_unmounted, serves_committed, serves_commit_full, halts_commit, keeps_same}
 use Rattle.device_cli.proofs.desk.Desk.commit.Goals as goal
 
 not_these : {X Y Z : Type 0} → (X → ⊥) → (Y → ⊥) → X ⊎ (Y ⊎ Z) → Z

@@ -1,17 +1,8 @@
-use Rattle.std.proofs.Common.{◌≡◌, ◌≢◌, ◌+◌, ◌<◌, ◌≤◌, ℕ, Bool, true, false, Option, None, Some, Ok, Err, inl, inr, refl, sym, ◌∙◌, ap, subst, arith}
-use Rattle.std.specs.Prelude.{Result, ◌⊎◌, ◌||◌}
+use Rattle.std.proofs.Common.{None, inl, inr, refl, arith}
+use Rattle.std.specs.Prelude.{◌⊎◌}
 use Rattle.std.proofs.lemmas.Grind.{common_steps}
-use Rattle.script_lang.specs.Arrays.{State, content_reply}
-use Rattle.script_lang.specs.declared.replies.Reply.{Reply}
-use Rattle.device_cli.specs.declared.stop.DeviceStop.{DeviceStop}
-use Rattle.device_cli.specs.declared.stop.DeviceStop.TheVariants as device
-use Rattle.device_cli.specs.World.{World, is_full, world}
-use Rattle.script_lang.specs.declared.replies.Reply.TheVariants as replies
-use Rattle.device_cli.specs.Replied.{Serves, Halts}
-use Rattle.device_cli.specs.Represents.{stored, Represents}
-use Rattle.script_lang.specs.declared.commands.Command.TheVariants as commands
-use Rattle.device_cli.proofs.ServedLaws.{halts_still}
-use Rattle.device_cli.proofs.ServingLaws.{KeepsCell, serves_erased, serves_erase_none, halts_erase}
+use Rattle.device_cli.specs.World.{World, world}
+use Rattle.device_cli.proofs.ServingLaws.{serves_erased, serves_erase_none, halts_erase}
 use Rattle.device_cli.proofs.desk.Desk.erase.Goals as goal
 
 pub returns-in-Ok-clause-answered : goal.returns-in-Ok-clause-answered

@@ -1,16 +1,16 @@
-use Rattle.std.proofs.Common.{◌≡◌, ◌≢◌, ◌+◌, ◌<◌, ◌≤◌, ℕ, Bool, true, false, Option, None, Some, Ok, Err, inl, inr, refl, sym, ◌∙◌, ap, subst, arith, rules}
-use Rattle.std.specs.Prelude.{Result, IfOk, IfErr, ◌⊎◌, ◌||◌}
+use Rattle.std.proofs.Common.{◌≡◌, ◌≢◌, ◌<◌, ◌≤◌, ℕ, Bool, true, false, Option, None, Some, Ok, Err, inl, inr, refl, sym, ap, subst, arith, rules}
+use Rattle.std.specs.Prelude.{Result, IfOk, IfErr, ◌⊎◌}
 use Rattle.sdbt_base.specs.Faults.{Rose}
 use Rattle.std.proofs.lemmas.Grind.{common_steps}
-use Rattle.script_lang.specs.Arrays.{State, content_reply}
+use Rattle.script_lang.specs.Arrays.{State}
 use Rattle.script_lang.specs.declared.replies.Reply.{Reply}
 use Rattle.device_cli.specs.declared.stop.DeviceStop.{DeviceStop}
 use Rattle.device_cli.specs.declared.stop.DeviceStop.TheVariants as device
-use Rattle.device_cli.specs.World.{World, is_full, world}
+use Rattle.device_cli.specs.World.{World, world}
 use Rattle.script_lang.specs.declared.replies.Reply.TheVariants as replies
 use Rattle.device_cli.specs.Replied.{Serves, Halts}
 use Rattle.device_cli.specs.Represents.{stored, Represents}
-use Rattle.script_lang.specs.Arrays.{new_device, in_limits}
+use Rattle.script_lang.specs.Arrays.{in_limits}
 use Rattle.script_lang.specs.declared.commands.Command.TheVariants.{Format}
 use Rattle.std.specs.Option.{option_map}
 use Rattle.script_lang.specs.Answers.{answer}

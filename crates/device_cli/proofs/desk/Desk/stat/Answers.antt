@@ -1,14 +1,5 @@
-use Rattle.std.proofs.Common.{◌≡◌, ◌≢◌, ◌+◌, ◌<◌, ◌≤◌, ℕ, Bool, true, false, Option, None, Some, Ok, Err, inl, inr, refl, sym, ◌∙◌, ap, subst, arith}
-use Rattle.std.specs.Prelude.{Result, ◌⊎◌, ◌||◌}
-use Rattle.std.proofs.lemmas.Grind.{common_steps}
-use Rattle.script_lang.specs.Arrays.{State, content_reply}
-use Rattle.script_lang.specs.declared.replies.Reply.{Reply}
-use Rattle.device_cli.specs.declared.stop.DeviceStop.{DeviceStop}
-use Rattle.device_cli.specs.declared.stop.DeviceStop.TheVariants as device
-use Rattle.device_cli.specs.World.{World, is_full, world}
-use Rattle.script_lang.specs.declared.replies.Reply.TheVariants as replies
-use Rattle.device_cli.specs.Replied.{Serves, Halts}
-use Rattle.device_cli.specs.Represents.{stored, Represents}
+use Rattle.std.proofs.Common.{Option, ◌∙◌, subst}
+use Rattle.device_cli.specs.Represents.{stored}
 use Rattle.std.specs.Prelude.{IfSome}
 use Rattle.device_core.specs.Open.{IsOpen}
 use Rattle.device_core.specs.declared.session.Session.{Session}
