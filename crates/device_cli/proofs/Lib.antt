@@ -1,3 +1,4 @@
+pub mod Choices
 pub mod RunLaws
 pub mod PageLaws
 pub mod PassLaws

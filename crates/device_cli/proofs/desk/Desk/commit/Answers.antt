@@ -10,12 +10,8 @@ use Rattle.device_cli.specs.Represents.{stored}
 use Rattle.script_lang.specs.declared.commands.Command.TheVariants.{Commit}
 use Rattle.device_cli.proofs.ServedLaws.{halts_still, gives_unmounted_commit}
 use Rattle.device_cli.proofs.ServingLaws.{serves_unmounted, serves_committed, serves_commit_full, halts_commit, keeps_same}
+use Rattle.device_cli.proofs.Choices.{not_these}
 use Rattle.device_cli.proofs.desk.Desk.commit.Goals as goal
-
-not_these : {X Y Z : Type 0} → (X → ⊥) → (Y → ⊥) → X ⊎ (Y ⊎ Z) → Z
-not_these no_x no_y (inl x) = absurd (no_x x)
-not_these no_x no_y (inr (inl y)) = absurd (no_y y)
-not_these no_x no_y (inr (inr z)) = z
 
 pub returns-in_default-clause-answered : goal.returns-in_default-clause-answered
 returns-in_default-clause-answered g c told entry rep =

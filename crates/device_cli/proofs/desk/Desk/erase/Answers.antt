@@ -3,6 +3,7 @@ use Rattle.std.specs.Prelude.{◌⊎◌}
 use Rattle.std.proofs.lemmas.Grind.{common_steps}
 use Rattle.device_cli.specs.World.{World, world}
 use Rattle.device_cli.proofs.ServingLaws.{serves_erased, serves_erase_none, halts_erase}
+use Rattle.device_cli.proofs.Choices.{not_these}
 use Rattle.device_cli.proofs.desk.Desk.erase.Goals as goal
 
 pub returns-in-Ok-clause-answered : goal.returns-in-Ok-clause-answered
@@ -11,11 +12,6 @@ returns-in-Ok-clause-answered g c told entry rep =
     let old : World = world c.args.self.now.session (P.history c.args.platform.now) (P.head c.args.platform.now) (P.capacity c.args.platform.now) in
     let new : World = world None (P.history c.erase.new.platform) (P.head c.erase.new.platform) (P.capacity c.erase.new.platform) in
     serves_erased old new entry (c.in-Ok.ensures.device told) refl (c.in-Ok.ensures.erased told) (c.erase.ensures.time told _ rep.device) rep
-
-not_these : {X Y Z : Type 0} → (X → ⊥) → (Y → ⊥) → X ⊎ (Y ⊎ Z) → Z
-not_these no_x no_y (inl x) = absurd (no_x x)
-not_these no_x no_y (inr (inl y)) = absurd (no_y y)
-not_these no_x no_y (inr (inr z)) = z
 
 pub returns-in-Err-NoDevice-clause-answered : goal.returns-in-Err-NoDevice-clause-answered
 returns-in-Err-NoDevice-clause-answered g c told entry rep =

@@ -17,6 +17,7 @@ use Rattle.script_lang.specs.Answers.{answer}
 use Rattle.script_lang.specs.declared.devices.Session.{Session as OpenSession}
 use Rattle.device_cli.proofs.ServedLaws.{on, halts_still, gives_format_range, gives_format_unbuilt}
 use Rattle.device_cli.proofs.ServingLaws.{KeepsCell, serves_formatted, serves_format_full, serves_not_empty, serves_refused, halts_format}
+use Rattle.device_cli.proofs.Choices.{not_these, none_of}
 use Rattle.device_cli.proofs.desk.Desk.format.Goals as goal
 
 -- what the looking for a device ended with
@@ -40,16 +41,6 @@ gives_refused blocks order reply (inl e) range unbuilt full there =
 gives_refused blocks order reply (inr e) range unbuilt full there =
     let both = unbuilt e in
     subst (λ (r : Reply). (r, on None there) ≡ answer full (on None there) (Format blocks order)) (sym e) (gives_format_unbuilt full there blocks order both.0 both.1)
-
-not_these : {X Y Z : Type 0} → (X → ⊥) → (Y → ⊥) → X ⊎ (Y ⊎ Z) → Z
-not_these no_x no_y (inl x) = absurd (no_x x)
-not_these no_x no_y (inr (inl y)) = absurd (no_y y)
-not_these no_x no_y (inr (inr z)) = z
-
-none_of : {X Y Z : Type 0} → (X → ⊥) → (Y → ⊥) → (Z → ⊥) → X ⊎ (Y ⊎ Z) → ⊥
-none_of no_x no_y no_z (inl x) = no_x x
-none_of no_x no_y no_z (inr (inl y)) = no_y y
-none_of no_x no_y no_z (inr (inr z)) = no_z z
 
 pub returns-in-Ok-clause-answered : goal.returns-in-Ok-clause-answered
 returns-in-Ok-clause-answered g c told entry rep =

@@ -12,14 +12,8 @@ use Rattle.device_cli.specs.Represents.{stored}
 use Rattle.script_lang.specs.declared.commands.Command.TheVariants.{Read}
 use Rattle.device_cli.proofs.ServedLaws.{at, with_session, has_session, serves_still, halts_still, gives_unmounted_read, gives_content, gives_read_range}
 use Rattle.device_cli.proofs.ServingLaws.{serves_unmounted}
+use Rattle.device_cli.proofs.Choices.{inside, not_both}
 use Rattle.device_cli.proofs.desk.Desk.read.Goals as goal
-
--- a number that isn't past another is below it
-inside : (n m : ℕ) → (m ≤ n → ⊥) → n < m
-inside n m h = grind (arith, common_steps)
-
-not_both : {T E : Type 0} (r : Result T E) (x : T) (e : E) → r ≡ Ok x → r ≡ Err e → ⊥
-not_both r x e p q = cc
 
 pub returns-in_default-clause-answered : goal.returns-in_default-clause-answered
 returns-in_default-clause-answered g c told entry rep =
