@@ -17,7 +17,7 @@ use Rattle.script_lang.specs.declared.devices.Device.{Device}
 use Rattle.script_lang.specs.declared.devices.Session.{Session as OpenSession}
 use Rattle.script_lang.specs.declared.replies.Reply.{Reply}
 use Rattle.script_lang.specs.declared.replies.Reply.TheVariants.{Full}
-use Rattle.device_core.specs.Leaf.{IsServedCell}
+use Rattle.device_core.specs.Leaf.{IsServedImage}
 use Rattle.device_cli.specs.World.{World}
 use Rattle.device_cli.specs.Represents.{StandsFor, closed}
 use Rattle.device_cli.specs.Pages.{TurnIf, AnswersOn}
@@ -149,7 +149,7 @@ complete_at tells old new left left_now written written_now text there script fr
     }
 
 pub complete : (tells : Type 0) (old new : World) (status : ℕ) (left left_now written written_now : Option (List ℕ)) (text : List ℕ) (there : Option Device)
-    → tells → StandsFor old.history.present there → IsServedCell old.history.present.cell old.head
+    → tells → StandsFor old.history.present there → IsServedImage old.history.present
     → (script : AnswersScript tells old new status left left_now written written_now)
     → ((taken : List ℕ) × Gave left taken left_now × Took status taken left_now) → IsStatus status
     → (status ≡ 2 → ⊥) → (status ≡ 3 → ⊥) → (status ≡ 4 → ⊥) → (status ≡ 5 → ⊥) → (status ≡ 6 → ⊥) → (status ≡ 7 → ⊥)
@@ -204,7 +204,7 @@ is_exit (Err stops.Limit) = inr (inr (inr (inr (inr (inr (inr (inr (inr (inr (re
 
 -- the same of a run that ends so
 pub complete_ending : (tells : Type 0) (old new : World) (ending : Ending) (before now : Counts) (left left_now written written_now : Option (List ℕ)) (text : List ℕ) (there : Option Device)
-    → tells → StandsFor old.history.present there → IsServedCell old.history.present.cell old.head
+    → tells → StandsFor old.history.present there → IsServedImage old.history.present
     → AnswersScript tells old new (exit_of ending) left left_now written written_now
     → (taken : List ℕ) → Gave left taken left_now → TookUntil ending taken left_now → IfErr ending (HasCause before now) → NoneRose before now
     → IsAmple left text old.head old.capacity → (exit_of ending ≡ 11) ⊎ ((exit_of ending ≡ 0) × IsComplete (closed there) text written written_now)

@@ -1,3 +1,4 @@
+pub mod CellLaws
 pub mod Choices
 pub mod RunLaws
 pub mod PageLaws

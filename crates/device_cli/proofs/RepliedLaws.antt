@@ -19,7 +19,7 @@ use Rattle.script_lang.specs.Answers.{Answers, Turn, IsMark, answer}
 use Rattle.script_lang.proofs.AnswerLaws.{Answers-append, Answers-longer}
 use Rattle.script_lang.specs.declared.replies.Reply.{Reply}
 use Rattle.script_lang.specs.declared.replies.Reply.TheVariants.{Full, Bad}
-use Rattle.device_core.specs.Leaf.{IsServedCell}
+use Rattle.device_core.specs.Leaf.{IsServedImage}
 use Rattle.device_cli.specs.Run.{IsOfLine}
 use Rattle.device_cli.specs.World.{World, is_full, IsLater}
 use Rattle.device_cli.specs.Represents.{Stood, StandsFor, Leaves}
@@ -486,7 +486,7 @@ turned_bad w entry line bad rep = (
 
 -- a command's line
 pub turned_command : (old new : World) (entry : State) (line : List ℕ) (command : Command) (reply : Reply) → Spells line command
-    → IsServedCell new.history.present.cell new.head → Serves old new entry command (Ok reply) → Turned old new entry line reply
+    → IsServedImage new.history.present → Serves old new entry command (Ok reply) → Turned old new entry line reply
 turned_command old new entry line command reply spells served (now, is, rep, turns) =
     (now, inl (command, spells, is), record { there = rep; served = served }, turns)
 

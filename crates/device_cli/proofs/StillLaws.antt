@@ -5,7 +5,7 @@ use Rattle.platform.specs.History.{Steps, During}
 use Rattle.platform.proofs.Moments.{During-step}
 use Rattle.page_store.proofs.StandsLaws.{stands_during}
 use Rattle.script_lang.specs.Arrays.{State}
-use Rattle.device_core.specs.Leaf.{IsServedCell}
+use Rattle.device_core.specs.Leaf.{IsServedImage}
 use Rattle.device_core.specs.declared.session.Session.{Session}
 use Rattle.device_cli.specs.World.{World}
 use Rattle.device_cli.specs.Represents.{StandsFor, IsSessionOf, Stood, Leaves}
@@ -24,8 +24,7 @@ still_after old new entry session image steps head rep = (
       session = subst (λ (s : Option Session). IsSessionOf s new.history.present entry.device entry.session) (sym session)
           (subst (λ (i : Image). IsSessionOf old.session i entry.device entry.session) (sym image) rep.there.session);
     };
-    served = subst (λ (n : ℕ). IsServedCell new.history.present.cell n) (sym head)
-        (subst (λ (i : Image). IsServedCell i.cell old.head) (sym image) rep.served);
+    served = subst IsServedImage (sym image) rep.served;
   },
   stands_during old.history new.history _ rep.there.device
       (During-step old.history new.history (λ image. image.cell ≡ old.history.present.cell) steps refl (ap (λ (i : Image). i.cell) image)),

@@ -1,7 +1,7 @@
 -- A run from its input to its output.
 use Rattle.std.specs.Prelude.{◌≡◌, ◌≢◌, ℕ, ◌+◌, ◌<◌, ◌≤◌, ◌^◌, ◌⊎◌, List, [], ◌∷◌, ◌++◌, All, Option, Some, Ok, Err, length, flat_map}
 use Rattle.platform.specs.Runs.{Passes}
-use Rattle.device_core.specs.Leaf.{IsServedCell}
+use Rattle.device_core.specs.Leaf.{IsServedImage}
 use Rattle.sdbt_base.specs.Told.{Gave, Got, IsAtEnd}
 use Rattle.script_lang.specs.Lines.{whole_lines_of, lines_of}
 use Rattle.script_lang.specs.Replies.{line_of}
@@ -82,7 +82,7 @@ pub record AnswersScript (tells : Type 0) (old new : World) (status : ℕ) (left
   -- a reply that no page was free is true for good
   pub full : All (λ r. r ≡ Full → new.head ≡ new.capacity) replies
   -- over an image that stands for a device which can be served, from that device on without a session
-  pub answered : tells → (there : Option Device) → StandsFor old.history.present there → IsServedCell old.history.present.cell old.head
+  pub answered : tells → (there : Option Device) → StandsFor old.history.present there → IsServedImage old.history.present
       → AnswersFrom old new status (closed there) lines replies part
 
 -- a run over the whole input: one reply for each line, none of them that no page was free

@@ -6,7 +6,7 @@ use Rattle.page_store.specs.Device.{Device as StoredDevice}
 use Rattle.page_store.specs.Stands.{Stands}
 use Rattle.device_core.specs.Open.{is_touched}
 use Rattle.device_core.specs.Holds.{Holds}
-use Rattle.device_core.specs.Leaf.{IsServedCell}
+use Rattle.device_core.specs.Leaf.{IsServedImage}
 use Rattle.script_lang.specs.Arrays.{State}
 use Rattle.script_lang.specs.declared.devices.Device.{Device}
 use Rattle.script_lang.specs.declared.devices.Session.{Session as OpenSession}
@@ -41,7 +41,7 @@ pub record Represents (w : World) (state : State) : Type 0 where
 -- the same, and the cell can be served
 pub record Stood (w : World) (state : State) : Type 0 where
   pub there : Represents w state
-  pub served : IsServedCell w.history.present.cell w.head
+  pub served : IsServedImage w.history.present
 
 -- the state of a device on which no session is open
 abbrev pub closed : Option Device → State

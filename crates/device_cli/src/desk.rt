@@ -4,7 +4,7 @@ ghost use Rattle.arrayvec.specs.ArrayVec.{ArrayVec as Bytes};
 ghost use Rattle.sdbt_base.specs.Faults.{Rose};
 ghost use Rattle.script_lang.specs.Replies.{CanWrite};
 ghost use Rattle.script_lang.specs.Arrays.{State, in_limits};
-ghost use Rattle.device_core.specs.Leaf.{IsServedCell};
+ghost use Rattle.device_core.specs.Leaf.{IsServedImage};
 ghost use Rattle.device_cli.specs.Run.{counts, NoneFell, HasCause};
 ghost use Rattle.platform.specs.History.{During};
 ghost use Rattle.device_cli.specs.Replied.{IsOfBlock, IsWrongPage, Serves};
@@ -53,10 +53,10 @@ impl Desk {
         command: &Command,
     ) -> Result<Reply, DeviceStop>
         requires ready { IsReady self.old (P.head platform.old) }
-        requires cell { P.tells → IsServedCell (P.history platform.old).present.cell (P.head platform.old) }
+        requires cell { P.tells → IsServedImage (P.history platform.old).present }
         requires mounted { P.tells → IfSome self.old.session (IsMounted (P.history platform.old).present) }
         ensures ready { OnOk result (IsReady self.new (P.head platform.new)) }
-        ensures cell { P.tells → IsServedCell (P.history platform.new).present.cell (P.head platform.new) }
+        ensures cell { P.tells → During (P.history platform.old) (P.history platform.new) IsServedImage }
         ensures mounted { P.tells → OnOk result (IfSome self.new.session (IsMounted (P.history platform.new).present)) }
         ensures reply { IfOk result CanWrite }
         ensures bad_root { P.tells → IsErrOf result DeviceStop.BadRoot → ⊥ }
@@ -101,10 +101,10 @@ impl Desk {
         order: u64,
     ) -> Result<Reply, DeviceStop>
         requires ready { IsReady self.old (P.head platform.old) }
-        requires cell { P.tells → IsServedCell (P.history platform.old).present.cell (P.head platform.old) }
+        requires cell { P.tells → IsServedImage (P.history platform.old).present }
         requires mounted { P.tells → IfSome self.old.session (IsMounted (P.history platform.old).present) }
         ensures ready { OnOk result (IsReady self.new (P.head platform.new)) }
-        ensures cell { P.tells → IsServedCell (P.history platform.new).present.cell (P.head platform.new) }
+        ensures cell { P.tells → During (P.history platform.old) (P.history platform.new) IsServedImage }
         ensures mounted { P.tells → OnOk result (IfSome self.new.session (IsMounted (P.history platform.new).present)) }
         ensures reply { IfOk result CanWrite }
         ensures bad_root { P.tells → IsErrOf result DeviceStop.BadRoot → ⊥ }
@@ -138,10 +138,10 @@ impl Desk {
 
     fn mount<P: Platform>(&mut self, platform: &mut P) -> Result<Reply, DeviceStop>
         requires ready { IsReady self.old (P.head platform.old) }
-        requires cell { P.tells → IsServedCell (P.history platform.old).present.cell (P.head platform.old) }
+        requires cell { P.tells → IsServedImage (P.history platform.old).present }
         requires mounted { P.tells → IfSome self.old.session (IsMounted (P.history platform.old).present) }
         ensures ready { OnOk result (IsReady self.new (P.head platform.new)) }
-        ensures cell { P.tells → IsServedCell (P.history platform.new).present.cell (P.head platform.new) }
+        ensures cell { P.tells → During (P.history platform.old) (P.history platform.new) IsServedImage }
         ensures mounted { P.tells → OnOk result (IfSome self.new.session (IsMounted (P.history platform.new).present)) }
         ensures reply { IfOk result CanWrite }
         ensures bad_root { P.tells → IsErrOf result DeviceStop.BadRoot → ⊥ }
@@ -176,10 +176,10 @@ impl Desk {
 
     fn read<P: Platform>(&mut self, platform: &mut P, block: u64) -> Result<Reply, DeviceStop>
         requires ready { IsReady self.old (P.head platform.old) }
-        requires cell { P.tells → IsServedCell (P.history platform.old).present.cell (P.head platform.old) }
+        requires cell { P.tells → IsServedImage (P.history platform.old).present }
         requires mounted { P.tells → IfSome self.old.session (IsMounted (P.history platform.old).present) }
         ensures ready { OnOk result (IsReady self.new (P.head platform.new)) }
-        ensures cell { P.tells → IsServedCell (P.history platform.new).present.cell (P.head platform.new) }
+        ensures cell { P.tells → During (P.history platform.old) (P.history platform.new) IsServedImage }
         ensures mounted { P.tells → OnOk result (IfSome self.new.session (IsMounted (P.history platform.new).present)) }
         ensures reply { IfOk result CanWrite }
         ensures bad_root { P.tells → IsErrOf result DeviceStop.BadRoot → ⊥ }
@@ -217,10 +217,10 @@ impl Desk {
     ) -> Result<Reply, DeviceStop>
         requires size { length content.now ≤ 4096 }
         requires ready { IsReady self.old (P.head platform.old) }
-        requires cell { P.tells → IsServedCell (P.history platform.old).present.cell (P.head platform.old) }
+        requires cell { P.tells → IsServedImage (P.history platform.old).present }
         requires mounted { P.tells → IfSome self.old.session (IsMounted (P.history platform.old).present) }
         ensures ready { OnOk result (IsReady self.new (P.head platform.new)) }
-        ensures cell { P.tells → IsServedCell (P.history platform.new).present.cell (P.head platform.new) }
+        ensures cell { P.tells → During (P.history platform.old) (P.history platform.new) IsServedImage }
         ensures mounted { P.tells → OnOk result (IfSome self.new.session (IsMounted (P.history platform.new).present)) }
         ensures reply { IfOk result CanWrite }
         ensures bad_root { P.tells → IsErrOf result DeviceStop.BadRoot → ⊥ }
@@ -254,10 +254,10 @@ impl Desk {
 
     fn trim<P: Platform>(&mut self, platform: &mut P, block: u64) -> Result<Reply, DeviceStop>
         requires ready { IsReady self.old (P.head platform.old) }
-        requires cell { P.tells → IsServedCell (P.history platform.old).present.cell (P.head platform.old) }
+        requires cell { P.tells → IsServedImage (P.history platform.old).present }
         requires mounted { P.tells → IfSome self.old.session (IsMounted (P.history platform.old).present) }
         ensures ready { OnOk result (IsReady self.new (P.head platform.new)) }
-        ensures cell { P.tells → IsServedCell (P.history platform.new).present.cell (P.head platform.new) }
+        ensures cell { P.tells → During (P.history platform.old) (P.history platform.new) IsServedImage }
         ensures mounted { P.tells → OnOk result (IfSome self.new.session (IsMounted (P.history platform.new).present)) }
         ensures reply { IfOk result CanWrite }
         ensures bad_root { P.tells → IsErrOf result DeviceStop.BadRoot → ⊥ }
@@ -293,10 +293,10 @@ impl Desk {
         ledger: &mut L,
     ) -> Result<Reply, DeviceStop>
         requires ready { IsReady self.old (P.head platform.old) }
-        requires cell { P.tells → IsServedCell (P.history platform.old).present.cell (P.head platform.old) }
+        requires cell { P.tells → IsServedImage (P.history platform.old).present }
         requires mounted { P.tells → IfSome self.old.session (IsMounted (P.history platform.old).present) }
         ensures ready { OnOk result (IsReady self.new (P.head platform.new)) }
-        ensures cell { P.tells → IsServedCell (P.history platform.new).present.cell (P.head platform.new) }
+        ensures cell { P.tells → During (P.history platform.old) (P.history platform.new) IsServedImage }
         ensures mounted { P.tells → OnOk result (IfSome self.new.session (IsMounted (P.history platform.new).present)) }
         ensures reply { IfOk result CanWrite }
         ensures bad_root { P.tells → IsErrOf result DeviceStop.BadRoot → ⊥ }
@@ -350,10 +350,10 @@ impl Desk {
 
     fn erase<P: Platform>(&mut self, platform: &mut P) -> Result<Reply, DeviceStop>
         requires ready { IsReady self.old (P.head platform.old) }
-        requires cell { P.tells → IsServedCell (P.history platform.old).present.cell (P.head platform.old) }
+        requires cell { P.tells → IsServedImage (P.history platform.old).present }
         requires mounted { P.tells → IfSome self.old.session (IsMounted (P.history platform.old).present) }
         ensures ready { OnOk result (IsReady self.new (P.head platform.new)) }
-        ensures cell { P.tells → IsServedCell (P.history platform.new).present.cell (P.head platform.new) }
+        ensures cell { P.tells → During (P.history platform.old) (P.history platform.new) IsServedImage }
         ensures mounted { P.tells → OnOk result (IfSome self.new.session (IsMounted (P.history platform.new).present)) }
         ensures reply { IfOk result CanWrite }
         ensures bad_root { P.tells → IsErrOf result DeviceStop.BadRoot → ⊥ }

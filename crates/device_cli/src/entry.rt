@@ -4,7 +4,7 @@ ghost use Rattle.sdbt_base.specs.Faults.{Rose};
 ghost use Rattle.platform.specs.History.{Steps};
 ghost use Rattle.root_codec.specs.declared.root.Root.{Root};
 ghost use Rattle.root_codec.specs.RootRecord.{root_bytes};
-ghost use Rattle.device_core.specs.Leaf.{IsServed, IsServedCell};
+ghost use Rattle.device_core.specs.Leaf.{IsServed, IsServedImage};
 
 use crate::stop::DeviceStop;
 use platform::Platform;
@@ -16,8 +16,8 @@ pub(crate) const MOST_BLOCKS: u64 = 64;
 
 /// Whether the root cell is empty, or holds a root record that can be served.
 pub(crate) fn check_cell<P: Platform>(platform: &mut P) -> Result<(), DeviceStop>
-    ensures served { P.tells → OnOk result (IsServedCell (P.history platform.old).present.cell (P.head platform.old)) }
-    ensures bad_root { P.tells → IsErrOf result DeviceStop.BadRoot → IsServedCell (P.history platform.old).present.cell (P.head platform.old) → ⊥ }
+    ensures served { P.tells → OnOk result (IsServedImage (P.history platform.old).present) }
+    ensures bad_root { P.tells → IsErrOf result DeviceStop.BadRoot → IsServedImage (P.history platform.old).present → ⊥ }
     ensures stops { IfErr result (λ stop. (stop ≡ DeviceStop.BadRoot) ⊎ ((stop ≡ DeviceStop.Platform) × Rose (P.faults platform.old) (P.faults platform.new))) }
     ensures image { P.tells → (P.history platform.new).present ≡ (P.history platform.old).present }
     ensures time { P.tells → Steps (P.history platform.old) (P.history platform.new) }

@@ -7,7 +7,8 @@ ghost use Rattle.std.specs.Prelude.{◌≡◌, ◌≤◌, ℕ, List, Option, Non
 ghost use Rattle.sdbt_base.specs.Faults.{Rose};
 ghost use Rattle.sdbt_base.specs.Told.{Gave};
 ghost use Rattle.device_cli.specs.Words.{AreRunWords};
-ghost use Rattle.device_core.specs.Leaf.{IsServedCell};
+ghost use Rattle.platform.specs.History.{During};
+ghost use Rattle.device_core.specs.Leaf.{IsServedImage};
 ghost use Rattle.script_lang.specs.declared.devices.Device.{Device};
 ghost use Rattle.device_cli.specs.World.{world};
 ghost use Rattle.device_cli.specs.Represents.{StandsFor, closed};
@@ -57,8 +58,8 @@ pub fn run_main<P: Platform, T: Tape, I: Source, O: Sink, L: Sink>(
         (counts (P.faults platform.new) (T.faults tape.new) (I.faults input.new) (O.faults output.new) (L.faults ledger.new)) }
 
     // 8 exactly where the cell at the start is full and can't be served, unless that could not be told or not be said.
-    ensures bad_root_only { P.tells → result ≡ 8 → IsServedCell (P.history platform.old).present.cell (P.head platform.old) → ⊥ }
-    ensures bad_root { P.tells → (IsServedCell (P.history platform.old).present.cell (P.head platform.old) → ⊥) → AreRunWords (map string_bytes words.now)
+    ensures bad_root_only { P.tells → result ≡ 8 → IsServedImage (P.history platform.old).present → ⊥ }
+    ensures bad_root { P.tells → (IsServedImage (P.history platform.old).present → ⊥) → AreRunWords (map string_bytes words.now)
         → (result ≡ 8) ⊎ (result ≡ 4) ⊎ (result ≡ 5) }
 
     // The bytes put are the lines of replies, one for each line in turn, and perhaps a part behind them; on a device that
@@ -69,14 +70,14 @@ pub fn run_main<P: Platform, T: Tape, I: Source, O: Sink, L: Sink>(
 
     // With room for a page a line, a short input and no fault, each line has its reply, unless no memory is given.
     ensures complete { P.tells → (there : Option Device) → StandsFor (P.history platform.old).present there
-        → IsServedCell (P.history platform.old).present.cell (P.head platform.old) → AreRunWords (map string_bytes words.now)
+        → IsServedImage (P.history platform.old).present → AreRunWords (map string_bytes words.now)
         → (text : List ℕ) → IsAmple (I.left input.old) text (P.head platform.old) (P.capacity platform.old)
         → NoneRose (counts (P.faults platform.old) (T.faults tape.old) (I.faults input.old) (O.faults output.old) (L.faults ledger.old))
         (counts (P.faults platform.new) (T.faults tape.new) (I.faults input.new) (O.faults output.new) (L.faults ledger.new))
         → (result ≡ 11) ⊎ ((result ≡ 0) × IsComplete (closed there) text (O.written output.old) (O.written output.new)) }
 
-    // A cell that can be served stays one, and pages are only added.
-    ensures served { P.tells → IsServedCell (P.history platform.old).present.cell (P.head platform.old) → IsServedCell (P.history platform.new).present.cell (P.head platform.new) }
+    // A cell that can be served is one at each moment, and pages are only added.
+    ensures served { P.tells → IsServedImage (P.history platform.old).present → During (P.history platform.old) (P.history platform.new) IsServedImage }
     ensures head { P.head platform.old ≤ P.head platform.new }
     ensures capacity { P.capacity platform.new ≡ P.capacity platform.old }
 

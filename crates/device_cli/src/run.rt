@@ -6,7 +6,8 @@ ghost use Rattle.sdbt_base.specs.Told.{Got, GotPart};
 ghost use Rattle.script_lang.specs.Grammar.{Spells, IsBad, HasNone};
 ghost use Rattle.script_lang.specs.Lines.{whole_lines_of, rest_of, last_line as line_at_end};
 ghost use Rattle.script_lang.specs.Replies.{CanWrite, line_of};
-ghost use Rattle.device_core.specs.Leaf.{IsServedCell};
+ghost use Rattle.platform.specs.History.{During};
+ghost use Rattle.device_core.specs.Leaf.{IsServedImage};
 ghost use Rattle.device_core.specs.declared.session.Session.{Session};
 ghost use Rattle.device_cli.specs.Desk.{IsReady, IsMounted};
 ghost use Rattle.device_cli.specs.World.{world};
@@ -37,13 +38,13 @@ pub(crate) fn run<P: Platform, T: Tape, I: Source, O: Sink, L: Sink>(
     output: &mut O,
     ledger: &mut L,
 ) -> Result<(), Stop>
-    ensures refused_only { P.tells → IfErr result (λ stop. status_of stop ≡ 8 → IsServedCell (P.history platform.old).present.cell (P.head platform.old) → ⊥) }
-    ensures refused { P.tells → (IsServedCell (P.history platform.old).present.cell (P.head platform.old) → ⊥) → IfErr result (λ stop. IsRefusal stop) × (IsOk result → ⊥) }
+    ensures refused_only { P.tells → IfErr result (λ stop. status_of stop ≡ 8 → IsServedImage (P.history platform.old).present → ⊥) }
+    ensures refused { P.tells → (IsServedImage (P.history platform.old).present → ⊥) → IfErr result (λ stop. IsRefusal stop) × (IsOk result → ⊥) }
     ensures counts { NoneFell (counts (P.faults platform.old) (T.faults tape.old) (I.faults input.old) (O.faults output.old) (L.faults ledger.old))
         (counts (P.faults platform.new) (T.faults tape.new) (I.faults input.new) (O.faults output.new) (L.faults ledger.new)) }
     ensures cause { IfErr result (HasCause (counts (P.faults platform.old) (T.faults tape.old) (I.faults input.old) (O.faults output.old) (L.faults ledger.old))
         (counts (P.faults platform.new) (T.faults tape.new) (I.faults input.new) (O.faults output.new) (L.faults ledger.new))) }
-    ensures cell { P.tells → IsServedCell (P.history platform.old).present.cell (P.head platform.old) → IsServedCell (P.history platform.new).present.cell (P.head platform.new) }
+    ensures cell { P.tells → IsServedImage (P.history platform.old).present → During (P.history platform.old) (P.history platform.new) IsServedImage }
     ensures unput { L.written ledger.new ≡ L.written ledger.old }
     ensures ran { (session : Option Session) × Ran P.tells (world None (P.history platform.old) (P.head platform.old) (P.capacity platform.old))
         (world session (P.history platform.new) (P.head platform.new) (P.capacity platform.new))
@@ -73,14 +74,14 @@ fn serve_input<P: Platform, T: Tape, I: Source, O: Sink, L: Sink>(
     ledger: &mut L,
 ) -> Result<(), Stop>
     requires ready { IsReady desk.old (P.head platform.old) }
-    requires cell { P.tells → IsServedCell (P.history platform.old).present.cell (P.head platform.old) }
+    requires cell { P.tells → IsServedImage (P.history platform.old).present }
     requires mounted { P.tells → IfSome desk.old.session (IsMounted (P.history platform.old).present) }
     ensures bad_root { P.tells → IsErrOf result (Stop.Device DeviceStop.BadRoot) → ⊥ }
     ensures counts { NoneFell (counts (P.faults platform.old) (T.faults tape.old) (I.faults input.old) (O.faults output.old) (L.faults ledger.old))
         (counts (P.faults platform.new) (T.faults tape.new) (I.faults input.new) (O.faults output.new) (L.faults ledger.new)) }
     ensures cause { IfErr result (HasCause (counts (P.faults platform.old) (T.faults tape.old) (I.faults input.old) (O.faults output.old) (L.faults ledger.old))
         (counts (P.faults platform.new) (T.faults tape.new) (I.faults input.new) (O.faults output.new) (L.faults ledger.new))) }
-    ensures cell { P.tells → IsServedCell (P.history platform.new).present.cell (P.head platform.new) }
+    ensures cell { P.tells → During (P.history platform.old) (P.history platform.new) IsServedImage }
     ensures unput { L.written ledger.new ≡ L.written ledger.old }
     ensures ran { Ran P.tells (world desk.old.session (P.history platform.old) (P.head platform.old) (P.capacity platform.old))
         (world desk.new.session (P.history platform.new) (P.head platform.new) (P.capacity platform.new))
@@ -125,10 +126,10 @@ fn serve_piece<P: Platform, T: Tape, O: Sink, L: Sink>(
     piece: &[u8],
 ) -> Result<(), Stop>
     requires ready { IsReady desk.old (P.head platform.old) }
-    requires cell { P.tells → IsServedCell (P.history platform.old).present.cell (P.head platform.old) }
+    requires cell { P.tells → IsServedImage (P.history platform.old).present }
     requires mounted { P.tells → IfSome desk.old.session (IsMounted (P.history platform.old).present) }
     ensures ready { OnOk result (IsReady desk.new (P.head platform.new)) }
-    ensures cell { P.tells → IsServedCell (P.history platform.new).present.cell (P.head platform.new) }
+    ensures cell { P.tells → During (P.history platform.old) (P.history platform.new) IsServedImage }
     ensures mounted { P.tells → OnOk result (IfSome desk.new.session (IsMounted (P.history platform.new).present)) }
     ensures unput { L.written ledger.new ≡ L.written ledger.old }
     ensures bad_root { P.tells → IsErrOf result (Stop.Device DeviceStop.BadRoot) → ⊥ }
@@ -175,10 +176,10 @@ fn serve_end<P: Platform, T: Tape, O: Sink, L: Sink>(
     ledger: &mut L,
 ) -> Result<(), Stop>
     requires ready { IsReady desk.old (P.head platform.old) }
-    requires cell { P.tells → IsServedCell (P.history platform.old).present.cell (P.head platform.old) }
+    requires cell { P.tells → IsServedImage (P.history platform.old).present }
     requires mounted { P.tells → IfSome desk.old.session (IsMounted (P.history platform.old).present) }
     ensures ready { OnOk result (IsReady desk.new (P.head platform.new)) }
-    ensures cell { P.tells → IsServedCell (P.history platform.new).present.cell (P.head platform.new) }
+    ensures cell { P.tells → During (P.history platform.old) (P.history platform.new) IsServedImage }
     ensures mounted { P.tells → OnOk result (IfSome desk.new.session (IsMounted (P.history platform.new).present)) }
     ensures unput { L.written ledger.new ≡ L.written ledger.old }
     ensures bad_root { P.tells → IsErrOf result (Stop.Device DeviceStop.BadRoot) → ⊥ }
@@ -207,10 +208,10 @@ fn answer<P: Platform, T: Tape, O: Sink, L: Sink>(
     ledger: &mut L,
 ) -> Result<(), Stop>
     requires ready { IsReady desk.old (P.head platform.old) }
-    requires cell { P.tells → IsServedCell (P.history platform.old).present.cell (P.head platform.old) }
+    requires cell { P.tells → IsServedImage (P.history platform.old).present }
     requires mounted { P.tells → IfSome desk.old.session (IsMounted (P.history platform.old).present) }
     ensures ready { OnOk result (IsReady desk.new (P.head platform.new)) }
-    ensures cell { P.tells → IsServedCell (P.history platform.new).present.cell (P.head platform.new) }
+    ensures cell { P.tells → During (P.history platform.old) (P.history platform.new) IsServedImage }
     ensures mounted { P.tells → OnOk result (IfSome desk.new.session (IsMounted (P.history platform.new).present)) }
     ensures unput { L.written ledger.new ≡ L.written ledger.old }
     ensures bad_root { P.tells → IsErrOf result (Stop.Device DeviceStop.BadRoot) → ⊥ }

@@ -1,11 +1,11 @@
--- That a cell which is served stays so, whatever a call makes of it.
-use Rattle.std.proofs.Common.{◌≡◌, ◌⊎◌, inl, inr, ℕ, ◌≤◌, List, Option, Some, None, refl, sym, subst, arith}
-use Rattle.platform.specs.Image.{Image, IsEither, with_cell, all_synced}
-use Rattle.platform.specs.History.{History, Turns}
-use Rattle.platform.proofs.Moments.{During-now, During-turns}
+-- That a cell which can be served is one at each moment, whatever a call makes of it.
+use Rattle.std.proofs.Common.{◌≡◌, ◌⊎◌, inl, inr, ℕ, ◌≤◌, List, Option, Some, None, length, refl, sym, ◌∙◌, subst, arith}
+use Rattle.platform.specs.Image.{Image, IsEither, IsEarlier, with_cell, all_synced}
+use Rattle.platform.specs.History.{History, Steps, Extends, During, Turns, image_at, moment}
+use Rattle.platform.proofs.Moments.{During-call, During-now, During-turns, image_at-now}
 use Rattle.root_codec.specs.declared.root.Root.{Root}
 use Rattle.root_codec.specs.RootRecord.{root_bytes}
-use Rattle.device_core.specs.Leaf.{IsServed, IsServedCell}
+use Rattle.device_core.specs.Leaf.{IsServed, IsServedCell, IsServedImage}
 use Rattle.device_core.proofs.MomentLaws.{HasCell}
 
 served_more : (cell : Option (List ℕ)) (pages more : ℕ) → pages ≤ more → IsServedCell cell pages → IsServedCell cell more
@@ -14,21 +14,44 @@ served_more (Some bytes) pages more later (root, served, is) =
     (root, record { fits = served.fits; key = served.key; leaf = served.leaf; within = omega (arith, served.within) }, is)
 
 -- the same cell, with as many pages or more
-pub served_same : (cell now : Option (List ℕ)) (pages more : ℕ) → now ≡ cell → pages ≤ more → IsServedCell cell pages → IsServedCell now more
-served_same cell now pages more same later served = subst (λ (held : Option (List ℕ)). IsServedCell held more) (sym same) (served_more cell pages more later served)
+served_later : (image later : Image) → later.cell ≡ image.cell → length image.recorded ≤ length later.recorded → IsServedImage image → IsServedImage later
+served_later image later same more served =
+    subst (λ (held : Option (List ℕ)). IsServedCell held (length later.recorded)) (sym same) (served_more image.cell (length image.recorded) (length later.recorded) more served)
 
--- the same cell or an empty one
-pub served_cleared : (mid new : Image) (pages more : ℕ) → IsEither mid (with_cell mid None) new → pages ≤ more → IsServedCell mid.cell pages → IsServedCell new.cell more
-served_cleared mid new pages more (inl same) later served = subst (λ (i : Image). IsServedCell i.cell more) (sym same) (served_more mid.cell pages more later served)
-served_cleared mid new pages more (inr empty) later served = subst (λ (i : Image). IsServedCell i.cell more) (sym empty) tt
+-- the image before is earlier than that of each moment since
+earlier_than : (old new : History) → Extends old new → (i : ℕ) → moment old ≤ i → IsEarlier old.present (image_at new i)
+earlier_than old new extends i from =
+    let was : image_at new (moment old) ≡ old.present = extends.same (moment old) (omega arith) ∙ image_at-now old (moment old) (omega arith) in
+    subst (λ image. IsEarlier image (image_at new i)) was (new.ascends (moment old) i from)
 
--- the same cell, or the root record that may take its place
-pub served_published : (mid new : History) (root : Root) (pages more : ℕ) → Turns mid new (λ image. image.cell ≡ mid.present.cell) (λ image. image ≡ with_cell (all_synced mid.present) (Some (root_bytes root))) → IsServed root more → pages ≤ more → IsServedCell mid.present.cell pages → IsServedCell new.present.cell more
-served_published mid new root pages more turns next later served =
-    let Q : Image → Type 0 = λ image. image ≡ with_cell (all_synced mid.present) (Some (root_bytes root)) in
-    let now : HasCell mid.present.cell new.present ⊎ Q new.present =
-    During-now mid new (λ image. HasCell mid.present.cell image ⊎ Q image) (During-turns mid new (HasCell mid.present.cell) Q turns) in
-    elim now [
-      | inl same ↦ served_same mid.present.cell new.present.cell pages more same later served
-      | inr is ↦ subst (λ (i : Image). IsServedCell i.cell more) (sym is) (root, next, refl)
-    ]
+-- as long as the cell stays, it can be served
+pub serves_still : (old new : History) → During old new (λ image. image.cell ≡ old.present.cell) → IsServedImage old.present → During old new IsServedImage
+serves_still old new during served = record {
+  extends = during.extends;
+  each = λ i from to. served_later old.present (image_at new i) (during.each i from to) (earlier_than old new during.extends i from).pages served;
+}
+
+-- the cell stays, until the image is one whose cell can be served
+pub serves_turned : (old new : History) (X : Image) → Turns old new (λ image. image.cell ≡ old.present.cell) (λ image. image ≡ X) → IsServedImage old.present → IsServedImage X → During old new IsServedImage
+serves_turned old new X turns served next =
+    let either = During-turns old new (HasCell old.present.cell) (λ image. image ≡ X) turns in
+    record {
+      extends = turns.extends;
+      each = λ i from to. elim (either.each i from to) [
+        | inl same ↦ served_later old.present (image_at new i) same (earlier_than old new turns.extends i from).pages served
+        | inr is ↦ subst IsServedImage (sym is) next
+      ];
+    }
+
+-- the cell stays, and may then be emptied
+pub serves_cleared : (old mid new : History) → During old mid (λ image. image.cell ≡ old.present.cell) → Steps mid new → IsEither mid.present (with_cell mid.present None) new.present → IsServedImage old.present → During old new IsServedImage
+serves_cleared old mid new during steps either served =
+    let still = serves_still old mid during served in
+    During-call old mid new IsServedImage still steps (elim either as (λ e. IsServedImage new.present) [
+      | inl same ↦ subst IsServedImage (sym same) (During-now old mid IsServedImage still)
+      | inr empty ↦ subst IsServedImage (sym empty) tt
+    ])
+
+-- the image that a root record makes which can be served over so many pages
+pub served_published : (mid : Image) (root : Root) (pages : ℕ) → length mid.recorded ≡ pages → IsServed root pages → IsServedImage (with_cell (all_synced mid) (Some (root_bytes root)))
+served_published mid root pages are served = (root, subst (λ (n : ℕ). IsServed root n) (sym are) served, refl)

@@ -2,6 +2,7 @@
 use Rattle.std.specs.Prelude.{◌≡◌, ◌≢◌, ℕ, suc, ◌<◌, ◌≤◌, List, Option, None, Some, Result, Ok, Err, All, map, take, drop, length, insert, slice_set, slice_index_or}
 use Rattle.std.specs.List.Sorted.{IsStrictlyIncreasing}
 use Rattle.sdbt_base.specs.Bytes.{IsBytes}
+use Rattle.platform.specs.Image.{Image}
 use Rattle.node_codec.specs.declared.body.Entry.{Entry}
 use Rattle.root_codec.specs.declared.root.Root.{Root}
 use Rattle.root_codec.specs.RootRecord.{FitsRoot, root_bytes}
@@ -23,6 +24,10 @@ pub record IsServed (root : Root) (pages : ℕ) : Type 0 where
 abbrev pub IsServedCell : Option (List ℕ) → ℕ → Type 0
 IsServedCell None pages = Unit {0}
 IsServedCell (Some bytes) pages = (root : Root) × IsServed root pages × (bytes ≡ root_bytes root)
+
+-- an image whose cell can be served over its pages
+abbrev pub IsServedImage : Image → Type 0
+IsServedImage image = IsServedCell image.cell (length image.recorded)
 
 -- the cell is full, and not with a record that can be served
 pub record IsRefusedCell (cell : Option (List ℕ)) (pages : ℕ) : Type 0 where

@@ -6,7 +6,7 @@ ghost use Rattle.root_codec.specs.RootRecord.{root_bytes};
 ghost use Rattle.page_store.specs.Buffer.{IsBlank};
 ghost use Rattle.page_store.specs.Device.{Device};
 ghost use Rattle.page_store.specs.Stands.{Stands};
-ghost use Rattle.device_core.specs.Leaf.{IsServedCell};
+ghost use Rattle.device_core.specs.Leaf.{IsServedImage};
 ghost use Rattle.device_core.specs.Blocks.{Blocks};
 ghost use Rattle.device_core.specs.Replies.{device_after, committed_device};
 
@@ -49,8 +49,6 @@ impl Session {
         ensures follows { P.tells → Follows self (P.history platform.old).present → IfOk result (λ answer. Follows answer.0 (P.history platform.new).present) }
         ensures open { IfOk result (λ answer. IsOpen answer.0 (P.head platform.new)) }
         ensures same { IfOk result (λ answer. (blocks_of answer.0 ≡ blocks_of self) × (mapped_of answer.0 ≡ mapped_of self)) }
-        ensures served { P.tells → IsServedCell (P.history platform.old).present.cell (P.head platform.old)
-            → IfOk result (λ answer. IsServedCell (P.history platform.new).present.cell (P.head platform.new)) }
         // At each moment a loss of power leaves the device, until one from which on it leaves the one with the session's array.
         ensures time { P.tells → (device : Device) (contents : Blocks) → Holds self (P.history platform.old).present device contents
             → Turns (P.history platform.old) (P.history platform.new)
@@ -60,8 +58,8 @@ impl Session {
         // The cell is as it was at each moment, if not for a commit or a fault of the platform.
         ensures still { P.tells → IsOk result ⊎ (IsErrOf result CommitFault.PlatformFault
             ⊎ During (P.history platform.old) (P.history platform.new) (λ image. image.cell ≡ (P.history platform.old).present.cell)) }
-        ensures stays_served { P.tells → IsServedCell (P.history platform.old).present.cell (P.head platform.old)
-            → IsServedCell (P.history platform.new).present.cell (P.head platform.new) }
+        // A cell that can be served is one at each moment.
+        ensures serves { P.tells → IsServedImage (P.history platform.old).present → During (P.history platform.old) (P.history platform.new) IsServedImage }
         ensures root_cell { P.tells → (P.history platform.old).present.cell ≡ Some (root_bytes (root_of self))
             → IfOk result (λ answer. (P.history platform.new).present.cell ≡ Some (root_bytes (root_of answer.0))) }
         ensures raised_cell { P.tells → is_touched self ≡ true → P.head platform.old ≢ P.capacity platform.old
@@ -114,7 +112,6 @@ impl Session {
         ensures follows { P.tells → IfOk result (λ answer. Follows answer.0 (P.history platform.new).present) }
         ensures open { IfOk result (λ answer. IsOpen answer.0 (P.head platform.new)) }
         ensures same { IfOk result (λ answer. (blocks_of answer.0 ≡ blocks_of self) × (mapped_of answer.0 ≡ mapped_of self)) }
-        ensures served { P.tells → IfOk result (λ answer. IsServedCell (P.history platform.new).present.cell (P.head platform.new)) }
         ensures time { P.tells → (device : Device) (contents : Blocks) → Holds self (P.history platform.old).present device contents
             → Turns (P.history platform.old) (P.history platform.new)
             (LeavesOnly (λ left. Stands left (Some device)))
@@ -122,8 +119,8 @@ impl Session {
 
         ensures still { P.tells → IsOk result ⊎ (IsErrOf result CommitFault.PlatformFault
             ⊎ During (P.history platform.old) (P.history platform.new) (λ image. image.cell ≡ (P.history platform.old).present.cell)) }
-        ensures stays_served { P.tells → IsServedCell (P.history platform.old).present.cell (P.head platform.old)
-            → IsServedCell (P.history platform.new).present.cell (P.head platform.new) }
+        // A cell that can be served is one at each moment.
+        ensures serves { P.tells → IsServedImage (P.history platform.old).present → During (P.history platform.old) (P.history platform.new) IsServedImage }
         ensures cell { P.tells → IfOk result (λ answer. (P.history platform.new).present.cell ≡ Some (root_bytes (root_of answer.0))) }
         ensures wiped { IfOk result (λ answer. IsBlank (buffers_of answer.0)) }
         ensures undrawn { P.tells → IsErrOf result CommitFault.TapeFault → (P.history platform.new).present ≡ (P.history platform.old).present }

@@ -4,7 +4,7 @@ ghost use Rattle.platform.specs.Image.{LeavesOnly};
 ghost use Rattle.platform.specs.History.{During, Turns};
 ghost use Rattle.page_store.specs.Device.{Device};
 ghost use Rattle.page_store.specs.Stands.{Stands};
-ghost use Rattle.device_core.specs.Leaf.{IsServedCell};
+ghost use Rattle.device_core.specs.Leaf.{IsServedImage};
 
 use crate::refusals::EraseRefusal;
 use platform::Platform;
@@ -24,8 +24,8 @@ pub fn erase<P: Platform>(platform: &mut P) -> Result<(), EraseRefusal>
 
     ensures still { P.tells → IsOk result ⊎ (IsErrOf result EraseRefusal.PlatformFault
         ⊎ During (P.history platform.old) (P.history platform.new) (λ image. image.cell ≡ (P.history platform.old).present.cell)) }
-    ensures stays_served { P.tells → IsServedCell (P.history platform.old).present.cell (P.head platform.old)
-        → IsServedCell (P.history platform.new).present.cell (P.head platform.new) }
+    // A cell that can be served is one at each moment.
+    ensures serves { P.tells → IsServedImage (P.history platform.old).present → During (P.history platform.old) (P.history platform.new) IsServedImage }
 
     ensures head { P.head platform.new ≡ P.head platform.old }
     ensures capacity { P.capacity platform.new ≡ P.capacity platform.old }

@@ -4,7 +4,7 @@ ghost use Rattle.platform.specs.Image.{LeavesOnly};
 ghost use Rattle.platform.specs.History.{During, Turns};
 ghost use Rattle.page_store.specs.Device.{Device};
 ghost use Rattle.page_store.specs.Stands.{Stands};
-ghost use Rattle.device_core.specs.Leaf.{IsServedCell};
+ghost use Rattle.device_core.specs.Leaf.{IsServedImage};
 ghost use Rattle.device_core.specs.Blocks.{new_device};
 
 use crate::publishing::publish;
@@ -33,7 +33,7 @@ pub fn format<P: Platform, T: Tape, L: Sink>(
     requires order { order ≡ 64 }
 
     ensures made { P.tells → OnOk result (Stands (P.history platform.new).present (Some (new_device blocks order))) }
-    ensures served { P.tells → OnOk result (IsServedCell (P.history platform.new).present.cell (P.head platform.new)) }
+    ensures served { P.tells → OnOk result (IsServedImage (P.history platform.new).present) }
     ensures empty { P.tells → OnOk result ((P.history platform.old).present.cell ≡ None) }
     ensures not_empty { P.tells → IsErrOf result FormatRefusal.NotEmpty → (P.history platform.old).present.cell ≢ None }
     ensures full { P.tells → IsErrOf result FormatRefusal.Full → (P.history platform.old).present.cell ≡ None }
@@ -55,8 +55,8 @@ pub fn format<P: Platform, T: Tape, L: Sink>(
     // Where there is a device already, or no page is free, the cell is as it was at each moment, whatever the answer.
     ensures kept { P.tells → ((P.history platform.old).present.cell ≢ None) ⊎ (P.head platform.old ≡ P.capacity platform.old)
         → During (P.history platform.old) (P.history platform.new) (λ image. image.cell ≡ (P.history platform.old).present.cell) }
-    ensures stays_served { P.tells → IsServedCell (P.history platform.old).present.cell (P.head platform.old)
-        → IsServedCell (P.history platform.new).present.cell (P.head platform.new) }
+    // A cell that can be served is one at each moment.
+    ensures serves { P.tells → IsServedImage (P.history platform.old).present → During (P.history platform.old) (P.history platform.new) IsServedImage }
     ensures unput { L.written ledger.new ≡ L.written ledger.old }
 
     ensures head_ok { OnOk result (P.head platform.new ≡ P.head platform.old + 1) }

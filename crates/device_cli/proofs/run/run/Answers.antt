@@ -7,6 +7,7 @@ use Rattle.device_cli.specs.declared.stop.DeviceStop.TheVariants as device
 use Rattle.device_cli.specs.declared.stop.Stop.TheVariants as stops
 use Rattle.device_cli.proofs.RanLaws.{Ran-refused, Ran-ended, Ran-other, Ran-after, sound_of}
 use Rattle.device_cli.proofs.StillLaws.{still_after}
+use Rattle.device_cli.proofs.CellLaws.{serves_looked, serves_then}
 use Rattle.device_cli.proofs.run.run.Goals as goal
 
 -- why the cell can't be served
@@ -87,3 +88,15 @@ returns-in_default-clause-ran g c =
           (λ told entry rep. still_after old mid entry c.new-desk.ensures.session (c.check_cell.ensures.image told) (c.check_cell.ensures.time told) c.check_cell.ensures.head rep)
           c.in_default.ensures.ran),
     )
+
+pub returns-in-Err-clause-cell : goal.returns-in-Err-clause-cell
+returns-in-Err-clause-cell g c = λ told served. serves_looked _ _ (c.check_cell.ensures.time told) (c.check_cell.ensures.image told) served
+
+pub returns-in-Device-clause-cell : goal.returns-in-Device-clause-cell
+returns-in-Device-clause-cell g c = λ told served. serves_then _ _ _ (serves_looked _ _ (c.check_cell.ensures.time told) (c.check_cell.ensures.image told) served) (c.serve_input.ensures.cell told)
+
+pub returns-clause-cell : goal.returns-clause-cell
+returns-clause-cell g c = λ told served. serves_then _ _ _ (serves_looked _ _ (c.check_cell.ensures.time told) (c.check_cell.ensures.image told) served) (c.serve_input.ensures.cell told)
+
+pub returns-in_default-clause-cell : goal.returns-in_default-clause-cell
+returns-in_default-clause-cell g c = λ told served. serves_then _ _ _ (serves_looked _ _ (c.check_cell.ensures.time told) (c.check_cell.ensures.image told) served) (c.serve_input.ensures.cell told)

@@ -6,6 +6,7 @@ use Rattle.sdbt_base.specs.Told.{Gave, IsAtEnd}
 use Rattle.script_lang.specs.Lines.{rest_of}
 use Rattle.device_cli.specs.World.{World, world}
 use Rattle.device_cli.proofs.Reading.{IsReading, IsReading-start, IsReading-more, IsReading-stop, IsReading-end, IsReading-failed, IsReading-limit}
+use Rattle.device_cli.proofs.CellLaws.{serves_now, served_at, serves_then}
 use Rattle.device_cli.proofs.run.serve_input.Goals as goal
 
 -- nothing given leaves all
@@ -27,7 +28,7 @@ loop-left-init g c =
     let P = g.P.Platform in
     record {
       ready = c.requires.ready;
-      cell = c.requires.cell;
+      cell = λ told. serves_now _ (c.requires.cell told);
       mounted = c.requires.mounted;
       unput = refl;
       counts = grind (arith, common_steps);
@@ -103,7 +104,7 @@ loop-left-preserved g c =
     let less : c.loop-left.left ≡ length piece + (c.loop-left.left - c.in-Ok.count) = omega (arith, length-take c.in-Ok.count (into ++ behind), length-append into behind) in
     record {
       ready = c.in-Ok-serve_piece.ensures.ready;
-      cell = c.in-Ok-serve_piece.ensures.cell;
+      cell = λ told. serves_then _ _ _ (c.loop-left.invariant.cell told) (c.in-Ok-serve_piece.ensures.cell told);
       mounted = c.in-Ok-serve_piece.ensures.mounted;
       unput = c.serve_piece.ensures.unput ∙ c.loop-left.invariant.unput;
       counts = grind (arith, c.loop-left.invariant.counts, c.serve_piece.ensures.counts, c.take.ensures.count);
@@ -119,3 +120,9 @@ returns-clause-ran g c =
     let mid : World = world c.loop-left.desk.session (P.history c.loop-left.platform) (P.head c.loop-left.platform) (P.capacity c.loop-left.platform) in
     IsReading-limit P.tells old mid (g.I.Source.left c.args.input.now) (g.I.Source.left c.loop-left.input) (g.O.Sink.written c.args.output.now) (g.O.Sink.written c.loop-left.output)
     c.loop-left.pending c.loop-left.left c.loop-left.invariant.reading (let none = c.loop-left-test.false in omega arith)
+
+pub returns-in-Err-clause-cell : goal.returns-in-Err-clause-cell
+returns-in-Err-clause-cell g c = λ told. serves_then _ _ _ (c.loop-left.invariant.cell told) (c.serve_piece.ensures.cell told)
+
+pub returns-then-count-eq0-clause-cell : goal.returns-then-count-eq0-clause-cell
+returns-then-count-eq0-clause-cell g c = λ told. serves_then _ _ _ (c.loop-left.invariant.cell told) (c.serve_end.ensures.cell told)

@@ -1,6 +1,7 @@
 use Rattle.std.proofs.Common.{◌≡◌}
 use Rattle.std.specs.Prelude.{IfSome}
-use Rattle.device_core.specs.Leaf.{IsServedCell}
+use Rattle.platform.specs.History.{During}
+use Rattle.device_core.specs.Leaf.{IsServedImage}
 use Rattle.device_cli.specs.Desk.{IsReady, IsMounted}
 use Rattle.device_cli.specs.Run.{counts, NoneFell}
 use Rattle.device_cli.specs.World.{world}
@@ -16,7 +17,7 @@ invariant-loop-left g l =
     let L = g.L.Sink in
     record {
       ready : IsReady l.desk (P.head l.platform);
-      cell : P.tells → IsServedCell (P.history l.platform).present.cell (P.head l.platform);
+      cell : P.tells → During (P.history l.fn.platform) (P.history l.platform) IsServedImage;
       mounted : P.tells → IfSome l.desk.session (IsMounted (P.history l.platform).present);
       unput : L.written l.ledger ≡ L.written l.fn.ledger;
       counts : NoneFell (counts (P.faults l.fn.platform) (T.faults l.fn.tape) (I.faults l.fn.input) (O.faults l.fn.output) (L.faults l.fn.ledger)) (counts (P.faults l.platform) (T.faults l.tape) (I.faults l.input) (O.faults l.output) (L.faults l.ledger));

@@ -5,6 +5,7 @@ use Rattle.std.specs.Prelude.{Option}
 use Rattle.device_cli.specs.Kept.{IsKept}
 use Rattle.device_cli.specs.World.{World, world}
 use Rattle.device_cli.proofs.Serving.{IsServing-start, IsServing-line, IsServing-stop, IsServing-end}
+use Rattle.device_cli.proofs.CellLaws.{serves_now, served_at, serves_then}
 use Rattle.device_cli.proofs.run.serve_piece.Goals as goal
 
 pub loop-front-init : goal.loop-front-init
@@ -12,7 +13,7 @@ loop-front-init g c =
     let P = g.P.Platform in
     record {
       ready = c.requires.ready;
-      cell = c.requires.cell;
+      cell = λ told. serves_now _ (c.requires.cell told);
       mounted = c.requires.mounted;
       unput = refl;
       counts = grind (arith, common_steps);
@@ -29,7 +30,7 @@ loop-front-preserved g c =
     let new : World = world c.answer.new.desk.session (P.history c.answer.new.platform) (P.head c.answer.new.platform) (P.capacity c.answer.new.platform) in
     record {
       ready = c.in_default-answer.ensures.ready;
-      cell = c.in_default-answer.ensures.cell;
+      cell = λ told. serves_then _ _ _ (c.loop-front.invariant.cell told) (c.in_default-answer.ensures.cell told);
       mounted = c.in_default-answer.ensures.mounted;
       unput = c.in_default-answer.ensures.unput ∙ c.loop-front.invariant.unput;
       counts = grind (arith, c.loop-front.invariant.counts, c.answer.ensures.counts);
@@ -72,3 +73,6 @@ returns-clause-handled g c rest pending =
     (IsServing-end P.tells (world c.args.desk.now.session (P.history c.args.platform.now) (P.head c.args.platform.now) (P.capacity c.args.platform.now)) (world c.loop-front.desk.session (P.history c.loop-front.platform) (P.head c.loop-front.platform) (P.capacity c.loop-front.platform))
     (g.O.Sink.written c.args.output.now) (g.O.Sink.written c.loop-front.output) (rest ++ c.args.piece.now) c.loop-front.pending c.loop-front.rest.now
     so_far c.in_default.ensures.none).0
+
+pub returns-in-Err-clause-cell : goal.returns-in-Err-clause-cell
+returns-in-Err-clause-cell g c = λ told. serves_then _ _ _ (c.loop-front.invariant.cell told) (c.answer.ensures.cell told)

@@ -1,6 +1,7 @@
 use Rattle.std.proofs.Common.{◌≡◌, ℕ, List, ◌++◌, length}
 use Rattle.std.specs.Prelude.{IfSome}
-use Rattle.device_core.specs.Leaf.{IsServedCell}
+use Rattle.platform.specs.History.{During}
+use Rattle.device_core.specs.Leaf.{IsServedImage}
 use Rattle.device_cli.specs.Desk.{IsReady, IsMounted}
 use Rattle.device_cli.specs.Run.{counts, NoneFell}
 use Rattle.device_cli.specs.Kept.{IsPending}
@@ -16,7 +17,7 @@ invariant-loop-front g l =
     let L = g.L.Sink in
     record {
       ready : IsReady l.desk (P.head l.platform);
-      cell : P.tells → IsServedCell (P.history l.platform).present.cell (P.head l.platform);
+      cell : P.tells → During (P.history l.fn.platform) (P.history l.platform) IsServedImage;
       mounted : P.tells → IfSome l.desk.session (IsMounted (P.history l.platform).present);
       unput : L.written l.ledger ≡ L.written l.fn.ledger;
       counts : NoneFell (counts (P.faults l.fn.platform) (T.faults l.fn.tape) 0 (O.faults l.fn.output) (L.faults l.fn.ledger)) (counts (P.faults l.platform) (T.faults l.tape) 0 (O.faults l.output) (L.faults l.ledger));

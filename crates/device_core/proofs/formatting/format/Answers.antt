@@ -4,13 +4,13 @@ use Rattle.platform.specs.Image.{Image, with_page}
 use Rattle.seal_record.specs.Sealing.{masked}
 use Rattle.node_codec.specs.Record.{NodeRecord, record_bytes}
 use Rattle.page_store.specs.Buffer.{Held}
-use Rattle.device_core.specs.Leaf.{IsServed, IsServedCell}
+use Rattle.device_core.specs.Leaf.{IsServed, IsServedImage}
 use Rattle.device_core.specs.Blocks.{new_device}
 use Rattle.std.specs.Prelude.{IsTrue, IsSome, ◌↔◌, ◌≢◌}
 use Rattle.std.proofs.lemmas.Grind.{common_steps}
-use Rattle.device_core.proofs.MomentLaws.{one_look, call_more}
+use Rattle.device_core.proofs.MomentLaws.{one_look, call_more, then_published}
 use Rattle.device_core.proofs.HoldLaws.{during_stands, first_root, first_fits, first_one, no_entries_fit, format_turns, format_made}
-use Rattle.device_core.proofs.ServedLaws.{served_same, served_published}
+use Rattle.device_core.proofs.ServedLaws.{serves_still, serves_turned, served_published}
 use Rattle.device_core.proofs.formatting.format.Goals as goal
 
 -- the first root record can be served
@@ -80,17 +80,12 @@ returns-in-Ok-publish-clause-served g c = λ told.
     let history = g.P.Platform.history in
     let head = g.P.Platform.head in
     let addr = c.in-Ok-append.placed.addr in
-    let key = c.in-Ok-append.placed.key in
     let address : addr ≡ head c.load_root.new.self = c.in-Ok-append.ensures.address in
     let room : addr < 2 ^ 32 = omega (arith, address, c.head.ensures.value, c.capacity.ensures.value, c.head.ensures.room, c.head.ensures.limit, c.if-head-capacity.false) in
-    let root = first_root c.args.blocks c.args.order addr key in
-    let cell = ap (λ (i : Image). i.cell) (c.in-Ok-publish.ensures.published told) in
-    subst (λ (held : Option (List ℕ)). IsServedCell held (head c.publish.new.platform)) (sym cell) (
-      root,
-      first_served c.args.blocks c.args.order addr (head c.publish.new.platform) key c.requires.least c.requires.most c.requires.order room
-          c.in-Ok-append.ensures.key (omega (arith, address, c.in-Ok-append.ensures.head_ok, c.publish.ensures.head)),
-      refl,
-    )
+    let next = first_served c.args.blocks c.args.order addr (head c.append.new.platform) c.in-Ok-append.placed.key c.requires.least c.requires.most c.requires.order room
+    c.in-Ok-append.ensures.key (omega (arith, address, c.in-Ok-append.ensures.head_ok)) in
+    subst IsServedImage (sym (c.in-Ok-publish.ensures.published told))
+    (served_published (history c.append.new.platform).present (first_root c.args.blocks c.args.order addr c.in-Ok-append.placed.key) (head c.append.new.platform) (g.met.P.Platform.counts_pages told c.append.new.platform) next)
 
 pub returns-in-Ok-publish-clause-time : goal.returns-in-Ok-publish-clause-time
 returns-in-Ok-publish-clause-time g c = λ told device stands.
@@ -137,75 +132,49 @@ pub returns-in-Err-TapeFault-clause-still : goal.returns-in-Err-TapeFault-clause
 returns-in-Err-TapeFault-clause-still g c = λ told.
     inr (inr (call_more _ _ _ (one_look _ _ (c.load_root.ensures.time told) (c.load_root.ensures.image told)) (c.append.ensures.time told) (c.append.ensures.cell told)))
 
-pub returns-in_default-clause-stays_served : goal.returns-in_default-clause-stays_served
-returns-in_default-clause-stays_served g c = λ told served.
-    let history = g.P.Platform.history in
-    let head = g.P.Platform.head in
-    served_same (history c.args.platform.now).present.cell (history c.load_root.new.self).present.cell (head c.args.platform.now) (head c.load_root.new.self)
-    (ap (λ (i : Image). i.cell) (c.load_root.ensures.image told)) (omega (arith, c.load_root.ensures.head)) served
+pub returns-in_default-clause-serves : goal.returns-in_default-clause-serves
+returns-in_default-clause-serves g c = λ told. serves_still _ _ (one_look _ _ (c.load_root.ensures.time told) (c.load_root.ensures.image told))
 
-pub returns-then-is_full-clause-stays_served : goal.returns-then-is_full-clause-stays_served
-returns-then-is_full-clause-stays_served g c = λ told served.
-    let history = g.P.Platform.history in
-    let head = g.P.Platform.head in
-    served_same (history c.args.platform.now).present.cell (history c.load_root.new.self).present.cell (head c.args.platform.now) (head c.load_root.new.self)
-    (ap (λ (i : Image). i.cell) (c.load_root.ensures.image told)) (omega (arith, c.load_root.ensures.head)) served
+pub returns-then-is_full-clause-serves : goal.returns-then-is_full-clause-serves
+returns-then-is_full-clause-serves g c = λ told. serves_still _ _ (one_look _ _ (c.load_root.ensures.time told) (c.load_root.ensures.image told))
 
-pub returns-then-head-capacity-clause-stays_served : goal.returns-then-head-capacity-clause-stays_served
-returns-then-head-capacity-clause-stays_served g c = λ told served.
-    let history = g.P.Platform.history in
-    let head = g.P.Platform.head in
-    served_same (history c.args.platform.now).present.cell (history c.load_root.new.self).present.cell (head c.args.platform.now) (head c.load_root.new.self)
-    (ap (λ (i : Image). i.cell) (c.load_root.ensures.image told)) (omega (arith, c.load_root.ensures.head)) served
+pub returns-then-head-capacity-clause-serves : goal.returns-then-head-capacity-clause-serves
+returns-then-head-capacity-clause-serves g c = λ told. serves_still _ _ (one_look _ _ (c.load_root.ensures.time told) (c.load_root.ensures.image told))
 
-pub returns-in_default-new-clause-stays_served : goal.returns-in_default-new-clause-stays_served
-returns-in_default-new-clause-stays_served g c = λ told served.
-    let history = g.P.Platform.history in
-    let head = g.P.Platform.head in
-    served_same (history c.args.platform.now).present.cell (history c.load_root.new.self).present.cell (head c.args.platform.now) (head c.load_root.new.self)
-    (ap (λ (i : Image). i.cell) (c.load_root.ensures.image told)) (omega (arith, c.load_root.ensures.head)) served
+pub returns-in_default-new-clause-serves : goal.returns-in_default-new-clause-serves
+returns-in_default-new-clause-serves g c = λ told. serves_still _ _ (one_look _ _ (c.load_root.ensures.time told) (c.load_root.ensures.image told))
 
-pub returns-in-Err-TapeFault-clause-stays_served : goal.returns-in-Err-TapeFault-clause-stays_served
-returns-in-Err-TapeFault-clause-stays_served g c = λ told served.
-    let history = g.P.Platform.history in
-    let head = g.P.Platform.head in
-    served_same (history c.args.platform.now).present.cell (history c.append.new.platform).present.cell (head c.args.platform.now) (head c.append.new.platform)
-    (c.append.ensures.cell told ∙ ap (λ (i : Image). i.cell) (c.load_root.ensures.image told)) (omega (arith, c.load_root.ensures.head, c.append.ensures.head_rises)) served
+pub returns-in-Err-TapeFault-clause-serves : goal.returns-in-Err-TapeFault-clause-serves
+returns-in-Err-TapeFault-clause-serves g c = λ told. serves_still _ _ (call_more _ _ _ (one_look _ _ (c.load_root.ensures.time told) (c.load_root.ensures.image told)) (c.append.ensures.time told) (c.append.ensures.cell told))
 
-pub returns-in-Err-PlatformFault-clause-stays_served : goal.returns-in-Err-PlatformFault-clause-stays_served
-returns-in-Err-PlatformFault-clause-stays_served g c = λ told served.
-    let history = g.P.Platform.history in
-    let head = g.P.Platform.head in
-    served_same (history c.args.platform.now).present.cell (history c.append.new.platform).present.cell (head c.args.platform.now) (head c.append.new.platform)
-    (c.append.ensures.cell told ∙ ap (λ (i : Image). i.cell) (c.load_root.ensures.image told)) (omega (arith, c.load_root.ensures.head, c.append.ensures.head_rises)) served
+pub returns-in-Err-PlatformFault-clause-serves : goal.returns-in-Err-PlatformFault-clause-serves
+returns-in-Err-PlatformFault-clause-serves g c = λ told. serves_still _ _ (call_more _ _ _ (one_look _ _ (c.load_root.ensures.time told) (c.load_root.ensures.image told)) (c.append.ensures.time told) (c.append.ensures.cell told))
 
-pub returns-in-Ok-publish-clause-stays_served : goal.returns-in-Ok-publish-clause-stays_served
-returns-in-Ok-publish-clause-stays_served g c = λ told served.
+pub returns-in-Ok-publish-clause-serves : goal.returns-in-Ok-publish-clause-serves
+returns-in-Ok-publish-clause-serves g c = λ told served.
     let history = g.P.Platform.history in
     let head = g.P.Platform.head in
     let addr = c.in-Ok-append.placed.addr in
     let address : addr ≡ head c.load_root.new.self = c.in-Ok-append.ensures.address in
     let room : addr < 2 ^ 32 = omega (arith, address, c.head.ensures.value, c.capacity.ensures.value, c.head.ensures.room, c.head.ensures.limit, c.if-head-capacity.false) in
-    let next = first_served c.args.blocks c.args.order addr (head c.publish.new.platform) c.in-Ok-append.placed.key c.requires.least c.requires.most c.requires.order room
-    c.in-Ok-append.ensures.key (omega (arith, address, c.in-Ok-append.ensures.head_ok, c.publish.ensures.head)) in
-    let before = served_same (history c.args.platform.now).present.cell (history c.append.new.platform).present.cell (head c.args.platform.now) (head c.append.new.platform)
-    (c.append.ensures.cell told ∙ ap (λ (i : Image). i.cell) (c.load_root.ensures.image told)) (omega (arith, c.load_root.ensures.head, c.append.ensures.head_rises)) served in
-    served_published (history c.append.new.platform) (history c.publish.new.platform) (first_root c.args.blocks c.args.order addr c.in-Ok-append.placed.key)
-    (head c.append.new.platform) (head c.publish.new.platform) (c.publish.ensures.time told) next (omega (arith, c.publish.ensures.head)) before
+    let next = first_served c.args.blocks c.args.order addr (head c.append.new.platform) c.in-Ok-append.placed.key c.requires.least c.requires.most c.requires.order room
+    c.in-Ok-append.ensures.key (omega (arith, address, c.in-Ok-append.ensures.head_ok)) in
+    serves_turned (history c.args.platform.now) (history c.publish.new.platform) _
+    (then_published (history c.args.platform.now) (history c.append.new.platform) (history c.publish.new.platform) _ (call_more _ _ _ (one_look _ _ (c.load_root.ensures.time told) (c.load_root.ensures.image told)) (c.append.ensures.time told) (c.append.ensures.cell told)) (c.publish.ensures.time told))
+    served (served_published (history c.append.new.platform).present (first_root c.args.blocks c.args.order addr c.in-Ok-append.placed.key) (head c.append.new.platform) (g.met.P.Platform.counts_pages told c.append.new.platform) next)
 
-pub returns-clause-stays_served : goal.returns-clause-stays_served
-returns-clause-stays_served g c = λ told served.
+pub returns-clause-serves : goal.returns-clause-serves
+returns-clause-serves g c = λ told served.
     let history = g.P.Platform.history in
     let head = g.P.Platform.head in
     let addr = c.in-Ok-append.placed.addr in
     let address : addr ≡ head c.load_root.new.self = c.in-Ok-append.ensures.address in
     let room : addr < 2 ^ 32 = omega (arith, address, c.head.ensures.value, c.capacity.ensures.value, c.head.ensures.room, c.head.ensures.limit, c.if-head-capacity.false) in
-    let next = first_served c.args.blocks c.args.order addr (head c.publish.new.platform) c.in-Ok-append.placed.key c.requires.least c.requires.most c.requires.order room
-    c.in-Ok-append.ensures.key (omega (arith, address, c.in-Ok-append.ensures.head_ok, c.publish.ensures.head)) in
-    let before = served_same (history c.args.platform.now).present.cell (history c.append.new.platform).present.cell (head c.args.platform.now) (head c.append.new.platform)
-    (c.append.ensures.cell told ∙ ap (λ (i : Image). i.cell) (c.load_root.ensures.image told)) (omega (arith, c.load_root.ensures.head, c.append.ensures.head_rises)) served in
-    served_published (history c.append.new.platform) (history c.publish.new.platform) (first_root c.args.blocks c.args.order addr c.in-Ok-append.placed.key)
-    (head c.append.new.platform) (head c.publish.new.platform) (c.publish.ensures.time told) next (omega (arith, c.publish.ensures.head)) before
+    let next = first_served c.args.blocks c.args.order addr (head c.append.new.platform) c.in-Ok-append.placed.key c.requires.least c.requires.most c.requires.order room
+    c.in-Ok-append.ensures.key (omega (arith, address, c.in-Ok-append.ensures.head_ok)) in
+    serves_turned (history c.args.platform.now) (history c.publish.new.platform) _
+    (then_published (history c.args.platform.now) (history c.append.new.platform) (history c.publish.new.platform) _ (call_more _ _ _ (one_look _ _ (c.load_root.ensures.time told) (c.load_root.ensures.image told)) (c.append.ensures.time told) (c.append.ensures.cell told)) (c.publish.ensures.time told))
+    served (served_published (history c.append.new.platform).present (first_root c.args.blocks c.args.order addr c.in-Ok-append.placed.key) (head c.append.new.platform) (g.met.P.Platform.counts_pages told c.append.new.platform) next)
 
 pub returns-in-Err-TapeFault-clause-unmade : goal.returns-in-Err-TapeFault-clause-unmade
 returns-in-Err-TapeFault-clause-unmade g c = λ told is. c.append.ensures.unchanged told (cc) ∙ c.load_root.ensures.image told

@@ -11,6 +11,7 @@ use Rattle.script_lang.specs.declared.commands.Command.TheVariants.{Commit}
 use Rattle.device_cli.proofs.ServedLaws.{halts_still, gives_unmounted_commit}
 use Rattle.device_cli.proofs.ServingLaws.{serves_unmounted, serves_committed, serves_commit_full, halts_commit, keeps_same}
 use Rattle.device_cli.proofs.Choices.{not_these}
+use Rattle.device_cli.proofs.CellLaws.{serves_now}
 use Rattle.device_cli.proofs.desk.Desk.commit.Goals as goal
 
 pub returns-in_default-clause-answered : goal.returns-in_default-clause-answered
@@ -81,3 +82,6 @@ returns-in-Err-PlatformFault-clause-answered g c told entry rep =
     (λ e. let ok = c.commit.ensures.idle_ok e in grind (arith, common_steps, ok))
     (λ e f. let ok = c.commit.ensures.full_ok e f in grind (arith, common_steps, ok))
     (λ d t holds. c.commit.ensures.time told (stored d) t.contents holds) rep
+
+pub returns-in_default-clause-cell : goal.returns-in_default-clause-cell
+returns-in_default-clause-cell g c = λ told. serves_now _ (c.requires.cell told)

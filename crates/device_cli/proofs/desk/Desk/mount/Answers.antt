@@ -1,4 +1,4 @@
-use Rattle.std.proofs.Common.{◌≡◌, ℕ, Option, None, Some, Ok, refl, ◌∙◌, ap, arith}
+use Rattle.std.proofs.Common.{◌≡◌, ℕ, Option, None, Some, Ok, refl, ◌∙◌, ap, subst, arith}
 use Rattle.std.proofs.lemmas.Grind.{common_steps}
 use Rattle.device_cli.specs.declared.stop.DeviceStop.TheVariants as device
 use Rattle.device_cli.specs.World.{World, world}
@@ -11,6 +11,8 @@ use Rattle.std.specs.Prelude.{List}
 use Rattle.device_core.specs.Leaf.{IsServedCell, IsRefusedCell}
 use Rattle.device_cli.proofs.ServedLaws.{halts_still}
 use Rattle.device_cli.proofs.ServingLaws.{serves_already, serves_mounted, serves_no_device}
+use Rattle.device_core.proofs.ServedLaws.{serves_still}
+use Rattle.device_cli.proofs.CellLaws.{serves_now}
 use Rattle.device_cli.proofs.desk.Desk.mount.Goals as goal
 
 some_of : (s : Option Session) → (s ≡ None → ⊥) → (Goal : Type 0) → ((session : Session) → s ≡ Some session → Goal) → Goal
@@ -67,4 +69,22 @@ returns-in-Err-BadRoot-clause-answered g c told entry rep =
     let P = g.P.Platform in
     let old : World = world c.args.self.now.session (P.history c.args.platform.now) (P.head c.args.platform.now) (P.capacity c.args.platform.now) in
     let new : World = world c.args.self.now.session (P.history c.mount.new.platform) (P.head c.mount.new.platform) (P.capacity c.mount.new.platform) in
-    absurd (refused_served old.history.present.cell old.head (c.requires.cell told) (c.mount.ensures.bad_root told (cc)))
+    absurd (refused_served old.history.present.cell old.head (subst (λ (n : ℕ). IsServedCell old.history.present.cell n) (g.met.P.Platform.counts_pages told c.args.platform.now) (c.requires.cell told)) (c.mount.ensures.bad_root told (cc)))
+
+pub returns-then-is_some-clause-cell : goal.returns-then-is_some-clause-cell
+returns-then-is_some-clause-cell g c = λ told. serves_now _ (c.requires.cell told)
+
+pub returns-in-Ok-clause-cell : goal.returns-in-Ok-clause-cell
+returns-in-Ok-clause-cell g c = λ told. serves_still _ _ (c.mount.ensures.time told) (c.requires.cell told)
+
+pub returns-in-Err-NoDevice-clause-cell : goal.returns-in-Err-NoDevice-clause-cell
+returns-in-Err-NoDevice-clause-cell g c = λ told. serves_still _ _ (c.mount.ensures.time told) (c.requires.cell told)
+
+pub returns-in-Err-PlatformFault-clause-cell : goal.returns-in-Err-PlatformFault-clause-cell
+returns-in-Err-PlatformFault-clause-cell g c = λ told. serves_still _ _ (c.mount.ensures.time told) (c.requires.cell told)
+
+pub returns-in-Err-Memory-clause-cell : goal.returns-in-Err-Memory-clause-cell
+returns-in-Err-Memory-clause-cell g c = λ told. serves_still _ _ (c.mount.ensures.time told) (c.requires.cell told)
+
+pub returns-in-Err-BadRoot-clause-cell : goal.returns-in-Err-BadRoot-clause-cell
+returns-in-Err-BadRoot-clause-cell g c = λ told. serves_still _ _ (c.mount.ensures.time told) (c.requires.cell told)

@@ -2,6 +2,7 @@ use Rattle.std.proofs.Common.{Some, refl, arith}
 use Rattle.device_core.specs.Replies.{committed_device}
 use Rattle.device_core.proofs.MomentLaws.{still}
 use Rattle.device_core.proofs.HoldLaws.{during_stands, held_stands, untouched_after}
+use Rattle.device_core.proofs.ServedLaws.{serves_still}
 use Rattle.device_core.proofs.session.Session.commit.Goals as goal
 
 pub returns-then-not-self-clause-holds : goal.returns-then-not-self-clause-holds
@@ -14,3 +15,9 @@ returns-then-not-self-clause-time g c = λ told device contents h.
 pub returns-then-head-capacity-clause-time : goal.returns-then-head-capacity-clause-time
 returns-then-head-capacity-clause-time g c = λ told device contents h.
     during_stands _ _ (Some device) (Some (committed_device device contents)) (held_stands _ _ _ _ _ _ device contents h) (still _)
+
+pub returns-then-not-self-clause-serves : goal.returns-then-not-self-clause-serves
+returns-then-not-self-clause-serves g c = λ told. serves_still _ _ (still _)
+
+pub returns-then-head-capacity-clause-serves : goal.returns-then-head-capacity-clause-serves
+returns-then-head-capacity-clause-serves g c = λ told. serves_still _ _ (still _)

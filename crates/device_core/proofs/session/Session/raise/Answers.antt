@@ -11,13 +11,13 @@ use Rattle.page_store.specs.Device.{Device}
 use Rattle.device_core.specs.Blocks.{Blocks}
 use Rattle.device_core.specs.Holding.{HoldsBy}
 use Rattle.device_core.specs.Replies.{committed_device}
-use Rattle.device_core.proofs.MomentLaws.{one_call}
+use Rattle.device_core.proofs.MomentLaws.{one_call, then_published}
 use Rattle.device_core.proofs.EntryLaws.{AreEntries-later}
 use Rattle.device_core.proofs.HoldLaws.{during_stands, entries_fit, IsNext, next_fits, next_leaf, raise_turns, raise_held, held_stands}
 use Rattle.platform.proofs.Moments.{whole-now}
 use Rattle.root_codec.specs.RootRecord.{root_bytes}
 use Rattle.device_core.proofs.FollowLaws.{follows_committed}
-use Rattle.device_core.proofs.ServedLaws.{served_same, served_published}
+use Rattle.device_core.proofs.ServedLaws.{serves_still, serves_turned, served_published}
 use Rattle.device_core.proofs.session.Session.raise.Goals as goal
 
 -- the root record that a commit writes
@@ -158,22 +158,14 @@ returns-clause-follows g c = λ told.
 pub returns-in-Err-TapeFault-clause-still : goal.returns-in-Err-TapeFault-clause-still
 returns-in-Err-TapeFault-clause-still g c = λ told. inr (inr (one_call _ _ (c.append.ensures.time told) (c.append.ensures.cell told)))
 
-pub returns-in-Err-TapeFault-clause-stays_served : goal.returns-in-Err-TapeFault-clause-stays_served
-returns-in-Err-TapeFault-clause-stays_served g c = λ told served.
-    let history = g.P.Platform.history in
-    let head = g.P.Platform.head in
-    served_same (history c.args.platform.now).present.cell (history c.append.new.platform).present.cell (head c.args.platform.now) (head c.append.new.platform)
-    (c.append.ensures.cell told) c.append.ensures.head_rises served
+pub returns-in-Err-TapeFault-clause-serves : goal.returns-in-Err-TapeFault-clause-serves
+returns-in-Err-TapeFault-clause-serves g c = λ told. serves_still _ _ (one_call _ _ (c.append.ensures.time told) (c.append.ensures.cell told))
 
-pub returns-in-Err-PlatformFault-clause-stays_served : goal.returns-in-Err-PlatformFault-clause-stays_served
-returns-in-Err-PlatformFault-clause-stays_served g c = λ told served.
-    let history = g.P.Platform.history in
-    let head = g.P.Platform.head in
-    served_same (history c.args.platform.now).present.cell (history c.append.new.platform).present.cell (head c.args.platform.now) (head c.append.new.platform)
-    (c.append.ensures.cell told) c.append.ensures.head_rises served
+pub returns-in-Err-PlatformFault-clause-serves : goal.returns-in-Err-PlatformFault-clause-serves
+returns-in-Err-PlatformFault-clause-serves g c = λ told. serves_still _ _ (one_call _ _ (c.append.ensures.time told) (c.append.ensures.cell told))
 
-pub returns-in_default-clause-stays_served : goal.returns-in_default-clause-stays_served
-returns-in_default-clause-stays_served g c = λ told served.
+pub returns-in_default-clause-serves : goal.returns-in_default-clause-serves
+returns-in_default-clause-serves g c = λ told served.
     let history = g.P.Platform.history in
     let head = g.P.Platform.head in
     let self = c.args.self in
@@ -181,15 +173,14 @@ returns-in_default-clause-stays_served g c = λ told served.
     let root = next_root self.root self.mapped addr c.in-Ok.placed.key in
     let address : addr ≡ head c.args.platform.now = c.in-Ok.ensures.address in
     let room : head c.args.platform.now < 2 ^ 32 = omega (arith, c.requires.room, g.met.P.Platform.is_limited c.args.platform.now) in
-    let next = next_served self.root root self.mapped (head c.args.platform.now) (head c.publish.new.platform) (is_next self.root self.mapped addr (head c.args.platform.now) c.in-Ok.placed.key address)
-    c.requires.open.served c.requires.open.mapped room c.in-Ok.ensures.key (omega (arith, c.in-Ok.ensures.head_ok, c.publish.ensures.head)) in
-    let before = served_same (history c.args.platform.now).present.cell (history c.append.new.platform).present.cell (head c.args.platform.now) (head c.append.new.platform)
-    (c.append.ensures.cell told) c.append.ensures.head_rises served in
-    served_published (history c.append.new.platform) (history c.publish.new.platform) root (head c.append.new.platform) (head c.publish.new.platform)
-    (c.publish.ensures.time told) next (omega (arith, c.publish.ensures.head)) before
+    let next = next_served self.root root self.mapped (head c.args.platform.now) (head c.append.new.platform) (is_next self.root self.mapped addr (head c.args.platform.now) c.in-Ok.placed.key address)
+    c.requires.open.served c.requires.open.mapped room c.in-Ok.ensures.key (omega (arith, c.in-Ok.ensures.head_ok)) in
+    serves_turned (history c.args.platform.now) (history c.publish.new.platform) _
+    (then_published (history c.args.platform.now) (history c.append.new.platform) (history c.publish.new.platform) _ (one_call _ _ (c.append.ensures.time told) (c.append.ensures.cell told)) (c.publish.ensures.time told))
+    served (served_published (history c.append.new.platform).present root (head c.append.new.platform) (g.met.P.Platform.counts_pages told c.append.new.platform) next)
 
-pub returns-clause-stays_served : goal.returns-clause-stays_served
-returns-clause-stays_served g c = λ told served.
+pub returns-clause-serves : goal.returns-clause-serves
+returns-clause-serves g c = λ told served.
     let history = g.P.Platform.history in
     let head = g.P.Platform.head in
     let self = c.args.self in
@@ -197,12 +188,11 @@ returns-clause-stays_served g c = λ told served.
     let root = next_root self.root self.mapped addr c.in-Ok.placed.key in
     let address : addr ≡ head c.args.platform.now = c.in-Ok.ensures.address in
     let room : head c.args.platform.now < 2 ^ 32 = omega (arith, c.requires.room, g.met.P.Platform.is_limited c.args.platform.now) in
-    let next = next_served self.root root self.mapped (head c.args.platform.now) (head c.publish.new.platform) (is_next self.root self.mapped addr (head c.args.platform.now) c.in-Ok.placed.key address)
-    c.requires.open.served c.requires.open.mapped room c.in-Ok.ensures.key (omega (arith, c.in-Ok.ensures.head_ok, c.publish.ensures.head)) in
-    let before = served_same (history c.args.platform.now).present.cell (history c.append.new.platform).present.cell (head c.args.platform.now) (head c.append.new.platform)
-    (c.append.ensures.cell told) c.append.ensures.head_rises served in
-    served_published (history c.append.new.platform) (history c.publish.new.platform) root (head c.append.new.platform) (head c.publish.new.platform)
-    (c.publish.ensures.time told) next (omega (arith, c.publish.ensures.head)) before
+    let next = next_served self.root root self.mapped (head c.args.platform.now) (head c.append.new.platform) (is_next self.root self.mapped addr (head c.args.platform.now) c.in-Ok.placed.key address)
+    c.requires.open.served c.requires.open.mapped room c.in-Ok.ensures.key (omega (arith, c.in-Ok.ensures.head_ok)) in
+    serves_turned (history c.args.platform.now) (history c.publish.new.platform) _
+    (then_published (history c.args.platform.now) (history c.append.new.platform) (history c.publish.new.platform) _ (one_call _ _ (c.append.ensures.time told) (c.append.ensures.cell told)) (c.publish.ensures.time told))
+    served (served_published (history c.append.new.platform).present root (head c.append.new.platform) (g.met.P.Platform.counts_pages told c.append.new.platform) next)
 
 pub returns-clause-cell : goal.returns-clause-cell
 returns-clause-cell g c = λ told. ap (λ (i : Image). i.cell) (c.in-Ok-publish.ensures.published told)
