@@ -1,14 +1,18 @@
 -- What is left after losses of power.
 use Rattle.std.proofs.Common.{◌≡◌, ℕ, List, Option, length, ◌∙◌, sym, ap, subst}
-use Rattle.std.specs.Prelude.{take}
+use Rattle.std.specs.Prelude.{take, ◌++◌}
 use Rattle.platform.specs.Image.{Image, MayLeave}
+use Rattle.platform.specs.History.{During, image_at}
 use Rattle.page_store.proofs.StandsLaws.{stands_left}
-use Rattle.device_core.specs.Leaf.{IsServedCell}
+use Rattle.device_core.specs.Leaf.{IsServedCell, IsServedImage}
+use Rattle.script_lang.specs.Arrays.{State}
+use Rattle.script_lang.specs.Answers.{IsMark}
 use Rattle.script_lang.specs.declared.devices.Device.{Device}
+use Rattle.script_lang.specs.declared.replies.Reply.{Reply}
 use Rattle.device_cli.specs.World.{World}
 use Rattle.device_cli.specs.Represents.{StandsFor, closed}
 use Rattle.device_cli.specs.Ran.{AnswersScript}
-use Rattle.two_runs.specs.TwoRuns.{GoesOn}
+use Rattle.two_runs.specs.TwoRuns.{GoesOnFrom, GoesOn, GoesOnAnywhere}
 
 -- one loss of power after another
 pub MayLeave-then : (a b c : Image) → MayLeave a b → MayLeave b c → MayLeave a c
@@ -22,27 +26,51 @@ MayLeave-then a b c p q = record {
 }
 
 -- a cell that can be served still can
-pub served_left : (image left : Image) → MayLeave image left → IsServedCell image.cell (length image.recorded) → IsServedCell left.cell (length left.recorded)
+pub served_left : (image left : Image) → MayLeave image left → IsServedImage image → IsServedImage left
 served_left image left lost served =
     subst (λ (cell : Option (List ℕ)). IsServedCell cell (length left.recorded)) (sym lost.cell)
     (subst (λ (pages : List (List ℕ)). IsServedCell image.cell (length pages)) (sym lost.recorded) served)
+
+-- a run over an image that stands for a device which was passed
+from_there : (entry : State) (lines : List (List ℕ)) (replies : List Reply) (mark : ℕ) (there : Option Device) (cut new : World) (status : ℕ) (left left_now written written_now : Option (List ℕ))
+    → IsMark entry lines replies mark there → StandsFor cut.history.present there → IsServedImage cut.history.present
+    → (run : AnswersScript (Unit {0}) cut new status left left_now written written_now)
+    → GoesOnFrom entry lines replies mark cut new status run.lines run.replies run.part
+from_there entry lines replies mark there cut new status left left_now written written_now is_mark stands served run =
+    record { between = there; is_mark = is_mark; stands = stands; answered = run.answered tt there stands served }
 
 -- what the second run finds
 pub goes_on : (old mid cut new : World) (first second : ℕ) (left left_now other other_now written between_written written_now : Option (List ℕ))
     → (one : AnswersScript (Unit {0}) old mid first left left_now written between_written) → MayLeave mid.history.present cut.history.present
     → (two : AnswersScript (Unit {0}) cut new second other other_now between_written written_now)
-    → (there : Option Device) → StandsFor old.history.present there → IsServedCell old.history.present.cell old.head → IsServedCell cut.history.present.cell cut.head
+    → (there : Option Device) → StandsFor old.history.present there → IsServedImage old.history.present → IsServedImage cut.history.present
     → GoesOn (closed there) one.lines one.replies cut new second two.lines two.replies two.part
 goes_on old mid cut new first second left left_now other other_now written between_written written_now one lost two there stands served served_cut =
     let from = one.answered tt there stands served in
-    let left_stands : StandsFor cut.history.present from.exits.there = stands_left mid.history.present cut.history.present _ lost from.exits.stands in
     record {
       ahead = from.ahead;
       one_ahead = from.one_ahead;
       mark = from.exits.mark;
       from = from.exits.from;
-      between = from.exits.there;
-      is_mark = from.exits.is_mark;
-      stands = left_stands;
-      answered = two.answered tt from.exits.there left_stands served_cut;
+      goes = from_there (closed there) one.lines (one.replies ++ from.ahead) from.exits.mark from.exits.there cut new second other other_now between_written written_now
+          from.exits.is_mark (stands_left mid.history.present cut.history.present _ lost from.exits.stands) served_cut two;
+    }
+
+-- what a run finds when the power was lost at some moment of the first
+pub anywhere : (old mid : World) (first : ℕ) (left left_now written written_now : Option (List ℕ))
+    → (one : AnswersScript (Unit {0}) old mid first left left_now written written_now)
+    → (there : Option Device) → StandsFor old.history.present there → IsServedImage old.history.present → During old.history mid.history IsServedImage
+    → GoesOnAnywhere (closed there) one.lines one.replies old mid
+anywhere old mid first left left_now written written_now one there stands served during =
+    let from = one.answered tt there stands served in
+    record {
+      ahead = from.ahead;
+      one_ahead = from.one_ahead;
+      mark = from.passes.mark;
+      rises = from.passes.rises;
+      within = from.passes.within;
+      each = λ i start end cut new status given given_now put put_now lost run.
+          let mark = from.passes.each i start end in
+          from_there (closed there) one.lines (one.replies ++ from.ahead) (from.passes.mark i) mark.0 cut new status given given_now put put_now
+          mark.1 (mark.2 cut.history.present lost) (served_left (image_at mid.history i) cut.history.present lost (during.each i start end)) run;
     }

@@ -1,26 +1,49 @@
 -- Two runs with a loss of power between them.
-use Rattle.std.specs.Prelude.{ℕ, ◌≤◌, List, ◌++◌, Option, length}
+use Rattle.std.specs.Prelude.{ℕ, ◌+◌, ◌≤◌, List, ◌++◌, Option, length}
 use Rattle.platform.specs.Image.{MayLeave}
+use Rattle.platform.specs.History.{image_at, moment}
 use Rattle.script_lang.specs.Arrays.{State}
 use Rattle.script_lang.specs.Answers.{IsMark}
 use Rattle.script_lang.specs.declared.devices.Device.{Device}
 use Rattle.script_lang.specs.declared.replies.Reply.{Reply}
-use Rattle.device_core.specs.Leaf.{IsServedCell}
+use Rattle.device_core.specs.Leaf.{IsServedImage}
 use Rattle.device_cli.specs.World.{World}
 use Rattle.device_cli.specs.Represents.{StandsFor, closed}
 use Rattle.device_cli.specs.Ran.{AnswersScript, AnswersFrom}
 
--- what the loss of power left stands for the device after all replies of the first run, or after those and one more; the
--- second run answers from that device on, without a session
+-- what a loss of power left stands for the device after so many of these replies; the run over it answers from that
+-- device on, without a session
+pub record GoesOnFrom (entry : State) (lines : List (List ℕ)) (replies : List Reply) (mark : ℕ) (cut new : World) (status : ℕ) (others : List (List ℕ)) (answers : List Reply) (part : List ℕ) : Type 0 where
+  pub between : Option Device
+  pub is_mark : IsMark entry lines replies mark between
+  pub stands : StandsFor cut.history.present between
+  pub answered : AnswersFrom cut new status (closed between) others answers part
+
+-- where the power is lost at the exit of a run, the next one goes on from the device after all of its replies, or after
+-- those and one more
 pub record GoesOn (entry : State) (lines : List (List ℕ)) (replies : List Reply) (cut new : World) (status : ℕ) (others : List (List ℕ)) (answers : List Reply) (part : List ℕ) : Type 0 where
   pub ahead : List Reply
   pub one_ahead : length ahead ≤ 1
   pub mark : ℕ
   pub from : length replies ≤ mark
-  pub between : Option Device
-  pub is_mark : IsMark entry lines (replies ++ ahead) mark between
-  pub stands : StandsFor cut.history.present between
-  pub answered : AnswersFrom cut new status (closed between) others answers part
+  pub goes : GoesOnFrom entry lines (replies ++ ahead) mark cut new status others answers part
+
+-- a run over what is left when the power is lost at one moment of another
+abbrev pub Resumes : State → List (List ℕ) → List Reply → World → ℕ → ℕ → Type 0
+Resumes entry lines replies mid i mark =
+    (cut new : World) (status : ℕ) (left left_now written written_now : Option (List ℕ)) → MayLeave (image_at mid.history i) cut.history.present
+    → (run : AnswersScript (Unit {0}) cut new status left left_now written written_now)
+    → GoesOnFrom entry lines replies mark cut new status run.lines run.replies run.part
+
+-- where the power is lost at any moment of a run, whatever run comes next goes on from a device which that run passed,
+-- each later moment from the same or a later one
+pub record GoesOnAnywhere (entry : State) (lines : List (List ℕ)) (replies : List Reply) (old mid : World) : Type 0 where
+  pub ahead : List Reply
+  pub one_ahead : length ahead ≤ 1
+  pub mark : ℕ → ℕ
+  pub rises : (i j : ℕ) → i ≤ j → mark i ≤ mark j
+  pub within : (i : ℕ) → mark i ≤ length replies + length ahead
+  pub each : (i : ℕ) → moment old.history ≤ i → i ≤ moment mid.history → Resumes entry lines (replies ++ ahead) mid i (mark i)
 
 -- the first run answers its script and ends; the power is lost; over what is left the second run answers its own
 pub record TwoRuns (old new : World) (first second : ℕ) (left left_now other other_now written written_now : Option (List ℕ)) : Type 0 where
@@ -30,5 +53,8 @@ pub record TwoRuns (old new : World) (first second : ℕ) (left left_now other o
   pub one : AnswersScript (Unit {0}) old mid first left left_now written written_then
   pub lost : MayLeave mid.history.present cut.history.present
   pub two : AnswersScript (Unit {0}) cut new second other other_now written_then written_now
-  pub goes_on : (there : Option Device) → StandsFor old.history.present there → IsServedCell old.history.present.cell old.head
+  pub goes_on : (there : Option Device) → StandsFor old.history.present there → IsServedImage old.history.present
       → GoesOn (closed there) one.lines one.replies cut new second two.lines two.replies two.part
+  -- the same, had the power been lost at any other moment of the first run
+  pub anywhere : (there : Option Device) → StandsFor old.history.present there → IsServedImage old.history.present
+      → GoesOnAnywhere (closed there) one.lines one.replies old mid

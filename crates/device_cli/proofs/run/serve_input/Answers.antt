@@ -126,3 +126,9 @@ returns-in-Err-clause-cell g c = λ told. serves_then _ _ _ (c.loop-left.invaria
 
 pub returns-then-count-eq0-clause-cell : goal.returns-then-count-eq0-clause-cell
 returns-then-count-eq0-clause-cell g c = λ told. serves_then _ _ _ (c.loop-left.invariant.cell told) (c.serve_end.ensures.cell told)
+
+pub serve_end-requires-clause-cell : goal.serve_end-requires-clause-cell
+serve_end-requires-clause-cell g c = λ told. served_at _ _ (c.loop-left.invariant.cell told)
+
+pub serve_piece-requires-clause-cell : goal.serve_piece-requires-clause-cell
+serve_piece-requires-clause-cell g c = λ told. served_at _ _ (c.loop-left.invariant.cell told)

@@ -76,3 +76,6 @@ returns-clause-handled g c rest pending =
 
 pub returns-in-Err-clause-cell : goal.returns-in-Err-clause-cell
 returns-in-Err-clause-cell g c = λ told. serves_then _ _ _ (c.loop-front.invariant.cell told) (c.answer.ensures.cell told)
+
+pub answer-requires-clause-cell : goal.answer-requires-clause-cell
+answer-requires-clause-cell g c = λ told. served_at _ _ (c.loop-front.invariant.cell told)

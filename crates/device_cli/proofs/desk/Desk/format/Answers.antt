@@ -18,7 +18,7 @@ use Rattle.script_lang.specs.declared.devices.Session.{Session as OpenSession}
 use Rattle.device_cli.proofs.ServedLaws.{on, halts_still, gives_format_range, gives_format_unbuilt}
 use Rattle.device_cli.proofs.ServingLaws.{KeepsCell, serves_formatted, serves_format_full, serves_not_empty, serves_refused, halts_format}
 use Rattle.device_cli.proofs.Choices.{not_these, none_of}
-use Rattle.device_core.proofs.ServedLaws.{serves_still}
+use Rattle.device_core.proofs.ServedLaws.{serves_still as serves_while_cell}
 use Rattle.device_cli.proofs.desk.Desk.format.Goals as goal
 
 -- what the looking for a device ended with
@@ -124,4 +124,4 @@ returns-in-Some-clause-answered g c told entry rep =
     refl rep
 
 pub returns-in-Some-clause-cell : goal.returns-in-Some-clause-cell
-returns-in-Some-clause-cell g c = λ told. serves_still _ _ (c.refuse_format.ensures.time told) (c.requires.cell told)
+returns-in-Some-clause-cell g c = λ told. serves_while_cell _ _ (c.refuse_format.ensures.time told) (c.requires.cell told)

@@ -11,7 +11,7 @@ use Rattle.std.specs.Prelude.{List}
 use Rattle.device_core.specs.Leaf.{IsServedCell, IsRefusedCell}
 use Rattle.device_cli.proofs.ServedLaws.{halts_still}
 use Rattle.device_cli.proofs.ServingLaws.{serves_already, serves_mounted, serves_no_device}
-use Rattle.device_core.proofs.ServedLaws.{serves_still}
+use Rattle.device_core.proofs.ServedLaws.{serves_still as serves_while_cell}
 use Rattle.device_cli.proofs.CellLaws.{serves_now}
 use Rattle.device_cli.proofs.desk.Desk.mount.Goals as goal
 
@@ -75,16 +75,16 @@ pub returns-then-is_some-clause-cell : goal.returns-then-is_some-clause-cell
 returns-then-is_some-clause-cell g c = λ told. serves_now _ (c.requires.cell told)
 
 pub returns-in-Ok-clause-cell : goal.returns-in-Ok-clause-cell
-returns-in-Ok-clause-cell g c = λ told. serves_still _ _ (c.mount.ensures.time told) (c.requires.cell told)
+returns-in-Ok-clause-cell g c = λ told. serves_while_cell _ _ (c.mount.ensures.time told) (c.requires.cell told)
 
 pub returns-in-Err-NoDevice-clause-cell : goal.returns-in-Err-NoDevice-clause-cell
-returns-in-Err-NoDevice-clause-cell g c = λ told. serves_still _ _ (c.mount.ensures.time told) (c.requires.cell told)
+returns-in-Err-NoDevice-clause-cell g c = λ told. serves_while_cell _ _ (c.mount.ensures.time told) (c.requires.cell told)
 
 pub returns-in-Err-PlatformFault-clause-cell : goal.returns-in-Err-PlatformFault-clause-cell
-returns-in-Err-PlatformFault-clause-cell g c = λ told. serves_still _ _ (c.mount.ensures.time told) (c.requires.cell told)
+returns-in-Err-PlatformFault-clause-cell g c = λ told. serves_while_cell _ _ (c.mount.ensures.time told) (c.requires.cell told)
 
 pub returns-in-Err-Memory-clause-cell : goal.returns-in-Err-Memory-clause-cell
-returns-in-Err-Memory-clause-cell g c = λ told. serves_still _ _ (c.mount.ensures.time told) (c.requires.cell told)
+returns-in-Err-Memory-clause-cell g c = λ told. serves_while_cell _ _ (c.mount.ensures.time told) (c.requires.cell told)
 
 pub returns-in-Err-BadRoot-clause-cell : goal.returns-in-Err-BadRoot-clause-cell
-returns-in-Err-BadRoot-clause-cell g c = λ told. serves_still _ _ (c.mount.ensures.time told) (c.requires.cell told)
+returns-in-Err-BadRoot-clause-cell g c = λ told. serves_while_cell _ _ (c.mount.ensures.time told) (c.requires.cell told)

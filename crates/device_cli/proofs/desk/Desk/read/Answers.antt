@@ -13,7 +13,7 @@ use Rattle.script_lang.specs.declared.commands.Command.TheVariants.{Read}
 use Rattle.device_cli.proofs.ServedLaws.{at, with_session, has_session, serves_still, halts_still, gives_unmounted_read, gives_content, gives_read_range}
 use Rattle.device_cli.proofs.ServingLaws.{serves_unmounted}
 use Rattle.device_cli.proofs.Choices.{inside, not_both}
-use Rattle.device_core.proofs.ServedLaws.{serves_still}
+use Rattle.device_core.proofs.ServedLaws.{serves_still as serves_while_cell}
 use Rattle.device_cli.proofs.CellLaws.{serves_now}
 use Rattle.device_cli.proofs.desk.Desk.read.Goals as goal
 
@@ -72,13 +72,13 @@ pub returns-in_default-clause-cell : goal.returns-in_default-clause-cell
 returns-in_default-clause-cell g c = λ told. serves_now _ (c.requires.cell told)
 
 pub returns-in-Ok-clause-cell : goal.returns-in-Ok-clause-cell
-returns-in-Ok-clause-cell g c = λ told. serves_still _ _ (c.read.ensures.time told) (c.requires.cell told)
+returns-in-Ok-clause-cell g c = λ told. serves_while_cell _ _ (c.read.ensures.time told) (c.requires.cell told)
 
 pub returns-in-Err-Range-clause-cell : goal.returns-in-Err-Range-clause-cell
-returns-in-Err-Range-clause-cell g c = λ told. serves_still _ _ (c.read.ensures.time told) (c.requires.cell told)
+returns-in-Err-Range-clause-cell g c = λ told. serves_while_cell _ _ (c.read.ensures.time told) (c.requires.cell told)
 
 pub returns-in-Err-BadRecord-clause-cell : goal.returns-in-Err-BadRecord-clause-cell
-returns-in-Err-BadRecord-clause-cell g c = λ told. serves_still _ _ (c.read.ensures.time told) (c.requires.cell told)
+returns-in-Err-BadRecord-clause-cell g c = λ told. serves_while_cell _ _ (c.read.ensures.time told) (c.requires.cell told)
 
 pub returns-in-Err-PlatformFault-clause-cell : goal.returns-in-Err-PlatformFault-clause-cell
-returns-in-Err-PlatformFault-clause-cell g c = λ told. serves_still _ _ (c.read.ensures.time told) (c.requires.cell told)
+returns-in-Err-PlatformFault-clause-cell g c = λ told. serves_while_cell _ _ (c.read.ensures.time told) (c.requires.cell told)

@@ -15,7 +15,7 @@ use Rattle.script_lang.specs.declared.commands.Command.TheVariants.{Trim}
 use Rattle.device_cli.proofs.ServedLaws.{at, with_session, has_session, serves_still, halts_still, gives_unmounted_trim, gives_trimmed, gives_trim_range}
 use Rattle.device_cli.proofs.ServingLaws.{serves_unmounted}
 use Rattle.device_cli.proofs.Choices.{inside, not_both}
-use Rattle.device_core.proofs.ServedLaws.{serves_still}
+use Rattle.device_core.proofs.ServedLaws.{serves_still as serves_while_cell}
 use Rattle.device_cli.proofs.CellLaws.{serves_now}
 use Rattle.device_cli.proofs.desk.Desk.trim.Goals as goal
 
@@ -85,16 +85,16 @@ pub returns-in_default-clause-cell : goal.returns-in_default-clause-cell
 returns-in_default-clause-cell g c = λ told. serves_now _ (c.requires.cell told)
 
 pub returns-in-Ok-clause-cell : goal.returns-in-Ok-clause-cell
-returns-in-Ok-clause-cell g c = λ told. serves_still _ _ (c.trim.ensures.time told) (c.requires.cell told)
+returns-in-Ok-clause-cell g c = λ told. serves_while_cell _ _ (c.trim.ensures.time told) (c.requires.cell told)
 
 pub returns-in-Err-Range-clause-cell : goal.returns-in-Err-Range-clause-cell
-returns-in-Err-Range-clause-cell g c = λ told. serves_still _ _ (c.trim.ensures.time told) (c.requires.cell told)
+returns-in-Err-Range-clause-cell g c = λ told. serves_while_cell _ _ (c.trim.ensures.time told) (c.requires.cell told)
 
 pub returns-in-Err-BadRecord-clause-cell : goal.returns-in-Err-BadRecord-clause-cell
-returns-in-Err-BadRecord-clause-cell g c = λ told. serves_still _ _ (c.trim.ensures.time told) (c.requires.cell told)
+returns-in-Err-BadRecord-clause-cell g c = λ told. serves_while_cell _ _ (c.trim.ensures.time told) (c.requires.cell told)
 
 pub returns-in-Err-PlatformFault-clause-cell : goal.returns-in-Err-PlatformFault-clause-cell
-returns-in-Err-PlatformFault-clause-cell g c = λ told. serves_still _ _ (c.trim.ensures.time told) (c.requires.cell told)
+returns-in-Err-PlatformFault-clause-cell g c = λ told. serves_while_cell _ _ (c.trim.ensures.time told) (c.requires.cell told)
 
 pub returns-in-Err-Memory-clause-cell : goal.returns-in-Err-Memory-clause-cell
-returns-in-Err-Memory-clause-cell g c = λ told. serves_still _ _ (c.trim.ensures.time told) (c.requires.cell told)
+returns-in-Err-Memory-clause-cell g c = λ told. serves_while_cell _ _ (c.trim.ensures.time told) (c.requires.cell told)
