@@ -1,14 +1,10 @@
 -- How the marks that runs pass compose.
-use Rattle.std.proofs.Common.{◌≡◌, inl, inr, true, false, ℕ, suc, ◌+◌, ◌<◌, ◌≤◌, List, [], ◌∷◌, ◌++◌, Option, length, take, refl, sym, ap, subst, arith, length-append}
-use Rattle.std.specs.Prelude.{if◌then◌else◌, nat_lt}
-use Rattle.std.proofs.lemmas.Bool.{cases_lt}
-use Rattle.std.proofs.lemmas.Bool.Decides.{nat_tests}
+use Rattle.std.proofs.Common.{◌≡◌, ℕ, suc, ◌+◌, ◌≤◌, List, [], ◌∷◌, ◌++◌, Option, length, take, refl, sym, ap, subst, arith, length-append}
 use Rattle.std.proofs.lemmas.List.{take-append-le}
 use Rattle.platform.specs.Image.{Image}
-use Rattle.platform.specs.History.{History, During, Turns, image_at, moment}
+use Rattle.platform.specs.History.{History, During, Turns}
 use Rattle.platform.specs.Runs.{Passes}
-use Rattle.platform.proofs.Moments.{Extends-trans}
-use Rattle.platform.proofs.RunLaws.{Passes-start, Passes-during, Passes-turns}
+use Rattle.platform.proofs.RunLaws.{Passes-start, Passes-during, Passes-turns, Passes-then, Passes-same}
 use Rattle.page_store.proofs.StandsLaws.{stands_leaves}
 use Rattle.script_lang.specs.Arrays.{State}
 use Rattle.script_lang.specs.Answers.{Turn, Answers, IsMark}
@@ -17,57 +13,6 @@ use Rattle.script_lang.specs.declared.devices.Device.{Device}
 use Rattle.script_lang.specs.declared.replies.Reply.{Reply}
 use Rattle.device_cli.specs.Represents.{StandsFor, Leaves}
 use Rattle.device_cli.specs.Replied.{HasMark}
-
--- one function below n, and another from n on
-until : ℕ → (ℕ → ℕ) → (ℕ → ℕ) → ℕ → ℕ
-until n first later i = if nat_lt i n then first i else later i
-
-until-before : (n : ℕ) (first later : ℕ → ℕ) (i : ℕ) → i < n → until n first later i ≡ first i
-unfolding until
-until-before n first later i before = let passes : nat_lt i n ≡ true = grind (arith, nat_tests) in rw passes refl
-
-until-after : (n : ℕ) (first later : ℕ → ℕ) (i : ℕ) → n ≤ i → until n first later i ≡ later i
-unfolding until
-until-after n first later i after = let fails : nat_lt i n ≡ false = grind (arith, nat_tests) in rw fails refl
-
--- one run after another: the marks of the second come after the first's
-pub Passes-then : (first second third : History) (One Two Mark : ℕ → Image → Type 0) (n last : ℕ)
-    → ((k : ℕ) (image : Image) → k ≤ n → One k image → Mark k image) → ((k : ℕ) (image : Image) → Two k image → Mark (n + k) image)
-    → Passes first second One n → Passes second third Two last → Passes first third Mark (n + last)
-Passes-then first second third One Two Mark n last from to one two =
-    let m = moment second in
-    let later : ℕ → ℕ = λ i. n + two.mark i in
-    record {
-      extends = Extends-trans first second third one.extends two.extends;
-      mark = until m one.mark later;
-      rises = λ i j order. elim (cases_lt j m) [
-        | inl before ↦ rw (until-before m one.mark later i (omega arith), until-before m one.mark later j before) (one.rises i j order)
-        | inr after ↦ elim (cases_lt i m) [
-          | inl before ↦ rw (until-before m one.mark later i before, until-after m one.mark later j after) (let a = one.within i in omega arith)
-          | inr late ↦ rw (until-after m one.mark later i late, until-after m one.mark later j after) (let a = two.rises i j order in omega arith)
-        ]
-      ];
-      within = λ i. elim (cases_lt i m) [
-        | inl before ↦ rw (until-before m one.mark later i before) (let a = one.within i in omega arith)
-        | inr after ↦ rw (until-after m one.mark later i after) (let a = two.within i in omega arith)
-      ];
-      each = λ i start end. elim (cases_lt i m) [
-        | inl before ↦ rw (until-before m one.mark later i before)
-            (subst (Mark (one.mark i)) (sym (two.extends.same i (omega arith))) (from (one.mark i) (image_at second i) (one.within i) (one.each i start (omega arith))))
-        | inr after ↦ rw (until-after m one.mark later i after) (to (two.mark i) (image_at third i) (two.each i after end))
-      ];
-    }
-
--- the same marks under another name
-pub Passes-same : (old new : History) (One Mark : ℕ → Image → Type 0) (last : ℕ) → ((k : ℕ) (image : Image) → One k image → Mark k image)
-    → Passes old new One last → Passes old new Mark last
-Passes-same old new One Mark last to p = record {
-  extends = p.extends;
-  mark = p.mark;
-  rises = p.rises;
-  within = p.within;
-  each = λ i start end. to (p.mark i) (image_at new i) (p.each i start end);
-}
 
 -- the first n of some replies, where more come behind them
 take_front : (n : ℕ) (replies more : List Reply) → n ≤ length replies → take n (replies ++ more) ≡ take n replies

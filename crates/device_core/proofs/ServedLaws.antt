@@ -1,8 +1,8 @@
 -- That a cell which can be served is one at each moment, whatever a call makes of it.
-use Rattle.std.proofs.Common.{◌≡◌, ◌⊎◌, inl, inr, ℕ, ◌≤◌, List, Option, Some, None, length, refl, sym, ◌∙◌, subst, arith}
-use Rattle.platform.specs.Image.{Image, IsEither, IsEarlier, with_cell, all_synced}
-use Rattle.platform.specs.History.{History, Steps, Extends, During, Turns, image_at, moment}
-use Rattle.platform.proofs.Moments.{During-call, During-now, During-turns, image_at-now}
+use Rattle.std.proofs.Common.{◌≡◌, ◌⊎◌, inl, inr, ℕ, ◌≤◌, List, Option, Some, None, length, refl, sym, subst, arith}
+use Rattle.platform.specs.Image.{Image, IsEither, with_cell, all_synced}
+use Rattle.platform.specs.History.{History, Steps, During, Turns, image_at}
+use Rattle.platform.proofs.Moments.{Extends-since, During-call, During-now, During-turns}
 use Rattle.root_codec.specs.declared.root.Root.{Root}
 use Rattle.root_codec.specs.RootRecord.{root_bytes}
 use Rattle.device_core.specs.Leaf.{IsServed, IsServedCell, IsServedImage}
@@ -18,17 +18,11 @@ served_later : (image later : Image) → later.cell ≡ image.cell → length im
 served_later image later same more served =
     subst (λ (held : Option (List ℕ)). IsServedCell held (length later.recorded)) (sym same) (served_more image.cell (length image.recorded) (length later.recorded) more served)
 
--- the image before is earlier than that of each moment since
-earlier_than : (old new : History) → Extends old new → (i : ℕ) → moment old ≤ i → IsEarlier old.present (image_at new i)
-earlier_than old new extends i from =
-    let was : image_at new (moment old) ≡ old.present = extends.same (moment old) (omega arith) ∙ image_at-now old (moment old) (omega arith) in
-    subst (λ image. IsEarlier image (image_at new i)) was (new.ascends (moment old) i from)
-
 -- as long as the cell stays, it can be served
 pub serves_still : (old new : History) → During old new (λ image. image.cell ≡ old.present.cell) → IsServedImage old.present → During old new IsServedImage
 serves_still old new during served = record {
   extends = during.extends;
-  each = λ i from to. served_later old.present (image_at new i) (during.each i from to) (earlier_than old new during.extends i from).pages served;
+  each = λ i from to. served_later old.present (image_at new i) (during.each i from to) (Extends-since old new i during.extends from).pages served;
 }
 
 -- the cell stays, until the image is one whose cell can be served
@@ -38,7 +32,7 @@ serves_turned old new X turns served next =
     record {
       extends = turns.extends;
       each = λ i from to. elim (either.each i from to) [
-        | inl same ↦ served_later old.present (image_at new i) same (earlier_than old new turns.extends i from).pages served
+        | inl same ↦ served_later old.present (image_at new i) same (Extends-since old new i turns.extends from).pages served
         | inr is ↦ subst IsServedImage (sym is) next
       ];
     }

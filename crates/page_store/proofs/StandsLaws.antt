@@ -4,8 +4,8 @@ use Rattle.std.specs.Prelude.{All, Option, None, Some, slice_get}
 use Rattle.std.specs.FinMap.{from_entries}
 use Rattle.std.proofs.lemmas.List.Elements.{All-weaker}
 use Rattle.platform.specs.Image.{Image, IsEarlier, MayLeave, LeavesOnly, with_page, with_cell, all_synced}
-use Rattle.platform.specs.History.{History, image_at, moment, During}
-use Rattle.platform.proofs.Moments.{synced-stays, image_at-now}
+use Rattle.platform.specs.History.{History, image_at, During}
+use Rattle.platform.proofs.Moments.{synced-stays, Extends-since}
 use Rattle.root_codec.specs.declared.root.Root.{Root}
 use Rattle.root_codec.specs.Laws.{one_root}
 use Rattle.page_store.specs.Device.{Device}
@@ -130,15 +130,10 @@ pub stands_empty : (image : Image) → Stands (with_cell image None) None
 stands_empty image = refl
 
 -- as long as the cell stays as it was, a loss of power at any moment leaves what stands for the same device
-pub stays_while_cell : (old new : History) (device : Option Device) → Stands old.present device → During old new (λ image. image.cell ≡ old.present.cell) → During old new (LeavesOnly (λ left. Stands left device))
-stays_while_cell old new device stands during = record {
+pub stands_during : (old new : History) (device : Option Device) → Stands old.present device → During old new (λ image. image.cell ≡ old.present.cell) → During old new (LeavesOnly (λ left. Stands left device))
+stands_during old new device stands during = record {
   extends = during.extends;
   each = λ i from to.
-      let was : image_at new (moment old) ≡ old.present = during.extends.same (moment old) (omega arith) ∙ image_at-now old (moment old) (omega arith) in
-      let earlier = subst (λ (image : Image). IsEarlier image (image_at new i)) was (new.ascends (moment old) i from) in
+      let earlier = Extends-since old new i during.extends from in
       stands_leaves (image_at new i) device (stands_later old.present (image_at new i) device earlier (during.each i from to) stands);
 }
-
--- the same under the name that proofs of other crates cite
-pub stands_during : (old new : History) (device : Option Device) → Stands old.present device → During old new (λ image. image.cell ≡ old.present.cell) → During old new (LeavesOnly (λ left. Stands left device))
-stands_during = stays_while_cell

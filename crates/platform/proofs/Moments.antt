@@ -63,10 +63,15 @@ Extends-refl history = record { later = omega arith; same = λ i past. refl }
 pub Extends-trans : (first second third : History) → Extends first second → Extends second third → Extends first third
 Extends-trans first second third one two = record { later = omega (arith, one.later, two.later); same = λ i past. two.same i (omega (arith, one.later)) ∙ one.same i past }
 
+-- the image of then is earlier than that of each moment since
+pub Extends-since : (old new : History) (i : ℕ) → Extends old new → moment old ≤ i → IsEarlier old.present (image_at new i)
+Extends-since old new i extends from =
+    let was : image_at new (moment old) ≡ old.present = extends.same (moment old) (omega arith) ∙ image_at-now old (moment old) (omega arith) in
+    subst (λ image. IsEarlier image (image_at new i)) was (new.ascends (moment old) i from)
+
 pub Extends-earlier : (old new : History) → Extends old new → IsEarlier old.present new.present
 Extends-earlier old new extends =
-    let was : image_at new (moment old) ≡ old.present = extends.same (moment old) (omega arith) ∙ image_at-now old (moment old) (omega arith) in
-    subst (λ image. IsEarlier image new.present) was (earlier-now new (moment old) extends.later)
+    subst (λ image. IsEarlier old.present image) (image_at-now new (moment new) (omega arith)) (Extends-since old new (moment new) extends extends.later)
 
 -- no time passed
 pub During-start : (history : History) (P : Image → Type 0) → P history.present → During history history P

@@ -91,6 +91,45 @@ Passes-turns start old new Mark last passes turns =
       ];
     }
 
+-- one run after another: the marks of the second come after the first's
+pub Passes-then : (first second third : History) (One Two Mark : ℕ → Image → Type 0) (n last : ℕ)
+    → ((k : ℕ) (image : Image) → k ≤ n → One k image → Mark k image) → ((k : ℕ) (image : Image) → Two k image → Mark (n + k) image)
+    → Passes first second One n → Passes second third Two last → Passes first third Mark (n + last)
+Passes-then first second third One Two Mark n last from to one two =
+    let m = moment second in
+    let later : ℕ → ℕ = λ i. n + two.mark i in
+    record {
+      extends = Extends-trans first second third one.extends two.extends;
+      mark = until m one.mark later;
+      rises = λ i j order. elim (cases_lt j m) [
+        | inl before ↦ rw (until-before m one.mark later i (omega arith), until-before m one.mark later j before) (one.rises i j order)
+        | inr after ↦ elim (cases_lt i m) [
+          | inl before ↦ rw (until-before m one.mark later i before, until-after m one.mark later j after) (let a = one.within i in omega arith)
+          | inr late ↦ rw (until-after m one.mark later i late, until-after m one.mark later j after) (let a = two.rises i j order in omega arith)
+        ]
+      ];
+      within = λ i. elim (cases_lt i m) [
+        | inl before ↦ rw (until-before m one.mark later i before) (let a = one.within i in omega arith)
+        | inr after ↦ rw (until-after m one.mark later i after) (let a = two.within i in omega arith)
+      ];
+      each = λ i start end. elim (cases_lt i m) [
+        | inl before ↦ rw (until-before m one.mark later i before)
+            (subst (Mark (one.mark i)) (sym (two.extends.same i (omega arith))) (from (one.mark i) (image_at second i) (one.within i) (one.each i start (omega arith))))
+        | inr after ↦ rw (until-after m one.mark later i after) (to (two.mark i) (image_at third i) (two.each i after end))
+      ];
+    }
+
+-- the same marks under another name
+pub Passes-same : (old new : History) (One Mark : ℕ → Image → Type 0) (last : ℕ) → ((k : ℕ) (image : Image) → One k image → Mark k image)
+    → Passes old new One last → Passes old new Mark last
+Passes-same old new One Mark last to p = record {
+  extends = p.extends;
+  mark = p.mark;
+  rises = p.rises;
+  within = p.within;
+  each = λ i start end. to (p.mark i) (image_at new i) (p.each i start end);
+}
+
 -- one run after another: what is in the tree where they meet is reached there
 pub StaysDeleted-then : (first second third : History) (floor : ℕ → ℕ) (Reached InTree : Image → ℕ → Type 0) → ((addr : ℕ) → InTree second.present addr → Reached second.present addr) → StaysDeleted first second floor Reached InTree → StaysDeleted second third floor Reached InTree → StaysDeleted first third floor Reached InTree
 StaysDeleted-then first second third floor Reached InTree meets one two =
