@@ -20,8 +20,7 @@ use script_lang::{Command, Reply, reply_with_content};
 use sdbt_base::{BLOCK, MAX_BLOCKS, MAX_ORDER, ROOT, Sink, Tape};
 use std::alloc::Global;
 
-/// What a run keeps between lines: the session, if there is one. A call takes it out, and puts it back
-/// unless it ends the run.
+/// What a run keeps between lines: the session, if there is one.
 #[derive(Drop)]
 pub(crate) struct Desk {
     alloc: Global,
@@ -196,13 +195,13 @@ impl Desk {
             → Serves (world self.old.session (P.history platform.old) (P.head platform.old) (P.capacity platform.old))
             (world self.new.session (P.history platform.new) (P.head platform.new) (P.capacity platform.new)) entry (Command.Read block) result }
     {
-        let Some(mut session) = self.session.take() else {
+        let Some(session) = &mut self.session else {
             return Ok(Reply::Unmounted);
         };
         let mut content = [0; BLOCK];
         match session.read(platform, block, &mut content) {
-            Ok(()) => self.keep(session, reply_with_content(&content)),
-            Err(ReadRefusal::Range) => self.keep(session, Reply::Range),
+            Ok(()) => Ok(reply_with_content(&content)),
+            Err(ReadRefusal::Range) => Ok(Reply::Range),
             Err(ReadRefusal::BadRecord { addr }) => Err(DeviceStop::BadRecord { addr }),
             Err(ReadRefusal::PlatformFault) => Err(DeviceStop::Platform),
         }
@@ -238,13 +237,13 @@ impl Desk {
             → Serves (world self.old.session (P.history platform.old) (P.head platform.old) (P.capacity platform.old))
             (world self.new.session (P.history platform.new) (P.head platform.new) (P.capacity platform.new)) entry (Command.Write block bytes) result }
     {
-        let Some(mut session) = self.session.take() else {
+        let Some(session) = &mut self.session else {
             return Ok(Reply::Unmounted);
         };
         match session.write(platform, tape, block, content) {
-            Ok(()) => self.keep(session, Reply::Done),
-            Err(WriteRefusal::Range) => self.keep(session, Reply::Range),
-            Err(WriteRefusal::Full) => self.keep(session, Reply::Full),
+            Ok(()) => Ok(Reply::Done),
+            Err(WriteRefusal::Range) => Ok(Reply::Range),
+            Err(WriteRefusal::Full) => Ok(Reply::Full),
             Err(WriteRefusal::Memory) => Err(DeviceStop::Memory),
             Err(WriteRefusal::BadRecord { addr }) => Err(DeviceStop::BadRecord { addr }),
             Err(WriteRefusal::TapeFault) => Err(DeviceStop::Tape),
@@ -274,12 +273,12 @@ impl Desk {
             → Serves (world self.old.session (P.history platform.old) (P.head platform.old) (P.capacity platform.old))
             (world self.new.session (P.history platform.new) (P.head platform.new) (P.capacity platform.new)) entry (Command.Trim block) result }
     {
-        let Some(mut session) = self.session.take() else {
+        let Some(session) = &mut self.session else {
             return Ok(Reply::Unmounted);
         };
         match session.trim(platform, block) {
-            Ok(()) => self.keep(session, Reply::Done),
-            Err(TrimRefusal::Range) => self.keep(session, Reply::Range),
+            Ok(()) => Ok(Reply::Done),
+            Err(TrimRefusal::Range) => Ok(Reply::Range),
             Err(TrimRefusal::Memory) => Err(DeviceStop::Memory),
             Err(TrimRefusal::BadRecord { addr }) => Err(DeviceStop::BadRecord { addr }),
             Err(TrimRefusal::PlatformFault) => Err(DeviceStop::Platform),
@@ -325,9 +324,10 @@ impl Desk {
             Err(CommitFault::PlatformFault) => return Err(DeviceStop::Platform),
         };
         let (session, reply) = answer;
+        self.session = Some(session);
         match reply {
-            CommitReply::Committed { number } => self.keep(session, Reply::Committed { number }),
-            CommitReply::Full { .. } => self.keep(session, Reply::Full),
+            CommitReply::Committed { number } => Ok(Reply::Committed { number }),
+            CommitReply::Full { .. } => Ok(Reply::Full),
         }
     }
 
@@ -397,15 +397,6 @@ impl Desk {
             }),
             None => Ok(Reply::Unmounted),
         }
-    }
-
-    /// Puts the session back, and answers the reply.
-    fn keep(&mut self, session: Session, reply: Reply) -> Result<Reply, DeviceStop>
-        ensures reply { result ≡ Ok reply }
-        ensures session { self.new.session ≡ Some session }
-    {
-        self.session = Some(session);
-        Ok(reply)
     }
 }
 

@@ -1,4 +1,4 @@
-use Rattle.std.proofs.Common.{◌≡◌, None, Some, inl, inr, sym, ap, subst, arith}
+use Rattle.std.proofs.Common.{◌≡◌, None, Some, inl, inr, refl, sym, ap, subst, arith}
 use Rattle.std.specs.Prelude.{Result, ◌⊎◌}
 use Rattle.std.proofs.lemmas.Grind.{common_steps}
 use Rattle.script_lang.specs.declared.replies.Reply.{Reply}
@@ -25,28 +25,26 @@ pub returns-in-Committed-clause-answered : goal.returns-in-Committed-clause-answ
 returns-in-Committed-clause-answered g c told entry rep =
     let P = g.P.Platform in
     let old : World = world c.args.self.now.session (P.history c.args.platform.now) (P.head c.args.platform.now) (P.capacity c.args.platform.now) in
-    let new : World = world c.keep.new.self.session (P.history c.commit.new.platform) (P.head c.commit.new.platform) (P.capacity c.commit.new.platform) in
+    let new : World = world (Some c.in-Ok.answer.0) (P.history c.commit.new.platform) (P.head c.commit.new.platform) (P.capacity c.commit.new.platform) in
     let taken : c.args.self.now.session ≡ Some c.in-Some.session = cc (c.take.ensures.value, c.in-Some.is) in
-    subst (λ (r : Result Reply DeviceStop). Serves old new entry Commit r) (sym c.keep.ensures.reply)
-    (serves_committed old new entry c.in-Some.session c.in-Ok.answer.0 c.in-Committed.number c.in-Ok.answer.1 taken c.keep.ensures.session c.in-Committed.is
+    serves_committed old new entry c.in-Some.session c.in-Ok.answer.0 c.in-Committed.number c.in-Ok.answer.1 taken refl c.in-Committed.is
     (λ e. let idle = c.in-Ok.ensures.idle e in (idle.3.1, idle.3.0, ap (λ p. (P.history p).present) idle.0, keeps_same old new (ap (λ p. P.history p) idle.0)))
     (λ e f. (c.in-Ok.ensures.full e f).3.1)
     (λ e f. let raised = c.in-Ok.ensures.raised e f in (raised.0, raised.2))
     (λ d t holds. (c.in-Ok.ensures.holds told (stored d) t.contents holds, c.commit.ensures.time told (stored d) t.contents holds))
-    rep)
+    rep
 
 pub returns-in-Full-clause-answered : goal.returns-in-Full-clause-answered
 returns-in-Full-clause-answered g c told entry rep =
     let P = g.P.Platform in
     let old : World = world c.args.self.now.session (P.history c.args.platform.now) (P.head c.args.platform.now) (P.capacity c.args.platform.now) in
-    let new : World = world c.keep-in-Full.new.self.session (P.history c.commit.new.platform) (P.head c.commit.new.platform) (P.capacity c.commit.new.platform) in
+    let new : World = world (Some c.in-Ok.answer.0) (P.history c.commit.new.platform) (P.head c.commit.new.platform) (P.capacity c.commit.new.platform) in
     let taken : c.args.self.now.session ≡ Some c.in-Some.session = cc (c.take.ensures.value, c.in-Some.is) in
-    subst (λ (r : Result Reply DeviceStop). Serves old new entry Commit r) (sym c.keep-in-Full.ensures.reply)
-    (serves_commit_full old new entry c.in-Some.session c.in-Ok.answer.0 c.in-Full.needed c.in-Full.free c.in-Ok.answer.1 taken c.keep-in-Full.ensures.session c.in-Full.is
+    serves_commit_full old new entry c.in-Some.session c.in-Ok.answer.0 c.in-Full.needed c.in-Full.free c.in-Ok.answer.1 taken refl c.in-Full.is
     (λ e. (c.in-Ok.ensures.idle e).3.1)
     (λ e f. let full = c.in-Ok.ensures.full e f in (full.3.0, ap (λ p. (P.history p).present) full.0, keeps_same old new (ap (λ p. P.history p) full.0)))
     (λ e f. (c.in-Ok.ensures.raised e f).0)
-    rep)
+    rep
 
 pub returns-in-Err-Memory-clause-answered : goal.returns-in-Err-Memory-clause-answered
 returns-in-Err-Memory-clause-answered g c told entry rep =

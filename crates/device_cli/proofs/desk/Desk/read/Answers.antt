@@ -1,4 +1,4 @@
-use Rattle.std.proofs.Common.{◌≡◌, ◌<◌, ◌≤◌, ℕ, None, Some, Ok, Err, sym, ◌∙◌, ap, subst, arith}
+use Rattle.std.proofs.Common.{◌≡◌, ◌<◌, ◌≤◌, ℕ, None, Some, Ok, Err, refl, sym, ◌∙◌, ap, subst, arith}
 use Rattle.std.specs.Prelude.{Result}
 use Rattle.std.proofs.lemmas.Grind.{common_steps}
 use Rattle.script_lang.specs.Arrays.{content_reply}
@@ -20,21 +20,21 @@ use Rattle.device_cli.proofs.desk.Desk.read.Goals as goal
 pub returns-in_default-clause-answered : goal.returns-in_default-clause-answered
 returns-in_default-clause-answered g c told entry rep =
     let P = g.P.Platform in
-    let none : c.args.self.now.session ≡ None = grind (arith, common_steps, c.take.ensures.value, c.in_default.is) in
-    serves_unmounted c.args.self.now.session c.take.new.self (P.history c.args.platform.now) (P.head c.args.platform.now) (P.capacity c.args.platform.now) entry (Read c.args.block) none c.take.ensures.after
+    let none : c.args.self.now.session ≡ None = grind (arith, common_steps, c.in_default.is) in
+    serves_unmounted c.args.self.now.session c.args.self.now.session (P.history c.args.platform.now) (P.head c.args.platform.now) (P.capacity c.args.platform.now) entry (Read c.args.block) none none
     (λ full there. gives_unmounted_read full there c.args.block) rep
 
 pub returns-in-Ok-clause-answered : goal.returns-in-Ok-clause-answered
 returns-in-Ok-clause-answered g c told entry rep =
     let P = g.P.Platform in
     let old : World = world c.args.self.now.session (P.history c.args.platform.now) (P.head c.args.platform.now) (P.capacity c.args.platform.now) in
-    let new : World = world c.keep.new.self.session (P.history c.read.new.platform) (P.head c.read.new.platform) (P.capacity c.read.new.platform) in
-    let taken : c.args.self.now.session ≡ Some c.in-Some.session = cc (c.take.ensures.value, c.in-Some.is) in
-    with_session old c.in-Some.session entry taken rep (λ state. Serves old new state (Read c.args.block) c.keep.result)
+    let new : World = world (Some c.read.new.self) (P.history c.read.new.platform) (P.head c.read.new.platform) (P.capacity c.read.new.platform) in
+    let taken : c.args.self.now.session ≡ Some c.in-Some.session = c.in-Some.is in
+    with_session old c.in-Some.session entry taken rep (λ state. Serves old new state (Read c.args.block) (Ok c.reply_with_content.result))
     (λ d t holds touched.
     let within : c.args.block < d.blocks = inside c.args.block d.blocks (λ past. not_both c.read.result _ _ c.in-Ok.is (c.read.ensures.range.1 (subst (λ (n : ℕ). n ≤ c.args.block) (sym holds.stands.blocks) past))) in
-    let after = has_session new c.read.new.self d t c.keep.ensures.session (c.in-Ok.ensures.holds told (stored d) t.contents holds) (c.in-Ok.ensures.same.2 ∙ touched) in
-    subst (λ (r : Result Reply DeviceStop). Serves old new (at d t) (Read c.args.block) r) (sym (c.keep.ensures.reply ∙ ap Ok c.reply_with_content.ensures.value))
+    let after = has_session new c.read.new.self d t refl (c.in-Ok.ensures.holds told (stored d) t.contents holds) (c.in-Ok.ensures.same.2 ∙ touched) in
+    subst (λ (r : Reply). Serves old new (at d t) (Read c.args.block) (Ok r)) (sym c.reply_with_content.ensures.value)
     (serves_still old new (at d t) (at d t) (Read c.args.block) (content_reply c.read.new.out) (has_session old c.in-Some.session d t taken holds touched)
     (gives_content (is_full old) d t c.args.block c.read.new.out within (c.in-Ok.ensures.content told (stored d) t.contents holds)) after (c.read.ensures.time told)))
 
@@ -42,22 +42,21 @@ pub returns-in-Err-Range-clause-answered : goal.returns-in-Err-Range-clause-answ
 returns-in-Err-Range-clause-answered g c told entry rep =
     let P = g.P.Platform in
     let old : World = world c.args.self.now.session (P.history c.args.platform.now) (P.head c.args.platform.now) (P.capacity c.args.platform.now) in
-    let new : World = world c.keep-in-Err-Range.new.self.session (P.history c.read.new.platform) (P.head c.read.new.platform) (P.capacity c.read.new.platform) in
-    let taken : c.args.self.now.session ≡ Some c.in-Some.session = cc (c.take.ensures.value, c.in-Some.is) in
-    with_session old c.in-Some.session entry taken rep (λ state. Serves old new state (Read c.args.block) c.keep-in-Err-Range.result)
+    let new : World = world (Some c.read.new.self) (P.history c.read.new.platform) (P.head c.read.new.platform) (P.capacity c.read.new.platform) in
+    let taken : c.args.self.now.session ≡ Some c.in-Some.session = c.in-Some.is in
+    with_session old c.in-Some.session entry taken rep (λ state. Serves old new state (Read c.args.block) (Ok replies.Range))
     (λ d t holds touched.
     let past : d.blocks ≤ c.args.block = subst (λ (n : ℕ). n ≤ c.args.block) holds.stands.blocks (c.read.ensures.range.0 (cc)) in
-    let after = has_session new c.read.new.self d t c.keep-in-Err-Range.ensures.session (c.read.ensures.holds told (stored d) t.contents holds) (c.read.ensures.same.2 ∙ touched) in
-    subst (λ (r : Result Reply DeviceStop). Serves old new (at d t) (Read c.args.block) r) (sym c.keep-in-Err-Range.ensures.reply)
-    (serves_still old new (at d t) (at d t) (Read c.args.block) replies.Range (has_session old c.in-Some.session d t taken holds touched)
-    (gives_read_range (is_full old) d t c.args.block past) after (c.read.ensures.time told)))
+    let after = has_session new c.read.new.self d t refl (c.read.ensures.holds told (stored d) t.contents holds) (c.read.ensures.same.2 ∙ touched) in
+    serves_still old new (at d t) (at d t) (Read c.args.block) replies.Range (has_session old c.in-Some.session d t taken holds touched)
+    (gives_read_range (is_full old) d t c.args.block past) after (c.read.ensures.time told))
 
 pub returns-in-Err-BadRecord-clause-answered : goal.returns-in-Err-BadRecord-clause-answered
 returns-in-Err-BadRecord-clause-answered g c told entry rep =
     let P = g.P.Platform in
     let old : World = world c.args.self.now.session (P.history c.args.platform.now) (P.head c.args.platform.now) (P.capacity c.args.platform.now) in
-    let new : World = world c.take.new.self (P.history c.read.new.platform) (P.head c.read.new.platform) (P.capacity c.read.new.platform) in
-    let taken : c.args.self.now.session ≡ Some c.in-Some.session = cc (c.take.ensures.value, c.in-Some.is) in
+    let new : World = world (Some c.read.new.self) (P.history c.read.new.platform) (P.head c.read.new.platform) (P.capacity c.read.new.platform) in
+    let taken : c.args.self.now.session ≡ Some c.in-Some.session = c.in-Some.is in
     with_session old c.in-Some.session entry taken rep (λ state. Serves old new state (Read c.args.block) (Err (device.BadRecord c.in-Err-BadRecord.addr)))
     (λ d t holds touched. absurd (c.read.ensures.sound told (stored d) t.contents holds c.in-Err-BadRecord.addr (cc)))
 
@@ -65,7 +64,7 @@ pub returns-in-Err-PlatformFault-clause-answered : goal.returns-in-Err-PlatformF
 returns-in-Err-PlatformFault-clause-answered g c told entry rep =
     let P = g.P.Platform in
     let old : World = world c.args.self.now.session (P.history c.args.platform.now) (P.head c.args.platform.now) (P.capacity c.args.platform.now) in
-    let new : World = world c.take.new.self (P.history c.read.new.platform) (P.head c.read.new.platform) (P.capacity c.read.new.platform) in
+    let new : World = world (Some c.read.new.self) (P.history c.read.new.platform) (P.head c.read.new.platform) (P.capacity c.read.new.platform) in
     halts_still old new entry (Read c.args.block) device.Platform tt rep (c.read.ensures.time told)
 
 pub returns-in_default-clause-cell : goal.returns-in_default-clause-cell

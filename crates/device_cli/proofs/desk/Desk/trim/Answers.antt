@@ -1,4 +1,4 @@
-use Rattle.std.proofs.Common.{◌≡◌, ◌<◌, ◌≤◌, ℕ, Bool, None, Some, Ok, Err, sym, ◌∙◌, ap, subst, arith}
+use Rattle.std.proofs.Common.{◌≡◌, ◌<◌, ◌≤◌, ℕ, Bool, None, Some, Ok, Err, refl, sym, ◌∙◌, ap, subst, arith}
 use Rattle.std.specs.Prelude.{Result, ◌||◌}
 use Rattle.std.proofs.lemmas.Grind.{common_steps}
 use Rattle.script_lang.specs.declared.replies.Reply.{Reply}
@@ -22,48 +22,46 @@ use Rattle.device_cli.proofs.desk.Desk.trim.Goals as goal
 pub returns-in_default-clause-answered : goal.returns-in_default-clause-answered
 returns-in_default-clause-answered g c told entry rep =
     let P = g.P.Platform in
-    let none : c.args.self.now.session ≡ None = grind (arith, common_steps, c.take.ensures.value, c.in_default.is) in
-    serves_unmounted c.args.self.now.session c.take.new.self (P.history c.args.platform.now) (P.head c.args.platform.now) (P.capacity c.args.platform.now) entry (Trim c.args.block) none c.take.ensures.after
+    let none : c.args.self.now.session ≡ None = grind (arith, common_steps, c.in_default.is) in
+    serves_unmounted c.args.self.now.session c.args.self.now.session (P.history c.args.platform.now) (P.head c.args.platform.now) (P.capacity c.args.platform.now) entry (Trim c.args.block) none none
     (λ full there. gives_unmounted_trim full there c.args.block) rep
 
 pub returns-in-Ok-clause-answered : goal.returns-in-Ok-clause-answered
 returns-in-Ok-clause-answered g c told entry rep =
     let P = g.P.Platform in
     let old : World = world c.args.self.now.session (P.history c.args.platform.now) (P.head c.args.platform.now) (P.capacity c.args.platform.now) in
-    let new : World = world c.keep.new.self.session (P.history c.trim.new.platform) (P.head c.trim.new.platform) (P.capacity c.trim.new.platform) in
-    let taken : c.args.self.now.session ≡ Some c.in-Some.session = cc (c.take.ensures.value, c.in-Some.is) in
-    with_session old c.in-Some.session entry taken rep (λ state. Serves old new state (Trim c.args.block) c.keep.result)
+    let new : World = world (Some c.trim.new.self) (P.history c.trim.new.platform) (P.head c.trim.new.platform) (P.capacity c.trim.new.platform) in
+    let taken : c.args.self.now.session ≡ Some c.in-Some.session = c.in-Some.is in
+    with_session old c.in-Some.session entry taken rep (λ state. Serves old new state (Trim c.args.block) (Ok replies.Done))
     (λ d t holds touched.
     let within : c.args.block < d.blocks = inside c.args.block d.blocks (λ past. not_both c.trim.result _ _ c.in-Ok.is (c.trim.ensures.range.1 (subst (λ (n : ℕ). n ≤ c.args.block) (sym holds.stands.blocks) past))) in
-    let after = has_session new c.trim.new.self d (unmapped t c.args.block) c.keep.ensures.session (c.in-Ok.ensures.trimmed told (stored d) t.contents holds)
+    let after = has_session new c.trim.new.self d (unmapped t c.args.block) refl (c.in-Ok.ensures.trimmed told (stored d) t.contents holds)
     (c.in-Ok.ensures.touched told (stored d) t.contents holds ∙ ap (λ (b : Bool). b || contains_key t.contents c.args.block) touched) in
-    subst (λ (r : Result Reply DeviceStop). Serves old new (at d t) (Trim c.args.block) r) (sym c.keep.ensures.reply)
-    (serves_still old new (at d t) (at d (unmapped t c.args.block)) (Trim c.args.block) replies.Done (has_session old c.in-Some.session d t taken holds touched)
-    (gives_trimmed (is_full old) d t c.args.block within) after (c.trim.ensures.time told)))
+    serves_still old new (at d t) (at d (unmapped t c.args.block)) (Trim c.args.block) replies.Done (has_session old c.in-Some.session d t taken holds touched)
+    (gives_trimmed (is_full old) d t c.args.block within) after (c.trim.ensures.time told))
 
 pub returns-in-Err-Range-clause-answered : goal.returns-in-Err-Range-clause-answered
 returns-in-Err-Range-clause-answered g c told entry rep =
     let P = g.P.Platform in
     let old : World = world c.args.self.now.session (P.history c.args.platform.now) (P.head c.args.platform.now) (P.capacity c.args.platform.now) in
-    let new : World = world c.keep-in-Err-Range.new.self.session (P.history c.trim.new.platform) (P.head c.trim.new.platform) (P.capacity c.trim.new.platform) in
-    let taken : c.args.self.now.session ≡ Some c.in-Some.session = cc (c.take.ensures.value, c.in-Some.is) in
-    with_session old c.in-Some.session entry taken rep (λ state. Serves old new state (Trim c.args.block) c.keep-in-Err-Range.result)
+    let new : World = world (Some c.trim.new.self) (P.history c.trim.new.platform) (P.head c.trim.new.platform) (P.capacity c.trim.new.platform) in
+    let taken : c.args.self.now.session ≡ Some c.in-Some.session = c.in-Some.is in
+    with_session old c.in-Some.session entry taken rep (λ state. Serves old new state (Trim c.args.block) (Ok replies.Range))
     (λ d t holds touched.
     let past : d.blocks ≤ c.args.block = subst (λ (n : ℕ). n ≤ c.args.block) holds.stands.blocks (c.trim.ensures.range.0 (cc)) in
     let refused = c.trim.ensures.refused told (stored d) t.contents holds in
     let untouched = c.trim.ensures.untouched in
     let e : c.trim.result ≡ Err refusals.Range = cc in
-    let after = has_session new c.trim.new.self d t c.keep-in-Err-Range.ensures.session (rw e at refused) ((rw e at untouched) ∙ touched) in
-    subst (λ (r : Result Reply DeviceStop). Serves old new (at d t) (Trim c.args.block) r) (sym c.keep-in-Err-Range.ensures.reply)
-    (serves_still old new (at d t) (at d t) (Trim c.args.block) replies.Range (has_session old c.in-Some.session d t taken holds touched)
-    (gives_trim_range (is_full old) d t c.args.block past) after (c.trim.ensures.time told)))
+    let after = has_session new c.trim.new.self d t refl (rw e at refused) ((rw e at untouched) ∙ touched) in
+    serves_still old new (at d t) (at d t) (Trim c.args.block) replies.Range (has_session old c.in-Some.session d t taken holds touched)
+    (gives_trim_range (is_full old) d t c.args.block past) after (c.trim.ensures.time told))
 
 pub returns-in-Err-BadRecord-clause-answered : goal.returns-in-Err-BadRecord-clause-answered
 returns-in-Err-BadRecord-clause-answered g c told entry rep =
     let P = g.P.Platform in
     let old : World = world c.args.self.now.session (P.history c.args.platform.now) (P.head c.args.platform.now) (P.capacity c.args.platform.now) in
-    let new : World = world c.take.new.self (P.history c.trim.new.platform) (P.head c.trim.new.platform) (P.capacity c.trim.new.platform) in
-    let taken : c.args.self.now.session ≡ Some c.in-Some.session = cc (c.take.ensures.value, c.in-Some.is) in
+    let new : World = world (Some c.trim.new.self) (P.history c.trim.new.platform) (P.head c.trim.new.platform) (P.capacity c.trim.new.platform) in
+    let taken : c.args.self.now.session ≡ Some c.in-Some.session = c.in-Some.is in
     with_session old c.in-Some.session entry taken rep (λ state. Serves old new state (Trim c.args.block) (Err (device.BadRecord c.in-Err-BadRecord.addr)))
     (λ d t holds touched. absurd (c.trim.ensures.sound told (stored d) t.contents holds c.in-Err-BadRecord.addr (cc)))
 
@@ -71,14 +69,14 @@ pub returns-in-Err-PlatformFault-clause-answered : goal.returns-in-Err-PlatformF
 returns-in-Err-PlatformFault-clause-answered g c told entry rep =
     let P = g.P.Platform in
     let old : World = world c.args.self.now.session (P.history c.args.platform.now) (P.head c.args.platform.now) (P.capacity c.args.platform.now) in
-    let new : World = world c.take.new.self (P.history c.trim.new.platform) (P.head c.trim.new.platform) (P.capacity c.trim.new.platform) in
+    let new : World = world (Some c.trim.new.self) (P.history c.trim.new.platform) (P.head c.trim.new.platform) (P.capacity c.trim.new.platform) in
     halts_still old new entry (Trim c.args.block) device.Platform tt rep (c.trim.ensures.time told)
 
 pub returns-in-Err-Memory-clause-answered : goal.returns-in-Err-Memory-clause-answered
 returns-in-Err-Memory-clause-answered g c told entry rep =
     let P = g.P.Platform in
     let old : World = world c.args.self.now.session (P.history c.args.platform.now) (P.head c.args.platform.now) (P.capacity c.args.platform.now) in
-    let new : World = world c.take.new.self (P.history c.trim.new.platform) (P.head c.trim.new.platform) (P.capacity c.trim.new.platform) in
+    let new : World = world (Some c.trim.new.self) (P.history c.trim.new.platform) (P.head c.trim.new.platform) (P.capacity c.trim.new.platform) in
     halts_still old new entry (Trim c.args.block) device.Memory tt rep (c.trim.ensures.time told)
 
 pub returns-in_default-clause-cell : goal.returns-in_default-clause-cell

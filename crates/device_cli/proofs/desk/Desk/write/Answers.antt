@@ -1,4 +1,4 @@
-use Rattle.std.proofs.Common.{◌≡◌, ◌<◌, ◌≤◌, ℕ, None, Some, Ok, Err, sym, ◌∙◌, subst, arith}
+use Rattle.std.proofs.Common.{◌≡◌, ◌<◌, ◌≤◌, ℕ, None, Some, Ok, Err, refl, sym, ◌∙◌, subst, arith}
 use Rattle.std.specs.Prelude.{Result}
 use Rattle.std.proofs.lemmas.Grind.{common_steps}
 use Rattle.script_lang.specs.declared.replies.Reply.{Reply}
@@ -25,8 +25,8 @@ use Rattle.device_cli.proofs.desk.Desk.write.Goals as goal
 pub returns-in_default-clause-answered : goal.returns-in_default-clause-answered
 returns-in_default-clause-answered g c told entry rep bytes same =
     let P = g.P.Platform in
-    let none : c.args.self.now.session ≡ None = grind (arith, common_steps, c.take.ensures.value, c.in_default.is) in
-    serves_unmounted c.args.self.now.session c.take.new.self (P.history c.args.platform.now) (P.head c.args.platform.now) (P.capacity c.args.platform.now) entry (Write c.args.block bytes) none c.take.ensures.after
+    let none : c.args.self.now.session ≡ None = grind (arith, common_steps, c.in_default.is) in
+    serves_unmounted c.args.self.now.session c.args.self.now.session (P.history c.args.platform.now) (P.head c.args.platform.now) (P.capacity c.args.platform.now) entry (Write c.args.block bytes) none none
     (λ full there. gives_unmounted_write full there c.args.block bytes) rep
 
 pub returns-in-Ok-clause-answered : goal.returns-in-Ok-clause-answered
@@ -34,59 +34,56 @@ unfolding zeros
 returns-in-Ok-clause-answered g c told entry rep bytes same =
     let P = g.P.Platform in
     let old : World = world c.args.self.now.session (P.history c.args.platform.now) (P.head c.args.platform.now) (P.capacity c.args.platform.now) in
-    let new : World = world c.keep.new.self.session (P.history c.write.new.platform) (P.head c.write.new.platform) (P.capacity c.write.new.platform) in
-    let taken : c.args.self.now.session ≡ Some c.in-Some.session = cc (c.take.ensures.value, c.in-Some.is) in
-    with_session old c.in-Some.session entry taken rep (λ state. Serves old new state (Write c.args.block bytes) c.keep.result)
+    let new : World = world (Some c.write.new.self) (P.history c.write.new.platform) (P.head c.write.new.platform) (P.capacity c.write.new.platform) in
+    let taken : c.args.self.now.session ≡ Some c.in-Some.session = c.in-Some.is in
+    with_session old c.in-Some.session entry taken rep (λ state. Serves old new state (Write c.args.block bytes) (Ok replies.Done))
     (λ d t holds touched.
     let within : c.args.block < d.blocks = inside c.args.block d.blocks (λ past. not_both c.write.result _ _ c.in-Ok.is (c.write.ensures.range.1 (subst (λ (n : ℕ). n ≤ c.args.block) (sym holds.stands.blocks) past))) in
     let room = is_full_false old (λ e. not_both c.write.result _ _ c.in-Ok.is (c.write.ensures.full.1 (subst (λ (n : ℕ). c.args.block < n) (sym holds.stands.blocks) within, e))) in
     let holds_now = subst (λ (content : List ℕ). Holds c.write.new.self (P.history c.write.new.platform).present (stored d) (insert t.contents c.args.block (padded content))) (sym same) (c.in-Ok.ensures.written told (stored d) t.contents holds) in
-    let after = has_session new c.write.new.self d (written t c.args.block bytes.items) c.keep.ensures.session holds_now c.in-Ok.ensures.touched in
-    subst (λ (r : Result Reply DeviceStop). Serves old new (at d t) (Write c.args.block bytes) r) (sym c.keep.ensures.reply)
-    (serves_still old new (at d t) (at d (written t c.args.block bytes.items)) (Write c.args.block bytes) replies.Done (has_session old c.in-Some.session d t taken holds touched)
-    (gives_written (is_full old) d t c.args.block bytes room within) after (c.write.ensures.time told)))
+    let after = has_session new c.write.new.self d (written t c.args.block bytes.items) refl holds_now c.in-Ok.ensures.touched in
+    serves_still old new (at d t) (at d (written t c.args.block bytes.items)) (Write c.args.block bytes) replies.Done (has_session old c.in-Some.session d t taken holds touched)
+    (gives_written (is_full old) d t c.args.block bytes room within) after (c.write.ensures.time told))
 
 pub returns-in-Err-Range-clause-answered : goal.returns-in-Err-Range-clause-answered
 returns-in-Err-Range-clause-answered g c told entry rep bytes same =
     let P = g.P.Platform in
     let old : World = world c.args.self.now.session (P.history c.args.platform.now) (P.head c.args.platform.now) (P.capacity c.args.platform.now) in
-    let new : World = world c.keep-in-Err-Range.new.self.session (P.history c.write.new.platform) (P.head c.write.new.platform) (P.capacity c.write.new.platform) in
-    let taken : c.args.self.now.session ≡ Some c.in-Some.session = cc (c.take.ensures.value, c.in-Some.is) in
-    with_session old c.in-Some.session entry taken rep (λ state. Serves old new state (Write c.args.block bytes) c.keep-in-Err-Range.result)
+    let new : World = world (Some c.write.new.self) (P.history c.write.new.platform) (P.head c.write.new.platform) (P.capacity c.write.new.platform) in
+    let taken : c.args.self.now.session ≡ Some c.in-Some.session = c.in-Some.is in
+    with_session old c.in-Some.session entry taken rep (λ state. Serves old new state (Write c.args.block bytes) (Ok replies.Range))
     (λ d t holds touched.
     let past : d.blocks ≤ c.args.block = subst (λ (n : ℕ). n ≤ c.args.block) holds.stands.blocks (c.write.ensures.range.0 (cc)) in
     let refused = c.write.ensures.refused told (stored d) t.contents holds in
     let untouched = c.write.ensures.untouched in
     let e : c.write.result ≡ Err refusals.Range = cc in
-    let after = has_session new c.write.new.self d t c.keep-in-Err-Range.ensures.session (rw e at refused) ((rw e at untouched) ∙ touched) in
-    subst (λ (r : Result Reply DeviceStop). Serves old new (at d t) (Write c.args.block bytes) r) (sym c.keep-in-Err-Range.ensures.reply)
-    (serves_still old new (at d t) (at d t) (Write c.args.block bytes) replies.Range (has_session old c.in-Some.session d t taken holds touched)
-    (gives_write_range (is_full old) d t c.args.block bytes past) after (c.write.ensures.time told)))
+    let after = has_session new c.write.new.self d t refl (rw e at refused) ((rw e at untouched) ∙ touched) in
+    serves_still old new (at d t) (at d t) (Write c.args.block bytes) replies.Range (has_session old c.in-Some.session d t taken holds touched)
+    (gives_write_range (is_full old) d t c.args.block bytes past) after (c.write.ensures.time told))
 
 pub returns-in-Err-Full-clause-answered : goal.returns-in-Err-Full-clause-answered
 returns-in-Err-Full-clause-answered g c told entry rep bytes same =
     let P = g.P.Platform in
     let old : World = world c.args.self.now.session (P.history c.args.platform.now) (P.head c.args.platform.now) (P.capacity c.args.platform.now) in
-    let new : World = world c.keep-in-Err-Full.new.self.session (P.history c.write.new.platform) (P.head c.write.new.platform) (P.capacity c.write.new.platform) in
-    let taken : c.args.self.now.session ≡ Some c.in-Some.session = cc (c.take.ensures.value, c.in-Some.is) in
-    with_session old c.in-Some.session entry taken rep (λ state. Serves old new state (Write c.args.block bytes) c.keep-in-Err-Full.result)
+    let new : World = world (Some c.write.new.self) (P.history c.write.new.platform) (P.head c.write.new.platform) (P.capacity c.write.new.platform) in
+    let taken : c.args.self.now.session ≡ Some c.in-Some.session = c.in-Some.is in
+    with_session old c.in-Some.session entry taken rep (λ state. Serves old new state (Write c.args.block bytes) (Ok replies.Full))
     (λ d t holds touched.
     let refused = c.write.ensures.refused told (stored d) t.contents holds in
     let untouched = c.write.ensures.untouched in
     let e : c.write.result ≡ Err refusals.Full = cc in
     let both = c.write.ensures.full.0 e in
     let within : c.args.block < d.blocks = subst (λ (n : ℕ). c.args.block < n) holds.stands.blocks both.0 in
-    let after = has_session new c.write.new.self d t c.keep-in-Err-Full.ensures.session (rw e at refused) ((rw e at untouched) ∙ touched) in
-    subst (λ (r : Result Reply DeviceStop). Serves old new (at d t) (Write c.args.block bytes) r) (sym c.keep-in-Err-Full.ensures.reply)
-    (serves_still old new (at d t) (at d t) (Write c.args.block bytes) replies.Full (has_session old c.in-Some.session d t taken holds touched)
-    (gives_write_full (is_full old) d t c.args.block bytes (is_full_true old both.1) within) after (c.write.ensures.time told)))
+    let after = has_session new c.write.new.self d t refl (rw e at refused) ((rw e at untouched) ∙ touched) in
+    serves_still old new (at d t) (at d t) (Write c.args.block bytes) replies.Full (has_session old c.in-Some.session d t taken holds touched)
+    (gives_write_full (is_full old) d t c.args.block bytes (is_full_true old both.1) within) after (c.write.ensures.time told))
 
 pub returns-in-Err-BadRecord-clause-answered : goal.returns-in-Err-BadRecord-clause-answered
 returns-in-Err-BadRecord-clause-answered g c told entry rep bytes same =
     let P = g.P.Platform in
     let old : World = world c.args.self.now.session (P.history c.args.platform.now) (P.head c.args.platform.now) (P.capacity c.args.platform.now) in
-    let new : World = world c.take.new.self (P.history c.write.new.platform) (P.head c.write.new.platform) (P.capacity c.write.new.platform) in
-    let taken : c.args.self.now.session ≡ Some c.in-Some.session = cc (c.take.ensures.value, c.in-Some.is) in
+    let new : World = world (Some c.write.new.self) (P.history c.write.new.platform) (P.head c.write.new.platform) (P.capacity c.write.new.platform) in
+    let taken : c.args.self.now.session ≡ Some c.in-Some.session = c.in-Some.is in
     with_session old c.in-Some.session entry taken rep (λ state. Serves old new state (Write c.args.block bytes) (Err (device.BadRecord c.in-Err-BadRecord.addr)))
     (λ d t holds touched. absurd (c.write.ensures.sound told (stored d) t.contents holds c.in-Err-BadRecord.addr (cc)))
 
@@ -94,21 +91,21 @@ pub returns-in-Err-Memory-clause-answered : goal.returns-in-Err-Memory-clause-an
 returns-in-Err-Memory-clause-answered g c told entry rep bytes same =
     let P = g.P.Platform in
     let old : World = world c.args.self.now.session (P.history c.args.platform.now) (P.head c.args.platform.now) (P.capacity c.args.platform.now) in
-    let new : World = world c.take.new.self (P.history c.write.new.platform) (P.head c.write.new.platform) (P.capacity c.write.new.platform) in
+    let new : World = world (Some c.write.new.self) (P.history c.write.new.platform) (P.head c.write.new.platform) (P.capacity c.write.new.platform) in
     halts_still old new entry (Write c.args.block bytes) device.Memory tt rep (c.write.ensures.time told)
 
 pub returns-in-Err-TapeFault-clause-answered : goal.returns-in-Err-TapeFault-clause-answered
 returns-in-Err-TapeFault-clause-answered g c told entry rep bytes same =
     let P = g.P.Platform in
     let old : World = world c.args.self.now.session (P.history c.args.platform.now) (P.head c.args.platform.now) (P.capacity c.args.platform.now) in
-    let new : World = world c.take.new.self (P.history c.write.new.platform) (P.head c.write.new.platform) (P.capacity c.write.new.platform) in
+    let new : World = world (Some c.write.new.self) (P.history c.write.new.platform) (P.head c.write.new.platform) (P.capacity c.write.new.platform) in
     halts_still old new entry (Write c.args.block bytes) device.Tape tt rep (c.write.ensures.time told)
 
 pub returns-in-Err-PlatformFault-clause-answered : goal.returns-in-Err-PlatformFault-clause-answered
 returns-in-Err-PlatformFault-clause-answered g c told entry rep bytes same =
     let P = g.P.Platform in
     let old : World = world c.args.self.now.session (P.history c.args.platform.now) (P.head c.args.platform.now) (P.capacity c.args.platform.now) in
-    let new : World = world c.take.new.self (P.history c.write.new.platform) (P.head c.write.new.platform) (P.capacity c.write.new.platform) in
+    let new : World = world (Some c.write.new.self) (P.history c.write.new.platform) (P.head c.write.new.platform) (P.capacity c.write.new.platform) in
     halts_still old new entry (Write c.args.block bytes) device.Platform tt rep (c.write.ensures.time told)
 
 pub returns-in_default-clause-cell : goal.returns-in_default-clause-cell
