@@ -29,7 +29,7 @@ use Rattle.device_cli.specs.declared.stop.Stop.TheVariants as stops
 use Rattle.device_cli.specs.declared.stop.DeviceStop.TheVariants as device
 use Rattle.device_cli.proofs.RanLaws.{exit_of, Took-of}
 use Rattle.device_cli.specs.Ran.{AnswersScript, AnswersFrom, IsAmple, IsComplete}
-use Rattle.device_cli.proofs.PageLaws.{answers_of}
+use Rattle.device_cli.proofs.PageLaws.{answers_of, one_page}
 
 -- a state of these parts
 abbrev parts : Option Device → Option OpenSession → State
@@ -93,24 +93,24 @@ answer_room state command e = elim (cases_Bool (is_unbuilt state command)) [
       step_room state.device state.session command g
 ]
 
-turn_room : (full : Bool) (old : State) (line : List ℕ) (reply : Reply) (new : State) → full ≡ false → TurnIf full old line reply new → reply ≢ Full
-turn_room full old line reply new room (inl (command, spells, is)) e =
+turn_room : (full : Bool) (old : State) (pages : ℕ) (line : List ℕ) (reply : Reply) (new : State) (pages_now : ℕ) → full ≡ false → TurnIf full old pages line reply new pages_now → reply ≢ Full
+turn_room full old pages line reply new pages_now room (inl (command, spells, is, added)) e =
     answer_room old command
     (subst (λ (b : Bool). (answer b old command).0 ≡ Full) room (sym (ap (λ (p : Reply × State). p.0) is) ∙ e))
-turn_room full old line reply new room (inr (bad, is, same)) e = cc
+turn_room full old pages line reply new pages_now room (inr (bad, is, same, added)) e = cc
 
 -- with a page for each line
 roomy : (capacity : ℕ) (old : State) (pages : ℕ) (lines : List (List ℕ)) (replies : List Reply) (new : State) (pages_now : ℕ) → pages + length lines ≤ capacity
     → AnswersOn capacity old pages lines replies new pages_now → All (λ r. r ≢ Full) replies
 roomy capacity old pages lines [] new pages_now room h = All-nil (λ (r : Reply). r ≢ Full)
 roomy capacity old pages [] (reply ∷ replies) new pages_now room h = absurd h
-roomy capacity old pages (line ∷ lines) (reply ∷ replies) new pages_now room (mid, between, turn, one_more, rest) =
+roomy capacity old pages (line ∷ lines) (reply ∷ replies) new pages_now room (mid, between, turn, rest) =
     let free : (pages == capacity) ≡ false = elim (eqb_tells pages capacity) [
       | inl equal ↦ absurd (omega (arith, room, equal.1))
       | inr differ ↦ differ.0
     ] in
-    All-cons (λ (r : Reply). r ≢ Full) reply replies (turn_room (pages == capacity) old line reply mid free turn)
-    (roomy capacity mid between lines replies new pages_now (omega (arith, room, one_more.1)) rest)
+    All-cons (λ (r : Reply). r ≢ Full) reply replies (turn_room (pages == capacity) old pages line reply mid between free turn)
+    (roomy capacity mid between lines replies new pages_now (omega (arith, room, one_page (pages == capacity) old pages line reply mid between turn)) rest)
 
 -- what was taken of a text, where nothing is left, is all of it
 all_taken : (text taken : List ℕ) (left left_now : Option (List ℕ)) → left ≡ Some text → Gave left taken left_now → IsAtEnd left_now → taken ≡ text

@@ -23,7 +23,7 @@ use Rattle.device_core.specs.Leaf.{IsServedImage}
 use Rattle.device_cli.specs.Run.{IsOfLine}
 use Rattle.device_cli.specs.World.{World, is_full, IsLater}
 use Rattle.device_cli.specs.Represents.{Stood, StandsFor, Leaves}
-use Rattle.device_cli.specs.Pages.{TurnIf, AnswersOn}
+use Rattle.device_cli.specs.Pages.{pages_after, TurnIf, AnswersOn}
 use Rattle.device_cli.specs.Replied.{no_line, Ending, AreMany, IfNext, IsDamageAt, IsAhead, HasMark, ExitsAt, EndsIn, Answered, Replied, Handled, AsksForBlock, IsSound, IsOfBlock, IsWrongPage, Halts, Serves, HasPut}
 use Rattle.device_cli.specs.declared.stop.Stop.{Stop}
 use Rattle.device_cli.specs.declared.stop.Stop.TheVariants as stops
@@ -79,13 +79,13 @@ Replied-nothing tells w last fits = Replied-idle tells w w last (IsLater-refl w 
 -- what the serving of a line did from a state: a reply that belongs to it, and the state after it
 abbrev pub Turned : World → World → State → List ℕ → Reply → Type 0
 Turned old new entry line reply =
-    (now : State) × TurnIf (is_full old) entry line reply now × Stood new now × Turns old.history new.history (Leaves entry.device) (Leaves now.device)
+    (now : State) × TurnIf (is_full old) entry old.head line reply now new.head × Stood new now × Turns old.history new.history (Leaves entry.device) (Leaves now.device)
 
 -- a line with its reply
 pub Replied-line : (tells : Type 0) (old new : World) (last : DeviceStop → List ℕ) (line : List ℕ) (reply : Reply)
-    → IsLater old new → new.head ≤ old.head + 1 → (reply ≡ Full → new.head ≡ new.capacity)
+    → IsLater old new → (reply ≡ Full → new.head ≡ new.capacity)
     → (tells → (entry : State) → Stood old entry → Turned old new entry line reply) → Replied tells old new last (Ok tt) (line ∷ []) (line_of reply)
-Replied-line tells old new last line reply later one_more full turned = record {
+Replied-line tells old new last line reply later full turned = record {
   replies = reply ∷ [];
   part = [];
   put_is = grind (arith, common_steps);
@@ -96,11 +96,11 @@ Replied-line tells old new last line reply later one_more full turned = record {
   full = All-cons (λ (r : Reply). r ≡ Full → new.head ≡ new.capacity) reply [] full (All-nil (λ (r : Reply). r ≡ Full → new.head ≡ new.capacity));
   answered = λ told entry rep.
       let t = turned told entry rep in
-      let turn = turn_of (is_full old) entry line reply t.0 t.1 in
+      let turn = turn_of (is_full old) entry old.head line reply t.0 new.head t.1 in
       record {
         now = t.0;
         pages = new.head;
-        answers = (t.0, new.head, t.1, (later.rises, one_more), (refl, refl));
+        answers = (t.0, new.head, t.1, (refl, refl));
         ends = (t.2, refl);
         ahead = [];
         is_ahead = refl;
@@ -124,7 +124,7 @@ Replied-part tells old new last line reply n later turned = record {
   full = All-nil (λ (r : Reply). r ≡ Full → new.head ≡ new.capacity);
   answered = λ told entry rep.
       let t = turned told entry rep in
-      let turn = turn_of (is_full old) entry line reply t.0 t.1 in
+      let turn = turn_of (is_full old) entry old.head line reply t.0 new.head t.1 in
       record {
         now = entry;
         pages = old.head;
@@ -464,31 +464,31 @@ Handled-cut tells old new last lines a b p = let cut = Replied-cut tells old new
 
 -- a line whose reply was put, whole or in part
 pub Handled-line : (tells : Type 0) (old new : World) (last : DeviceStop → List ℕ) (line : List ℕ) (reply : Reply) (ending : Ending) (a b : Option (List ℕ))
-    → IsLater old new → new.head ≤ old.head + 1 → (reply ≡ Full → new.head ≡ new.capacity)
+    → IsLater old new → (reply ≡ Full → new.head ≡ new.capacity)
     → (tells → (entry : State) → Stood old entry → Turned old new entry line reply) → HasPut (line_of reply) ending a b
     → Handled tells old new last ending (line ∷ []) a b
-Handled-line tells old new last line reply (Ok done) a b later one_more full turned put =
-    record { put = line_of reply; got = put; replied = Replied-line tells old new last line reply later one_more full turned }
-Handled-line tells old new last line reply (Err stops.Sink) a b later one_more full turned (n, put) =
+Handled-line tells old new last line reply (Ok done) a b later full turned put =
+    record { put = line_of reply; got = put; replied = Replied-line tells old new last line reply later full turned }
+Handled-line tells old new last line reply (Err stops.Sink) a b later full turned (n, put) =
     record { put = take n (line_of reply); got = put; replied = Replied-part tells old new last line reply n later turned }
-Handled-line tells old new last line reply (Err stops.Source) a b later one_more full turned put = absurd put
-Handled-line tells old new last line reply (Err stops.Limit) a b later one_more full turned put = absurd put
-Handled-line tells old new last line reply (Err (stops.Device stop)) a b later one_more full turned put = absurd put
+Handled-line tells old new last line reply (Err stops.Source) a b later full turned put = absurd put
+Handled-line tells old new last line reply (Err stops.Limit) a b later full turned put = absurd put
+Handled-line tells old new last line reply (Err (stops.Device stop)) a b later full turned put = absurd put
 
 -- a line outside the grammar
 pub turned_bad : (w : World) (entry : State) (line : List ℕ) → IsBad line → Stood w entry → Turned w w entry line Bad
 turned_bad w entry line bad rep = (
   entry,
-  inr (bad, refl, refl),
+  inr (bad, refl, refl, refl),
   rep,
   Turns-not w.history w.history (Leaves entry.device) (Leaves entry.device) (During-start w.history (Leaves entry.device) (stands_leaves w.history.present _ rep.there.device)),
 )
 
 -- a command's line
 pub turned_command : (old new : World) (entry : State) (line : List ℕ) (command : Command) (reply : Reply) → Spells line command
-    → IsServedImage new.history.present → Serves old new entry command (Ok reply) → Turned old new entry line reply
-turned_command old new entry line command reply spells served (now, is, rep, turns) =
-    (now, inl (command, spells, is), record { there = rep; served = served }, turns)
+    → IsServedImage new.history.present → new.head ≡ pages_after entry command reply old.head → Serves old new entry command (Ok reply) → Turned old new entry line reply
+turned_command old new entry line command reply spells served pages (now, is, rep, turns) =
+    (now, inl (command, spells, is, pages), record { there = rep; served = served }, turns)
 
 -- a line that the device stopped at
 pub Handled-stop : (tells : Type 0) (old new : World) (line : List ℕ) (command : Command) (stop : DeviceStop) (written : Option (List ℕ)) → Spells line command

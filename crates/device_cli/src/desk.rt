@@ -30,6 +30,7 @@ pub(crate) struct Desk {
 impl Desk {
     ghost use Rattle.device_cli.specs.Desk.{IsReady, IsMounted};
     ghost use Rattle.device_cli.specs.World.{world};
+    ghost use Rattle.device_cli.specs.Pages.{pages_after};
     ghost use Rattle.device_cli.specs.Represents.{Represents};
 
     /// No session.
@@ -66,10 +67,11 @@ impl Desk {
         ensures unput { L.written ledger.new ≡ L.written ledger.old }
         ensures capacity { P.capacity platform.new ≡ P.capacity platform.old }
         ensures head_rises { P.head platform.old ≤ P.head platform.new }
-        ensures head_by_one { P.head platform.new ≤ P.head platform.old + 1 }
         ensures full { IfOk result (λ reply. reply ≡ Reply.Full → P.head platform.new ≡ P.capacity platform.new) }
         ensures of_block { (addr : ℕ) → IsErrOf result (DeviceStop.BadRecord addr) → IsOfBlock command.now }
         ensures damage { P.tells → (addr : ℕ) → IsErrOf result (DeviceStop.BadRecord addr) → IsWrongPage (P.history platform.new).present addr }
+        ensures pages { P.tells → (entry : State) → Represents (world self.old.session (P.history platform.old) (P.head platform.old) (P.capacity platform.old)) entry
+            → IfOk result (λ reply. P.head platform.new ≡ pages_after entry command.now reply (P.head platform.old)) }
         ensures answered { P.tells → (entry : State) → Represents (world self.old.session (P.history platform.old) (P.head platform.old) (P.capacity platform.old)) entry
             → Serves (world self.old.session (P.history platform.old) (P.head platform.old) (P.capacity platform.old))
             (world self.new.session (P.history platform.new) (P.head platform.new) (P.capacity platform.new)) entry command.now result }
@@ -114,9 +116,10 @@ impl Desk {
         ensures unput { L.written ledger.new ≡ L.written ledger.old }
         ensures capacity { P.capacity platform.new ≡ P.capacity platform.old }
         ensures head_rises { P.head platform.old ≤ P.head platform.new }
-        ensures head_by_one { P.head platform.new ≤ P.head platform.old + 1 }
         ensures full { IfOk result (λ reply. reply ≡ Reply.Full → P.head platform.new ≡ P.capacity platform.new) }
         ensures damage { (addr : ℕ) → IsErrOf result (DeviceStop.BadRecord addr) → ⊥ }
+        ensures pages { P.tells → (entry : State) → Represents (world self.old.session (P.history platform.old) (P.head platform.old) (P.capacity platform.old)) entry
+            → IfOk result (λ reply. P.head platform.new ≡ pages_after entry (Command.Format blocks order) reply (P.head platform.old)) }
         ensures answered { P.tells → (entry : State) → Represents (world self.old.session (P.history platform.old) (P.head platform.old) (P.capacity platform.old)) entry
             → Serves (world self.old.session (P.history platform.old) (P.head platform.old) (P.capacity platform.old))
             (world self.new.session (P.history platform.new) (P.head platform.new) (P.capacity platform.new)) entry (Command.Format blocks order) result }
@@ -150,9 +153,10 @@ impl Desk {
             (counts (P.faults platform.new) 0 0 0 0) (Stop.Device stop)) }
         ensures capacity { P.capacity platform.new ≡ P.capacity platform.old }
         ensures head_rises { P.head platform.old ≤ P.head platform.new }
-        ensures head_by_one { P.head platform.new ≤ P.head platform.old + 1 }
         ensures full { IfOk result (λ reply. reply ≡ Reply.Full → P.head platform.new ≡ P.capacity platform.new) }
         ensures damage { (addr : ℕ) → IsErrOf result (DeviceStop.BadRecord addr) → ⊥ }
+        ensures pages { P.tells → (entry : State) → Represents (world self.old.session (P.history platform.old) (P.head platform.old) (P.capacity platform.old)) entry
+            → IfOk result (λ reply. P.head platform.new ≡ pages_after entry Command.Mount reply (P.head platform.old)) }
         ensures answered { P.tells → (entry : State) → Represents (world self.old.session (P.history platform.old) (P.head platform.old) (P.capacity platform.old)) entry
             → Serves (world self.old.session (P.history platform.old) (P.head platform.old) (P.capacity platform.old))
             (world self.new.session (P.history platform.new) (P.head platform.new) (P.capacity platform.new)) entry Command.Mount result }
@@ -188,9 +192,10 @@ impl Desk {
             (counts (P.faults platform.new) 0 0 0 0) (Stop.Device stop)) }
         ensures capacity { P.capacity platform.new ≡ P.capacity platform.old }
         ensures head_rises { P.head platform.old ≤ P.head platform.new }
-        ensures head_by_one { P.head platform.new ≤ P.head platform.old + 1 }
         ensures full { IfOk result (λ reply. reply ≡ Reply.Full → P.head platform.new ≡ P.capacity platform.new) }
         ensures damage { P.tells → (addr : ℕ) → IsErrOf result (DeviceStop.BadRecord addr) → IsWrongPage (P.history platform.new).present addr }
+        ensures pages { P.tells → (entry : State) → Represents (world self.old.session (P.history platform.old) (P.head platform.old) (P.capacity platform.old)) entry
+            → IfOk result (λ reply. P.head platform.new ≡ pages_after entry (Command.Read block) reply (P.head platform.old)) }
         ensures answered { P.tells → (entry : State) → Represents (world self.old.session (P.history platform.old) (P.head platform.old) (P.capacity platform.old)) entry
             → Serves (world self.old.session (P.history platform.old) (P.head platform.old) (P.capacity platform.old))
             (world self.new.session (P.history platform.new) (P.head platform.new) (P.capacity platform.new)) entry (Command.Read block) result }
@@ -229,9 +234,10 @@ impl Desk {
             (counts (P.faults platform.new) (T.faults tape.new) 0 0 0) (Stop.Device stop)) }
         ensures capacity { P.capacity platform.new ≡ P.capacity platform.old }
         ensures head_rises { P.head platform.old ≤ P.head platform.new }
-        ensures head_by_one { P.head platform.new ≤ P.head platform.old + 1 }
         ensures full { IfOk result (λ reply. reply ≡ Reply.Full → P.head platform.new ≡ P.capacity platform.new) }
         ensures damage { P.tells → (addr : ℕ) → IsErrOf result (DeviceStop.BadRecord addr) → IsWrongPage (P.history platform.new).present addr }
+        ensures pages { P.tells → (entry : State) → Represents (world self.old.session (P.history platform.old) (P.head platform.old) (P.capacity platform.old)) entry
+            → (bytes : Bytes ℕ) → IfOk result (λ reply. P.head platform.new ≡ pages_after entry (Command.Write block bytes) reply (P.head platform.old)) }
         ensures answered { P.tells → (entry : State) → Represents (world self.old.session (P.history platform.old) (P.head platform.old) (P.capacity platform.old)) entry
             → (bytes : Bytes ℕ) → bytes.items ≡ content.now
             → Serves (world self.old.session (P.history platform.old) (P.head platform.old) (P.capacity platform.old))
@@ -266,9 +272,10 @@ impl Desk {
             (counts (P.faults platform.new) 0 0 0 0) (Stop.Device stop)) }
         ensures capacity { P.capacity platform.new ≡ P.capacity platform.old }
         ensures head_rises { P.head platform.old ≤ P.head platform.new }
-        ensures head_by_one { P.head platform.new ≤ P.head platform.old + 1 }
         ensures full { IfOk result (λ reply. reply ≡ Reply.Full → P.head platform.new ≡ P.capacity platform.new) }
         ensures damage { P.tells → (addr : ℕ) → IsErrOf result (DeviceStop.BadRecord addr) → IsWrongPage (P.history platform.new).present addr }
+        ensures pages { P.tells → (entry : State) → Represents (world self.old.session (P.history platform.old) (P.head platform.old) (P.capacity platform.old)) entry
+            → IfOk result (λ reply. P.head platform.new ≡ pages_after entry (Command.Trim block) reply (P.head platform.old)) }
         ensures answered { P.tells → (entry : State) → Represents (world self.old.session (P.history platform.old) (P.head platform.old) (P.capacity platform.old)) entry
             → Serves (world self.old.session (P.history platform.old) (P.head platform.old) (P.capacity platform.old))
             (world self.new.session (P.history platform.new) (P.head platform.new) (P.capacity platform.new)) entry (Command.Trim block) result }
@@ -306,9 +313,10 @@ impl Desk {
         ensures unput { L.written ledger.new ≡ L.written ledger.old }
         ensures capacity { P.capacity platform.new ≡ P.capacity platform.old }
         ensures head_rises { P.head platform.old ≤ P.head platform.new }
-        ensures head_by_one { P.head platform.new ≤ P.head platform.old + 1 }
         ensures full { IfOk result (λ reply. reply ≡ Reply.Full → P.head platform.new ≡ P.capacity platform.new) }
         ensures damage { (addr : ℕ) → IsErrOf result (DeviceStop.BadRecord addr) → ⊥ }
+        ensures pages { P.tells → (entry : State) → Represents (world self.old.session (P.history platform.old) (P.head platform.old) (P.capacity platform.old)) entry
+            → IfOk result (λ reply. P.head platform.new ≡ pages_after entry Command.Commit reply (P.head platform.old)) }
         ensures answered { P.tells → (entry : State) → Represents (world self.old.session (P.history platform.old) (P.head platform.old) (P.capacity platform.old)) entry
             → Serves (world self.old.session (P.history platform.old) (P.head platform.old) (P.capacity platform.old))
             (world self.new.session (P.history platform.new) (P.head platform.new) (P.capacity platform.new)) entry Command.Commit result }
@@ -363,9 +371,10 @@ impl Desk {
             (counts (P.faults platform.new) 0 0 0 0) (Stop.Device stop)) }
         ensures capacity { P.capacity platform.new ≡ P.capacity platform.old }
         ensures head_rises { P.head platform.old ≤ P.head platform.new }
-        ensures head_by_one { P.head platform.new ≤ P.head platform.old + 1 }
         ensures full { IfOk result (λ reply. reply ≡ Reply.Full → P.head platform.new ≡ P.capacity platform.new) }
         ensures damage { (addr : ℕ) → IsErrOf result (DeviceStop.BadRecord addr) → ⊥ }
+        ensures pages { P.tells → (entry : State) → Represents (world self.old.session (P.history platform.old) (P.head platform.old) (P.capacity platform.old)) entry
+            → IfOk result (λ reply. P.head platform.new ≡ pages_after entry Command.Erase reply (P.head platform.old)) }
         ensures answered { P.tells → (entry : State) → Represents (world self.old.session (P.history platform.old) (P.head platform.old) (P.capacity platform.old)) entry
             → Serves (world self.old.session (P.history platform.old) (P.head platform.old) (P.capacity platform.old))
             (world self.new.session (P.history platform.new) (P.head platform.new) (P.capacity platform.new)) entry Command.Erase result }

@@ -14,7 +14,7 @@ returns-in_default-clause-handled g c text kept =
     let written = g.O.Sink.written in
     let old : World = world c.args.desk.now.session (P.history c.args.platform.now) (P.head c.args.platform.now) (P.capacity c.args.platform.now) in
     Handled-line P.tells old old no_line text Bad c.put_reply.result (written c.args.output.now) (written c.put_reply.new.output)
-    (IsLater-refl old (g.met.P.Platform.has_room c.args.platform.now)) (omega arith) (λ e. absurd cc)
+    (IsLater-refl old (g.met.P.Platform.has_room c.args.platform.now)) (λ e. absurd cc)
     (λ told entry rep. turned_bad old entry text (c.in_default.ensures.none text kept) rep) c.put_reply.ensures.put
 
 pub returns-in-Ok-clause-handled : goal.returns-in-Ok-clause-handled
@@ -25,9 +25,9 @@ returns-in-Ok-clause-handled g c text kept =
     let new : World = world c.serve.new.self.session (P.history c.serve.new.platform) (P.head c.serve.new.platform) (P.capacity c.serve.new.platform) in
     let later : IsLater old new = record { capacity = c.serve.ensures.capacity; rises = c.serve.ensures.head_rises; within = g.met.P.Platform.has_room c.serve.new.platform } in
     Handled-line P.tells old new no_line text c.in-Ok.reply c.put_reply-in-Ok.result (written c.args.output.now) (written c.put_reply-in-Ok.new.output)
-    later c.serve.ensures.head_by_one c.in-Ok.ensures.full
+    later c.in-Ok.ensures.full
     (λ told entry rep. turned_command old new entry text c.in-Some.command c.in-Ok.reply (c.in-Some.ensures.found text kept)
-    (During-now (P.history c.args.platform.now) (P.history c.serve.new.platform) IsServedImage (c.serve.ensures.cell told)) (c.in-Ok.ensures.answered told entry rep.there))
+    (During-now (P.history c.args.platform.now) (P.history c.serve.new.platform) IsServedImage (c.serve.ensures.cell told)) (c.in-Ok.ensures.pages told entry rep.there) (c.in-Ok.ensures.answered told entry rep.there))
     c.put_reply-in-Ok.ensures.put
 
 pub returns-in-Err-clause-handled : goal.returns-in-Err-clause-handled

@@ -1,4 +1,4 @@
-use Rattle.std.proofs.Common.{◌≡◌, ℕ, Option, None, Some, Ok, refl, ◌∙◌, ap, subst, arith}
+use Rattle.std.proofs.Common.{◌≡◌, ℕ, Option, None, Some, Ok, Err, refl, ◌∙◌, ap, subst, arith}
 use Rattle.std.proofs.lemmas.Grind.{common_steps}
 use Rattle.device_cli.specs.declared.stop.DeviceStop.TheVariants as device
 use Rattle.device_cli.specs.World.{World, world}
@@ -69,7 +69,7 @@ returns-in-Err-BadRoot-clause-answered g c told entry rep =
     let P = g.P.Platform in
     let old : World = world c.args.self.now.session (P.history c.args.platform.now) (P.head c.args.platform.now) (P.capacity c.args.platform.now) in
     let new : World = world c.args.self.now.session (P.history c.mount.new.platform) (P.head c.mount.new.platform) (P.capacity c.mount.new.platform) in
-    absurd (refused_served old.history.present.cell old.head (subst (λ (n : ℕ). IsServedCell old.history.present.cell n) (g.met.P.Platform.counts_pages told c.args.platform.now) (c.requires.cell told)) (c.mount.ensures.bad_root told (cc)))
+    absurd {A = Serves old new entry commands.Mount (Err device.BadRoot)} (refused_served old.history.present.cell old.head (subst (λ (n : ℕ). IsServedCell old.history.present.cell n) (g.met.P.Platform.counts_pages told c.args.platform.now) (c.requires.cell told)) (c.mount.ensures.bad_root told (cc)))
 
 pub returns-then-is_some-clause-cell : goal.returns-then-is_some-clause-cell
 returns-then-is_some-clause-cell g c = λ told. serves_now _ (c.requires.cell told)

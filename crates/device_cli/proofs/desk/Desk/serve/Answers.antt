@@ -1,4 +1,6 @@
-use Rattle.std.proofs.Common.{Ok, sym, subst, arith}
+use Rattle.std.specs.Prelude.{IfOk}
+use Rattle.device_cli.specs.Pages.{pages_after}
+use Rattle.std.proofs.Common.{◌≡◌, Ok, sym, subst, arith}
 use Rattle.std.proofs.lemmas.Grind.{common_steps}
 use Rattle.device_cli.specs.World.{World, world}
 use Rattle.script_lang.specs.declared.replies.Reply.TheVariants as replies
@@ -31,3 +33,9 @@ returns-in-Stat-clause-cell g c = λ told. serves_now _ (c.requires.cell told)
 
 pub returns-in-Drop-clause-cell : goal.returns-in-Drop-clause-cell
 returns-in-Drop-clause-cell g c = λ told. serves_now _ (c.requires.cell told)
+
+pub returns-in-Write-clause-pages : goal.returns-in-Write-clause-pages
+returns-in-Write-clause-pages g c told entry rep =
+    let P = g.P.Platform in
+    subst (λ (command : Command). IfOk c.write.result (λ reply. P.head c.write.new.platform ≡ pages_after entry command reply (P.head c.args.platform.now))) (sym c.in-Write.is)
+    (c.write.ensures.pages told entry rep c.in-Write.content)
