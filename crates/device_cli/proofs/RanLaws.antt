@@ -65,7 +65,7 @@ Ran-other tells old new ending left left_now a b other r = let p = r.handled.rep
 Answered-part : (old new : World) (stop : DeviceStop) (entry : State) (lines : List (List ℕ)) (replies : List Reply) (part other : List ℕ)
     → Answered old new (Err (stops.Device stop)) entry lines replies part → Answered old new (Err (stops.Device stop)) entry lines replies other
 Answered-part old new stop entry lines replies part other f =
-    record { now = f.now; pages = f.pages; answers = f.answers; ends = f.ends; ahead = f.ahead; is_ahead = f.is_ahead; passes = f.passes; exits = f.exits }
+    record { now = f.now; pages = f.pages; answers = f.answers; ends = f.ends; near = f.near; ahead = f.ahead; is_ahead = f.is_ahead; passes = f.passes; exits = f.exits }
 
 -- a stop of the device, and then its last line
 pub Ran-last : (tells : Type 0) (old new : World) (stop : DeviceStop) (left left_now a b c : Option (List ℕ))
@@ -149,6 +149,7 @@ Ran-refused tells old new stop left written which later same still sound = recor
         pages = old.head;
         answers = (refl, refl);
         ends = sound told entry rep;
+        near = (later.rises, omega (arith, same));
         ahead = [];
         is_ahead = none_ahead stop which;
         passes = let both = still told entry rep in Passes-stay old.history new.history entry [] [] rep.there.device both.1;

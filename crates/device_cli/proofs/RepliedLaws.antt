@@ -29,7 +29,7 @@ use Rattle.device_cli.specs.declared.stop.Stop.{Stop}
 use Rattle.device_cli.specs.declared.stop.Stop.TheVariants as stops
 use Rattle.device_cli.specs.declared.stop.DeviceStop.{DeviceStop}
 use Rattle.device_cli.specs.declared.stop.DeviceStop.TheVariants as device
-use Rattle.device_cli.proofs.PageLaws.{turn_of, answers_of, AnswersOn-append, AnswersOn-longer}
+use Rattle.device_cli.proofs.PageLaws.{turn_of, one_page, answers_of, AnswersOn-append, AnswersOn-longer}
 use Rattle.device_cli.proofs.PassLaws.{IsMark-none, IsMark-one, IsMark-behind, Passes-stay, Passes-line, Passes-lines, Passes-longer}
 
 -- from one world to itself, and on from one to the next
@@ -61,6 +61,7 @@ Replied-idle tells old new last later same still = record {
     pages = new.head;
     answers = (refl, same);
     ends = (both.0, refl);
+    near = (omega arith, omega arith);
     ahead = [];
     is_ahead = refl;
     passes = Passes-stay old.history new.history entry [] [] rep.there.device both.1;
@@ -102,6 +103,7 @@ Replied-line tells old new last line reply later full turned = record {
         pages = new.head;
         answers = (t.0, new.head, t.1, (refl, refl));
         ends = (t.2, refl);
+        near = (omega arith, omega arith);
         ahead = [];
         is_ahead = refl;
         passes = Passes-line old.history new.history entry t.0 line reply rep.there.device turn t.3;
@@ -130,6 +132,7 @@ Replied-part tells old new last line reply n later turned = record {
         pages = old.head;
         answers = (refl, refl);
         ends = (reply, t.0, (t.0, turn, refl), (n, refl), t.2.there.device);
+        near = (later.rises, one_page (is_full old) entry old.head line reply t.0 new.head t.1);
         ahead = reply ∷ [];
         is_ahead = omega arith;
         passes = Passes-line old.history new.history entry t.0 line reply rep.there.device turn t.3;
@@ -198,11 +201,11 @@ halted old new entry line command device.BadRoot spells stands h = absurd h
 halted old new entry line command (device.BadRecord addr) spells stands h = absurd h
 
 -- a line that the device stopped at
-pub Replied-stop : (tells : Type 0) (old new : World) (line : List ℕ) (command : Command) (stop : DeviceStop) → Spells line command → IsLater old new
+pub Replied-stop : (tells : Type 0) (old new : World) (line : List ℕ) (command : Command) (stop : DeviceStop) → Spells line command → IsLater old new → new.head ≤ old.head + 1
     → IsDamageAt tells new.history.present [] (line ∷ []) (Err (stops.Device stop))
     → (tells → (entry : State) → Stood old entry → Halts old new entry command stop)
     → Replied tells old new no_line (Err (stops.Device stop)) (line ∷ []) []
-Replied-stop tells old new line command stop spells later damage halts = record {
+Replied-stop tells old new line command stop spells later one_more damage halts = record {
   replies = [];
   part = [];
   put_is = refl;
@@ -218,6 +221,7 @@ Replied-stop tells old new line command stop spells later damage halts = record 
         pages = old.head;
         answers = (refl, refl);
         ends = h.sound;
+        near = (later.rises, one_more);
         ahead = h.ahead;
         is_ahead = h.is_ahead;
         passes = h.passes;
@@ -323,6 +327,7 @@ Answered-then old mid new ending entry lines more replies others none part later
       now = q.now;
       pages = q.pages;
       answers = AnswersOn-append old.capacity entry old.head p.now p.pages q.now q.pages lines more replies others same p.answers more_answers;
+      near = q.near;
       ends = EndsIn-then new ending entry p.now q.now lines more replies others part q.pages same answers q.ends;
       ahead = q.ahead;
       is_ahead = q.is_ahead;
@@ -402,6 +407,7 @@ Replied-longer tells old new last stop lines more put line p = record {
     now = first.now;
     pages = first.pages;
     answers = AnswersOn-longer old.capacity entry old.head first.now first.pages lines more p.replies first.answers;
+    near = first.near;
     ends = EndsIn-longer new stop entry first.now lines more p.replies p.part first.pages first.ends;
     ahead = first.ahead;
     is_ahead = first.is_ahead;
@@ -441,7 +447,7 @@ Replied-cut tells old new last lines put p = (
     later = p.later;
     full = p.full;
     answered = λ told entry rep. let f = p.answered told entry rep in
-        record { now = f.now; pages = f.pages; answers = f.answers; ends = f.ends; ahead = f.ahead; is_ahead = f.is_ahead; passes = f.passes; exits = f.exits };
+        record { now = f.now; pages = f.pages; answers = f.answers; ends = f.ends; near = f.near; ahead = f.ahead; is_ahead = f.is_ahead; passes = f.passes; exits = f.exits };
   },
   record {
     replies = p.replies;
@@ -453,7 +459,7 @@ Replied-cut tells old new last lines put p = (
     later = p.later;
     full = p.full;
     answered = λ told entry rep. let f = p.answered told entry rep in
-        record { now = f.now; pages = f.pages; answers = f.answers; ends = f.ends; ahead = f.ahead; is_ahead = f.is_ahead; passes = f.passes; exits = f.exits };
+        record { now = f.now; pages = f.pages; answers = f.answers; ends = f.ends; near = f.near; ahead = f.ahead; is_ahead = f.is_ahead; passes = f.passes; exits = f.exits };
   },
 )
 
@@ -492,13 +498,13 @@ turned_command old new entry line command reply spells served pages (now, is, re
 
 -- a line that the device stopped at
 pub Handled-stop : (tells : Type 0) (old new : World) (line : List ℕ) (command : Command) (stop : DeviceStop) (written : Option (List ℕ)) → Spells line command
-    → IsLater old new → ((addr : ℕ) → stop ≡ device.BadRecord addr → IsOfBlock command × (tells → IsWrongPage new.history.present addr))
+    → IsLater old new → new.head ≤ old.head + 1 → ((addr : ℕ) → stop ≡ device.BadRecord addr → IsOfBlock command × (tells → IsWrongPage new.history.present addr))
     → (tells → (entry : State) → Stood old entry → Halts old new entry command stop)
     → Handled tells old new no_line (Err (stops.Device stop)) (line ∷ []) written written
-Handled-stop tells old new line command stop written spells later met halts = record {
+Handled-stop tells old new line command stop written spells later one_more met halts = record {
   put = [];
   got = Got-nothing written;
-  replied = Replied-stop tells old new line command stop spells later (damage stop met) halts;
+  replied = Replied-stop tells old new line command stop spells later one_more (damage stop met) halts;
 }
   where
     damage : (s : DeviceStop) → ((addr : ℕ) → s ≡ device.BadRecord addr → IsOfBlock command × (tells → IsWrongPage new.history.present addr))

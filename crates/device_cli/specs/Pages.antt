@@ -1,5 +1,5 @@
 -- Which replies belong to the lines of a script, on a medium of so many pages.
-use Rattle.std.specs.Prelude.{◌≡◌, ℕ, ◌+◌, Bool, true, false, ◌&&◌, ◌==◌, if◌then◌else◌, List, [], ◌∷◌, ◌⊎◌}
+use Rattle.std.specs.Prelude.{◌≡◌, ℕ, ◌+◌, ◌≤◌, Bool, true, false, ◌&&◌, ◌==◌, if◌then◌else◌, List, [], ◌∷◌, ◌⊎◌}
 use Rattle.script_lang.specs.Grammar.{Spells, IsBad}
 use Rattle.script_lang.specs.Arrays.{State, on_session}
 use Rattle.script_lang.specs.Answers.{answer}
@@ -41,6 +41,10 @@ adds_page state Seize reply = false
 -- how many pages there are after it
 abbrev pub pages_after : State → Command → Reply → ℕ → ℕ
 pages_after state command reply pages = if adds_page state command reply then pages + 1 else pages
+
+-- as many pages as that, or one more
+abbrev pub IsOneMore : ℕ → ℕ → Type 0
+IsOneMore pages now = (pages ≤ now) × (now ≤ pages + 1)
 
 -- this reply belongs to this line on a medium of so many pages that is full, or isn't. It leads from old to new, and to
 -- so many pages

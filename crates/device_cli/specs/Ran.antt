@@ -12,7 +12,7 @@ use Rattle.script_lang.specs.declared.replies.Reply.{Reply}
 use Rattle.script_lang.specs.declared.replies.Reply.TheVariants.{Full}
 use Rattle.device_cli.specs.World.{World}
 use Rattle.device_cli.specs.Represents.{StandsFor, closed}
-use Rattle.device_cli.specs.Pages.{AnswersOn}
+use Rattle.device_cli.specs.Pages.{AnswersOn, IsOneMore}
 use Rattle.device_cli.specs.Run.{TookUntil}
 use Rattle.device_cli.specs.Replied.{Ending, Handled, IsFirstPart, IfNext, AsksForBlock, IsWrongPage, HasMark, ExitsAt, damage_line}
 use Rattle.device_cli.specs.declared.stop.DeviceStop.{DeviceStop}
@@ -52,6 +52,8 @@ pub record AnswersFrom (old new : World) (status : ℕ) (entry : State) (lines :
   pub next : status ≡ 4 → (reply : Reply) × (then : State) × Answers entry lines (replies ++ reply ∷ []) then × IsFirstPart (line_of reply) part
       × StandsFor new.history.present then.device
   pub sound : (status ≢ 8) × (status ≢ 9)
+  -- a command that was cut short may have added one page more
+  pub near : IsOneMore pages new.head
   -- at each moment a loss of power leaves a device that the replies passed, in their order; at 4 and 5 perhaps the one
   -- after one more reply. The last moment has the device after all of them, or that one more
   pub ahead : List Reply

@@ -67,6 +67,7 @@ impl Desk {
         ensures unput { L.written ledger.new ≡ L.written ledger.old }
         ensures capacity { P.capacity platform.new ≡ P.capacity platform.old }
         ensures head_rises { P.head platform.old ≤ P.head platform.new }
+        ensures head_by_one { P.head platform.new ≤ P.head platform.old + 1 }
         ensures full { IfOk result (λ reply. reply ≡ Reply.Full → P.head platform.new ≡ P.capacity platform.new) }
         ensures of_block { (addr : ℕ) → IsErrOf result (DeviceStop.BadRecord addr) → IsOfBlock command.now }
         ensures damage { P.tells → (addr : ℕ) → IsErrOf result (DeviceStop.BadRecord addr) → IsWrongPage (P.history platform.new).present addr }
@@ -116,6 +117,7 @@ impl Desk {
         ensures unput { L.written ledger.new ≡ L.written ledger.old }
         ensures capacity { P.capacity platform.new ≡ P.capacity platform.old }
         ensures head_rises { P.head platform.old ≤ P.head platform.new }
+        ensures head_by_one { P.head platform.new ≤ P.head platform.old + 1 }
         ensures full { IfOk result (λ reply. reply ≡ Reply.Full → P.head platform.new ≡ P.capacity platform.new) }
         ensures damage { (addr : ℕ) → IsErrOf result (DeviceStop.BadRecord addr) → ⊥ }
         ensures pages { P.tells → (entry : State) → Represents (world self.old.session (P.history platform.old) (P.head platform.old) (P.capacity platform.old)) entry
@@ -153,6 +155,7 @@ impl Desk {
             (counts (P.faults platform.new) 0 0 0 0) (Stop.Device stop)) }
         ensures capacity { P.capacity platform.new ≡ P.capacity platform.old }
         ensures head_rises { P.head platform.old ≤ P.head platform.new }
+        ensures head_by_one { P.head platform.new ≤ P.head platform.old + 1 }
         ensures full { IfOk result (λ reply. reply ≡ Reply.Full → P.head platform.new ≡ P.capacity platform.new) }
         ensures damage { (addr : ℕ) → IsErrOf result (DeviceStop.BadRecord addr) → ⊥ }
         ensures pages { P.tells → (entry : State) → Represents (world self.old.session (P.history platform.old) (P.head platform.old) (P.capacity platform.old)) entry
@@ -192,6 +195,7 @@ impl Desk {
             (counts (P.faults platform.new) 0 0 0 0) (Stop.Device stop)) }
         ensures capacity { P.capacity platform.new ≡ P.capacity platform.old }
         ensures head_rises { P.head platform.old ≤ P.head platform.new }
+        ensures head_by_one { P.head platform.new ≤ P.head platform.old + 1 }
         ensures full { IfOk result (λ reply. reply ≡ Reply.Full → P.head platform.new ≡ P.capacity platform.new) }
         ensures damage { P.tells → (addr : ℕ) → IsErrOf result (DeviceStop.BadRecord addr) → IsWrongPage (P.history platform.new).present addr }
         ensures pages { P.tells → (entry : State) → Represents (world self.old.session (P.history platform.old) (P.head platform.old) (P.capacity platform.old)) entry
@@ -234,6 +238,7 @@ impl Desk {
             (counts (P.faults platform.new) (T.faults tape.new) 0 0 0) (Stop.Device stop)) }
         ensures capacity { P.capacity platform.new ≡ P.capacity platform.old }
         ensures head_rises { P.head platform.old ≤ P.head platform.new }
+        ensures head_by_one { P.head platform.new ≤ P.head platform.old + 1 }
         ensures full { IfOk result (λ reply. reply ≡ Reply.Full → P.head platform.new ≡ P.capacity platform.new) }
         ensures damage { P.tells → (addr : ℕ) → IsErrOf result (DeviceStop.BadRecord addr) → IsWrongPage (P.history platform.new).present addr }
         ensures pages { P.tells → (entry : State) → Represents (world self.old.session (P.history platform.old) (P.head platform.old) (P.capacity platform.old)) entry
@@ -272,6 +277,7 @@ impl Desk {
             (counts (P.faults platform.new) 0 0 0 0) (Stop.Device stop)) }
         ensures capacity { P.capacity platform.new ≡ P.capacity platform.old }
         ensures head_rises { P.head platform.old ≤ P.head platform.new }
+        ensures head_by_one { P.head platform.new ≤ P.head platform.old + 1 }
         ensures full { IfOk result (λ reply. reply ≡ Reply.Full → P.head platform.new ≡ P.capacity platform.new) }
         ensures damage { P.tells → (addr : ℕ) → IsErrOf result (DeviceStop.BadRecord addr) → IsWrongPage (P.history platform.new).present addr }
         ensures pages { P.tells → (entry : State) → Represents (world self.old.session (P.history platform.old) (P.head platform.old) (P.capacity platform.old)) entry
@@ -313,6 +319,7 @@ impl Desk {
         ensures unput { L.written ledger.new ≡ L.written ledger.old }
         ensures capacity { P.capacity platform.new ≡ P.capacity platform.old }
         ensures head_rises { P.head platform.old ≤ P.head platform.new }
+        ensures head_by_one { P.head platform.new ≤ P.head platform.old + 1 }
         ensures full { IfOk result (λ reply. reply ≡ Reply.Full → P.head platform.new ≡ P.capacity platform.new) }
         ensures damage { (addr : ℕ) → IsErrOf result (DeviceStop.BadRecord addr) → ⊥ }
         ensures pages { P.tells → (entry : State) → Represents (world self.old.session (P.history platform.old) (P.head platform.old) (P.capacity platform.old)) entry
@@ -371,6 +378,7 @@ impl Desk {
             (counts (P.faults platform.new) 0 0 0 0) (Stop.Device stop)) }
         ensures capacity { P.capacity platform.new ≡ P.capacity platform.old }
         ensures head_rises { P.head platform.old ≤ P.head platform.new }
+        ensures head_by_one { P.head platform.new ≤ P.head platform.old + 1 }
         ensures full { IfOk result (λ reply. reply ≡ Reply.Full → P.head platform.new ≡ P.capacity platform.new) }
         ensures damage { (addr : ℕ) → IsErrOf result (DeviceStop.BadRecord addr) → ⊥ }
         ensures pages { P.tells → (entry : State) → Represents (world self.old.session (P.history platform.old) (P.head platform.old) (P.capacity platform.old)) entry
