@@ -1,6 +1,7 @@
 -- Two runs with a loss of power between them.
-use Rattle.std.specs.Prelude.{ℕ, ◌+◌, ◌≤◌, List, ◌++◌, Option, length}
-use Rattle.platform.specs.Image.{MayLeave}
+use Rattle.std.specs.Prelude.{◌≡◌, ℕ, ◌+◌, ◌<◌, ◌≤◌, List, ◌++◌, Option, Some, Contains, length, slice_get}
+use Rattle.medium_trace.specs.Page.{zero_page}
+use Rattle.platform.specs.Image.{Image, MayLeave}
 use Rattle.platform.specs.History.{image_at, moment}
 use Rattle.script_lang.specs.Arrays.{State}
 use Rattle.script_lang.specs.Answers.{IsMark}
@@ -10,6 +11,12 @@ use Rattle.device_core.specs.Leaf.{IsServedImage}
 use Rattle.device_cli.specs.World.{World}
 use Rattle.device_cli.specs.Represents.{StandsFor, closed}
 use Rattle.device_cli.specs.Ran.{AnswersScript, AnswersFrom}
+
+-- a loss of power leaves this of an image: each page of the list that it may tear reads as zero bytes, and all else is as it was
+pub record Tore (torn : List ℕ) (image left : Image) : Type 0 where
+  pub may : MayLeave image left
+  pub zeros : (addr : ℕ) → Contains torn addr → image.synced ≤ addr → addr < length image.recorded → slice_get left.readable addr ≡ Some zero_page
+  pub others : (addr : ℕ) → ¬ (Contains torn addr) → slice_get left.readable addr ≡ slice_get image.readable addr
 
 -- what a loss of power left stands for the device after so many of these replies; the run over it answers from that
 -- device on, without a session
@@ -46,12 +53,12 @@ pub record GoesOnAnywhere (entry : State) (lines : List (List ℕ)) (replies : L
   pub each : (i : ℕ) → moment old.history ≤ i → i ≤ moment mid.history → Resumes entry lines (replies ++ ahead) mid i (mark i)
 
 -- the first run answers its script and ends; the power is lost; over what is left the second run answers its own
-pub record TwoRuns (old new : World) (first second : ℕ) (left left_now other other_now written written_now : Option (List ℕ)) : Type 0 where
+pub record TwoRuns (torn : List ℕ) (old new : World) (first second : ℕ) (left left_now other other_now written written_now : Option (List ℕ)) : Type 0 where
   pub mid : World
   pub cut : World
   pub written_then : Option (List ℕ)
   pub one : AnswersScript (Unit {0}) old mid first left left_now written written_then
-  pub lost : MayLeave mid.history.present cut.history.present
+  pub lost : Tore torn mid.history.present cut.history.present
   pub two : AnswersScript (Unit {0}) cut new second other other_now written_then written_now
   pub goes_on : (there : Option Device) → StandsFor old.history.present there → IsServedImage old.history.present
       → GoesOn (closed there) one.lines one.replies cut new second two.lines two.replies two.part

@@ -1,11 +1,10 @@
 //! Two runs over one platform in memory, with a loss of power between them.
 #![tactic(auto)]
 
-ghost use Rattle.std.specs.Prelude.{◌≡◌, ◌≤◌, None, length};
-ghost use Rattle.platform.specs.Image.{MayLeave};
+ghost use Rattle.std.specs.Prelude.{◌≡◌, ◌≤◌, ◌∷◌, [], None, length};
 ghost use Rattle.platform.specs.Mem.{mem_history, image_of_now, capacity_of};
 ghost use Rattle.device_cli.specs.World.{world};
-ghost use Rattle.two_runs.specs.TwoRuns.{TwoRuns};
+ghost use Rattle.two_runs.specs.TwoRuns.{Tore, TwoRuns};
 
 #[cfg(test)]
 mod tests;
@@ -17,8 +16,8 @@ use std::alloc::Global;
 
 /// Serves the script that `first` gives, loses the power, and serves the script that `second` gives over what is left.
 ///
-/// `torn` names pages that read as zero bytes from the loss of power on; those in it that a loss of power leaves as
-/// they are, and those that there are not, stay as they are. It answers the exit statuses of both runs: see
+/// `torn` names pages that read as zero bytes from the loss of power on; those in it that are synced, and those that
+/// there are not, stay as they are. It answers the exit statuses of both runs: see
 /// [`run_main`]. On a device that stands, the second run finds the device after the replies of the first that stand
 /// whole in the output, or the one after one more.
 pub fn run_twice<T: Tape, I: Source, O: Sink, L: Sink>(
@@ -31,7 +30,7 @@ pub fn run_twice<T: Tape, I: Source, O: Sink, L: Sink>(
     ledger: &mut L,
     torn: &[u64],
 ) -> (u8, u8)
-    ensures { TwoRuns (world None (mem_history platform.old) (length (image_of_now platform.old).recorded) (capacity_of platform.old))
+    ensures { TwoRuns torn.now (world None (mem_history platform.old) (length (image_of_now platform.old).recorded) (capacity_of platform.old))
         (world None (mem_history platform.new) (length (image_of_now platform.new).recorded) (capacity_of platform.new))
         result.0 result.1 (I.left first.old) (I.left first.new) (I.left second.old) (I.left second.new) (O.written output.old) (O.written output.new) }
 {
@@ -43,7 +42,7 @@ pub fn run_twice<T: Tape, I: Source, O: Sink, L: Sink>(
 
 /// The power is lost: the pages of the list that may be torn read as zero bytes from now on.
 fn lose_power(platform: &mut MemPlatform, torn: &[u64])
-    ensures left { MayLeave (image_of_now platform.old) (image_of_now platform.new) }
+    ensures left { Tore torn.now (image_of_now platform.old) (image_of_now platform.new) }
     ensures capacity { capacity_of platform.new ≡ capacity_of platform.old }
 {
     platform.power_cut(&[]);
@@ -54,7 +53,7 @@ fn lose_power(platform: &mut MemPlatform, torn: &[u64])
 
 /// A page reads as zero bytes from now on, if it is one that a loss of power may tear.
 fn tear_page(platform: &mut MemPlatform, addr: u64)
-    ensures left { MayLeave (image_of_now platform.old) (image_of_now platform.new) }
+    ensures left { Tore (addr ∷ []) (image_of_now platform.old) (image_of_now platform.new) }
     ensures capacity { capacity_of platform.new ≡ capacity_of platform.old }
 {
     if platform.synced() <= addr && addr < platform.head() {

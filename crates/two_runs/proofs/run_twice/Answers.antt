@@ -19,8 +19,8 @@ returns g c =
       one = c.run_main-status.ensures.answers;
       lost = c.lose_power.ensures.left;
       two = c.run_main-other.ensures.answers;
-      goes_on = λ there stands served. goes_on old mid cut new _ _ _ _ _ _ _ _ _ c.run_main-status.ensures.answers c.lose_power.ensures.left c.run_main-other.ensures.answers there stands served
-          (served_left (image_of_now c.run_main-status.new.platform) (image_of_now c.lose_power.new.platform) c.lose_power.ensures.left
+      goes_on = λ there stands served. goes_on old mid cut new _ _ _ _ _ _ _ _ _ c.run_main-status.ensures.answers c.lose_power.ensures.left.may c.run_main-other.ensures.answers there stands served
+          (served_left (image_of_now c.run_main-status.new.platform) (image_of_now c.lose_power.new.platform) c.lose_power.ensures.left.may
           (During-now (mem_history c.args.platform.now) (mem_history c.run_main-status.new.platform) IsServedImage (c.run_main-status.ensures.served tt served)));
       anywhere = λ there stands served. anywhere old mid _ _ _ _ _ c.run_main-status.ensures.answers there stands served (c.run_main-status.ensures.served tt served);
     }
