@@ -1,6 +1,5 @@
 -- That the cell can be served at each moment.
 use Rattle.platform.specs.History.{History, Steps, During}
-use Rattle.platform.specs.Image.{Image}
 use Rattle.std.proofs.Common.{◌≡◌, sym, subst}
 use Rattle.platform.proofs.Moments.{During-start, During-step, During-now, During-then}
 use Rattle.device_core.specs.Leaf.{IsServedImage}

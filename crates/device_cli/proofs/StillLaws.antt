@@ -1,5 +1,5 @@
 -- A call that looked at the platform and changed nothing.
-use Rattle.std.proofs.Common.{◌≡◌, ℕ, Option, refl, sym, subst, ap}
+use Rattle.std.proofs.Common.{◌≡◌, Option, refl, sym, subst, ap}
 use Rattle.platform.specs.Image.{Image}
 use Rattle.platform.specs.History.{Steps, During}
 use Rattle.platform.proofs.Moments.{During-step}

@@ -1,5 +1,5 @@
 -- That a cell which can be served is one at each moment, whatever a call makes of it.
-use Rattle.std.proofs.Common.{◌≡◌, ◌⊎◌, inl, inr, ℕ, ◌≤◌, List, Option, Some, None, length, refl, sym, subst, arith}
+use Rattle.std.proofs.Common.{◌≡◌, inl, inr, ℕ, ◌≤◌, List, Option, Some, None, length, refl, sym, subst, arith}
 use Rattle.platform.specs.Image.{Image, IsEither, with_cell, all_synced}
 use Rattle.platform.specs.History.{History, Steps, During, Turns, image_at}
 use Rattle.platform.proofs.Moments.{Extends-since, During-call, During-now, During-turns}

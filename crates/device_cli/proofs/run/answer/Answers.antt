@@ -1,4 +1,3 @@
-use Rattle.std.proofs.Common.{arith}
 use Rattle.script_lang.specs.declared.replies.Reply.TheVariants.{Bad}
 use Rattle.device_cli.specs.World.{World, IsLater, world}
 use Rattle.device_cli.specs.Replied.{no_line}

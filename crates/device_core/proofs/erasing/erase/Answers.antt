@@ -1,5 +1,4 @@
-use Rattle.std.proofs.Common.{arith, inr, None, ap}
-use Rattle.platform.specs.Image.{Image}
+use Rattle.std.proofs.Common.{inr, None}
 use Rattle.device_core.proofs.MomentLaws.{one_look}
 use Rattle.device_core.proofs.ServedLaws.{serves_still, serves_cleared}
 use Rattle.device_core.proofs.HoldLaws.{during_stands, erased}

@@ -1,6 +1,6 @@
 use Rattle.std.proofs.Common.{◌≡◌, ◌∙◌, ◌+◌, ◌≤◌, ◌<◌, ◌^◌, ℕ, List, [], Option, None, Some, Bool, false, refl, ap, sym, subst, inl, inr, arith, rules}
 use Rattle.sdbt_base.specs.Bytes.{IsBytes}
-use Rattle.platform.specs.Image.{Image, with_page}
+use Rattle.platform.specs.Image.{with_page}
 use Rattle.seal_record.specs.Sealing.{masked}
 use Rattle.node_codec.specs.Record.{NodeRecord, record_bytes}
 use Rattle.page_store.specs.Buffer.{Held}

@@ -1,5 +1,4 @@
-use Rattle.std.proofs.Common.{None, inl, inr, refl, arith}
-use Rattle.std.specs.Prelude.{◌⊎◌}
+use Rattle.std.proofs.Common.{None, refl, arith}
 use Rattle.std.proofs.lemmas.Grind.{common_steps}
 use Rattle.device_cli.specs.World.{World, world}
 use Rattle.device_cli.proofs.ServingLaws.{serves_erased, serves_erase_none, halts_erase}
