@@ -16,7 +16,7 @@ use Rattle.script_lang.specs.Replies.{line_of}
 use Rattle.script_lang.specs.declared.commands.Command.{Command}
 use Rattle.script_lang.specs.Arrays.{State}
 use Rattle.script_lang.specs.Answers.{Answers, Turn, IsMark, answer}
-use Rattle.script_lang.proofs.AnswerLaws.{Answers-append, Answers-longer}
+use Rattle.script_lang.proofs.AnswerLaws.{Answers-longer}
 use Rattle.script_lang.specs.declared.replies.Reply.{Reply}
 use Rattle.script_lang.specs.declared.replies.Reply.TheVariants.{Full, Bad}
 use Rattle.device_core.specs.Leaf.{IsServedImage}
@@ -131,7 +131,7 @@ Replied-part tells old new last line reply n later turned = record {
         now = entry;
         pages = old.head;
         answers = (refl, refl);
-        ends = (reply, t.0, (t.0, turn, refl), (n, refl), t.2.there.device);
+        ends = (reply, t.0, (t.0, new.head, t.1, (refl, refl)), (n, refl), t.2.there.device);
         near = (later.rises, one_page (is_full old) entry old.head line reply t.0 new.head t.1);
         ahead = reply ∷ [];
         is_ahead = omega arith;
@@ -264,18 +264,26 @@ IsDamageAt-then tells image (Err (stops.Device device.BadRoot)) lines more repli
 IsDamageAt-then tells image (Err (stops.Device (device.BadRecord addr))) lines more replies others same h =
     (IfNext-behind AsksForBlock lines more replies others same h.0, h.1)
 
-EndsIn-then : (new : World) (ending : Ending) (entry mid now : State) (lines more : List (List ℕ)) (replies others : List Reply) (part : List ℕ) (pages : ℕ)
-    → length replies ≡ length lines → Answers entry lines replies mid → EndsIn new mid more others part now pages ending
-    → EndsIn new entry (lines ++ more) (replies ++ others) part now pages ending
-EndsIn-then new (Ok done) entry mid now lines more replies others part pages same h k = k
-EndsIn-then new (Err stops.Source) entry mid now lines more replies others part pages same h k = k
-EndsIn-then new (Err stops.Limit) entry mid now lines more replies others part pages same h k = k
-EndsIn-then new (Err (stops.Device stop)) entry mid now lines more replies others part pages same h k = k
-EndsIn-then new (Err stops.Sink) entry mid now lines more replies others part pages same h (reply, next, answers, cut, stands) = (
+-- what the second run answers, counted from the first one's start
+AnswersOn-moved : (old middle : World) (mid new : State) (pages pages_now : ℕ) (lines : List (List ℕ)) (replies : List Reply) → middle.capacity ≡ old.capacity → middle.head ≡ pages
+    → AnswersOn middle.capacity mid middle.head lines replies new pages_now → AnswersOn old.capacity mid pages lines replies new pages_now
+AnswersOn-moved old middle mid new pages pages_now lines replies capacity head h =
+    subst (λ (c : ℕ). AnswersOn c mid pages lines replies new pages_now) capacity
+    (subst (λ (n : ℕ). AnswersOn middle.capacity mid n lines replies new pages_now) head h)
+
+EndsIn-then : (old middle new : World) (ending : Ending) (entry mid now : State) (lines more : List (List ℕ)) (replies others : List Reply) (part : List ℕ) (between pages : ℕ)
+    → middle.capacity ≡ old.capacity → middle.head ≡ between → length replies ≡ length lines → AnswersOn old.capacity entry old.head lines replies mid between
+    → EndsIn middle new mid more others part now pages ending → EndsIn old new entry (lines ++ more) (replies ++ others) part now pages ending
+EndsIn-then old middle new (Ok done) entry mid now lines more replies others part between pages capacity head same h k = k
+EndsIn-then old middle new (Err stops.Source) entry mid now lines more replies others part between pages capacity head same h k = k
+EndsIn-then old middle new (Err stops.Limit) entry mid now lines more replies others part between pages capacity head same h k = k
+EndsIn-then old middle new (Err (stops.Device stop)) entry mid now lines more replies others part between pages capacity head same h k = k
+EndsIn-then old middle new (Err stops.Sink) entry mid now lines more replies others part between pages capacity head same h (reply, next, answers, cut, stands) = (
   reply,
   next,
-  subst (λ (all : List Reply). Answers entry (lines ++ more) all next) (sym (append_assoc replies others (reply ∷ [])))
-      (Answers-append entry mid next lines more replies (others ++ reply ∷ []) same h answers),
+  subst (λ (all : List Reply). AnswersOn old.capacity entry old.head (lines ++ more) all next new.head) (sym (append_assoc replies others (reply ∷ [])))
+      (AnswersOn-append old.capacity entry old.head mid between next new.head lines more replies (others ++ reply ∷ []) same h
+      (AnswersOn-moved old middle mid next between new.head more (others ++ reply ∷ []) capacity head answers)),
   cut,
   stands,
 )
@@ -320,15 +328,13 @@ Answered-then : (old mid new : World) (ending : Ending) (entry : State) (lines m
     → Answered old new ending entry (lines ++ more) (replies ++ others) part
 Answered-then old mid new ending entry lines more replies others none part later same p q =
     let answers = answers_of old.capacity entry old.head lines replies p.now p.pages p.answers in
-    let more_answers : AnswersOn old.capacity p.now p.pages more others q.now q.pages =
-    subst (λ (c : ℕ). AnswersOn c p.now p.pages more others q.now q.pages) later.capacity
-    (subst (λ (n : ℕ). AnswersOn mid.capacity p.now n more others q.now q.pages) p.ends.1 q.answers) in
+    let more_answers = AnswersOn-moved old mid p.now q.now p.pages q.pages more others later.capacity p.ends.1 q.answers in
     record {
       now = q.now;
       pages = q.pages;
       answers = AnswersOn-append old.capacity entry old.head p.now p.pages q.now q.pages lines more replies others same p.answers more_answers;
       near = q.near;
-      ends = EndsIn-then new ending entry p.now q.now lines more replies others part q.pages same answers q.ends;
+      ends = EndsIn-then old mid new ending entry p.now q.now lines more replies others part p.pages q.pages later.capacity p.ends.1 same p.answers q.ends;
       ahead = q.ahead;
       is_ahead = q.is_ahead;
       passes = Passes-ahead old mid new entry p.now lines more replies others q.ahead same answers (Passes-none old mid entry lines replies p.ahead p.is_ahead p.passes) q.passes;
@@ -373,13 +379,13 @@ IsDamageAt-longer tells image (stops.Device device.Memory) lines more replies h 
 IsDamageAt-longer tells image (stops.Device device.BadRoot) lines more replies h = tt
 IsDamageAt-longer tells image (stops.Device (device.BadRecord addr)) lines more replies h = (IfNext-longer AsksForBlock lines more replies h.0, h.1)
 
-EndsIn-longer : (new : World) (stop : Stop) (entry now : State) (lines more : List (List ℕ)) (replies : List Reply) (part : List ℕ) (pages : ℕ)
-    → EndsIn new entry lines replies part now pages (Err stop) → EndsIn new entry (lines ++ more) replies part now pages (Err stop)
-EndsIn-longer new stops.Source entry now lines more replies part pages k = k
-EndsIn-longer new stops.Limit entry now lines more replies part pages k = k
-EndsIn-longer new (stops.Device stop) entry now lines more replies part pages k = k
-EndsIn-longer new stops.Sink entry now lines more replies part pages (reply, next, answers, cut, stands) =
-    (reply, next, Answers-longer entry next lines more (replies ++ reply ∷ []) answers, cut, stands)
+EndsIn-longer : (old new : World) (stop : Stop) (entry now : State) (lines more : List (List ℕ)) (replies : List Reply) (part : List ℕ) (pages : ℕ)
+    → EndsIn old new entry lines replies part now pages (Err stop) → EndsIn old new entry (lines ++ more) replies part now pages (Err stop)
+EndsIn-longer old new stops.Source entry now lines more replies part pages k = k
+EndsIn-longer old new stops.Limit entry now lines more replies part pages k = k
+EndsIn-longer old new (stops.Device stop) entry now lines more replies part pages k = k
+EndsIn-longer old new stops.Sink entry now lines more replies part pages (reply, next, answers, cut, stands) =
+    (reply, next, AnswersOn-longer old.capacity entry old.head next new.head lines more (replies ++ reply ∷ []) answers, cut, stands)
 
 ExitsAt-longer : (image : Image) (entry : State) (lines more : List (List ℕ)) (replies ahead : List Reply) → ExitsAt image entry lines replies ahead
     → ExitsAt image entry (lines ++ more) replies ahead
@@ -408,7 +414,7 @@ Replied-longer tells old new last stop lines more put line p = record {
     pages = first.pages;
     answers = AnswersOn-longer old.capacity entry old.head first.now first.pages lines more p.replies first.answers;
     near = first.near;
-    ends = EndsIn-longer new stop entry first.now lines more p.replies p.part first.pages first.ends;
+    ends = EndsIn-longer old new stop entry first.now lines more p.replies p.part first.pages first.ends;
     ahead = first.ahead;
     is_ahead = first.is_ahead;
     passes = Passes-longer old.history new.history entry lines more (p.replies ++ first.ahead) (length p.replies + length first.ahead) first.passes;

@@ -131,46 +131,46 @@ not_ended n p q r (inl e) = p e
 not_ended n p q r (inr (inl e)) = q e
 not_ended n p q r (inr (inr e)) = r e
 
-ends : (new : World) (ending : Ending) (entry now : State) (lines : List (List ℕ)) (replies : List Reply) (part : List ℕ) (pages : ℕ)
-    → EndsIn new entry lines replies part now pages ending → (exit_of ending ≡ 0) ⊎ (exit_of ending ≡ 3) ⊎ (exit_of ending ≡ 12)
+ends : (old new : World) (ending : Ending) (entry now : State) (lines : List (List ℕ)) (replies : List Reply) (part : List ℕ) (pages : ℕ)
+    → EndsIn old new entry lines replies part now pages ending → (exit_of ending ≡ 0) ⊎ (exit_of ending ≡ 3) ⊎ (exit_of ending ≡ 12)
     → StandsFor new.history.present now.device × (new.head ≡ pages)
-ends new (Ok done) entry now lines replies part pages h e = (h.0.there.device, h.1)
-ends new (Err stops.Source) entry now lines replies part pages h e = (h.0.there.device, h.1)
-ends new (Err stops.Limit) entry now lines replies part pages h e = (h.0.there.device, h.1)
-ends new (Err stops.Sink) entry now lines replies part pages h e = absurd (not_ended 4 (λ p. omega (arith, p)) (λ p. omega (arith, p)) (λ p. omega (arith, p)) e)
-ends new (Err (stops.Device device.Platform)) entry now lines replies part pages h e = absurd (not_ended 5 (λ p. omega (arith, p)) (λ p. omega (arith, p)) (λ p. omega (arith, p)) e)
-ends new (Err (stops.Device device.Tape)) entry now lines replies part pages h e = absurd (not_ended 6 (λ p. omega (arith, p)) (λ p. omega (arith, p)) (λ p. omega (arith, p)) e)
-ends new (Err (stops.Device device.Ledger)) entry now lines replies part pages h e = absurd (not_ended 7 (λ p. omega (arith, p)) (λ p. omega (arith, p)) (λ p. omega (arith, p)) e)
-ends new (Err (stops.Device device.Memory)) entry now lines replies part pages h e = absurd (not_ended 11 (λ p. omega (arith, p)) (λ p. omega (arith, p)) (λ p. omega (arith, p)) e)
-ends new (Err (stops.Device device.BadRoot)) entry now lines replies part pages h e = absurd h
-ends new (Err (stops.Device (device.BadRecord addr))) entry now lines replies part pages h e = absurd h
+ends old new (Ok done) entry now lines replies part pages h e = (h.0.there.device, h.1)
+ends old new (Err stops.Source) entry now lines replies part pages h e = (h.0.there.device, h.1)
+ends old new (Err stops.Limit) entry now lines replies part pages h e = (h.0.there.device, h.1)
+ends old new (Err stops.Sink) entry now lines replies part pages h e = absurd (not_ended 4 (λ p. omega (arith, p)) (λ p. omega (arith, p)) (λ p. omega (arith, p)) e)
+ends old new (Err (stops.Device device.Platform)) entry now lines replies part pages h e = absurd (not_ended 5 (λ p. omega (arith, p)) (λ p. omega (arith, p)) (λ p. omega (arith, p)) e)
+ends old new (Err (stops.Device device.Tape)) entry now lines replies part pages h e = absurd (not_ended 6 (λ p. omega (arith, p)) (λ p. omega (arith, p)) (λ p. omega (arith, p)) e)
+ends old new (Err (stops.Device device.Ledger)) entry now lines replies part pages h e = absurd (not_ended 7 (λ p. omega (arith, p)) (λ p. omega (arith, p)) (λ p. omega (arith, p)) e)
+ends old new (Err (stops.Device device.Memory)) entry now lines replies part pages h e = absurd (not_ended 11 (λ p. omega (arith, p)) (λ p. omega (arith, p)) (λ p. omega (arith, p)) e)
+ends old new (Err (stops.Device device.BadRoot)) entry now lines replies part pages h e = absurd h
+ends old new (Err (stops.Device (device.BadRecord addr))) entry now lines replies part pages h e = absurd h
 
 -- how an ending of this status is that of a failed output
-next : (new : World) (ending : Ending) (entry now : State) (lines : List (List ℕ)) (replies : List Reply) (part : List ℕ) (pages : ℕ)
-    → EndsIn new entry lines replies part now pages ending → exit_of ending ≡ 4 → EndsIn new entry lines replies part now pages (Err stops.Sink)
-next new (Ok done) entry now lines replies part pages h e = absurd (omega (arith, e))
-next new (Err stops.Source) entry now lines replies part pages h e = absurd (omega (arith, e))
-next new (Err stops.Limit) entry now lines replies part pages h e = absurd (omega (arith, e))
-next new (Err stops.Sink) entry now lines replies part pages h e = h
-next new (Err (stops.Device device.Platform)) entry now lines replies part pages h e = absurd (omega (arith, e))
-next new (Err (stops.Device device.Tape)) entry now lines replies part pages h e = absurd (omega (arith, e))
-next new (Err (stops.Device device.Ledger)) entry now lines replies part pages h e = absurd (omega (arith, e))
-next new (Err (stops.Device device.Memory)) entry now lines replies part pages h e = absurd (omega (arith, e))
-next new (Err (stops.Device device.BadRoot)) entry now lines replies part pages h e = absurd h
-next new (Err (stops.Device (device.BadRecord addr))) entry now lines replies part pages h e = absurd h
+next : (old new : World) (ending : Ending) (entry now : State) (lines : List (List ℕ)) (replies : List Reply) (part : List ℕ) (pages : ℕ)
+    → EndsIn old new entry lines replies part now pages ending → exit_of ending ≡ 4 → EndsIn old new entry lines replies part now pages (Err stops.Sink)
+next old new (Ok done) entry now lines replies part pages h e = absurd (omega (arith, e))
+next old new (Err stops.Source) entry now lines replies part pages h e = absurd (omega (arith, e))
+next old new (Err stops.Limit) entry now lines replies part pages h e = absurd (omega (arith, e))
+next old new (Err stops.Sink) entry now lines replies part pages h e = h
+next old new (Err (stops.Device device.Platform)) entry now lines replies part pages h e = absurd (omega (arith, e))
+next old new (Err (stops.Device device.Tape)) entry now lines replies part pages h e = absurd (omega (arith, e))
+next old new (Err (stops.Device device.Ledger)) entry now lines replies part pages h e = absurd (omega (arith, e))
+next old new (Err (stops.Device device.Memory)) entry now lines replies part pages h e = absurd (omega (arith, e))
+next old new (Err (stops.Device device.BadRoot)) entry now lines replies part pages h e = absurd h
+next old new (Err (stops.Device (device.BadRecord addr))) entry now lines replies part pages h e = absurd h
 
-sound : (new : World) (ending : Ending) (entry now : State) (lines : List (List ℕ)) (replies : List Reply) (part : List ℕ) (pages : ℕ)
-    → EndsIn new entry lines replies part now pages ending → (exit_of ending ≢ 8) × (exit_of ending ≢ 9)
-sound new (Ok done) entry now lines replies part pages h = (λ e. omega (arith, e), λ e. omega (arith, e))
-sound new (Err stops.Source) entry now lines replies part pages h = (λ e. omega (arith, e), λ e. omega (arith, e))
-sound new (Err stops.Limit) entry now lines replies part pages h = (λ e. omega (arith, e), λ e. omega (arith, e))
-sound new (Err stops.Sink) entry now lines replies part pages h = (λ e. omega (arith, e), λ e. omega (arith, e))
-sound new (Err (stops.Device device.Platform)) entry now lines replies part pages h = (λ e. omega (arith, e), λ e. omega (arith, e))
-sound new (Err (stops.Device device.Tape)) entry now lines replies part pages h = (λ e. omega (arith, e), λ e. omega (arith, e))
-sound new (Err (stops.Device device.Ledger)) entry now lines replies part pages h = (λ e. omega (arith, e), λ e. omega (arith, e))
-sound new (Err (stops.Device device.Memory)) entry now lines replies part pages h = (λ e. omega (arith, e), λ e. omega (arith, e))
-sound new (Err (stops.Device device.BadRoot)) entry now lines replies part pages h = absurd h
-sound new (Err (stops.Device (device.BadRecord addr))) entry now lines replies part pages h = absurd h
+sound : (old new : World) (ending : Ending) (entry now : State) (lines : List (List ℕ)) (replies : List Reply) (part : List ℕ) (pages : ℕ)
+    → EndsIn old new entry lines replies part now pages ending → (exit_of ending ≢ 8) × (exit_of ending ≢ 9)
+sound old new (Ok done) entry now lines replies part pages h = (λ e. omega (arith, e), λ e. omega (arith, e))
+sound old new (Err stops.Source) entry now lines replies part pages h = (λ e. omega (arith, e), λ e. omega (arith, e))
+sound old new (Err stops.Limit) entry now lines replies part pages h = (λ e. omega (arith, e), λ e. omega (arith, e))
+sound old new (Err stops.Sink) entry now lines replies part pages h = (λ e. omega (arith, e), λ e. omega (arith, e))
+sound old new (Err (stops.Device device.Platform)) entry now lines replies part pages h = (λ e. omega (arith, e), λ e. omega (arith, e))
+sound old new (Err (stops.Device device.Tape)) entry now lines replies part pages h = (λ e. omega (arith, e), λ e. omega (arith, e))
+sound old new (Err (stops.Device device.Ledger)) entry now lines replies part pages h = (λ e. omega (arith, e), λ e. omega (arith, e))
+sound old new (Err (stops.Device device.Memory)) entry now lines replies part pages h = (λ e. omega (arith, e), λ e. omega (arith, e))
+sound old new (Err (stops.Device device.BadRoot)) entry now lines replies part pages h = absurd h
+sound old new (Err (stops.Device (device.BadRecord addr))) entry now lines replies part pages h = absurd h
 
 none_is : (ahead : List Reply) → ahead ≡ [] → length ahead ≤ 1
 none_is [] e = omega arith
@@ -207,9 +207,9 @@ answers_from old new ending entry lines replies part f = record {
   now = f.now;
   pages = f.pages;
   answers = f.answers;
-  ends = ends new ending entry f.now lines replies part f.pages f.ends;
-  next = next new ending entry f.now lines replies part f.pages f.ends;
-  sound = sound new ending entry f.now lines replies part f.pages f.ends;
+  ends = ends old new ending entry f.now lines replies part f.pages f.ends;
+  next = next old new ending entry f.now lines replies part f.pages f.ends;
+  sound = sound old new ending entry f.now lines replies part f.pages f.ends;
   near = f.near;
   ahead = f.ahead;
   one_ahead = one_ahead ending f.ahead f.is_ahead;

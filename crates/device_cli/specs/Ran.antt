@@ -49,8 +49,8 @@ pub record AnswersFrom (old new : World) (status : ℕ) (entry : State) (lines :
   pub pages : ℕ
   pub answers : AnswersOn old.capacity entry old.head lines replies now pages
   pub ends : (status ≡ 0) ⊎ (status ≡ 3) ⊎ (status ≡ 12) → StandsFor new.history.present now.device × (new.head ≡ pages)
-  pub next : status ≡ 4 → (reply : Reply) × (then : State) × Answers entry lines (replies ++ reply ∷ []) then × IsFirstPart (line_of reply) part
-      × StandsFor new.history.present then.device
+  pub next : status ≡ 4 → (reply : Reply) × (then : State) × AnswersOn old.capacity entry old.head lines (replies ++ reply ∷ []) then new.head
+      × IsFirstPart (line_of reply) part × StandsFor new.history.present then.device
   pub sound : (status ≢ 8) × (status ≢ 9)
   -- a command that was cut short may have added one page more
   pub near : IsOneMore pages new.head

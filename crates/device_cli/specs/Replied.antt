@@ -11,7 +11,7 @@ use Rattle.sdbt_base.specs.Told.{Got, GotPart}
 use Rattle.script_lang.specs.Grammar.{Spells}
 use Rattle.script_lang.specs.Replies.{line_of}
 use Rattle.script_lang.specs.Arrays.{State}
-use Rattle.script_lang.specs.Answers.{Answers, IsMark, answer}
+use Rattle.script_lang.specs.Answers.{IsMark, answer}
 use Rattle.script_lang.specs.declared.devices.Device.{Device}
 use Rattle.script_lang.specs.declared.commands.Command.{Command}
 use Rattle.script_lang.specs.declared.commands.Command.TheVariants as commands
@@ -105,14 +105,14 @@ IsSound device.Memory = Unit {0}
 
 -- how a run over a device that stands ends, after the replies that led to the state `now`: in that state, with so many
 -- pages; by a fault alone; or, where the output failed, with a first part of one more reply's line, for the device after it
-abbrev pub EndsIn : World → State → List (List ℕ) → List Reply → List ℕ → State → ℕ → Ending → Type 0
-EndsIn new entry lines replies part now pages (Ok done) = Stood new now × (new.head ≡ pages)
-EndsIn new entry lines replies part now pages (Err stops.Source) = Stood new now × (new.head ≡ pages)
-EndsIn new entry lines replies part now pages (Err stops.Limit) = Stood new now × (new.head ≡ pages)
-EndsIn new entry lines replies part now pages (Err (stops.Device stop)) = IsSound stop
-EndsIn new entry lines replies part now pages (Err stops.Sink) =
-    (reply : Reply) × (next : State) × Answers entry lines (replies ++ reply ∷ []) next × IsFirstPart (line_of reply) part
-    × StandsFor new.history.present next.device
+abbrev pub EndsIn : World → World → State → List (List ℕ) → List Reply → List ℕ → State → ℕ → Ending → Type 0
+EndsIn old new entry lines replies part now pages (Ok done) = Stood new now × (new.head ≡ pages)
+EndsIn old new entry lines replies part now pages (Err stops.Source) = Stood new now × (new.head ≡ pages)
+EndsIn old new entry lines replies part now pages (Err stops.Limit) = Stood new now × (new.head ≡ pages)
+EndsIn old new entry lines replies part now pages (Err (stops.Device stop)) = IsSound stop
+EndsIn old new entry lines replies part now pages (Err stops.Sink) =
+    (reply : Reply) × (next : State) × AnswersOn old.capacity entry old.head lines (replies ++ reply ∷ []) next new.head
+    × IsFirstPart (line_of reply) part × StandsFor new.history.present next.device
 
 -- the reply to the line in hand may have come to be where the platform or the output failed, and else none
 abbrev pub IsAhead : Ending → List Reply → Type 0
@@ -145,7 +145,7 @@ pub record Answered (old new : World) (ending : Ending) (entry : State) (lines :
   pub now : State
   pub pages : ℕ
   pub answers : AnswersOn old.capacity entry old.head lines replies now pages
-  pub ends : EndsIn new entry lines replies part now pages ending
+  pub ends : EndsIn old new entry lines replies part now pages ending
   pub near : IsOneMore pages new.head
   pub ahead : List Reply
   pub is_ahead : IsAhead ending ahead
