@@ -70,10 +70,13 @@ impl Desk {
         ensures head_by_one { P.head platform.new ≤ P.head platform.old + 1 }
         ensures full { IfOk result (λ reply. reply ≡ Reply.Full → P.head platform.new ≡ P.capacity platform.new) }
         ensures of_block { (addr : ℕ) → IsErrOf result (DeviceStop.BadRecord addr) → IsOfBlock command.now }
-        ensures damage { P.tells → (addr : ℕ) → IsErrOf result (DeviceStop.BadRecord addr) → IsWrongPage (P.history platform.new).present addr }
-        ensures pages { P.tells → (entry : State) → Represents (world self.old.session (P.history platform.old) (P.head platform.old) (P.capacity platform.old)) entry
+        ensures damage { P.tells → (addr : ℕ) → IsErrOf result (DeviceStop.BadRecord addr)
+            → IsWrongPage (P.history platform.new).present addr }
+        ensures pages { P.tells → (entry : State)
+            → Represents (world self.old.session (P.history platform.old) (P.head platform.old) (P.capacity platform.old)) entry
             → IfOk result (λ reply. P.head platform.new ≡ pages_after entry command.now reply (P.head platform.old)) }
-        ensures answered { P.tells → (entry : State) → Represents (world self.old.session (P.history platform.old) (P.head platform.old) (P.capacity platform.old)) entry
+        ensures answered { P.tells → (entry : State)
+            → Represents (world self.old.session (P.history platform.old) (P.head platform.old) (P.capacity platform.old)) entry
             → Serves (world self.old.session (P.history platform.old) (P.head platform.old) (P.capacity platform.old))
             (world self.new.session (P.history platform.new) (P.head platform.new) (P.capacity platform.new)) entry command.now result }
     {
@@ -120,11 +123,14 @@ impl Desk {
         ensures head_by_one { P.head platform.new ≤ P.head platform.old + 1 }
         ensures full { IfOk result (λ reply. reply ≡ Reply.Full → P.head platform.new ≡ P.capacity platform.new) }
         ensures damage { (addr : ℕ) → IsErrOf result (DeviceStop.BadRecord addr) → ⊥ }
-        ensures pages { P.tells → (entry : State) → Represents (world self.old.session (P.history platform.old) (P.head platform.old) (P.capacity platform.old)) entry
+        ensures pages { P.tells → (entry : State)
+            → Represents (world self.old.session (P.history platform.old) (P.head platform.old) (P.capacity platform.old)) entry
             → IfOk result (λ reply. P.head platform.new ≡ pages_after entry (Command.Format blocks order) reply (P.head platform.old)) }
-        ensures answered { P.tells → (entry : State) → Represents (world self.old.session (P.history platform.old) (P.head platform.old) (P.capacity platform.old)) entry
+        ensures answered { P.tells → (entry : State)
+            → Represents (world self.old.session (P.history platform.old) (P.head platform.old) (P.capacity platform.old)) entry
             → Serves (world self.old.session (P.history platform.old) (P.head platform.old) (P.capacity platform.old))
-            (world self.new.session (P.history platform.new) (P.head platform.new) (P.capacity platform.new)) entry (Command.Format blocks order) result }
+            (world self.new.session (P.history platform.new) (P.head platform.new) (P.capacity platform.new))
+            entry (Command.Format blocks order) result }
     {
         if let Some(reply) = refused_size(blocks, order) {
             return refuse_format(platform, reply);
@@ -158,9 +164,11 @@ impl Desk {
         ensures head_by_one { P.head platform.new ≤ P.head platform.old + 1 }
         ensures full { IfOk result (λ reply. reply ≡ Reply.Full → P.head platform.new ≡ P.capacity platform.new) }
         ensures damage { (addr : ℕ) → IsErrOf result (DeviceStop.BadRecord addr) → ⊥ }
-        ensures pages { P.tells → (entry : State) → Represents (world self.old.session (P.history platform.old) (P.head platform.old) (P.capacity platform.old)) entry
+        ensures pages { P.tells → (entry : State)
+            → Represents (world self.old.session (P.history platform.old) (P.head platform.old) (P.capacity platform.old)) entry
             → IfOk result (λ reply. P.head platform.new ≡ pages_after entry Command.Mount reply (P.head platform.old)) }
-        ensures answered { P.tells → (entry : State) → Represents (world self.old.session (P.history platform.old) (P.head platform.old) (P.capacity platform.old)) entry
+        ensures answered { P.tells → (entry : State)
+            → Represents (world self.old.session (P.history platform.old) (P.head platform.old) (P.capacity platform.old)) entry
             → Serves (world self.old.session (P.history platform.old) (P.head platform.old) (P.capacity platform.old))
             (world self.new.session (P.history platform.new) (P.head platform.new) (P.capacity platform.new)) entry Command.Mount result }
     {
@@ -197,12 +205,16 @@ impl Desk {
         ensures head_rises { P.head platform.old ≤ P.head platform.new }
         ensures head_by_one { P.head platform.new ≤ P.head platform.old + 1 }
         ensures full { IfOk result (λ reply. reply ≡ Reply.Full → P.head platform.new ≡ P.capacity platform.new) }
-        ensures damage { P.tells → (addr : ℕ) → IsErrOf result (DeviceStop.BadRecord addr) → IsWrongPage (P.history platform.new).present addr }
-        ensures pages { P.tells → (entry : State) → Represents (world self.old.session (P.history platform.old) (P.head platform.old) (P.capacity platform.old)) entry
+        ensures damage { P.tells → (addr : ℕ) → IsErrOf result (DeviceStop.BadRecord addr)
+            → IsWrongPage (P.history platform.new).present addr }
+        ensures pages { P.tells → (entry : State)
+            → Represents (world self.old.session (P.history platform.old) (P.head platform.old) (P.capacity platform.old)) entry
             → IfOk result (λ reply. P.head platform.new ≡ pages_after entry (Command.Read block) reply (P.head platform.old)) }
-        ensures answered { P.tells → (entry : State) → Represents (world self.old.session (P.history platform.old) (P.head platform.old) (P.capacity platform.old)) entry
+        ensures answered { P.tells → (entry : State)
+            → Represents (world self.old.session (P.history platform.old) (P.head platform.old) (P.capacity platform.old)) entry
             → Serves (world self.old.session (P.history platform.old) (P.head platform.old) (P.capacity platform.old))
-            (world self.new.session (P.history platform.new) (P.head platform.new) (P.capacity platform.new)) entry (Command.Read block) result }
+            (world self.new.session (P.history platform.new) (P.head platform.new) (P.capacity platform.new))
+            entry (Command.Read block) result }
     {
         let Some(session) = &mut self.session else {
             return Ok(Reply::Unmounted);
@@ -240,13 +252,18 @@ impl Desk {
         ensures head_rises { P.head platform.old ≤ P.head platform.new }
         ensures head_by_one { P.head platform.new ≤ P.head platform.old + 1 }
         ensures full { IfOk result (λ reply. reply ≡ Reply.Full → P.head platform.new ≡ P.capacity platform.new) }
-        ensures damage { P.tells → (addr : ℕ) → IsErrOf result (DeviceStop.BadRecord addr) → IsWrongPage (P.history platform.new).present addr }
-        ensures pages { P.tells → (entry : State) → Represents (world self.old.session (P.history platform.old) (P.head platform.old) (P.capacity platform.old)) entry
-            → (bytes : Bytes ℕ) → IfOk result (λ reply. P.head platform.new ≡ pages_after entry (Command.Write block bytes) reply (P.head platform.old)) }
-        ensures answered { P.tells → (entry : State) → Represents (world self.old.session (P.history platform.old) (P.head platform.old) (P.capacity platform.old)) entry
+        ensures damage { P.tells → (addr : ℕ) → IsErrOf result (DeviceStop.BadRecord addr)
+            → IsWrongPage (P.history platform.new).present addr }
+        ensures pages { P.tells → (entry : State)
+            → Represents (world self.old.session (P.history platform.old) (P.head platform.old) (P.capacity platform.old)) entry
+            → (bytes : Bytes ℕ)
+            → IfOk result (λ reply. P.head platform.new ≡ pages_after entry (Command.Write block bytes) reply (P.head platform.old)) }
+        ensures answered { P.tells → (entry : State)
+            → Represents (world self.old.session (P.history platform.old) (P.head platform.old) (P.capacity platform.old)) entry
             → (bytes : Bytes ℕ) → bytes.items ≡ content.now
             → Serves (world self.old.session (P.history platform.old) (P.head platform.old) (P.capacity platform.old))
-            (world self.new.session (P.history platform.new) (P.head platform.new) (P.capacity platform.new)) entry (Command.Write block bytes) result }
+            (world self.new.session (P.history platform.new) (P.head platform.new) (P.capacity platform.new))
+            entry (Command.Write block bytes) result }
     {
         let Some(session) = &mut self.session else {
             return Ok(Reply::Unmounted);
@@ -279,12 +296,16 @@ impl Desk {
         ensures head_rises { P.head platform.old ≤ P.head platform.new }
         ensures head_by_one { P.head platform.new ≤ P.head platform.old + 1 }
         ensures full { IfOk result (λ reply. reply ≡ Reply.Full → P.head platform.new ≡ P.capacity platform.new) }
-        ensures damage { P.tells → (addr : ℕ) → IsErrOf result (DeviceStop.BadRecord addr) → IsWrongPage (P.history platform.new).present addr }
-        ensures pages { P.tells → (entry : State) → Represents (world self.old.session (P.history platform.old) (P.head platform.old) (P.capacity platform.old)) entry
+        ensures damage { P.tells → (addr : ℕ) → IsErrOf result (DeviceStop.BadRecord addr)
+            → IsWrongPage (P.history platform.new).present addr }
+        ensures pages { P.tells → (entry : State)
+            → Represents (world self.old.session (P.history platform.old) (P.head platform.old) (P.capacity platform.old)) entry
             → IfOk result (λ reply. P.head platform.new ≡ pages_after entry (Command.Trim block) reply (P.head platform.old)) }
-        ensures answered { P.tells → (entry : State) → Represents (world self.old.session (P.history platform.old) (P.head platform.old) (P.capacity platform.old)) entry
+        ensures answered { P.tells → (entry : State)
+            → Represents (world self.old.session (P.history platform.old) (P.head platform.old) (P.capacity platform.old)) entry
             → Serves (world self.old.session (P.history platform.old) (P.head platform.old) (P.capacity platform.old))
-            (world self.new.session (P.history platform.new) (P.head platform.new) (P.capacity platform.new)) entry (Command.Trim block) result }
+            (world self.new.session (P.history platform.new) (P.head platform.new) (P.capacity platform.new))
+            entry (Command.Trim block) result }
     {
         let Some(session) = &mut self.session else {
             return Ok(Reply::Unmounted);
@@ -322,9 +343,11 @@ impl Desk {
         ensures head_by_one { P.head platform.new ≤ P.head platform.old + 1 }
         ensures full { IfOk result (λ reply. reply ≡ Reply.Full → P.head platform.new ≡ P.capacity platform.new) }
         ensures damage { (addr : ℕ) → IsErrOf result (DeviceStop.BadRecord addr) → ⊥ }
-        ensures pages { P.tells → (entry : State) → Represents (world self.old.session (P.history platform.old) (P.head platform.old) (P.capacity platform.old)) entry
+        ensures pages { P.tells → (entry : State)
+            → Represents (world self.old.session (P.history platform.old) (P.head platform.old) (P.capacity platform.old)) entry
             → IfOk result (λ reply. P.head platform.new ≡ pages_after entry Command.Commit reply (P.head platform.old)) }
-        ensures answered { P.tells → (entry : State) → Represents (world self.old.session (P.history platform.old) (P.head platform.old) (P.capacity platform.old)) entry
+        ensures answered { P.tells → (entry : State)
+            → Represents (world self.old.session (P.history platform.old) (P.head platform.old) (P.capacity platform.old)) entry
             → Serves (world self.old.session (P.history platform.old) (P.head platform.old) (P.capacity platform.old))
             (world self.new.session (P.history platform.new) (P.head platform.new) (P.capacity platform.new)) entry Command.Commit result }
     {
@@ -352,7 +375,8 @@ impl Desk {
         ensures reply { IfOk result CanWrite }
         ensures full { IfOk result (λ reply. reply ≡ Reply.Full → ⊥) }
         ensures stop { IfErr result (λ stop. ⊥) }
-        ensures answered { P.tells → (entry : State) → Represents (world self.old.session (P.history platform.now) (P.head platform.now) (P.capacity platform.now)) entry
+        ensures answered { P.tells → (entry : State)
+            → Represents (world self.old.session (P.history platform.now) (P.head platform.now) (P.capacity platform.now)) entry
             → Serves (world self.old.session (P.history platform.now) (P.head platform.now) (P.capacity platform.now))
             (world self.new.session (P.history platform.now) (P.head platform.now) (P.capacity platform.now)) entry Command.Drop result }
     {
@@ -381,9 +405,11 @@ impl Desk {
         ensures head_by_one { P.head platform.new ≤ P.head platform.old + 1 }
         ensures full { IfOk result (λ reply. reply ≡ Reply.Full → P.head platform.new ≡ P.capacity platform.new) }
         ensures damage { (addr : ℕ) → IsErrOf result (DeviceStop.BadRecord addr) → ⊥ }
-        ensures pages { P.tells → (entry : State) → Represents (world self.old.session (P.history platform.old) (P.head platform.old) (P.capacity platform.old)) entry
+        ensures pages { P.tells → (entry : State)
+            → Represents (world self.old.session (P.history platform.old) (P.head platform.old) (P.capacity platform.old)) entry
             → IfOk result (λ reply. P.head platform.new ≡ pages_after entry Command.Erase reply (P.head platform.old)) }
-        ensures answered { P.tells → (entry : State) → Represents (world self.old.session (P.history platform.old) (P.head platform.old) (P.capacity platform.old)) entry
+        ensures answered { P.tells → (entry : State)
+            → Represents (world self.old.session (P.history platform.old) (P.head platform.old) (P.capacity platform.old)) entry
             → Serves (world self.old.session (P.history platform.old) (P.head platform.old) (P.capacity platform.old))
             (world self.new.session (P.history platform.new) (P.head platform.new) (P.capacity platform.new)) entry Command.Erase result }
     {
@@ -402,7 +428,8 @@ impl Desk {
         ensures reply { IfOk result CanWrite }
         ensures full { IfOk result (λ reply. reply ≡ Reply.Full → ⊥) }
         ensures stop { IfErr result (λ stop. ⊥) }
-        ensures answered { P.tells → (entry : State) → Represents (world self.now.session (P.history platform.now) (P.head platform.now) (P.capacity platform.now)) entry
+        ensures answered { P.tells → (entry : State)
+            → Represents (world self.now.session (P.history platform.now) (P.head platform.now) (P.capacity platform.now)) entry
             → Serves (world self.now.session (P.history platform.now) (P.head platform.now) (P.capacity platform.now))
             (world self.now.session (P.history platform.now) (P.head platform.now) (P.capacity platform.now)) entry Command.Stat result }
     {
@@ -443,7 +470,8 @@ fn refuse_format<P: Platform>(platform: &mut P, reply: Reply) -> Result<Reply, D
         ⊎ ((now ≡ reply) × ((P.history platform.old).present.cell ≡ None))) }
     ensures either { IfOk result (λ now. (now ≡ Reply.NotEmpty) ⊎ (now ≡ reply)) }
     ensures image { P.tells → (P.history platform.new).present ≡ (P.history platform.old).present }
-    ensures time { P.tells → During (P.history platform.old) (P.history platform.new) (λ image. image.cell ≡ (P.history platform.old).present.cell) }
+    ensures time { P.tells
+        → During (P.history platform.old) (P.history platform.new) (λ image. image.cell ≡ (P.history platform.old).present.cell) }
     ensures head { P.head platform.new ≡ P.head platform.old }
     ensures capacity { P.capacity platform.new ≡ P.capacity platform.old }
     ensures reply { IfOk result CanWrite }

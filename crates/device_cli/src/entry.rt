@@ -18,7 +18,8 @@ pub(crate) const MOST_BLOCKS: u64 = 64;
 pub(crate) fn check_cell<P: Platform>(platform: &mut P) -> Result<(), DeviceStop>
     ensures served { P.tells → OnOk result (IsServedImage (P.history platform.old).present) }
     ensures bad_root { P.tells → IsErrOf result DeviceStop.BadRoot → IsServedImage (P.history platform.old).present → ⊥ }
-    ensures stops { IfErr result (λ stop. (stop ≡ DeviceStop.BadRoot) ⊎ ((stop ≡ DeviceStop.Platform) × Rose (P.faults platform.old) (P.faults platform.new))) }
+    ensures stops { IfErr result (λ stop. (stop ≡ DeviceStop.BadRoot)
+        ⊎ ((stop ≡ DeviceStop.Platform) × Rose (P.faults platform.old) (P.faults platform.new))) }
     ensures image { P.tells → (P.history platform.new).present ≡ (P.history platform.old).present }
     ensures time { P.tells → Steps (P.history platform.old) (P.history platform.new) }
     ensures head { P.head platform.new ≡ P.head platform.old }

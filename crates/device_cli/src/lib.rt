@@ -54,7 +54,8 @@ pub fn run_main<P: Platform, T: Tape, I: Source, O: Sink, L: Sink>(
     ensures platform_fault { result ≡ 5 → Rose (P.faults platform.old) (P.faults platform.new) }
     ensures tape_fault { result ≡ 6 → Rose (T.faults tape.old) (T.faults tape.new) }
     ensures ledger_fault { result ≡ 7 → Rose (L.faults ledger.old) (L.faults ledger.new) }
-    ensures counts { NoneFell (counts (P.faults platform.old) (T.faults tape.old) (I.faults input.old) (O.faults output.old) (L.faults ledger.old))
+    ensures counts { NoneFell
+        (counts (P.faults platform.old) (T.faults tape.old) (I.faults input.old) (O.faults output.old) (L.faults ledger.old))
         (counts (P.faults platform.new) (T.faults tape.new) (I.faults input.new) (O.faults output.new) (L.faults ledger.new)) }
 
     // 8 exactly where the cell at the start is full and can't be served, unless that could not be told or not be said.
@@ -77,7 +78,8 @@ pub fn run_main<P: Platform, T: Tape, I: Source, O: Sink, L: Sink>(
         → (result ≡ 11) ⊎ ((result ≡ 0) × IsComplete (closed there) text (O.written output.old) (O.written output.new)) }
 
     // A cell that can be served is one at each moment, and pages are only added.
-    ensures served { P.tells → IsServedImage (P.history platform.old).present → During (P.history platform.old) (P.history platform.new) IsServedImage }
+    ensures served { P.tells → IsServedImage (P.history platform.old).present
+        → During (P.history platform.old) (P.history platform.new) IsServedImage }
     ensures head { P.head platform.old ≤ P.head platform.new }
     ensures capacity { P.capacity platform.new ≡ P.capacity platform.old }
 

@@ -39,14 +39,19 @@ pub(crate) fn run<P: Platform, T: Tape, I: Source, O: Sink, L: Sink>(
     ledger: &mut L,
 ) -> Result<(), Stop>
     ensures refused_only { P.tells → IfErr result (λ stop. status_of stop ≡ 8 → IsServedImage (P.history platform.old).present → ⊥) }
-    ensures refused { P.tells → (IsServedImage (P.history platform.old).present → ⊥) → IfErr result (λ stop. IsRefusal stop) × (IsOk result → ⊥) }
-    ensures counts { NoneFell (counts (P.faults platform.old) (T.faults tape.old) (I.faults input.old) (O.faults output.old) (L.faults ledger.old))
+    ensures refused { P.tells → (IsServedImage (P.history platform.old).present → ⊥) → IfErr result (λ stop. IsRefusal stop)
+        × (IsOk result → ⊥) }
+    ensures counts { NoneFell
+        (counts (P.faults platform.old) (T.faults tape.old) (I.faults input.old) (O.faults output.old) (L.faults ledger.old))
         (counts (P.faults platform.new) (T.faults tape.new) (I.faults input.new) (O.faults output.new) (L.faults ledger.new)) }
-    ensures cause { IfErr result (HasCause (counts (P.faults platform.old) (T.faults tape.old) (I.faults input.old) (O.faults output.old) (L.faults ledger.old))
+    ensures cause { IfErr result (HasCause
+        (counts (P.faults platform.old) (T.faults tape.old) (I.faults input.old) (O.faults output.old) (L.faults ledger.old))
         (counts (P.faults platform.new) (T.faults tape.new) (I.faults input.new) (O.faults output.new) (L.faults ledger.new))) }
-    ensures cell { P.tells → IsServedImage (P.history platform.old).present → During (P.history platform.old) (P.history platform.new) IsServedImage }
+    ensures cell { P.tells → IsServedImage (P.history platform.old).present
+        → During (P.history platform.old) (P.history platform.new) IsServedImage }
     ensures unput { L.written ledger.new ≡ L.written ledger.old }
-    ensures ran { (session : Option Session) × Ran P.tells (world None (P.history platform.old) (P.head platform.old) (P.capacity platform.old))
+    ensures ran { (session : Option Session)
+        × Ran P.tells (world None (P.history platform.old) (P.head platform.old) (P.capacity platform.old))
         (world session (P.history platform.new) (P.head platform.new) (P.capacity platform.new))
         damage_line result (I.left input.old) (I.left input.new) (O.written output.old) (O.written output.new) }
 {
@@ -77,9 +82,11 @@ fn serve_input<P: Platform, T: Tape, I: Source, O: Sink, L: Sink>(
     requires cell { P.tells → IsServedImage (P.history platform.old).present }
     requires mounted { P.tells → IfSome desk.old.session (IsMounted (P.history platform.old).present) }
     ensures bad_root { P.tells → IsErrOf result (Stop.Device DeviceStop.BadRoot) → ⊥ }
-    ensures counts { NoneFell (counts (P.faults platform.old) (T.faults tape.old) (I.faults input.old) (O.faults output.old) (L.faults ledger.old))
+    ensures counts { NoneFell
+        (counts (P.faults platform.old) (T.faults tape.old) (I.faults input.old) (O.faults output.old) (L.faults ledger.old))
         (counts (P.faults platform.new) (T.faults tape.new) (I.faults input.new) (O.faults output.new) (L.faults ledger.new)) }
-    ensures cause { IfErr result (HasCause (counts (P.faults platform.old) (T.faults tape.old) (I.faults input.old) (O.faults output.old) (L.faults ledger.old))
+    ensures cause { IfErr result (HasCause
+        (counts (P.faults platform.old) (T.faults tape.old) (I.faults input.old) (O.faults output.old) (L.faults ledger.old))
         (counts (P.faults platform.new) (T.faults tape.new) (I.faults input.new) (O.faults output.new) (L.faults ledger.new))) }
     ensures cell { P.tells → During (P.history platform.old) (P.history platform.new) IsServedImage }
     ensures unput { L.written ledger.new ≡ L.written ledger.old }
@@ -135,11 +142,13 @@ fn serve_piece<P: Platform, T: Tape, O: Sink, L: Sink>(
     ensures bad_root { P.tells → IsErrOf result (Stop.Device DeviceStop.BadRoot) → ⊥ }
     ensures counts { NoneFell (counts (P.faults platform.old) (T.faults tape.old) 0 (O.faults output.old) (L.faults ledger.old))
         (counts (P.faults platform.new) (T.faults tape.new) 0 (O.faults output.new) (L.faults ledger.new)) }
-    ensures cause { IfErr result (HasCause (counts (P.faults platform.old) (T.faults tape.old) 0 (O.faults output.old) (L.faults ledger.old))
+    ensures cause { IfErr result (HasCause
+        (counts (P.faults platform.old) (T.faults tape.old) 0 (O.faults output.old) (L.faults ledger.old))
         (counts (P.faults platform.new) (T.faults tape.new) 0 (O.faults output.new) (L.faults ledger.new))) }
     ensures stops { IfErr result IsOfLine }
     ensures pending { (rest : List ℕ) → IsPending pending.old rest → OnOk result (IsPending pending.new (rest_of (rest ++ piece.now))) }
-    ensures handled { (rest : List ℕ) → IsPending pending.old rest → Handled P.tells (world desk.old.session (P.history platform.old) (P.head platform.old) (P.capacity platform.old))
+    ensures handled { (rest : List ℕ) → IsPending pending.old rest
+        → Handled P.tells (world desk.old.session (P.history platform.old) (P.head platform.old) (P.capacity platform.old))
         (world desk.new.session (P.history platform.new) (P.head platform.new) (P.capacity platform.new))
         no_line result (whole_lines_of (rest ++ piece.now)) (O.written output.old) (O.written output.new) }
 {
@@ -185,10 +194,12 @@ fn serve_end<P: Platform, T: Tape, O: Sink, L: Sink>(
     ensures bad_root { P.tells → IsErrOf result (Stop.Device DeviceStop.BadRoot) → ⊥ }
     ensures counts { NoneFell (counts (P.faults platform.old) (T.faults tape.old) 0 (O.faults output.old) (L.faults ledger.old))
         (counts (P.faults platform.new) (T.faults tape.new) 0 (O.faults output.new) (L.faults ledger.new)) }
-    ensures cause { IfErr result (HasCause (counts (P.faults platform.old) (T.faults tape.old) 0 (O.faults output.old) (L.faults ledger.old))
+    ensures cause { IfErr result (HasCause
+        (counts (P.faults platform.old) (T.faults tape.old) 0 (O.faults output.old) (L.faults ledger.old))
         (counts (P.faults platform.new) (T.faults tape.new) 0 (O.faults output.new) (L.faults ledger.new))) }
     ensures stops { IfErr result IsOfLine }
-    ensures handled { (rest : List ℕ) → IsPending pending.now rest → Handled P.tells (world desk.old.session (P.history platform.old) (P.head platform.old) (P.capacity platform.old))
+    ensures handled { (rest : List ℕ) → IsPending pending.now rest
+        → Handled P.tells (world desk.old.session (P.history platform.old) (P.head platform.old) (P.capacity platform.old))
         (world desk.new.session (P.history platform.new) (P.head platform.new) (P.capacity platform.new))
         no_line result (line_at_end rest) (O.written output.old) (O.written output.new) }
 {
@@ -217,10 +228,12 @@ fn answer<P: Platform, T: Tape, O: Sink, L: Sink>(
     ensures bad_root { P.tells → IsErrOf result (Stop.Device DeviceStop.BadRoot) → ⊥ }
     ensures counts { NoneFell (counts (P.faults platform.old) (T.faults tape.old) 0 (O.faults output.old) (L.faults ledger.old))
         (counts (P.faults platform.new) (T.faults tape.new) 0 (O.faults output.new) (L.faults ledger.new)) }
-    ensures cause { IfErr result (HasCause (counts (P.faults platform.old) (T.faults tape.old) 0 (O.faults output.old) (L.faults ledger.old))
+    ensures cause { IfErr result (HasCause
+        (counts (P.faults platform.old) (T.faults tape.old) 0 (O.faults output.old) (L.faults ledger.old))
         (counts (P.faults platform.new) (T.faults tape.new) 0 (O.faults output.new) (L.faults ledger.new))) }
     ensures stops { IfErr result IsOfLine }
-    ensures handled { (text : List ℕ) → IsKept (option_copied line.entry) text → Handled P.tells (world desk.old.session (P.history platform.old) (P.head platform.old) (P.capacity platform.old))
+    ensures handled { (text : List ℕ) → IsKept (option_copied line.entry) text
+        → Handled P.tells (world desk.old.session (P.history platform.old) (P.head platform.old) (P.capacity platform.old))
         (world desk.new.session (P.history platform.new) (P.head platform.new) (P.capacity platform.new))
         no_line result (text ∷ []) (O.written output.old) (O.written output.new) }
 {
@@ -260,7 +273,8 @@ fn put_reply<O: Sink>(reply: &Reply, output: &mut O) -> Result<(), Stop>
 /// Puts the last line of a run that met a record or a root record which does not fit.
 fn last_line<O: Sink>(stop: DeviceStop, output: &mut O) -> Stop
     ensures stop { ((result ≡ Stop.Device stop) × Got (O.written output.old) (damage_line stop) (O.written output.new))
-        ⊎ ((result ≡ Stop.Sink) × Rose (O.faults output.old) (O.faults output.new) × GotPart (O.written output.old) (damage_line stop) (O.written output.new) × (IsSound stop → ⊥)) }
+        ⊎ ((result ≡ Stop.Sink) × Rose (O.faults output.old) (O.faults output.new)
+        × GotPart (O.written output.old) (damage_line stop) (O.written output.new) × (IsSound stop → ⊥)) }
     ensures count { O.faults output.old ≤ O.faults output.new }
 {
     let line = damage_text(stop);

@@ -39,14 +39,17 @@ impl Session {
         ensures idle { is_touched self ≡ false → (platform.new ≡ platform.old) × (tape.new ≡ tape.old) × (ledger.new ≡ ledger.old)
             × IfOk result (λ answer. (answer.0 ≡ self) × (answer.1 ≡ CommitReply.Committed (number_of self))) }
         ensures idle_ok { is_touched self ≡ false → IsOk result }
-        ensures full { is_touched self ≡ true → P.head platform.old ≡ P.capacity platform.old → (platform.new ≡ platform.old) × (tape.new ≡ tape.old) × (ledger.new ≡ ledger.old)
+        ensures full { is_touched self ≡ true → P.head platform.old ≡ P.capacity platform.old → (platform.new ≡ platform.old)
+            × (tape.new ≡ tape.old) × (ledger.new ≡ ledger.old)
             × IfOk result (λ answer. (answer.0 ≡ self) × (answer.1 ≡ CommitReply.Full 1 0)) }
         ensures full_ok { is_touched self ≡ true → P.head platform.old ≡ P.capacity platform.old → IsOk result }
         ensures raised { is_touched self ≡ true → P.head platform.old ≢ P.capacity platform.old
-            → IfOk result (λ answer. (answer.1 ≡ CommitReply.Committed (number_of self + 1)) × (number_of answer.0 ≡ number_of self + 1) × (is_touched answer.0 ≡ false)) }
+            → IfOk result (λ answer. (answer.1 ≡ CommitReply.Committed (number_of self + 1))
+            × (number_of answer.0 ≡ number_of self + 1) × (is_touched answer.0 ≡ false)) }
         ensures holds { P.tells → (device : Device) (contents : Blocks) → Holds self (P.history platform.old).present device contents
             → IfOk result (λ answer. Holds answer.0 (P.history platform.new).present (device_after answer.1 device contents) contents) }
-        ensures follows { P.tells → Follows self (P.history platform.old).present → IfOk result (λ answer. Follows answer.0 (P.history platform.new).present) }
+        ensures follows { P.tells → Follows self (P.history platform.old).present
+            → IfOk result (λ answer. Follows answer.0 (P.history platform.new).present) }
         ensures open { IfOk result (λ answer. IsOpen answer.0 (P.head platform.new)) }
         ensures same { IfOk result (λ answer. (blocks_of answer.0 ≡ blocks_of self) × (mapped_of answer.0 ≡ mapped_of self)) }
         // At each moment a loss of power leaves the device, until one from which on it leaves the one with the session's array.
@@ -59,7 +62,8 @@ impl Session {
         ensures still { P.tells → IsOk result ⊎ (IsErrOf result CommitFault.PlatformFault
             ⊎ During (P.history platform.old) (P.history platform.new) (λ image. image.cell ≡ (P.history platform.old).present.cell)) }
         // A cell that can be served is one at each moment.
-        ensures serves { P.tells → IsServedImage (P.history platform.old).present → During (P.history platform.old) (P.history platform.new) IsServedImage }
+        ensures serves { P.tells → IsServedImage (P.history platform.old).present
+            → During (P.history platform.old) (P.history platform.new) IsServedImage }
         ensures root_cell { P.tells → (P.history platform.old).present.cell ≡ Some (root_bytes (root_of self))
             → IfOk result (λ answer. (P.history platform.new).present.cell ≡ Some (root_bytes (root_of answer.0))) }
         ensures raised_cell { P.tells → is_touched self ≡ true → P.head platform.old ≢ P.capacity platform.old
@@ -68,7 +72,8 @@ impl Session {
         ensures wiped { is_touched self ≡ true → P.head platform.old ≢ P.capacity platform.old
             → IfOk result (λ answer. IsBlank (buffers_of answer.0)) }
         // Where no key was drawn nothing was handed over.
-        ensures undrawn { P.tells → IsErrOf result CommitFault.TapeFault → (P.history platform.new).present ≡ (P.history platform.old).present }
+        ensures undrawn { P.tells → IsErrOf result CommitFault.TapeFault
+            → (P.history platform.new).present ≡ (P.history platform.old).present }
         ensures no_memory { IsErrOf result CommitFault.Memory → ⊥ }
         ensures unput { L.written ledger.new ≡ L.written ledger.old }
 
@@ -106,7 +111,8 @@ impl Session {
         requires touched { is_touched self ≡ true }
         requires room { P.head platform.old < P.capacity platform.old }
 
-        ensures raised { IfOk result (λ answer. (answer.1 ≡ CommitReply.Committed (number_of self + 1)) × (number_of answer.0 ≡ number_of self + 1) × (is_touched answer.0 ≡ false)) }
+        ensures raised { IfOk result (λ answer. (answer.1 ≡ CommitReply.Committed (number_of self + 1))
+            × (number_of answer.0 ≡ number_of self + 1) × (is_touched answer.0 ≡ false)) }
         ensures holds { P.tells → (device : Device) (contents : Blocks) → Holds self (P.history platform.old).present device contents
             → IfOk result (λ answer. Holds answer.0 (P.history platform.new).present (device_after answer.1 device contents) contents) }
         ensures follows { P.tells → IfOk result (λ answer. Follows answer.0 (P.history platform.new).present) }
@@ -120,10 +126,12 @@ impl Session {
         ensures still { P.tells → IsOk result ⊎ (IsErrOf result CommitFault.PlatformFault
             ⊎ During (P.history platform.old) (P.history platform.new) (λ image. image.cell ≡ (P.history platform.old).present.cell)) }
         // A cell that can be served is one at each moment.
-        ensures serves { P.tells → IsServedImage (P.history platform.old).present → During (P.history platform.old) (P.history platform.new) IsServedImage }
+        ensures serves { P.tells → IsServedImage (P.history platform.old).present
+            → During (P.history platform.old) (P.history platform.new) IsServedImage }
         ensures cell { P.tells → IfOk result (λ answer. (P.history platform.new).present.cell ≡ Some (root_bytes (root_of answer.0))) }
         ensures wiped { IfOk result (λ answer. IsBlank (buffers_of answer.0)) }
-        ensures undrawn { P.tells → IsErrOf result CommitFault.TapeFault → (P.history platform.new).present ≡ (P.history platform.old).present }
+        ensures undrawn { P.tells → IsErrOf result CommitFault.TapeFault
+            → (P.history platform.new).present ≡ (P.history platform.old).present }
         ensures no_memory { IsErrOf result CommitFault.Memory → ⊥ }
 
         ensures head_undrawn { IsErrOf result CommitFault.TapeFault → P.head platform.new ≡ P.head platform.old }

@@ -20,12 +20,14 @@ pub fn erase<P: Platform>(platform: &mut P) -> Result<(), EraseRefusal>
     ensures same { P.tells → IsErrOf result EraseRefusal.NoDevice → (P.history platform.new).present ≡ (P.history platform.old).present }
     // At each moment a loss of power leaves the device, until one from which on it leaves none.
     ensures time { P.tells → (device : Option Device) → Stands (P.history platform.old).present device
-        → Turns (P.history platform.old) (P.history platform.new) (LeavesOnly (λ left. Stands left device)) (LeavesOnly (λ left. Stands left None)) }
+        → Turns (P.history platform.old) (P.history platform.new)
+        (LeavesOnly (λ left. Stands left device)) (LeavesOnly (λ left. Stands left None)) }
 
     ensures still { P.tells → IsOk result ⊎ (IsErrOf result EraseRefusal.PlatformFault
         ⊎ During (P.history platform.old) (P.history platform.new) (λ image. image.cell ≡ (P.history platform.old).present.cell)) }
     // A cell that can be served is one at each moment.
-    ensures serves { P.tells → IsServedImage (P.history platform.old).present → During (P.history platform.old) (P.history platform.new) IsServedImage }
+    ensures serves { P.tells → IsServedImage (P.history platform.old).present
+        → During (P.history platform.old) (P.history platform.new) IsServedImage }
 
     ensures head { P.head platform.new ≡ P.head platform.old }
     ensures capacity { P.capacity platform.new ≡ P.capacity platform.old }

@@ -47,7 +47,8 @@ pub fn format<P: Platform, T: Tape, L: Sink>(
         → (P.history platform.new).present ≡ (P.history platform.old).present }
     // At each moment a loss of power leaves what there was before, until one from which on it leaves the new device.
     ensures time { P.tells → (device : Option Device) → Stands (P.history platform.old).present device
-        → Turns (P.history platform.old) (P.history platform.new) (LeavesOnly (λ left. Stands left device)) (LeavesOnly (λ left. Stands left (Some (new_device blocks order)))) }
+        → Turns (P.history platform.old) (P.history platform.new)
+        (LeavesOnly (λ left. Stands left device)) (LeavesOnly (λ left. Stands left (Some (new_device blocks order)))) }
 
     // The cell is as it was at each moment, if not for the new device or a fault of the platform.
     ensures still { P.tells → IsOk result ⊎ (IsErrOf result FormatRefusal.PlatformFault
@@ -56,12 +57,15 @@ pub fn format<P: Platform, T: Tape, L: Sink>(
     ensures kept { P.tells → ((P.history platform.old).present.cell ≢ None) ⊎ (P.head platform.old ≡ P.capacity platform.old)
         → During (P.history platform.old) (P.history platform.new) (λ image. image.cell ≡ (P.history platform.old).present.cell) }
     // A cell that can be served is one at each moment.
-    ensures serves { P.tells → IsServedImage (P.history platform.old).present → During (P.history platform.old) (P.history platform.new) IsServedImage }
+    ensures serves { P.tells → IsServedImage (P.history platform.old).present
+        → During (P.history platform.old) (P.history platform.new) IsServedImage }
     ensures unput { L.written ledger.new ≡ L.written ledger.old }
 
     ensures head_ok { OnOk result (P.head platform.new ≡ P.head platform.old + 1) }
-    ensures head_refused { (IsErrOf result FormatRefusal.NotEmpty ⊎ IsErrOf result FormatRefusal.Full) → P.head platform.new ≡ P.head platform.old }
-    ensures head_unmade { (IsErrOf result FormatRefusal.Memory ⊎ IsErrOf result FormatRefusal.TapeFault) → P.head platform.new ≡ P.head platform.old }
+    ensures head_refused { (IsErrOf result FormatRefusal.NotEmpty ⊎ IsErrOf result FormatRefusal.Full)
+        → P.head platform.new ≡ P.head platform.old }
+    ensures head_unmade { (IsErrOf result FormatRefusal.Memory ⊎ IsErrOf result FormatRefusal.TapeFault)
+        → P.head platform.new ≡ P.head platform.old }
     ensures head_rises { P.head platform.old ≤ P.head platform.new }
     ensures head_by_one { P.head platform.new ≤ P.head platform.old + 1 }
     ensures capacity { P.capacity platform.new ≡ P.capacity platform.old }

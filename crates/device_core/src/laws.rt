@@ -11,7 +11,8 @@ ghost use Rattle.device_core.specs.declared.session.Session.{Session};
 
 /// Below a session the image stands for its device, of which a session without changes has the array. It counts the blocks of its array.
 pub fn stands_under_session()
-    ensures stands { (session : Session) (image : Image) (device : Device) (contents : Blocks) → Holds session image device contents → Stands image (Some device) }
+    ensures stands { (session : Session) (image : Image) (device : Device) (contents : Blocks) → Holds session image device contents
+        → Stands image (Some device) }
     ensures numbers { (session : Session) (image : Image) (device : Device) (contents : Blocks) → Holds session image device contents
         → (blocks_of session ≡ device.blocks) × (number_of session ≡ device.number) }
     ensures untouched { (session : Session) (image : Image) (device : Device) (contents : Blocks) → Holds session image device contents

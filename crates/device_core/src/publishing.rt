@@ -13,7 +13,9 @@ use sdbt_base::{PlatformFault, ROOT};
 pub(crate) fn publish<P: Platform>(platform: &mut P, root: &Root) -> Result<(), PlatformFault>
     requires { FitsRoot root.now }
 
-    ensures published { P.tells → OnOk result ((P.history platform.new).present ≡ with_cell (all_synced (P.history platform.old).present) (Some (root_bytes root.now))) }
+    ensures published { P.tells
+        → OnOk result ((P.history platform.new).present
+        ≡ with_cell (all_synced (P.history platform.old).present) (Some (root_bytes root.now))) }
     ensures time { P.tells → Turns (P.history platform.old) (P.history platform.new)
         (λ image. image.cell ≡ (P.history platform.old).present.cell)
         (λ image. image ≡ with_cell (all_synced (P.history platform.old).present) (Some (root_bytes root.now))) }

@@ -40,16 +40,19 @@ impl Session {
             → (addr : ℕ) → IsErrOf result (ReadRefusal.BadRecord addr) → ⊥ }
         // On any pages: what is named is a place of the root's tree that doesn't fit.
         ensures follows { P.tells → Follows self.old (P.history platform.old).present → Follows self.new (P.history platform.new).present }
-        ensures wrong { P.tells → Follows self.old (P.history platform.old).present → (addr : ℕ) → IsErrOf result (ReadRefusal.BadRecord addr)
+        ensures wrong { P.tells → Follows self.old (P.history platform.old).present → (addr : ℕ)
+            → IsErrOf result (ReadRefusal.BadRecord addr)
             → Wrong (P.history platform.old).present.readable (root_of self.old) addr }
-        ensures damaged { P.tells → Follows self.old (P.history platform.old).present → (addr : ℕ) → IsErrOf result (ReadRefusal.BadRecord addr)
+        ensures damaged { P.tells → Follows self.old (P.history platform.old).present → (addr : ℕ)
+            → IsErrOf result (ReadRefusal.BadRecord addr)
             → IsDamaged (P.history platform.new).present.readable (root_of self.old) addr }
         ensures range { IsErrOf result ReadRefusal.Range ↔ (blocks_of self.old ≤ block) }
         ensures open { IsOpen self.new (P.head platform.new) }
         ensures same { (self.new.root ≡ self.old.root) × (self.new.mapped ≡ self.old.mapped) × (is_touched self.new ≡ is_touched self.old) }
 
         ensures image { P.tells → (P.history platform.new).present ≡ (P.history platform.old).present }
-        ensures time { P.tells → During (P.history platform.old) (P.history platform.new) (λ image. image.cell ≡ (P.history platform.old).present.cell) }
+        ensures time { P.tells
+            → During (P.history platform.old) (P.history platform.new) (λ image. image.cell ≡ (P.history platform.old).present.cell) }
         ensures head { P.head platform.new ≡ P.head platform.old }
         ensures capacity { P.capacity platform.new ≡ P.capacity platform.old }
         ensures reads { P.tells → P.reads platform.new ≤ P.reads platform.old + (level_of self.old + 1) }
@@ -88,9 +91,12 @@ fn fetch_block<P: Platform>(
     requires size { length out.old ≡ 4096 }
     requires within { entry.now.addr < P.head platform.old }
 
-    ensures fits { P.tells → OnOk result ((value : Record) × FitsAt (P.history platform.old).present.readable (block_want entry.now.addr block) entry.now.key value
+    ensures fits { P.tells
+        → OnOk result ((value : Record)
+        × FitsAt (P.history platform.old).present.readable (block_want entry.now.addr block) entry.now.key value
         × (value ≡ DataRecord block out.new)) }
-    ensures nothing_fits { P.tells → (addr : ℕ) → IsErrOf result (FetchRefusal.BadRecord addr) → NothingFits (P.history platform.old).present.readable (block_want entry.now.addr block) entry.now.key }
+    ensures nothing_fits { P.tells → (addr : ℕ) → IsErrOf result (FetchRefusal.BadRecord addr)
+        → NothingFits (P.history platform.old).present.readable (block_want entry.now.addr block) entry.now.key }
     ensures bad { (addr : ℕ) → IsErrOf result (FetchRefusal.BadRecord addr) → addr ≡ entry.now.addr }
 
     ensures image { P.tells → (P.history platform.new).present ≡ (P.history platform.old).present }

@@ -58,10 +58,12 @@ impl Session {
         ensures follows { P.tells → IfOk result (λ session. Follows session (P.history platform.new).present) }
         ensures found { P.tells → IfOk result (λ session. (P.history platform.old).present.cell ≡ Some (root_bytes session.root)) }
         ensures no_device { P.tells → IsErrOf result MountRefusal.NoDevice → (P.history platform.old).present.cell ≡ None }
-        ensures bad_root { P.tells → IsErrOf result MountRefusal.BadRoot → IsRefusedCell (P.history platform.old).present.cell (P.head platform.old) }
+        ensures bad_root { P.tells → IsErrOf result MountRefusal.BadRoot
+            → IsRefusedCell (P.history platform.old).present.cell (P.head platform.old) }
 
         ensures image { P.tells → (P.history platform.new).present ≡ (P.history platform.old).present }
-        ensures time { P.tells → During (P.history platform.old) (P.history platform.new) (λ image. image.cell ≡ (P.history platform.old).present.cell) }
+        ensures time { P.tells
+            → During (P.history platform.old) (P.history platform.new) (λ image. image.cell ≡ (P.history platform.old).present.cell) }
         ensures head { P.head platform.new ≡ P.head platform.old }
         ensures capacity { P.capacity platform.new ≡ P.capacity platform.old }
         ensures reads { P.tells → P.reads platform.new ≡ P.reads platform.old }
@@ -124,12 +126,14 @@ impl Session {
         ensures holds { P.tells → (device : Device) (contents : Blocks) → Holds self.old (P.history platform.old).present device contents
             → Holds self.new (P.history platform.new).present device contents }
         ensures follows { P.tells → Follows self.old (P.history platform.old).present → Follows self.new (P.history platform.new).present }
-        ensures wrong { P.tells → (addr : ℕ) → IsErrOf result (FetchRefusal.BadRecord addr) → Wrong (P.history platform.old).present.readable self.old.root addr }
+        ensures wrong { P.tells → (addr : ℕ) → IsErrOf result (FetchRefusal.BadRecord addr)
+            → Wrong (P.history platform.old).present.readable self.old.root addr }
         ensures bad { P.tells → (device : Device) (contents : Blocks) → Holds self.old (P.history platform.old).present device contents
             → (addr : ℕ) → IsErrOf result (FetchRefusal.BadRecord addr) → ⊥ }
 
         ensures image { P.tells → (P.history platform.new).present ≡ (P.history platform.old).present }
-        ensures time { P.tells → During (P.history platform.old) (P.history platform.new) (λ image. image.cell ≡ (P.history platform.old).present.cell) }
+        ensures time { P.tells
+            → During (P.history platform.old) (P.history platform.new) (λ image. image.cell ≡ (P.history platform.old).present.cell) }
         ensures head { P.head platform.new ≡ P.head platform.old }
         ensures capacity { P.capacity platform.new ≡ P.capacity platform.old }
         ensures reads { P.tells → P.reads platform.new ≤ P.reads platform.old + 1 }

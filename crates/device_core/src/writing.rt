@@ -49,11 +49,13 @@ impl Session {
         ensures wrong { P.tells → (addr : ℕ) → IsErrOf result (WriteRefusal.BadRecord addr)
             → Wrong (P.history platform.old).present.readable (root_of self.old) addr
             ⊎ ((addr ≡ root_node self.old) × (mapped_of self.old ≡ blocks_of self.old) × IsUnmapped self.new block) }
-        ensures damaged { P.tells → Follows self.old (P.history platform.old).present → (addr : ℕ) → IsErrOf result (WriteRefusal.BadRecord addr)
+        ensures damaged { P.tells → Follows self.old (P.history platform.old).present → (addr : ℕ)
+            → IsErrOf result (WriteRefusal.BadRecord addr)
             → IsDamaged (P.history platform.new).present.readable (root_of self.old) addr }
         ensures bad_still { P.tells → (addr : ℕ) → IsErrOf result (WriteRefusal.BadRecord addr)
             → (P.history platform.new).present ≡ (P.history platform.old).present }
-        ensures refused_still { P.tells → (IsErrOf result WriteRefusal.Range ⊎ (IsErrOf result WriteRefusal.Full ⊎ IsErrOf result WriteRefusal.TapeFault))
+        ensures refused_still { P.tells
+            → (IsErrOf result WriteRefusal.Range ⊎ (IsErrOf result WriteRefusal.Full ⊎ IsErrOf result WriteRefusal.TapeFault))
             → (P.history platform.new).present ≡ (P.history platform.old).present }
         // Where as many blocks are mapped as there are, none is written that has no entry.
         ensures counter { block < blocks_of self.old → mapped_of self.old ≡ blocks_of self.old → IsUnmapped self.new block
@@ -65,9 +67,11 @@ impl Session {
         ensures same { self.new.root ≡ self.old.root }
 
         ensures cell { P.tells → (P.history platform.new).present.cell ≡ (P.history platform.old).present.cell }
-        ensures time { P.tells → During (P.history platform.old) (P.history platform.new) (λ image. image.cell ≡ (P.history platform.old).present.cell) }
+        ensures time { P.tells
+            → During (P.history platform.old) (P.history platform.new) (λ image. image.cell ≡ (P.history platform.old).present.cell) }
         ensures head_ok { OnOk result (P.head platform.new ≡ P.head platform.old + 1) }
-        ensures head_refused { (IsErrOf result WriteRefusal.Range ⊎ (IsErrOf result WriteRefusal.Full ⊎ IsErrOf result WriteRefusal.TapeFault))
+        ensures head_refused { (IsErrOf result WriteRefusal.Range
+            ⊎ (IsErrOf result WriteRefusal.Full ⊎ IsErrOf result WriteRefusal.TapeFault))
             → P.head platform.new ≡ P.head platform.old }
         ensures head_bad { (addr : ℕ) → IsErrOf result (WriteRefusal.BadRecord addr) → P.head platform.new ≡ P.head platform.old }
         ensures head_rises { P.head platform.old ≤ P.head platform.new }
@@ -137,7 +141,8 @@ impl Session {
         ensures wrong { P.tells → (addr : ℕ) → IsErrOf result (TrimRefusal.BadRecord addr)
             → Wrong (P.history platform.old).present.readable (root_of self.old) addr
             ⊎ ((addr ≡ root_node self.old) × (mapped_of self.old ≡ 0) × IsMapped self.new block) }
-        ensures damaged { P.tells → Follows self.old (P.history platform.old).present → (addr : ℕ) → IsErrOf result (TrimRefusal.BadRecord addr)
+        ensures damaged { P.tells → Follows self.old (P.history platform.old).present → (addr : ℕ)
+            → IsErrOf result (TrimRefusal.BadRecord addr)
             → IsDamaged (P.history platform.new).present.readable (root_of self.old) addr }
         // Where no block is mapped, none is trimmed that has an entry.
         ensures counter { mapped_of self.old ≡ 0 → IsMapped self.new block → IsOk result → ⊥ }
@@ -147,7 +152,8 @@ impl Session {
         ensures same { self.new.root ≡ self.old.root }
 
         ensures image { P.tells → (P.history platform.new).present ≡ (P.history platform.old).present }
-        ensures time { P.tells → During (P.history platform.old) (P.history platform.new) (λ image. image.cell ≡ (P.history platform.old).present.cell) }
+        ensures time { P.tells
+            → During (P.history platform.old) (P.history platform.new) (λ image. image.cell ≡ (P.history platform.old).present.cell) }
         ensures head { P.head platform.new ≡ P.head platform.old }
         ensures capacity { P.capacity platform.new ≡ P.capacity platform.old }
         ensures faults { P.faults platform.old ≤ P.faults platform.new }

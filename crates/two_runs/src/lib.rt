@@ -30,9 +30,11 @@ pub fn run_twice<T: Tape, I: Source, O: Sink, L: Sink>(
     ledger: &mut L,
     torn: &[u64],
 ) -> (u8, u8)
-    ensures { TwoRuns torn.now (world None (mem_history platform.old) (length (image_of_now platform.old).recorded) (capacity_of platform.old))
+    ensures { TwoRuns torn.now
+        (world None (mem_history platform.old) (length (image_of_now platform.old).recorded) (capacity_of platform.old))
         (world None (mem_history platform.new) (length (image_of_now platform.new).recorded) (capacity_of platform.new))
-        result.0 result.1 (I.left first.old) (I.left first.new) (I.left second.old) (I.left second.new) (O.written output.old) (O.written output.new) }
+        result.0 result.1 (I.left first.old) (I.left first.new) (I.left second.old) (I.left second.new)
+        (O.written output.old) (O.written output.new) }
 {
     let status = run_main(alloc, &[], platform, tape, first, output, ledger);
     lose_power(platform, torn);
