@@ -1,0 +1,4 @@
+pub mod ChainLaws
+pub mod OwnLaws
+pub mod LaterLaws
+pub mod SeizureLaws

@@ -1,0 +1,4 @@
+pub mod Opening
+pub mod Chains
+pub mod OwnKeys
+pub mod Maps
