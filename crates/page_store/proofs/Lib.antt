@@ -4,3 +4,8 @@ pub mod WrongLaws
 pub mod LeafLaws
 pub mod StandsLaws
 pub mod LeafStandsLaws
+pub mod RecordYields
+pub mod TreeMaps
+pub mod KeptLaws
+pub mod KeepingLaws
+pub mod FloorLaws

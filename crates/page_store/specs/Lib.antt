@@ -5,3 +5,6 @@ pub mod Places
 pub mod Tree
 pub mod Leaf
 pub mod Stands
+pub mod Kept
+pub mod Keeping
+pub mod Floors

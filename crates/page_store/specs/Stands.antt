@@ -32,3 +32,7 @@ pub record StandsBy (image : Image) (device : Device) (root : Root) (parts : Par
 abbrev pub Stands : Image → Option Device → Type 0
 Stands image None = image.cell ≡ None
 Stands image (Some device) = (root : Root) × (parts : Parts) × StandsBy image device root parts
+
+-- the image stands for a device, or for none
+abbrev pub IsSound : Image → Type 0
+IsSound image = (device : Option Device) × Stands image device

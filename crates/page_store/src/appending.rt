@@ -1,10 +1,11 @@
-ghost use Rattle.std.specs.Prelude.{◌≡◌, ◌<◌, ◌≤◌, ◌+◌, ℕ, List, All, IfOk, OnOk, IsErrOf};
+ghost use Rattle.std.specs.Prelude.{◌≡◌, ◌<◌, ◌≤◌, ◌+◌, ℕ, List, All, Contains, IfOk, OnOk, IsErrOf};
 ghost use Rattle.sdbt_base.specs.Faults.{Rose};
 ghost use Rattle.sdbt_base.specs.Bytes.{IsBytes};
 ghost use Rattle.sdbt_base.specs.Told.{Drew};
 ghost use Rattle.platform.specs.Image.{with_page, MayHavePage};
 ghost use Rattle.platform.specs.History.{Steps};
 ghost use Rattle.seal_record.specs.Sealing.{masked};
+ghost use Rattle.page_store.specs.Keeping.{KeepsKeys, IsNextRecord};
 
 use crate::buffers::Buffers;
 use crate::refusals::AppendFault;
@@ -49,6 +50,12 @@ impl Buffers {
             (key : List ℕ) × IsBytes 32 key × Drew (T.drawn tape.old) key (T.drawn tape.new)
             × (P.tells → MayHavePage (P.history platform.old).present (masked key self.old.body)
             (P.history platform.new).present) }
+
+        // Each moment keeps the keys that the image kept before, with the one that was drawn.
+        ensures keeps { KeepsKeys P.tells (T.drawn tape.old) (T.drawn tape.new)
+            (P.history platform.old) (P.history platform.new)
+            (IsNextRecord (P.history platform.old).present self.old.body)
+            (λ keys. IfOk result (λ placed. Contains keys placed.key)) }
 
         ensures cell { P.tells → (P.history platform.new).present.cell ≡ (P.history platform.old).present.cell }
         ensures time { P.tells → Steps (P.history platform.old) (P.history platform.new) }

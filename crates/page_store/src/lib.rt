@@ -8,6 +8,8 @@
 mod appending;
 mod buffers;
 mod fetching;
+mod floor_laws;
+mod key_laws;
 mod laws;
 mod refusals;
 mod roots;
@@ -16,6 +18,8 @@ mod wants;
 pub use appending::Placed;
 pub use buffers::Buffers;
 pub use fetching::fetch;
+pub use floor_laws::{head_of_root, keeps_deleted, never_reached, reaches_still};
+pub use key_laws::{keeps_keys, moments_reach, reaches_tree, tree_is_closed};
 pub use laws::{
     leaf_of_stands, no_wrong_place, one_device, one_tree, outlasts_loss_of_power, stands_by_leaf,
     stays_while_the_cell_stays,

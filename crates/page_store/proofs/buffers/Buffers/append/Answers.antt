@@ -1,4 +1,7 @@
-use Rattle.std.proofs.Common.{◌≡◌, ℕ, List, ap, subst, ◌∙◌}
+use Rattle.std.proofs.Common.{◌≡◌, ℕ, List, length, ap, sym, subst, refl, ◌∙◌}
+use Rattle.platform.proofs.Moments.{During-start}
+use Rattle.page_store.specs.Keeping.{IsNextRecord}
+use Rattle.page_store.proofs.KeepingLaws.{keeps_idle, keeps_append}
 use Rattle.platform.specs.Image.{MayHavePage}
 use Rattle.seal_record.specs.Sealing.{masked}
 use Rattle.page_store.specs.Buffer.{Held}
@@ -13,3 +16,29 @@ returns-in_default-append-clause-spent g c = λ _. (
       let page : c.deref.result.now ≡ masked c.seal_body-key.result c.args.self.now.body = c.deref.ensures.value ∙ ap (λ (held : Held). held.page) (c.self.view_is ∙ c.seal_body-key.ensures.page) in
       subst (λ (bytes : List ℕ). MayHavePage (g.P.Platform.history c.args.platform.now).present bytes (g.P.Platform.history c.append.new.self).present) page (c.in_default-append.ensures.either told),
 )
+
+pub returns-in_default-clause-keeps : goal.returns-in_default-clause-keeps
+returns-in_default-clause-keeps g c =
+    let history = g.P.Platform.history c.args.platform.now in
+    keeps_idle g.P.Platform.tells (g.T.Tape.drawn c.args.tape.now) (g.T.Tape.drawn c.draw.new.self) history history
+    (IsNextRecord history.present c.args.self.now.body) _ c.in_default.ensures.undrawn (λ told. During-start history (λ image. image ≡ history.present) refl) (λ told keys kept ready. tt)
+
+pub returns-in_default-append-clause-keeps : goal.returns-in_default-append-clause-keeps
+returns-in_default-append-clause-keeps g c =
+    let key = c.seal_body-key.result in
+    let page : c.deref.result.now ≡ masked key c.args.self.now.body = c.deref.ensures.value ∙ ap (λ (held : Held). held.page) (c.self.view_is ∙ c.seal_body-key.ensures.page) in
+    keeps_append g.P.Platform.tells (g.T.Tape.drawn c.args.tape.now) (g.T.Tape.drawn c.draw.new.self) key c.args.self.now.body
+    (g.P.Platform.history c.args.platform.now) (g.P.Platform.history c.append.new.self) _ (ap (λ (held : Held). length held.body) (sym (c.self.view_is ∙ c.seal_body-key.ensures.page)) ∙ c.self.invariant.1) (rw c.seal_body-key.ensures.used c.in-Ok.ensures.drawn)
+    c.append.ensures.time
+    (λ told. subst (λ (bytes : List ℕ). MayHavePage (g.P.Platform.history c.args.platform.now).present bytes (g.P.Platform.history c.append.new.self).present) page (c.append.ensures.either told))
+    (λ keys has. tt)
+
+pub returns-clause-keeps : goal.returns-clause-keeps
+returns-clause-keeps g c =
+    let key = c.seal_body-key.result in
+    let page : c.deref.result.now ≡ masked key c.args.self.now.body = c.deref.ensures.value ∙ ap (λ (held : Held). held.page) (c.self.view_is ∙ c.seal_body-key.ensures.page) in
+    keeps_append g.P.Platform.tells (g.T.Tape.drawn c.args.tape.now) (g.T.Tape.drawn c.draw.new.self) key c.args.self.now.body
+    (g.P.Platform.history c.args.platform.now) (g.P.Platform.history c.append.new.self) _ (ap (λ (held : Held). length held.body) (sym (c.self.view_is ∙ c.seal_body-key.ensures.page)) ∙ c.self.invariant.1) (rw c.seal_body-key.ensures.used c.in-Ok.ensures.drawn)
+    c.append.ensures.time
+    (λ told. subst (λ (bytes : List ℕ). MayHavePage (g.P.Platform.history c.args.platform.now).present bytes (g.P.Platform.history c.append.new.self).present) page (c.append.ensures.either told))
+    (λ keys has. has)

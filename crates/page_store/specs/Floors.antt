@@ -1,0 +1,62 @@
+-- Which addresses are deleted, and stay so.
+use Rattle.std.specs.Prelude.{◌≡◌, ◌≤◌, ◌<◌, ◌-◌, ◌↔◌, ℕ, List, [], ◌∷◌, Contains, length, take, drop}
+use Rattle.std.specs.Option.{option_map_or}
+use Rattle.std.specs.Int.{w64, from_be_bytes}
+use Rattle.platform.specs.Image.{Image}
+use Rattle.platform.specs.History.{History, During, Turns, image_at, moment}
+use Rattle.platform.specs.Runs.{floor_at, StaysDeleted}
+use Rattle.root_codec.specs.declared.root.Root.{Root}
+use Rattle.key_graph.specs.Chains.{Reached}
+use Rattle.key_graph.specs.Maps.{addresses_of}
+use Rattle.page_store.specs.Tree.{Parts, Tree}
+use Rattle.page_store.specs.Kept.{links_of, IsRootOf}
+use Rattle.page_store.specs.Stands.{IsSound}
+
+-- an address of the tree of the root record in the cell
+pub record IsInTree (image : Image) (addr : ℕ) : Type 0 where
+  pub root : Root
+  pub parts : Parts
+  pub is : IsRootOf image root
+  pub tree : Tree image.readable root parts
+  pub has : Contains (addresses_of (links_of parts.places)) addr
+
+-- an address at which a chain of opening from the key in the cell ends
+pub record IsReached (image : Image) (addr : ℕ) : Type 0 where
+  pub root : Root
+  pub is : IsRootOf image root
+  pub reached : Reached (root.key ∷ []) image.recorded addr
+
+-- the head field of a root record's bytes
+abbrev pub head_in : List ℕ → ℕ
+head_in bytes = from_be_bytes w64 (take 8 (drop 80 bytes))
+
+-- the floor of a moment of a run: see `floor_at`
+abbrev pub floor_of : History → History → ℕ → ℕ
+floor_of old new i = floor_at head_in new (moment old) (i - moment old)
+
+-- the head field of the root record, or, with an empty cell, how many pages there are
+abbrev pub low_of : Image → ℕ
+low_of image = option_map_or head_in image.cell (length image.recorded)
+
+-- at each moment the image stands; the cell changes at most once, and the tree that there is then has, of the addresses below what was the head, only those of
+-- the tree that there was
+pub record Forgets (old new : History) : Type 0 where
+  pub sound : During old new IsSound
+  pub turns : Turns old new (λ image. image.cell ≡ old.present.cell) (λ image. image.cell ≡ new.present.cell)
+  pub rises : low_of old.present ≤ low_of new.present
+  pub old_only : (addr : ℕ) → IsInTree new.present addr → addr < low_of old.present → IsInTree old.present addr
+
+-- over a run floors never fall, and the tree of a later moment has, below an earlier floor, only addresses of the earlier tree
+abbrev pub KeepsDeleted : History → History → Type 0
+KeepsDeleted old new = StaysDeleted old new (floor_of old new) IsInTree IsInTree
+
+-- the same of all that is reached
+abbrev pub NeverReached : History → History → Type 0
+NeverReached old new = StaysDeleted old new (floor_of old new) IsReached IsInTree
+
+-- chains of opening from the key that was in the cell at a moment end, over the pages of each later one, at exactly the addresses of
+-- the tree of that moment
+abbrev pub ReachesStill : History → History → Type 0
+ReachesStill old new =
+    (i j : ℕ) → moment old ≤ i → i ≤ j → j ≤ moment new → (root : Root) → IsRootOf (image_at new i) root
+    → (addr : ℕ) → Reached (root.key ∷ []) (image_at new j).recorded addr ↔ IsInTree (image_at new i) addr
