@@ -6,3 +6,4 @@ pub mod MomentLaws
 pub mod FollowLaws
 pub mod ServedLaws
 pub mod CountLaws
+pub mod KeyLaws

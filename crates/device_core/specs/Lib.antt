@@ -5,3 +5,4 @@ pub mod Damage
 pub mod Open
 pub mod Holds
 pub mod Replies
+pub mod Knowing

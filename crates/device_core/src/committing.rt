@@ -1,4 +1,4 @@
-ghost use Rattle.std.specs.Prelude.{◌≡◌, ◌≢◌, ◌<◌, ◌≤◌, ◌+◌, ◌⊎◌, ℕ, Option, None, Some, true, false, IfOk, IsOk, IsErrOf};
+ghost use Rattle.std.specs.Prelude.{◌≡◌, ◌≢◌, ◌<◌, ◌≤◌, ◌+◌, ◌⊎◌, ℕ, List, Option, None, Some, true, false, IfOk, IsOk, IsErrOf};
 ghost use Rattle.sdbt_base.specs.Faults.{Rose};
 ghost use Rattle.platform.specs.Image.{LeavesOnly};
 ghost use Rattle.platform.specs.History.{During, Turns};
@@ -6,6 +6,8 @@ ghost use Rattle.root_codec.specs.RootRecord.{root_bytes};
 ghost use Rattle.page_store.specs.Buffer.{IsBlank};
 ghost use Rattle.page_store.specs.Device.{Device};
 ghost use Rattle.page_store.specs.Stands.{Stands};
+ghost use Rattle.page_store.specs.Keeping.{KeepsKeys};
+ghost use Rattle.page_store.specs.Floors.{Forgets};
 ghost use Rattle.device_core.specs.Leaf.{IsServedImage};
 ghost use Rattle.device_core.specs.Blocks.{Blocks};
 ghost use Rattle.device_core.specs.Replies.{device_after, committed_device};
@@ -21,6 +23,7 @@ use sdbt_base::{Sink, Tape};
 impl Session {
     ghost use Rattle.device_core.specs.Open.{IsOpen, blocks_of, number_of, mapped_of, root_of, buffers_of, is_touched};
     ghost use Rattle.device_core.specs.Holds.{Holds, Follows};
+    ghost use Rattle.device_core.specs.Knowing.{HoldsListed};
 
     /// Makes the session's changes the device's: one new leaf, and then the root record that names it.
     ///
@@ -57,6 +60,14 @@ impl Session {
             → Turns (P.history platform.old) (P.history platform.new)
             (LeavesOnly (λ left. Stands left (Some device)))
             (LeavesOnly (λ left. Stands left (Some (committed_device device contents)))) }
+
+        // Each moment keeps the keys that the image kept before, with the one that was drawn, and what was deleted before
+        // stays deleted.
+        ensures keeps { KeepsKeys P.tells (T.drawn tape.old) (T.drawn tape.new) (P.history platform.old) (P.history platform.new)
+            (HoldsListed self (P.history platform.old).present)
+            (λ keys. IfOk result (λ answer. HoldsListed answer.0 (P.history platform.new).present keys)) }
+        ensures forgets { P.tells → (keys : List (List ℕ)) → HoldsListed self (P.history platform.old).present keys
+            → Forgets (P.history platform.old) (P.history platform.new) }
 
         // The cell is as it was at each moment, if not for a commit or a fault of the platform.
         ensures still { P.tells → IsOk result ⊎ (IsErrOf result CommitFault.PlatformFault
@@ -122,6 +133,14 @@ impl Session {
             → Turns (P.history platform.old) (P.history platform.new)
             (LeavesOnly (λ left. Stands left (Some device)))
             (LeavesOnly (λ left. Stands left (Some (committed_device device contents)))) }
+
+        // Each moment keeps the keys that the image kept before, with the one that was drawn, and what was deleted before
+        // stays deleted.
+        ensures keeps { KeepsKeys P.tells (T.drawn tape.old) (T.drawn tape.new) (P.history platform.old) (P.history platform.new)
+            (HoldsListed self (P.history platform.old).present)
+            (λ keys. IfOk result (λ answer. HoldsListed answer.0 (P.history platform.new).present keys)) }
+        ensures forgets { P.tells → (keys : List (List ℕ)) → HoldsListed self (P.history platform.old).present keys
+            → Forgets (P.history platform.old) (P.history platform.new) }
 
         ensures still { P.tells → IsOk result ⊎ (IsErrOf result CommitFault.PlatformFault
             ⊎ During (P.history platform.old) (P.history platform.new) (λ image. image.cell ≡ (P.history platform.old).present.cell)) }

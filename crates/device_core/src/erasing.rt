@@ -1,9 +1,12 @@
-ghost use Rattle.std.specs.Prelude.{◌≡◌, ◌≢◌, ◌≤◌, ◌⊎◌, Option, None, OnOk, IsOk, IsErrOf};
+ghost use Rattle.std.specs.Prelude.{◌≡◌, ◌≢◌, ◌≤◌, ◌⊎◌, ℕ, List, Option, None, OnOk, IsOk, IsErrOf};
 ghost use Rattle.sdbt_base.specs.Faults.{Rose};
 ghost use Rattle.platform.specs.Image.{LeavesOnly};
 ghost use Rattle.platform.specs.History.{During, Turns};
 ghost use Rattle.page_store.specs.Device.{Device};
 ghost use Rattle.page_store.specs.Stands.{Stands};
+ghost use Rattle.page_store.specs.Kept.{Kept};
+ghost use Rattle.page_store.specs.Stands.{IsSound};
+ghost use Rattle.page_store.specs.Floors.{Forgets};
 ghost use Rattle.device_core.specs.Leaf.{IsServedImage};
 
 use crate::refusals::EraseRefusal;
@@ -22,6 +25,11 @@ pub fn erase<P: Platform>(platform: &mut P) -> Result<(), EraseRefusal>
     ensures time { P.tells → (device : Option Device) → Stands (P.history platform.old).present device
         → Turns (P.history platform.old) (P.history platform.new)
         (LeavesOnly (λ left. Stands left device)) (LeavesOnly (λ left. Stands left None)) }
+
+    // Each moment keeps the keys that the image kept before, and what was deleted before stays deleted.
+    ensures keeps { P.tells → (keys : List (List ℕ)) → Kept keys (P.history platform.old).present
+        → During (P.history platform.old) (P.history platform.new) (Kept keys) }
+    ensures forgets { P.tells → IsSound (P.history platform.old).present → Forgets (P.history platform.old) (P.history platform.new) }
 
     ensures still { P.tells → IsOk result ⊎ (IsErrOf result EraseRefusal.PlatformFault
         ⊎ During (P.history platform.old) (P.history platform.new) (λ image. image.cell ≡ (P.history platform.old).present.cell)) }

@@ -1,9 +1,11 @@
-ghost use Rattle.std.specs.Prelude.{◌≡◌, ◌≢◌, ◌<◌, ◌≤◌, ◌+◌, ◌⊎◌, Option, None, Some, OnOk, IsOk, IsErrOf};
+ghost use Rattle.std.specs.Prelude.{◌≡◌, ◌≢◌, ◌<◌, ◌≤◌, ◌+◌, ◌⊎◌, Option, None, Some, OnOk, IsOk, IsErrOf, ⊤};
 ghost use Rattle.sdbt_base.specs.Faults.{Rose};
 ghost use Rattle.platform.specs.Image.{LeavesOnly};
 ghost use Rattle.platform.specs.History.{During, Turns};
 ghost use Rattle.page_store.specs.Device.{Device};
-ghost use Rattle.page_store.specs.Stands.{Stands};
+ghost use Rattle.page_store.specs.Stands.{Stands, IsSound};
+ghost use Rattle.page_store.specs.Keeping.{KeepsKeys};
+ghost use Rattle.page_store.specs.Floors.{Forgets};
 ghost use Rattle.device_core.specs.Leaf.{IsServedImage};
 ghost use Rattle.device_core.specs.Blocks.{new_device};
 
@@ -49,6 +51,13 @@ pub fn format<P: Platform, T: Tape, L: Sink>(
     ensures time { P.tells → (device : Option Device) → Stands (P.history platform.old).present device
         → Turns (P.history platform.old) (P.history platform.new)
         (LeavesOnly (λ left. Stands left device)) (LeavesOnly (λ left. Stands left (Some (new_device blocks order)))) }
+
+    // Each moment keeps the keys that the image kept before, with the one that was drawn.
+    ensures keeps { KeepsKeys P.tells (T.drawn tape.old) (T.drawn tape.new) (P.history platform.old) (P.history platform.new)
+        (λ keys. IsSound (P.history platform.old).present) (λ keys. ⊤) }
+
+    // What was deleted before stays deleted.
+    ensures forgets { P.tells → IsSound (P.history platform.old).present → Forgets (P.history platform.old) (P.history platform.new) }
 
     // The cell is as it was at each moment, if not for the new device or a fault of the platform.
     ensures still { P.tells → IsOk result ⊎ (IsErrOf result FormatRefusal.PlatformFault

@@ -1,7 +1,8 @@
-ghost use Rattle.std.specs.Prelude.{◌≡◌, ◌≢◌, ◌↔◌, ◌<◌, ◌≤◌, ◌+◌, ℕ, IfOk, OnOk, OnErr, IsErrOf, length, slice_index_or};
+ghost use Rattle.std.specs.Prelude.{◌≡◌, ◌≢◌, ◌↔◌, ◌<◌, ◌≤◌, ◌+◌, ℕ, List, IfOk, OnOk, OnErr, IsErrOf, length, slice_index_or};
 ghost use Rattle.sdbt_base.specs.Faults.{Rose};
 ghost use Rattle.platform.specs.History.{During, Steps};
 ghost use Rattle.page_store.specs.Device.{Device};
+ghost use Rattle.page_store.specs.Kept.{Kept};
 ghost use Rattle.page_store.specs.Places.{NothingFits, FitsAt, block_want};
 ghost use Rattle.page_store.specs.Tree.{Wrong};
 ghost use Rattle.node_codec.specs.Record.{Record, DataRecord};
@@ -18,6 +19,7 @@ use platform::Platform;
 impl Session {
     ghost use Rattle.device_core.specs.Open.{IsOpen, blocks_of, level_of, root_of, is_touched};
     ghost use Rattle.device_core.specs.Holds.{Holds, Follows};
+    ghost use Rattle.device_core.specs.Knowing.{HoldsListed};
 
     /// Puts the content of a block into the 4,096 bytes of `out`: zeros where it is not mapped.
     ///
@@ -46,6 +48,9 @@ impl Session {
         ensures damaged { P.tells → Follows self.old (P.history platform.old).present → (addr : ℕ)
             → IsErrOf result (ReadRefusal.BadRecord addr)
             → IsDamaged (P.history platform.new).present.readable (root_of self.old) addr }
+        // Where the image keeps the keys, those of the session's data records are listed still.
+        ensures listed { P.tells → (keys : List (List ℕ)) → Kept keys (P.history platform.old).present
+            → HoldsListed self.old (P.history platform.old).present keys → HoldsListed self.new (P.history platform.new).present keys }
         ensures range { IsErrOf result ReadRefusal.Range ↔ (blocks_of self.old ≤ block) }
         ensures open { IsOpen self.new (P.head platform.new) }
         ensures same { (self.new.root ≡ self.old.root) × (self.new.mapped ≡ self.old.mapped) × (is_touched self.new ≡ is_touched self.old) }

@@ -1,8 +1,9 @@
-ghost use Rattle.std.specs.Prelude.{◌≡◌, ◌≢◌, ◌<◌, ◌≤◌, ◌+◌, ℕ, None, Some, true, false, IfOk, OnOk, OnErr, IsErrOf};
+ghost use Rattle.std.specs.Prelude.{◌≡◌, ◌≢◌, ◌<◌, ◌≤◌, ◌+◌, ℕ, List, None, Some, true, false, IfOk, OnOk, OnErr, IsErrOf};
 ghost use Rattle.sdbt_base.specs.Faults.{Rose};
 ghost use Rattle.platform.specs.History.{During};
 ghost use Rattle.root_codec.specs.RootRecord.{root_bytes};
 ghost use Rattle.page_store.specs.Device.{Device};
+ghost use Rattle.page_store.specs.Kept.{Kept};
 ghost use Rattle.page_store.specs.Stands.{Stands};
 ghost use Rattle.page_store.specs.Tree.{Wrong};
 ghost use Rattle.page_store.specs.Places.{NothingFits, root_want};
@@ -38,6 +39,7 @@ pub struct Session {
 impl Session {
     ghost use Rattle.device_core.specs.Open.{IsOpen, blocks_of, number_of, mapped_of, level_of, is_touched};
     ghost use Rattle.device_core.specs.Holds.{Holds, Follows};
+    ghost use Rattle.device_core.specs.Knowing.{HoldsListed};
 
     /// Opens a session on the device. It reads no page.
     ///
@@ -55,6 +57,8 @@ impl Session {
         ensures untouched { IfOk result (λ session. is_touched session ≡ false) }
         ensures holds { P.tells → (device : Device) → Stands (P.history platform.old).present (Some device)
             → IfOk result (λ session. Holds session (P.history platform.new).present device device.contents) }
+        ensures listed { P.tells → (device : Device) → Stands (P.history platform.old).present (Some device)
+            → (keys : List (List ℕ)) → IfOk result (λ session. HoldsListed session (P.history platform.new).present keys) }
         ensures follows { P.tells → IfOk result (λ session. Follows session (P.history platform.new).present) }
         ensures found { P.tells → IfOk result (λ session. (P.history platform.old).present.cell ≡ Some (root_bytes session.root)) }
         ensures no_device { P.tells → IsErrOf result MountRefusal.NoDevice → (P.history platform.old).present.cell ≡ None }
@@ -125,6 +129,9 @@ impl Session {
         ensures same { (self.new.root ≡ self.old.root) × (self.new.mapped ≡ self.old.mapped) × (self.new.is_touched ≡ self.old.is_touched) }
         ensures holds { P.tells → (device : Device) (contents : Blocks) → Holds self.old (P.history platform.old).present device contents
             → Holds self.new (P.history platform.new).present device contents }
+        // Where the image keeps the keys, those of the session's data records are listed still.
+        ensures listed { P.tells → (keys : List (List ℕ)) → Kept keys (P.history platform.old).present
+            → HoldsListed self.old (P.history platform.old).present keys → HoldsListed self.new (P.history platform.new).present keys }
         ensures follows { P.tells → Follows self.old (P.history platform.old).present → Follows self.new (P.history platform.new).present }
         ensures wrong { P.tells → (addr : ℕ) → IsErrOf result (FetchRefusal.BadRecord addr)
             → Wrong (P.history platform.old).present.readable self.old.root addr }

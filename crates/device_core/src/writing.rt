@@ -1,9 +1,11 @@
-ghost use Rattle.std.specs.Prelude.{◌≡◌, ◌≢◌, ◌↔◌, ◌<◌, ◌≤◌, ◌+◌, ◌⊎◌, ◌||◌, ℕ, true, None, All, OnOk, OnErr, IsOk, IsErrOf, length};
+ghost use Rattle.std.specs.Prelude.{◌≡◌, ◌≢◌, ◌↔◌, ◌<◌, ◌≤◌, ◌+◌, ◌⊎◌, ◌||◌, ℕ, List, true, None, All, OnOk, OnErr, IsOk, IsErrOf, length};
 ghost use Rattle.std.specs.FinMap as map;
 ghost use Rattle.sdbt_base.specs.Faults.{Rose};
 ghost use Rattle.platform.specs.History.{During};
 ghost use Rattle.page_store.specs.Buffer.{padded};
 ghost use Rattle.page_store.specs.Device.{Device};
+ghost use Rattle.page_store.specs.Kept.{Kept};
+ghost use Rattle.page_store.specs.Keeping.{KeepsKeys};
 ghost use Rattle.page_store.specs.Tree.{Wrong};
 ghost use Rattle.device_core.specs.Blocks.{Blocks};
 ghost use Rattle.device_core.specs.Damage.{IsDamaged};
@@ -19,6 +21,7 @@ use sdbt_base::Tape;
 impl Session {
     ghost use Rattle.device_core.specs.Open.{IsOpen, IsMapped, IsUnmapped, blocks_of, mapped_of, root_of, root_node, is_touched};
     ghost use Rattle.device_core.specs.Holds.{Holds, Follows};
+    ghost use Rattle.device_core.specs.Knowing.{HoldsListed};
 
     /// Writes a block: at most 4,096 bytes, and zeros up to its end. It is the session's alone until a commit.
     ///
@@ -43,6 +46,9 @@ impl Session {
         ensures untouched { OnErr result (is_touched self.new ≡ is_touched self.old) }
         ensures sound { P.tells → (device : Device) (contents : Blocks) → Holds self.old (P.history platform.old).present device contents
             → (addr : ℕ) → IsErrOf result (WriteRefusal.BadRecord addr) → ⊥ }
+        // Each moment keeps the keys that the image kept before, with the one that was drawn.
+        ensures keeps { KeepsKeys P.tells (T.drawn tape.old) (T.drawn tape.new) (P.history platform.old) (P.history platform.new)
+            (HoldsListed self.old (P.history platform.old).present) (HoldsListed self.new (P.history platform.new).present) }
         // On any pages: what is named is a place of the root's tree that doesn't fit, or the root node, where
         // the block has no entry and as many blocks are mapped as there are.
         ensures follows { P.tells → Follows self.old (P.history platform.old).present → Follows self.new (P.history platform.new).present }
@@ -135,6 +141,9 @@ impl Session {
         ensures untouched { OnErr result (is_touched self.new ≡ is_touched self.old) }
         ensures sound { P.tells → (device : Device) (contents : Blocks) → Holds self.old (P.history platform.old).present device contents
             → (addr : ℕ) → IsErrOf result (TrimRefusal.BadRecord addr) → ⊥ }
+        // Where the image keeps the keys, those of the session's data records are listed still.
+        ensures listed { P.tells → (keys : List (List ℕ)) → Kept keys (P.history platform.old).present
+            → HoldsListed self.old (P.history platform.old).present keys → HoldsListed self.new (P.history platform.new).present keys }
         // On any pages: what is named is a place of the root's tree that doesn't fit, or the root node, where
         // the block has an entry and no block is mapped.
         ensures follows { P.tells → Follows self.old (P.history platform.old).present → Follows self.new (P.history platform.new).present }

@@ -2,6 +2,8 @@ use Rattle.std.proofs.Common.{inr, None}
 use Rattle.device_core.proofs.MomentLaws.{one_look}
 use Rattle.device_core.proofs.ServedLaws.{serves_still, serves_cleared}
 use Rattle.device_core.proofs.HoldLaws.{during_stands, erased}
+use Rattle.device_core.proofs.KeyLaws.{kept_look, kept_erased, forgets_erased}
+use Rattle.page_store.proofs.FloorLaws.{forgets_still}
 use Rattle.device_core.proofs.erasing.erase.Goals as goal
 
 pub returns-in-Ok-false-clause-time : goal.returns-in-Ok-false-clause-time
@@ -36,3 +38,27 @@ returns-in-Ok-clause-serves g c = λ told.
 pub returns-in-Err-clear_root-clause-serves : goal.returns-in-Err-clear_root-clause-serves
 returns-in-Err-clear_root-clause-serves g c = λ told.
     serves_cleared _ _ _ (one_look _ _ (c.load_root.ensures.time told) (c.load_root.ensures.image told)) (c.clear_root.ensures.time told) (c.clear_root.ensures.either told)
+
+pub returns-in-Ok-false-clause-keeps : goal.returns-in-Ok-false-clause-keeps
+returns-in-Ok-false-clause-keeps g c = λ told keys kept. kept_look keys _ _ (c.load_root.ensures.time told) (c.load_root.ensures.image told) kept
+
+pub returns-in-Ok-false-clause-forgets : goal.returns-in-Ok-false-clause-forgets
+returns-in-Ok-false-clause-forgets g c = λ told sound. forgets_still _ _ sound (one_look _ _ (c.load_root.ensures.time told) (c.load_root.ensures.image told))
+
+pub returns-in-Err-clause-keeps : goal.returns-in-Err-clause-keeps
+returns-in-Err-clause-keeps g c = λ told keys kept. kept_look keys _ _ (c.load_root.ensures.time told) (c.load_root.ensures.image told) kept
+
+pub returns-in-Err-clause-forgets : goal.returns-in-Err-clause-forgets
+returns-in-Err-clause-forgets g c = λ told sound. forgets_still _ _ sound (one_look _ _ (c.load_root.ensures.time told) (c.load_root.ensures.image told))
+
+pub returns-in-Ok-clause-keeps : goal.returns-in-Ok-clause-keeps
+returns-in-Ok-clause-keeps g c = λ told keys kept. kept_erased keys _ _ _ (c.load_root.ensures.time told) (c.load_root.ensures.image told) (c.clear_root.ensures.time told) (c.clear_root.ensures.either told) kept
+
+pub returns-in-Ok-clause-forgets : goal.returns-in-Ok-clause-forgets
+returns-in-Ok-clause-forgets g c = λ told sound. forgets_erased _ _ _ (c.load_root.ensures.time told) (c.load_root.ensures.image told) (c.clear_root.ensures.time told) (c.clear_root.ensures.either told) sound
+
+pub returns-in-Err-clear_root-clause-keeps : goal.returns-in-Err-clear_root-clause-keeps
+returns-in-Err-clear_root-clause-keeps g c = λ told keys kept. kept_erased keys _ _ _ (c.load_root.ensures.time told) (c.load_root.ensures.image told) (c.clear_root.ensures.time told) (c.clear_root.ensures.either told) kept
+
+pub returns-in-Err-clear_root-clause-forgets : goal.returns-in-Err-clear_root-clause-forgets
+returns-in-Err-clear_root-clause-forgets g c = λ told sound. forgets_erased _ _ _ (c.load_root.ensures.time told) (c.load_root.ensures.image told) (c.clear_root.ensures.time told) (c.clear_root.ensures.either told) sound

@@ -11,6 +11,19 @@ use Rattle.std.proofs.lemmas.Grind.{common_steps}
 use Rattle.device_core.proofs.MomentLaws.{one_look, call_more, then_published}
 use Rattle.device_core.proofs.HoldLaws.{during_stands, first_root, first_fits, first_one, no_entries_fit, format_turns, format_made}
 use Rattle.device_core.proofs.ServedLaws.{serves_still, serves_turned, served_published}
+use Rattle.page_store.specs.Stands.{IsSound}
+use Rattle.page_store.proofs.KeepingLaws.{keeps_idle, keeps_from}
+use Rattle.device_core.proofs.KeyLaws.{looks, format_appends, format_publishes, forgets_leaf, first_leaf}
+use Rattle.page_store.proofs.FloorLaws.{forgets_still, low_few}
+use Rattle.platform.proofs.Moments.{whole-now}
+use Rattle.platform.specs.Image.{Image, with_cell, all_synced}
+use Rattle.std.proofs.lemmas.List.Elements.{All-nil}
+use Rattle.std.proofs.Common.{length, ◌⊎◌}
+use Rattle.node_codec.specs.declared.body.Entry.{Entry}
+use Rattle.page_store.specs.Floors.{IsInTree, low_of}
+use Rattle.page_store.specs.Leaf.{StandsByLeaf}
+use Rattle.root_codec.specs.RootRecord.{root_bytes}
+use Rattle.device_core.proofs.HoldLaws.{with_leaf}
 use Rattle.device_core.proofs.formatting.format.Goals as goal
 
 -- the first root record can be served
@@ -215,3 +228,149 @@ returns-clause-kept g c = λ told before. elim before [
   | inl there ↦ absurd (not_full c.in-Ok.is_full (g.P.Platform.history c.args.platform.now).present.cell c.if-is_full.false (c.in-Ok.ensures.full told) there)
   | inr none ↦ absurd (omega (arith, none, c.head.ensures.value, c.capacity.ensures.value, c.load_root.ensures.head, c.load_root.ensures.capacity, c.if-head-capacity.false))
 ]
+
+pub returns-in_default-clause-keeps : goal.returns-in_default-clause-keeps
+returns-in_default-clause-keeps g c =
+    keeps_idle _ _ _ _ _ (λ keys. IsSound (g.P.Platform.history c.args.platform.now).present) _ refl (λ told. looks _ _ (c.load_root.ensures.time told) (c.load_root.ensures.image told)) (λ told keys kept ready. tt)
+
+pub returns-then-is_full-clause-keeps : goal.returns-then-is_full-clause-keeps
+returns-then-is_full-clause-keeps g c =
+    keeps_idle _ _ _ _ _ (λ keys. IsSound (g.P.Platform.history c.args.platform.now).present) _ refl (λ told. looks _ _ (c.load_root.ensures.time told) (c.load_root.ensures.image told)) (λ told keys kept ready. tt)
+
+pub returns-then-head-capacity-clause-keeps : goal.returns-then-head-capacity-clause-keeps
+returns-then-head-capacity-clause-keeps g c =
+    keeps_idle _ _ _ _ _ (λ keys. IsSound (g.P.Platform.history c.args.platform.now).present) _ refl (λ told. looks _ _ (c.load_root.ensures.time told) (c.load_root.ensures.image told)) (λ told keys kept ready. tt)
+
+pub returns-in_default-new-clause-keeps : goal.returns-in_default-new-clause-keeps
+returns-in_default-new-clause-keeps g c =
+    keeps_idle _ _ _ _ _ (λ keys. IsSound (g.P.Platform.history c.args.platform.now).present) _ refl (λ told. looks _ _ (c.load_root.ensures.time told) (c.load_root.ensures.image told)) (λ told keys kept ready. tt)
+
+pub returns-in-Err-TapeFault-clause-keeps : goal.returns-in-Err-TapeFault-clause-keeps
+returns-in-Err-TapeFault-clause-keeps g c =
+    let history = g.P.Platform.history in
+    let drawn = g.T.Tape.drawn in
+    let body : c.put_node.new.self.body ≡ record_bytes c.head-2.result (NodeRecord 1 []) = ap (λ (b : Held). b.body) c.put_node.ensures in
+    let first = format_appends g.P.Platform.tells (drawn c.args.tape.now) (drawn c.append.new.tape) (history c.args.platform.now) (history c.load_root.new.self) (history c.append.new.platform)
+    c.put_node.new.self.body c.head-2.result _ c.load_root.ensures.time c.load_root.ensures.image c.append.ensures.keeps body
+    (λ told. c.head-2.ensures.value ∙ sym (g.met.P.Platform.counts_pages told c.load_root.new.self)) in
+    keeps_from _ _ _ _ _ _ (λ keys. IsSound (history c.args.platform.now).present) _ (λ keys. Unit {0}) first (λ told keys ready. ready) (λ told keys more ready done. tt)
+
+pub returns-in-Err-PlatformFault-clause-keeps : goal.returns-in-Err-PlatformFault-clause-keeps
+returns-in-Err-PlatformFault-clause-keeps g c =
+    let history = g.P.Platform.history in
+    let drawn = g.T.Tape.drawn in
+    let body : c.put_node.new.self.body ≡ record_bytes c.head-2.result (NodeRecord 1 []) = ap (λ (b : Held). b.body) c.put_node.ensures in
+    let first = format_appends g.P.Platform.tells (drawn c.args.tape.now) (drawn c.append.new.tape) (history c.args.platform.now) (history c.load_root.new.self) (history c.append.new.platform)
+    c.put_node.new.self.body c.head-2.result _ c.load_root.ensures.time c.load_root.ensures.image c.append.ensures.keeps body
+    (λ told. c.head-2.ensures.value ∙ sym (g.met.P.Platform.counts_pages told c.load_root.new.self)) in
+    keeps_from _ _ _ _ _ _ (λ keys. IsSound (history c.args.platform.now).present) _ (λ keys. Unit {0}) first (λ told keys ready. ready) (λ told keys more ready done. tt)
+
+pub returns-in-Ok-publish-clause-keeps : goal.returns-in-Ok-publish-clause-keeps
+returns-in-Ok-publish-clause-keeps g c =
+    let history = g.P.Platform.history in
+    let drawn = g.T.Tape.drawn in
+    let body : c.put_node.new.self.body ≡ record_bytes c.head-2.result (NodeRecord 1 []) = ap (λ (b : Held). b.body) c.put_node.ensures in
+    let first = format_appends g.P.Platform.tells (drawn c.args.tape.now) (drawn c.append.new.tape) (history c.args.platform.now) (history c.load_root.new.self) (history c.append.new.platform)
+    c.put_node.new.self.body c.head-2.result _ c.load_root.ensures.time c.load_root.ensures.image c.in-Ok-append.ensures.keeps body
+    (λ told. c.head-2.ensures.value ∙ sym (g.met.P.Platform.counts_pages told c.load_root.new.self)) in
+    let head = g.P.Platform.head in
+    let addr = c.in-Ok-append.placed.addr in
+    let key = c.in-Ok-append.placed.key in
+    let address : addr ≡ head c.load_root.new.self = c.in-Ok-append.ensures.address in
+    let room : addr < 2 ^ 32 = omega (arith, address, c.head.ensures.value, c.capacity.ensures.value, c.head.ensures.room, c.head.ensures.limit, c.if-head-capacity.false) in
+    let pages = g.met.P.Platform.counts_pages in
+    let leaf : c.put_node.new.self.body ≡ record_bytes addr (NodeRecord 1 []) = body ∙ ap (λ (n : ℕ). record_bytes n (NodeRecord 1 [])) (c.head-2.ensures.value ∙ sym address) in
+    format_publishes g.P.Platform.tells (drawn c.args.tape.now) (drawn c.append.new.tape) (history c.args.platform.now) (history c.load_root.new.self) (history c.append.new.platform) (history c.publish.new.platform)
+    c.args.blocks c.args.order addr key first
+    (λ told. c.in-Ok-append.ensures.appended told ∙ ap (λ (b : List ℕ). with_page (history c.load_root.new.self).present (masked key b) (masked key b)) leaf)
+    (λ told. pages told c.publish.new.platform ∙ (c.publish.ensures.head ∙ sym (pages told c.append.new.platform)))
+    c.publish.ensures.time c.requires.least c.requires.most c.requires.order room c.in-Ok-append.ensures.key (λ told. address ∙ sym (pages told c.load_root.new.self))
+
+pub returns-clause-keeps : goal.returns-clause-keeps
+returns-clause-keeps g c =
+    let history = g.P.Platform.history in
+    let drawn = g.T.Tape.drawn in
+    let body : c.put_node.new.self.body ≡ record_bytes c.head-2.result (NodeRecord 1 []) = ap (λ (b : Held). b.body) c.put_node.ensures in
+    let first = format_appends g.P.Platform.tells (drawn c.args.tape.now) (drawn c.append.new.tape) (history c.args.platform.now) (history c.load_root.new.self) (history c.append.new.platform)
+    c.put_node.new.self.body c.head-2.result _ c.load_root.ensures.time c.load_root.ensures.image c.in-Ok-append.ensures.keeps body
+    (λ told. c.head-2.ensures.value ∙ sym (g.met.P.Platform.counts_pages told c.load_root.new.self)) in
+    let head = g.P.Platform.head in
+    let addr = c.in-Ok-append.placed.addr in
+    let key = c.in-Ok-append.placed.key in
+    let address : addr ≡ head c.load_root.new.self = c.in-Ok-append.ensures.address in
+    let room : addr < 2 ^ 32 = omega (arith, address, c.head.ensures.value, c.capacity.ensures.value, c.head.ensures.room, c.head.ensures.limit, c.if-head-capacity.false) in
+    let pages = g.met.P.Platform.counts_pages in
+    let leaf : c.put_node.new.self.body ≡ record_bytes addr (NodeRecord 1 []) = body ∙ ap (λ (n : ℕ). record_bytes n (NodeRecord 1 [])) (c.head-2.ensures.value ∙ sym address) in
+    format_publishes g.P.Platform.tells (drawn c.args.tape.now) (drawn c.append.new.tape) (history c.args.platform.now) (history c.load_root.new.self) (history c.append.new.platform) (history c.publish.new.platform)
+    c.args.blocks c.args.order addr key first
+    (λ told. c.in-Ok-append.ensures.appended told ∙ ap (λ (b : List ℕ). with_page (history c.load_root.new.self).present (masked key b) (masked key b)) leaf)
+    (λ told. pages told c.publish.new.platform ∙ (c.publish.ensures.head ∙ sym (pages told c.append.new.platform)))
+    c.publish.ensures.time c.requires.least c.requires.most c.requires.order room c.in-Ok-append.ensures.key (λ told. address ∙ sym (pages told c.load_root.new.self))
+
+pub returns-in_default-clause-forgets : goal.returns-in_default-clause-forgets
+returns-in_default-clause-forgets g c = λ told sound. forgets_still _ _ sound (one_look _ _ (c.load_root.ensures.time told) (c.load_root.ensures.image told))
+
+pub returns-then-is_full-clause-forgets : goal.returns-then-is_full-clause-forgets
+returns-then-is_full-clause-forgets g c = λ told sound. forgets_still _ _ sound (one_look _ _ (c.load_root.ensures.time told) (c.load_root.ensures.image told))
+
+pub returns-then-head-capacity-clause-forgets : goal.returns-then-head-capacity-clause-forgets
+returns-then-head-capacity-clause-forgets g c = λ told sound. forgets_still _ _ sound (one_look _ _ (c.load_root.ensures.time told) (c.load_root.ensures.image told))
+
+pub returns-in_default-new-clause-forgets : goal.returns-in_default-new-clause-forgets
+returns-in_default-new-clause-forgets g c = λ told sound. forgets_still _ _ sound (one_look _ _ (c.load_root.ensures.time told) (c.load_root.ensures.image told))
+
+pub returns-in-Err-TapeFault-clause-forgets : goal.returns-in-Err-TapeFault-clause-forgets
+returns-in-Err-TapeFault-clause-forgets g c = λ told sound. forgets_still _ _ sound (call_more _ _ _ (one_look _ _ (c.load_root.ensures.time told) (c.load_root.ensures.image told)) (c.append.ensures.time told) (c.append.ensures.cell told))
+
+pub returns-in-Err-PlatformFault-clause-forgets : goal.returns-in-Err-PlatformFault-clause-forgets
+returns-in-Err-PlatformFault-clause-forgets g c = λ told sound. forgets_still _ _ sound (call_more _ _ _ (one_look _ _ (c.load_root.ensures.time told) (c.load_root.ensures.image told)) (c.append.ensures.time told) (c.append.ensures.cell told))
+
+pub returns-in-Ok-publish-clause-forgets : goal.returns-in-Ok-publish-clause-forgets
+returns-in-Ok-publish-clause-forgets g c = λ told sound.
+    let history = g.P.Platform.history in
+    let head = g.P.Platform.head in
+    let old = history c.args.platform.now in
+    let looked = history c.load_root.new.self in
+    let mid = history c.append.new.platform in
+    let addr = c.in-Ok-append.placed.addr in
+    let key = c.in-Ok-append.placed.key in
+    let address : addr ≡ head c.load_root.new.self = c.in-Ok-append.ensures.address in
+    let room : addr < 2 ^ 32 = omega (arith, address, c.head.ensures.value, c.capacity.ensures.value, c.head.ensures.room, c.head.ensures.limit, c.if-head-capacity.false) in
+    let root = first_root c.args.blocks c.args.order addr key in
+    let body : c.put_node.new.self.body ≡ record_bytes addr (NodeRecord 1 []) = ap (λ (b : Held). b.body) c.put_node.ensures ∙ ap (λ (n : ℕ). record_bytes n (NodeRecord 1 [])) (c.head-2.ensures.value ∙ sym address) in
+    let appended = c.in-Ok-append.ensures.appended told ∙ ap (λ (b : List ℕ). with_page looked.present (masked key b) (masked key b)) body in
+    let X = with_cell (all_synced mid.present) (Some (root_bytes root)) in
+    let target : X ≡ with_leaf looked.present root [] = ap (λ (i : Image). with_cell (all_synced i) (Some (root_bytes root))) appended in
+    let pages : length looked.present.recorded ≡ addr = g.met.P.Platform.counts_pages told c.load_root.new.self ∙ sym address in
+    let leaf = subst (λ (i : Image). StandsByLeaf i (new_device c.args.blocks c.args.order) root [] []) (sym target)
+    (first_leaf looked.present c.args.blocks c.args.order addr key (whole-now looked) c.requires.least c.requires.most c.requires.order room c.in-Ok-append.ensures.key (sym pages)) in
+    let few = low_few old.present sound (whole-now old).synced in
+    let same : length old.present.recorded ≡ addr = ap (λ (i : Image). length i.recorded) (sym (c.load_root.ensures.image told)) ∙ pages in
+    forgets_leaf old (history c.publish.new.platform) X (new_device c.args.blocks c.args.order) root [] [] sound
+    (then_published old mid (history c.publish.new.platform) _ (call_more _ _ _ (one_look _ _ (c.load_root.ensures.time told) (c.load_root.ensures.image told)) (c.append.ensures.time told) (c.append.ensures.cell told)) (c.publish.ensures.time told))
+    leaf (omega (arith, few, same)) (All-nil (λ (e : Entry). IsInTree old.present e.addr ⊎ (low_of old.present ≤ e.addr)))
+
+pub returns-clause-forgets : goal.returns-clause-forgets
+returns-clause-forgets g c = λ told sound.
+    let history = g.P.Platform.history in
+    let head = g.P.Platform.head in
+    let old = history c.args.platform.now in
+    let looked = history c.load_root.new.self in
+    let mid = history c.append.new.platform in
+    let addr = c.in-Ok-append.placed.addr in
+    let key = c.in-Ok-append.placed.key in
+    let address : addr ≡ head c.load_root.new.self = c.in-Ok-append.ensures.address in
+    let room : addr < 2 ^ 32 = omega (arith, address, c.head.ensures.value, c.capacity.ensures.value, c.head.ensures.room, c.head.ensures.limit, c.if-head-capacity.false) in
+    let root = first_root c.args.blocks c.args.order addr key in
+    let body : c.put_node.new.self.body ≡ record_bytes addr (NodeRecord 1 []) = ap (λ (b : Held). b.body) c.put_node.ensures ∙ ap (λ (n : ℕ). record_bytes n (NodeRecord 1 [])) (c.head-2.ensures.value ∙ sym address) in
+    let appended = c.in-Ok-append.ensures.appended told ∙ ap (λ (b : List ℕ). with_page looked.present (masked key b) (masked key b)) body in
+    let X = with_cell (all_synced mid.present) (Some (root_bytes root)) in
+    let target : X ≡ with_leaf looked.present root [] = ap (λ (i : Image). with_cell (all_synced i) (Some (root_bytes root))) appended in
+    let pages : length looked.present.recorded ≡ addr = g.met.P.Platform.counts_pages told c.load_root.new.self ∙ sym address in
+    let leaf = subst (λ (i : Image). StandsByLeaf i (new_device c.args.blocks c.args.order) root [] []) (sym target)
+    (first_leaf looked.present c.args.blocks c.args.order addr key (whole-now looked) c.requires.least c.requires.most c.requires.order room c.in-Ok-append.ensures.key (sym pages)) in
+    let few = low_few old.present sound (whole-now old).synced in
+    let same : length old.present.recorded ≡ addr = ap (λ (i : Image). length i.recorded) (sym (c.load_root.ensures.image told)) ∙ pages in
+    forgets_leaf old (history c.publish.new.platform) X (new_device c.args.blocks c.args.order) root [] [] sound
+    (then_published old mid (history c.publish.new.platform) _ (call_more _ _ _ (one_look _ _ (c.load_root.ensures.time told) (c.load_root.ensures.image told)) (c.append.ensures.time told) (c.append.ensures.cell told)) (c.publish.ensures.time told))
+    leaf (omega (arith, few, same)) (All-nil (λ (e : Entry). IsInTree old.present e.addr ⊎ (low_of old.present ≤ e.addr)))

@@ -2,6 +2,7 @@ use Rattle.std.proofs.Common.{refl, arith}
 use Rattle.device_core.proofs.MomentLaws.{one_look}
 use Rattle.device_core.proofs.HoldLaws.{refused_bad, refused_levels, opened, mounted, holds_same}
 use Rattle.device_core.proofs.FollowLaws.{follows_none}
+use Rattle.device_core.proofs.KeyLaws.{listed_mounted}
 use Rattle.device_core.proofs.session.Session.mount.Goals as goal
 
 pub returns-in-Err-BadRoot-clause-bad_root : goal.returns-in-Err-BadRoot-clause-bad_root
@@ -49,3 +50,6 @@ returns-clause-holds g c = λ told device stands.
 
 pub returns-clause-follows : goal.returns-clause-follows
 returns-clause-follows g c = λ told. follows_none c.in-Some.root _ c.new-2.result.items _ refl
+
+pub returns-clause-listed : goal.returns-clause-listed
+returns-clause-listed g c = λ told device stands keys. listed_mounted _ _ _ _ _ _ device _ keys c.new-2.ensures (returns-clause-holds g c told device stands)

@@ -18,6 +18,10 @@ use Rattle.platform.proofs.Moments.{whole-now}
 use Rattle.root_codec.specs.RootRecord.{root_bytes}
 use Rattle.device_core.proofs.FollowLaws.{follows_committed}
 use Rattle.device_core.proofs.ServedLaws.{serves_still, serves_turned, served_published}
+use Rattle.page_store.proofs.KeepingLaws.{keeps_from}
+use Rattle.page_store.proofs.FloorLaws.{forgets_still}
+use Rattle.device_core.proofs.KeyLaws.{listed_sound, raise_appends, raise_publishes, raise_listed, raise_forgets}
+use Rattle.device_core.specs.Knowing.{HoldsListed}
 use Rattle.device_core.proofs.session.Session.raise.Goals as goal
 
 -- the root record that a commit writes
@@ -196,3 +200,141 @@ returns-clause-serves g c = λ told served.
 
 pub returns-clause-cell : goal.returns-clause-cell
 returns-clause-cell g c = λ told. ap (λ (i : Image). i.cell) (c.in-Ok-publish.ensures.published told)
+
+pub returns-in-Err-TapeFault-clause-keeps : goal.returns-in-Err-TapeFault-clause-keeps
+returns-in-Err-TapeFault-clause-keeps g c =
+    let history = g.P.Platform.history in
+    let drawn = g.T.Tape.drawn in
+    let head = g.P.Platform.head in
+    let self = c.args.self in
+    let old = history c.args.platform.now in
+    let mid = history c.append.new.platform in
+    let body : c.put_node.new.self.body ≡ record_bytes c.head.result (NodeRecord 1 self.entries.items)
+    = ap (λ (b : Held). b.body) c.put_node.ensures ∙ ap (λ (es : List Entry). record_bytes c.head.result (NodeRecord 1 es)) c.deref.ensures.0 in
+    let pages = g.met.P.Platform.counts_pages in
+    let here = subst (λ (n : ℕ). AreEntries self.entries.items self.root.blocks n) (sym c.head.ensures.value) c.requires.open.entries in
+    let first = raise_appends g.P.Platform.tells (drawn c.args.tape.now) (drawn c.append.new.tape) old mid self.root self.mapped self.is_loaded self.is_touched self.entries.items
+    c.put_node.new.self.body c.head.result _ c.append.ensures.keeps body (λ told. c.head.ensures.value ∙ sym (pages told c.args.platform.now))
+    (entries_fit self.root c.head.result self.entries.items c.requires.open.served.leaf here) c.requires.open.entries.keys in
+    keeps_from _ _ _ _ _ _ (HoldsListed self old.present) _ (λ keys. Unit {0}) first (λ told keys ready. ready) (λ told keys more ready done. tt)
+
+pub returns-in-Err-TapeFault-clause-forgets : goal.returns-in-Err-TapeFault-clause-forgets
+returns-in-Err-TapeFault-clause-forgets g c = λ told keys h. forgets_still _ _ (listed_sound _ _ _ _ _ _ keys h) (one_call _ _ (c.append.ensures.time told) (c.append.ensures.cell told))
+
+pub returns-in-Err-PlatformFault-clause-keeps : goal.returns-in-Err-PlatformFault-clause-keeps
+returns-in-Err-PlatformFault-clause-keeps g c =
+    let history = g.P.Platform.history in
+    let drawn = g.T.Tape.drawn in
+    let head = g.P.Platform.head in
+    let self = c.args.self in
+    let old = history c.args.platform.now in
+    let mid = history c.append.new.platform in
+    let body : c.put_node.new.self.body ≡ record_bytes c.head.result (NodeRecord 1 self.entries.items)
+    = ap (λ (b : Held). b.body) c.put_node.ensures ∙ ap (λ (es : List Entry). record_bytes c.head.result (NodeRecord 1 es)) c.deref.ensures.0 in
+    let pages = g.met.P.Platform.counts_pages in
+    let here = subst (λ (n : ℕ). AreEntries self.entries.items self.root.blocks n) (sym c.head.ensures.value) c.requires.open.entries in
+    let first = raise_appends g.P.Platform.tells (drawn c.args.tape.now) (drawn c.append.new.tape) old mid self.root self.mapped self.is_loaded self.is_touched self.entries.items
+    c.put_node.new.self.body c.head.result _ c.append.ensures.keeps body (λ told. c.head.ensures.value ∙ sym (pages told c.args.platform.now))
+    (entries_fit self.root c.head.result self.entries.items c.requires.open.served.leaf here) c.requires.open.entries.keys in
+    keeps_from _ _ _ _ _ _ (HoldsListed self old.present) _ (λ keys. Unit {0}) first (λ told keys ready. ready) (λ told keys more ready done. tt)
+
+pub returns-in-Err-PlatformFault-clause-forgets : goal.returns-in-Err-PlatformFault-clause-forgets
+returns-in-Err-PlatformFault-clause-forgets g c = λ told keys h. forgets_still _ _ (listed_sound _ _ _ _ _ _ keys h) (one_call _ _ (c.append.ensures.time told) (c.append.ensures.cell told))
+
+pub returns-in_default-clause-keeps : goal.returns-in_default-clause-keeps
+returns-in_default-clause-keeps g c =
+    let history = g.P.Platform.history in
+    let drawn = g.T.Tape.drawn in
+    let head = g.P.Platform.head in
+    let self = c.args.self in
+    let old = history c.args.platform.now in
+    let mid = history c.append.new.platform in
+    let body : c.put_node.new.self.body ≡ record_bytes c.head.result (NodeRecord 1 self.entries.items)
+    = ap (λ (b : Held). b.body) c.put_node.ensures ∙ ap (λ (es : List Entry). record_bytes c.head.result (NodeRecord 1 es)) c.deref.ensures.0 in
+    let pages = g.met.P.Platform.counts_pages in
+    let here = subst (λ (n : ℕ). AreEntries self.entries.items self.root.blocks n) (sym c.head.ensures.value) c.requires.open.entries in
+    let first = raise_appends g.P.Platform.tells (drawn c.args.tape.now) (drawn c.append.new.tape) old mid self.root self.mapped self.is_loaded self.is_touched self.entries.items
+    c.put_node.new.self.body c.head.result _ c.in-Ok.ensures.keeps body (λ told. c.head.ensures.value ∙ sym (pages told c.args.platform.now))
+    (entries_fit self.root c.head.result self.entries.items c.requires.open.served.leaf here) c.requires.open.entries.keys in
+    let new = history c.publish.new.platform in
+    let addr = c.in-Ok.placed.addr in
+    let root = next_root self.root self.mapped addr c.in-Ok.placed.key in
+    let address : addr ≡ head c.args.platform.now = c.in-Ok.ensures.address in
+    let room : head c.args.platform.now < 2 ^ 32 = omega (arith, c.requires.room, g.met.P.Platform.is_limited c.args.platform.now) in
+    let appended : g.P.Platform.tells → mid.present ≡ with_page old.present (masked c.in-Ok.placed.key (record_bytes addr (NodeRecord 1 self.entries.items))) (masked c.in-Ok.placed.key (record_bytes addr (NodeRecord 1 self.entries.items)))
+    = λ told. c.in-Ok.ensures.appended told ∙ ap (λ (bytes : List ℕ). with_page old.present bytes bytes)
+    (page_is addr c.head.result c.in-Ok.placed.key c.put_node.new.self.body c.deref.result.now self.entries.items (ap (λ (b : Held). b.body) c.put_node.ensures) c.deref.ensures.0 (c.head.ensures.value ∙ sym address)) in
+    let follows = is_next self.root self.mapped addr (head c.args.platform.now) c.in-Ok.placed.key address in
+    raise_publishes g.P.Platform.tells (drawn c.args.tape.now) (drawn c.append.new.tape) old mid new self.root root self.mapped (head c.args.platform.now) self.is_loaded self.is_touched self.entries.items _ first appended
+    (λ told. pages told c.publish.new.platform ∙ (c.publish.ensures.head ∙ sym (pages told c.append.new.platform))) c.publish.ensures.time
+    (c.requires.open.loaded c.requires.touched) follows c.requires.open.served c.requires.open.mapped room c.in-Ok.ensures.key (λ told. sym (pages told c.args.platform.now)) c.requires.open.entries
+    (λ told keys h. tt)
+
+pub returns-in_default-clause-forgets : goal.returns-in_default-clause-forgets
+returns-in_default-clause-forgets g c = λ told keys h.
+    let history = g.P.Platform.history in
+    let head = g.P.Platform.head in
+    let self = c.args.self in
+    let old = history c.args.platform.now in
+    let mid = history c.append.new.platform in
+    let pages = g.met.P.Platform.counts_pages in
+    let new = history c.publish.new.platform in
+    let addr = c.in-Ok.placed.addr in
+    let root = next_root self.root self.mapped addr c.in-Ok.placed.key in
+    let address : addr ≡ head c.args.platform.now = c.in-Ok.ensures.address in
+    let room : head c.args.platform.now < 2 ^ 32 = omega (arith, c.requires.room, g.met.P.Platform.is_limited c.args.platform.now) in
+    let appended : g.P.Platform.tells → mid.present ≡ with_page old.present (masked c.in-Ok.placed.key (record_bytes addr (NodeRecord 1 self.entries.items))) (masked c.in-Ok.placed.key (record_bytes addr (NodeRecord 1 self.entries.items)))
+    = λ told. c.in-Ok.ensures.appended told ∙ ap (λ (bytes : List ℕ). with_page old.present bytes bytes)
+    (page_is addr c.head.result c.in-Ok.placed.key c.put_node.new.self.body c.deref.result.now self.entries.items (ap (λ (b : Held). b.body) c.put_node.ensures) c.deref.ensures.0 (c.head.ensures.value ∙ sym address)) in
+    let follows = is_next self.root self.mapped addr (head c.args.platform.now) c.in-Ok.placed.key address in
+    raise_forgets old mid new self.root root self.mapped (head c.args.platform.now) self.is_loaded self.is_touched self.entries.items keys h (c.append.ensures.time told) (c.append.ensures.cell told) (appended told) (c.publish.ensures.time told)
+    (c.requires.open.loaded c.requires.touched) follows c.requires.open.served c.requires.open.mapped room c.in-Ok.ensures.key (sym (pages told c.args.platform.now)) c.requires.open.entries
+
+pub returns-clause-keeps : goal.returns-clause-keeps
+returns-clause-keeps g c =
+    let history = g.P.Platform.history in
+    let drawn = g.T.Tape.drawn in
+    let head = g.P.Platform.head in
+    let self = c.args.self in
+    let old = history c.args.platform.now in
+    let mid = history c.append.new.platform in
+    let body : c.put_node.new.self.body ≡ record_bytes c.head.result (NodeRecord 1 self.entries.items)
+    = ap (λ (b : Held). b.body) c.put_node.ensures ∙ ap (λ (es : List Entry). record_bytes c.head.result (NodeRecord 1 es)) c.deref.ensures.0 in
+    let pages = g.met.P.Platform.counts_pages in
+    let here = subst (λ (n : ℕ). AreEntries self.entries.items self.root.blocks n) (sym c.head.ensures.value) c.requires.open.entries in
+    let first = raise_appends g.P.Platform.tells (drawn c.args.tape.now) (drawn c.append.new.tape) old mid self.root self.mapped self.is_loaded self.is_touched self.entries.items
+    c.put_node.new.self.body c.head.result _ c.in-Ok.ensures.keeps body (λ told. c.head.ensures.value ∙ sym (pages told c.args.platform.now))
+    (entries_fit self.root c.head.result self.entries.items c.requires.open.served.leaf here) c.requires.open.entries.keys in
+    let new = history c.publish.new.platform in
+    let addr = c.in-Ok.placed.addr in
+    let root = next_root self.root self.mapped addr c.in-Ok.placed.key in
+    let address : addr ≡ head c.args.platform.now = c.in-Ok.ensures.address in
+    let room : head c.args.platform.now < 2 ^ 32 = omega (arith, c.requires.room, g.met.P.Platform.is_limited c.args.platform.now) in
+    let appended : g.P.Platform.tells → mid.present ≡ with_page old.present (masked c.in-Ok.placed.key (record_bytes addr (NodeRecord 1 self.entries.items))) (masked c.in-Ok.placed.key (record_bytes addr (NodeRecord 1 self.entries.items)))
+    = λ told. c.in-Ok.ensures.appended told ∙ ap (λ (bytes : List ℕ). with_page old.present bytes bytes)
+    (page_is addr c.head.result c.in-Ok.placed.key c.put_node.new.self.body c.deref.result.now self.entries.items (ap (λ (b : Held). b.body) c.put_node.ensures) c.deref.ensures.0 (c.head.ensures.value ∙ sym address)) in
+    let follows = is_next self.root self.mapped addr (head c.args.platform.now) c.in-Ok.placed.key address in
+    raise_publishes g.P.Platform.tells (drawn c.args.tape.now) (drawn c.append.new.tape) old mid new self.root root self.mapped (head c.args.platform.now) self.is_loaded self.is_touched self.entries.items _ first appended
+    (λ told. pages told c.publish.new.platform ∙ (c.publish.ensures.head ∙ sym (pages told c.append.new.platform))) c.publish.ensures.time
+    (c.requires.open.loaded c.requires.touched) follows c.requires.open.served c.requires.open.mapped room c.in-Ok.ensures.key (λ told. sym (pages told c.args.platform.now)) c.requires.open.entries
+    (λ told keys h. raise_listed old mid new self.root root self.mapped (head c.args.platform.now) self.is_loaded self.is_touched self.entries.items keys h (appended told) (c.in-Ok-publish.ensures.published told) (c.requires.open.loaded c.requires.touched) follows c.requires.open.served c.requires.open.mapped room c.in-Ok.ensures.key (sym (pages told c.args.platform.now)) c.requires.open.entries)
+
+pub returns-clause-forgets : goal.returns-clause-forgets
+returns-clause-forgets g c = λ told keys h.
+    let history = g.P.Platform.history in
+    let head = g.P.Platform.head in
+    let self = c.args.self in
+    let old = history c.args.platform.now in
+    let mid = history c.append.new.platform in
+    let pages = g.met.P.Platform.counts_pages in
+    let new = history c.publish.new.platform in
+    let addr = c.in-Ok.placed.addr in
+    let root = next_root self.root self.mapped addr c.in-Ok.placed.key in
+    let address : addr ≡ head c.args.platform.now = c.in-Ok.ensures.address in
+    let room : head c.args.platform.now < 2 ^ 32 = omega (arith, c.requires.room, g.met.P.Platform.is_limited c.args.platform.now) in
+    let appended : g.P.Platform.tells → mid.present ≡ with_page old.present (masked c.in-Ok.placed.key (record_bytes addr (NodeRecord 1 self.entries.items))) (masked c.in-Ok.placed.key (record_bytes addr (NodeRecord 1 self.entries.items)))
+    = λ told. c.in-Ok.ensures.appended told ∙ ap (λ (bytes : List ℕ). with_page old.present bytes bytes)
+    (page_is addr c.head.result c.in-Ok.placed.key c.put_node.new.self.body c.deref.result.now self.entries.items (ap (λ (b : Held). b.body) c.put_node.ensures) c.deref.ensures.0 (c.head.ensures.value ∙ sym address)) in
+    let follows = is_next self.root self.mapped addr (head c.args.platform.now) c.in-Ok.placed.key address in
+    raise_forgets old mid new self.root root self.mapped (head c.args.platform.now) self.is_loaded self.is_touched self.entries.items keys h (c.append.ensures.time told) (c.append.ensures.cell told) (appended told) (c.publish.ensures.time told)
+    (c.requires.open.loaded c.requires.touched) follows c.requires.open.served c.requires.open.mapped room c.in-Ok.ensures.key (sym (pages told c.args.platform.now)) c.requires.open.entries

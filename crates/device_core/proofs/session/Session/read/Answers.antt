@@ -7,6 +7,7 @@ use Rattle.root_codec.specs.declared.root.Root.{Root}
 use Rattle.platform.specs.Image.{Image}
 use Rattle.page_store.specs.Tree.{Wrong}
 use Rattle.device_core.proofs.FollowLaws.{follows_same, wrong_found}
+use Rattle.device_core.proofs.KeyLaws.{listed_same}
 use Rattle.device_core.proofs.session.Session.read.Goals as goal
 
 pub returns-then-block-self-clause-time : goal.returns-then-block-self-clause-time
@@ -107,3 +108,12 @@ returns-in-Err-BadRecord-fetch_block-clause-damaged g c = λ told follows addr i
     let after = subst (λ (i : Image). Wrong i.readable c.load.new.self.root c.index-deref-place.result.addr) (sym (c.fetch_block.ensures.image told)) found in
     let of_root = subst (λ (r : Root). Wrong (history c.fetch_block.new.platform).present.readable r c.index-deref-place.result.addr) c.load.ensures.same.0 after in
     inl (subst (λ (n : ℕ). Wrong (history c.fetch_block.new.platform).present.readable c.args.self.now.root n) (sym named) of_root)
+
+pub returns-in-Ok-fetch_block-clause-listed : goal.returns-in-Ok-fetch_block-clause-listed
+returns-in-Ok-fetch_block-clause-listed g c = λ told keys kept h. listed_same _ _ _ _ _ _ _ keys (c.fetch_block.ensures.image told) (c.load.ensures.listed told keys kept h)
+
+pub returns-in-Err-BadRecord-fetch_block-clause-listed : goal.returns-in-Err-BadRecord-fetch_block-clause-listed
+returns-in-Err-BadRecord-fetch_block-clause-listed g c = λ told keys kept h. listed_same _ _ _ _ _ _ _ keys (c.fetch_block.ensures.image told) (c.load.ensures.listed told keys kept h)
+
+pub returns-in-Err-PlatformFault-fetch_block-clause-listed : goal.returns-in-Err-PlatformFault-fetch_block-clause-listed
+returns-in-Err-PlatformFault-fetch_block-clause-listed g c = λ told keys kept h. listed_same _ _ _ _ _ _ _ keys (c.fetch_block.ensures.image told) (c.load.ensures.listed told keys kept h)

@@ -10,6 +10,7 @@ use Rattle.device_core.proofs.FollowLaws.{follows_removed, miscounted_none, mapp
 use Rattle.platform.specs.Image.{Image}
 use Rattle.page_store.specs.Tree.{Wrong}
 use Rattle.device_core.specs.Damage.{IsMiscounted}
+use Rattle.device_core.proofs.KeyLaws.{listed_trimmed}
 use Rattle.device_core.proofs.session.Session.trim.Goals as goal
 
 pub returns-then-block-self-clause-time : goal.returns-then-block-self-clause-time
@@ -94,3 +95,9 @@ pub returns-in_default-clause-counter : goal.returns-in_default-clause-counter
 returns-in_default-clause-counter g c = λ none mapped ok.
     let place = rw c.as_slice.ensures.value at c.in_default.ensures in
     mapped_or_not c.load.new.self.entries.items c.args.block (unmapped_place c.load.new.self.entries.items (Err _) c.args.block place refl) mapped
+
+pub returns-clause-listed : goal.returns-clause-listed
+returns-clause-listed g c = λ told keys kept h.
+    let place = rw c.as_slice.ensures.value at c.in-Ok-place_of.ensures in
+    let l = c.load.ensures.listed told keys kept h in
+    rw c.remove.ensures.items (listed_trimmed _ _ _ _ _ _ _ _ _ l.device _ keys l (trimmed _ _ _ _ _ _ _ l.device l.contents c.args.block _ c.in-Ok.ensures.loaded l.holds place (omega arith)))

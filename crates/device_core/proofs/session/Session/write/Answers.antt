@@ -14,6 +14,11 @@ use Rattle.std.proofs.Common.{inl, inr}
 use Rattle.device_core.proofs.FollowLaws.{follows_same, follows_later, follows_written, unmapped_place, miscounted_full, new_place, placed_mapped}
 use Rattle.page_store.specs.Tree.{Wrong}
 use Rattle.device_core.specs.Damage.{IsMiscounted}
+use Rattle.std.proofs.Common.{refl}
+use Rattle.platform.proofs.Moments.{During-start}
+use Rattle.page_store.proofs.KeepingLaws.{keeps_idle}
+use Rattle.device_core.specs.Knowing.{HoldsListed}
+use Rattle.device_core.proofs.KeyLaws.{load_keeps, write_keeps, listed_later, listed_written}
 use Rattle.device_core.proofs.session.Session.write.Goals as goal
 
 pub returns-then-block-self-clause-time : goal.returns-then-block-self-clause-time
@@ -177,3 +182,89 @@ returns-clause-counter g c = λ low all unmapped is.
 
 pub returns-in-Err-TapeFault-clause-refused_still : goal.returns-in-Err-TapeFault-clause-refused_still
 returns-in-Err-TapeFault-clause-refused_still g c = λ told is. c.append.ensures.unchanged told (cc) ∙ c.load.ensures.image told
+
+pub returns-then-block-self-clause-keeps : goal.returns-then-block-self-clause-keeps
+returns-then-block-self-clause-keeps g c =
+    let old = g.P.Platform.history c.args.platform.now in
+    keeps_idle _ _ _ old old (HoldsListed c.args.self.now old.present) _ refl (λ told. During-start old (λ image. image ≡ old.present) refl) (λ told keys kept h. h)
+
+pub returns-then-head-capacity-clause-keeps : goal.returns-then-head-capacity-clause-keeps
+returns-then-head-capacity-clause-keeps g c =
+    let old = g.P.Platform.history c.args.platform.now in
+    keeps_idle _ _ _ old old (HoldsListed c.args.self.now old.present) _ refl (λ told. During-start old (λ image. image ≡ old.present) refl) (λ told keys kept h. h)
+
+pub returns-in-Err-BadRecord-clause-keeps : goal.returns-in-Err-BadRecord-clause-keeps
+returns-in-Err-BadRecord-clause-keeps g c =
+    load_keeps _ _ _ _ (HoldsListed c.args.self.now (g.P.Platform.history c.args.platform.now).present) _ c.load.ensures.image c.load.ensures.time c.load.ensures.listed
+
+pub returns-in-Err-PlatformFault-clause-keeps : goal.returns-in-Err-PlatformFault-clause-keeps
+returns-in-Err-PlatformFault-clause-keeps g c =
+    load_keeps _ _ _ _ (HoldsListed c.args.self.now (g.P.Platform.history c.args.platform.now).present) _ c.load.ensures.image c.load.ensures.time c.load.ensures.listed
+
+pub returns-in_default-clause-keeps : goal.returns-in_default-clause-keeps
+returns-in_default-clause-keeps g c =
+    load_keeps _ _ _ _ (HoldsListed c.args.self.now (g.P.Platform.history c.args.platform.now).present) _ c.load.ensures.image c.load.ensures.time c.load.ensures.listed
+
+pub returns-in-Err-TapeFault-clause-keeps : goal.returns-in-Err-TapeFault-clause-keeps
+returns-in-Err-TapeFault-clause-keeps g c =
+    let history = g.P.Platform.history in
+    let drawn = g.T.Tape.drawn in
+    let old = history c.args.platform.now in
+    let looked = history c.load.new.platform in
+    let new = history c.append.new.platform in
+    let session = c.load.new.self in
+    let text = padded c.args.content.now in
+    let look = load_keeps g.P.Platform.tells (drawn c.args.tape.now) old looked (HoldsListed c.args.self.now old.present) (HoldsListed session looked.present) c.load.ensures.image c.load.ensures.time c.load.ensures.listed in
+    let body : c.put_block.new.self.body ≡ record_bytes c.head-addr.result (DataRecord c.args.block text) = ap (λ (b : Held). b.body) c.put_block.ensures in
+    write_keeps g.P.Platform.tells (drawn c.args.tape.now) (drawn c.append.new.tape) old looked new session.root session.mapped session.is_loaded session.is_touched session.entries.items c.put_block.new.self.body c.head-addr.result c.args.block text
+    (HoldsListed c.args.self.now old.present) _ _ look c.append.ensures.keeps body (λ told. c.head-addr.ensures.value ∙ sym (g.met.P.Platform.counts_pages told c.load.new.platform)) (omega (arith, c.requires.open.served.leaf.blocks))
+    (padded_bytes c.args.content.now c.requires.size c.are_bytes.ensures)
+    (λ told keys more h done. listed_later _ _ _ _ _ _ _ keys more (Extends-earlier _ _ (c.append.ensures.time told).extends) (c.append.ensures.cell told) h)
+
+pub returns-in-Err-PlatformFault-append-clause-keeps : goal.returns-in-Err-PlatformFault-append-clause-keeps
+returns-in-Err-PlatformFault-append-clause-keeps g c =
+    let history = g.P.Platform.history in
+    let drawn = g.T.Tape.drawn in
+    let old = history c.args.platform.now in
+    let looked = history c.load.new.platform in
+    let new = history c.append.new.platform in
+    let session = c.load.new.self in
+    let text = padded c.args.content.now in
+    let look = load_keeps g.P.Platform.tells (drawn c.args.tape.now) old looked (HoldsListed c.args.self.now old.present) (HoldsListed session looked.present) c.load.ensures.image c.load.ensures.time c.load.ensures.listed in
+    let body : c.put_block.new.self.body ≡ record_bytes c.head-addr.result (DataRecord c.args.block text) = ap (λ (b : Held). b.body) c.put_block.ensures in
+    write_keeps g.P.Platform.tells (drawn c.args.tape.now) (drawn c.append.new.tape) old looked new session.root session.mapped session.is_loaded session.is_touched session.entries.items c.put_block.new.self.body c.head-addr.result c.args.block text
+    (HoldsListed c.args.self.now old.present) _ _ look c.append.ensures.keeps body (λ told. c.head-addr.ensures.value ∙ sym (g.met.P.Platform.counts_pages told c.load.new.platform)) (omega (arith, c.requires.open.served.leaf.blocks))
+    (padded_bytes c.args.content.now c.requires.size c.are_bytes.ensures)
+    (λ told keys more h done. listed_later _ _ _ _ _ _ _ keys more (Extends-earlier _ _ (c.append.ensures.time told).extends) (c.append.ensures.cell told) h)
+
+pub returns-clause-keeps : goal.returns-clause-keeps
+returns-clause-keeps g c =
+    let history = g.P.Platform.history in
+    let drawn = g.T.Tape.drawn in
+    let old = history c.args.platform.now in
+    let looked = history c.load.new.platform in
+    let new = history c.append.new.platform in
+    let session = c.load.new.self in
+    let text = padded c.args.content.now in
+    let look = load_keeps g.P.Platform.tells (drawn c.args.tape.now) old looked (HoldsListed c.args.self.now old.present) (HoldsListed session looked.present) c.load.ensures.image c.load.ensures.time c.load.ensures.listed in
+    let body : c.put_block.new.self.body ≡ record_bytes c.head-addr.result (DataRecord c.args.block text) = ap (λ (b : Held). b.body) c.put_block.ensures in
+    let entry : Entry = record { low = c.args.block; addr = c.in-Ok-append.placed.addr; key = c.in-Ok-append.placed.key } in
+    let opened = c.load.ensures.open in
+    write_keeps g.P.Platform.tells (drawn c.args.tape.now) (drawn c.append.new.tape) old looked new session.root session.mapped session.is_loaded session.is_touched session.entries.items c.put_block.new.self.body c.head-addr.result c.args.block text
+    (HoldsListed c.args.self.now old.present) _ _ look c.in-Ok-append.ensures.keeps body (λ told. c.head-addr.ensures.value ∙ sym (g.met.P.Platform.counts_pages told c.load.new.platform)) (omega (arith, c.requires.open.served.leaf.blocks))
+    (padded_bytes c.args.content.now c.requires.size c.are_bytes.ensures)
+    (λ told keys more h has.
+    let pages = g.met.P.Platform.counts_pages told c.load.new.platform in
+    let address : c.in-Ok-append.placed.addr ≡ g.P.Platform.head c.load.new.platform = c.in-Ok-append.ensures.address in
+    let are = subst (λ (n : ℕ). AreEntries session.entries.items session.root.blocks n) (sym address) opened.entries in
+    let spelled : c.put_block.new.self.body ≡ record_bytes c.in-Ok-append.placed.addr (DataRecord c.args.block text) = body ∙ ap (λ (n : ℕ). record_bytes n (DataRecord c.args.block text)) (c.head-addr.ensures.value ∙ sym address) in
+    let page : masked c.in-Ok-append.placed.key c.put_block.new.self.body ≡ data_page c.in-Ok-append.placed.addr c.args.block c.in-Ok-append.placed.key text = ap (masked c.in-Ok-append.placed.key) spelled in
+    let later = c.in-Ok-append.ensures.appended told ∙ ap (λ (bytes : List ℕ). with_page looked.present bytes bytes) page in
+    let place = rw c.as_slice.ensures.value at c.place_of-place.ensures in
+    let earlier = Extends-earlier _ _ (c.append.ensures.time told).extends in
+    let held = written session.root session.mapped _ session.is_loaded session.is_touched session.entries.items looked.present new.present h.device h.contents c.args.block c.in-Ok-append.placed.addr
+    c.place_of-place.result c.in-Ok-append.placed.key text c.in-Ok.ensures.loaded h.holds (whole-now looked) (address ∙ sym pages)
+    (omega (arith, address, g.met.P.Platform.has_room c.load.new.platform, g.met.P.Platform.is_limited c.load.new.platform)) are place (omega (arith, c.requires.open.served.leaf.blocks))
+    (padded_bytes c.args.content.now c.requires.size c.are_bytes.ensures) c.in-Some.ensures.found.1 earlier later in
+    rw c.put_entry.ensures (listed_written session.root session.mapped _ session.is_loaded _ session.is_touched session.entries.items c.place_of-place.result entry looked.present new.present h.device _ keys more h held earlier
+    (c.append.ensures.cell told) (omega (arith, address, opened.served.within)) has))

@@ -1,0 +1,399 @@
+-- What a format, a commit and a write do to the keys that the image keeps.
+use Rattle.std.proofs.Common.{◌≡◌, ◌⊎◌, inl, inr, Bool, true, false, Result, ℕ, zero, suc, ◌<◌, ◌≤◌, ◌^◌, List, [], ◌∷◌, ◌++◌, map, length, get_or, refl, sym, ◌∙◌, ap, subst, arith}
+use Rattle.std.specs.Prelude.{Option, None, Some, All, Contains, remove}
+use Rattle.std.proofs.lemmas.List.Elements.{All-nil, All-cons, All-head, All-tail, All-weaker, All-contains, Contains-append_left, Contains-get_or}
+use Rattle.platform.specs.Image.{Image, IsEarlier, IsWhole, with_page, with_cell, all_synced}
+use Rattle.platform.specs.History.{History, Steps, During, Turns}
+use Rattle.platform.proofs.Moments.{During-step, During-now, During-call, Turns-either, whole-now}
+use Rattle.platform.specs.Image.{IsEither}
+use Rattle.device_core.proofs.MomentLaws.{one_look, one_call, then_published}
+use Rattle.page_store.proofs.FloorLaws.{low_few, no_tree}
+use Rattle.page_store.proofs.KeptLaws.{kept_cleared, same_during}
+use Rattle.sdbt_base.specs.Bytes.{IsBytes}
+use Rattle.device_core.specs.Blocks.{new_device}
+use Rattle.device_core.proofs.EntryLaws.{AreEntries-none, All-remove}
+use Rattle.node_codec.specs.declared.body.Entry.{Entry}
+use Rattle.node_codec.specs.Record.{DataRecord, NodeRecord, FitsNode, record_bytes}
+use Rattle.device_core.specs.Replies.{committed_device}
+use Rattle.device_core.specs.Leaf.{IsServed, AreEntries}
+use Rattle.root_codec.specs.declared.root.Root.{Root}
+use Rattle.root_codec.specs.RootRecord.{root_bytes}
+use Rattle.page_store.specs.Device.{Device}
+use Rattle.page_store.specs.Tree.{DataOf, NodeOver, Place}
+use Rattle.page_store.specs.Leaf.{leaf_parts, StandsByLeaf}
+use Rattle.page_store.specs.Stands.{Stands, IsSound}
+use Rattle.page_store.specs.Kept.{Kept}
+use Rattle.page_store.specs.Keeping.{KeepsKeys, IsNextRecord}
+use Rattle.page_store.specs.Places.{FitsAt, root_want}
+use Rattle.page_store.specs.Kept.{links_of}
+use Rattle.page_store.specs.Floors.{IsInTree, low_of, Forgets}
+use Rattle.key_graph.specs.Chains.{Link, link}
+use Rattle.key_graph.specs.Maps.{addresses_of}
+use Rattle.key_graph.proofs.ChainLaws.{contains_map, map_contains}
+use Rattle.page_store.proofs.FloorLaws.{in_tree_later, low_of_stands, forgets_published, tree_of_stands}
+use Rattle.device_core.specs.Blocks.{Blocks}
+use Rattle.device_core.specs.Leaf.{placed}
+use Rattle.device_core.specs.Holding.{HoldsBy}
+use Rattle.device_core.specs.Knowing.{HoldsListedBy}
+use Rattle.page_store.proofs.LeafStandsLaws.{stands_by_leaf, leaf_found}
+use Rattle.page_store.proofs.StandsLaws.{stands_with_page}
+use Rattle.page_store.proofs.KeptLaws.{kept_leaf, kept_published, root_of_stands}
+use Rattle.page_store.proofs.KeepingLaws.{keeps_idle, keeps_still, keeps_then, keeps_from}
+use Rattle.device_core.proofs.HoldLaws.{IsNext, raised_leaf, raise_held, held_stands, holds_later, loaded, All-placed, leaf_page, with_leaf, committed, none_mapped, first_root, first_fits, first_one, no_entries_fit}
+
+-- calls that only look
+pub looks : (old new : History) → Steps old new → new.present ≡ old.present → During old new (λ image. image ≡ old.present)
+looks old new steps same = During-step old new (λ image. image ≡ old.present) steps refl same
+
+pub look_keeps : (tells : Type 0) (drawn : Option (List (List ℕ))) (old new : History) → (tells → Steps old new) → (tells → new.present ≡ old.present) → KeepsKeys tells drawn drawn old new (λ keys. IsSound old.present) (λ keys. IsSound new.present)
+look_keeps tells drawn old new steps same =
+    keeps_idle tells drawn drawn old new (λ keys. IsSound old.present) (λ keys. IsSound new.present) refl (λ told. looks old new (steps told) (same told))
+    (λ told keys kept sound. subst IsSound (sym (same told)) sound)
+
+-- what a leaf and its root record are published over
+pub record IsPublishing (base mid : Image) (root : Root) (entries : List Entry) (keys : List (List ℕ)) : Type 0 where
+  pub device : Option Device
+  pub stands : Stands mid device
+  pub next : Device
+  pub texts : List (List ℕ)
+  pub leaf : StandsByLeaf (with_leaf base root entries) next root entries texts
+  pub own : Contains keys root.key
+  pub listed : All (λ e. Contains keys e.key) entries
+
+pub publish_keeps : (tells : Type 0) (drawn : Option (List (List ℕ))) (base : Image) (mid new : History) (root : Root) (entries : List Entry) (Done : List (List ℕ) → Type 0)
+    → (tells → mid.present ≡ with_page base (leaf_page root entries) (leaf_page root entries))
+    → (tells → length new.present.recorded ≡ length mid.present.recorded)
+    → (tells → Turns mid new (λ image. image.cell ≡ mid.present.cell) (λ image. image ≡ with_cell (all_synced mid.present) (Some (root_bytes root))))
+    → (tells → (keys : List (List ℕ)) → IsPublishing base mid.present root entries keys → Done keys)
+    → KeepsKeys tells drawn drawn mid new (IsPublishing base mid.present root entries) Done
+publish_keeps tells drawn base mid new root entries Done appended size turns done =
+    keeps_still tells drawn drawn mid new (IsPublishing base mid.present root entries) Done refl size
+    (λ told keys kept ready.
+    let X = with_cell (all_synced mid.present) (Some (root_bytes root)) in
+    let target : X ≡ with_leaf base root entries = ap (λ (i : Image). with_cell (all_synced i) (Some (root_bytes root))) (appended told) in
+    let leaf = subst (λ (i : Image). StandsByLeaf i ready.next root entries ready.texts) (sym target) ready.leaf in
+    kept_published keys mid new X ready.device ready.stands kept (kept_leaf keys X ready.next root entries ready.texts kept.pages leaf ready.own ready.listed) (size told) (turns told))
+    done
+
+-- the keys of a leaf that an image stands by are listed
+All-unmap : {A B : Type 0} (P : B → Type 0) (f : A → B) (xs : List A) → All P (map f xs) → All (λ x. P (f x)) xs
+All-unmap P f [] all = All-nil (λ x. P (f x))
+All-unmap P f (x ∷ xs) all = All-cons (λ y. P (f y)) x xs (All-head P (f x) (map f xs) all) (All-unmap P f xs (All-tail P (f x) (map f xs) all))
+
+pub leaf_listed : (keys : List (List ℕ)) (image : Image) (device : Device) (root : Root) (entries : List Entry) (texts : List (List ℕ)) → Kept keys image → StandsByLeaf image device root entries texts → All (λ e. Contains keys e.key) entries
+leaf_listed keys image device root entries texts kept leaf =
+    let stands = stands_by_leaf image device root entries texts leaf in
+    let parts = leaf_parts root.addr root.key entries texts in
+    let all = (kept.cell root (root_of_stands image device root parts stands)).places parts stands.tree in
+    let place : Entry → Place = λ e. record { addr = e.addr; key = e.key; trace = DataOf e.low } in
+    All-unmap (λ (p : Place). Contains keys p.key) place entries
+    (All-tail (λ (p : Place). Contains keys p.key) (record { addr = root.addr; key = root.key; trace = NodeOver (map (λ (e : Entry). e.addr) entries) }) (map place entries) all)
+
+-- ---- a format
+
+-- the empty leaf is the record that is appended
+first_record : (image : Image) (body : List ℕ) (addr : ℕ) (keys : List (List ℕ)) → IsSound image → body ≡ record_bytes addr (NodeRecord 1 []) → addr ≡ length image.recorded → IsNextRecord image body keys
+first_record image body addr keys sound is at = record {
+  device = sound.0;
+  value = NodeRecord 1 [];
+  stands = sound.1;
+  in_range = (no_entries_fit (length image.recorded), All-nil (λ (e : Entry). IsBytes 32 e.key));
+  spelled = is ∙ ap (λ (n : ℕ). record_bytes n (NodeRecord 1 [])) at;
+  listed = All-nil (λ (e : Entry). Contains keys e.key);
+}
+
+-- a look, and then the append
+pub format_appends : (tells : Type 0) (drawn drawn_now : Option (List (List ℕ))) (old looked mid : History) (body : List ℕ) (addr : ℕ) (Done : List (List ℕ) → Type 0)
+    → (tells → Steps old looked) → (tells → looked.present ≡ old.present)
+    → KeepsKeys tells drawn drawn_now looked mid (IsNextRecord looked.present body) Done
+    → body ≡ record_bytes addr (NodeRecord 1 []) → (tells → addr ≡ length looked.present.recorded)
+    → KeepsKeys tells drawn drawn_now old mid (λ keys. IsSound old.present) (λ keys. IsSound looked.present × Done keys)
+format_appends tells drawn drawn_now old looked mid body addr Done steps same append is at =
+    keeps_then tells drawn drawn drawn_now old looked mid (λ keys. IsSound old.present) (λ keys. IsSound looked.present) (IsNextRecord looked.present body) Done (λ keys. IsSound looked.present × Done keys)
+    (look_keeps tells drawn old looked steps same) append (λ told keys kept sound. first_record looked.present body addr keys sound is (at told)) (λ told keys more sound done. (sound, done))
+
+-- the image with the empty leaf stands by it
+pub first_leaf : (image : Image) (blocks order addr : ℕ) (key : List ℕ) → IsWhole image → 1 ≤ blocks → blocks ≤ 64 → order ≡ 64 → addr < 2 ^ 32 → IsBytes 32 key → addr ≡ length image.recorded → StandsByLeaf (with_leaf image (first_root blocks order addr key) []) (new_device blocks order) (first_root blocks order addr key) [] []
+first_leaf image blocks order addr key whole least most is room sized at =
+    committed image (first_root blocks order addr key) (new_device blocks order) [] [] whole (first_fits blocks order addr key least most is room) sized (first_one blocks order addr key most is) at refl refl
+    (AreEntries-none blocks addr) (none_mapped image) refl refl refl refl
+
+-- and then the root record
+pub format_publishes : (tells : Type 0) (drawn drawn_now : Option (List (List ℕ))) (old looked mid new : History) (blocks order addr : ℕ) (key : List ℕ)
+    → KeepsKeys tells drawn drawn_now old mid (λ keys. IsSound old.present) (λ keys. IsSound looked.present × Contains keys key)
+    → (tells → mid.present ≡ with_page looked.present (leaf_page (first_root blocks order addr key) []) (leaf_page (first_root blocks order addr key) []))
+    → (tells → length new.present.recorded ≡ length mid.present.recorded)
+    → (tells → Turns mid new (λ image. image.cell ≡ mid.present.cell) (λ image. image ≡ with_cell (all_synced mid.present) (Some (root_bytes (first_root blocks order addr key)))))
+    → 1 ≤ blocks → blocks ≤ 64 → order ≡ 64 → addr < 2 ^ 32 → IsBytes 32 key → (tells → addr ≡ length looked.present.recorded)
+    → KeepsKeys tells drawn drawn_now old new (λ keys. IsSound old.present) (λ keys. Unit {0})
+format_publishes tells drawn drawn_now old looked mid new blocks order addr key first appended size turns least most is room sized at =
+    let root = first_root blocks order addr key in
+    keeps_then tells drawn drawn_now drawn_now old mid new (λ keys. IsSound old.present) (λ keys. IsSound looked.present × Contains keys key) (IsPublishing looked.present mid.present root []) (λ keys. Unit {0}) (λ keys. Unit {0})
+    first
+    (publish_keeps tells drawn_now looked.present mid new root [] (λ keys. Unit {0}) appended size turns (λ told keys ready. tt))
+    (λ told keys kept mids. record {
+      device = mids.0.0;
+      stands = subst (λ (i : Image). Stands i mids.0.0) (sym (appended told)) (stands_with_page looked.present (leaf_page root []) (leaf_page root []) mids.0.0 mids.0.1);
+      next = new_device blocks order;
+      texts = [];
+      leaf = first_leaf looked.present blocks order addr key (whole-now looked) least most is room sized (at told);
+      own = mids.1;
+      listed = All-nil (λ (e : Entry). Contains keys e.key);
+    })
+    (λ told keys more mids done. tt)
+
+-- ---- what a publishing forgets
+
+leaf_addresses : (root : Root) (entries : List Entry) (texts : List (List ℕ)) (addr : ℕ) → Contains (addresses_of (links_of (leaf_parts root.addr root.key entries texts).places)) addr → (addr ≡ root.addr) ⊎ ((e : Entry) × Contains entries e × (e.addr ≡ addr))
+leaf_addresses root entries texts addr (zero, within, is) = inl (sym is)
+leaf_addresses root entries texts addr (suc k, within, is) =
+    let place : Entry → Place = λ e. record { addr = e.addr; key = e.key; trace = DataOf e.low } in
+    let spot : Place → Link = λ p. link p.addr p.key in
+    let at = contains_map (λ (l : Link). l.addr) (map spot (map place entries)) addr (k, omega (arith, within), is) in
+    let places = contains_map spot (map place entries) at.0 at.1 in
+    let entry = contains_map place entries places.0 places.1 in
+    inr (entry.0, entry.1, ap (λ (p : Place). p.addr) entry.2 ∙ (ap (λ (l : Link). l.addr) places.2 ∙ at.2))
+
+pub forgets_leaf : (old new : History) (X : Image) (device : Device) (root : Root) (entries : List Entry) (texts : List (List ℕ)) → IsSound old.present → Turns old new (λ image. image.cell ≡ old.present.cell) (λ image. image ≡ X) → StandsByLeaf X device root entries texts → low_of old.present ≤ root.addr → All (λ e. IsInTree old.present e.addr ⊎ (low_of old.present ≤ e.addr)) entries → Forgets old new
+forgets_leaf old new X device root entries texts sound turns leaf low newer =
+    let stands = stands_by_leaf X device root entries texts leaf in
+    let parts = leaf_parts root.addr root.key entries texts in
+    let head = low_of_stands X device root parts stands in
+    forgets_published old new X sound (Some device, (root, parts, stands)) turns (omega (arith, low, head, leaf.in_range.addr))
+    (λ addr there below. elim (leaf_addresses root entries texts addr (tree_of_stands X device root parts addr stands there)) as (λ e. IsInTree old.present addr) [
+      | inl is ↦ absurd (omega (arith, is, below, low))
+      | inr found ↦ elim (All-contains (λ (e : Entry). IsInTree old.present e.addr ⊎ (low_of old.present ≤ e.addr)) entries found.0 newer found.1) as (λ e. IsInTree old.present addr) [
+        | inl was ↦ subst (IsInTree old.present) found.2 was
+        | inr after ↦ absurd (let same = found.2 in omega (arith, same, below, after))
+      ]
+    ])
+
+-- ---- sessions
+
+pub listed_same : (root : Root) (mapped : ℕ) (loaded touched : Bool) (known : List Entry) (image other : Image) (keys : List (List ℕ)) → other ≡ image → HoldsListedBy root mapped loaded touched known image keys → HoldsListedBy root mapped loaded touched known other keys
+listed_same root mapped loaded touched known image other keys same h = subst (λ (i : Image). HoldsListedBy root mapped loaded touched known i keys) (sym same) h
+
+-- what a session's pages are in a later image with the same cell
+newer_later : (image later : Image) (head : ℕ) (known : List Entry) → IsEarlier image later → later.cell ≡ image.cell → All (λ e. IsInTree image e.addr ⊎ (head ≤ e.addr)) known → All (λ e. IsInTree later e.addr ⊎ (head ≤ e.addr)) known
+newer_later image later head known earlier same newer =
+    All-weaker (λ (e : Entry). IsInTree image e.addr ⊎ (head ≤ e.addr)) (λ (e : Entry). IsInTree later e.addr ⊎ (head ≤ e.addr))
+    (λ e either. elim either as (λ x. IsInTree later e.addr ⊎ (head ≤ e.addr)) [
+      | inl there ↦ inl (in_tree_later image later e.addr earlier same there)
+      | inr after ↦ inr after
+    ]) known newer
+
+listed_more : (keys more : List (List ℕ)) (known : List Entry) → All (λ e. Contains keys e.key) known → All (λ e. Contains (keys ++ more) e.key) known
+listed_more keys more known listed = All-weaker (λ (e : Entry). Contains keys e.key) (λ (e : Entry). Contains (keys ++ more) e.key) (λ e. Contains-append_left keys more e.key) known listed
+
+pub listed_later : (root : Root) (mapped : ℕ) (loaded touched : Bool) (known : List Entry) (image later : Image) (keys more : List (List ℕ)) → IsEarlier image later → later.cell ≡ image.cell → HoldsListedBy root mapped loaded touched known image keys → HoldsListedBy root mapped loaded touched known later (keys ++ more)
+listed_later root mapped loaded touched known image later keys more earlier same h = record {
+  device = h.device;
+  contents = h.contents;
+  holds = holds_later root mapped loaded touched known image later h.device h.contents earlier same h.holds;
+  listed = listed_more keys more known h.listed;
+  newer = newer_later image later root.head known earlier same h.newer;
+}
+
+pub listed_sound : (root : Root) (mapped : ℕ) (loaded touched : Bool) (known : List Entry) (image : Image) (keys : List (List ℕ)) → HoldsListedBy root mapped loaded touched known image keys → IsSound image
+listed_sound root mapped loaded touched known image keys h = (Some h.device, held_stands root mapped loaded touched known image h.device h.contents h.holds)
+
+-- the entries of the leaf that an image stands by are in its tree
+leaf_in_tree : (image : Image) (device : Device) (root : Root) (entries : List Entry) (texts : List (List ℕ)) → StandsByLeaf image device root entries texts → All (λ e. IsInTree image e.addr) entries
+leaf_in_tree image device root entries texts leaf =
+    let stands = stands_by_leaf image device root entries texts leaf in
+    let parts = leaf_parts root.addr root.key entries texts in
+    let place : Entry → Place = λ e. record { addr = e.addr; key = e.key; trace = DataOf e.low } in
+    let spot : Place → Link = λ p. link p.addr p.key in
+    λ k d inside. record {
+      root = root;
+      parts = parts;
+      is = root_of_stands image device root parts stands;
+      tree = stands.tree;
+      has =
+          let at = map_contains (λ (l : Link). l.addr) (map spot (map place entries)) _ (map_contains spot (map place entries) _ (map_contains place entries (get_or entries k d) (Contains-get_or entries k d inside))) in
+          (suc at.0, omega (arith, at.1), at.2);
+    }
+
+-- a leaf that was read
+pub listed_loaded : (root : Root) (mapped : ℕ) (touched : Bool) (known read : List Entry) (image : Image) (keys : List (List ℕ)) → Kept keys image → HoldsListedBy root mapped false touched known image keys → FitsAt image.readable (root_want root) root.key (NodeRecord 1 read) → HoldsListedBy root mapped true touched read image keys
+listed_loaded root mapped touched known read image keys kept h fits =
+    let held = loaded root mapped touched known read image h.device h.contents h.holds fits in
+    let same : h.holds.leaf ≡ read = sym (leaf_found image.readable root h.holds.leaf read h.holds.leaf_texts h.holds.stands.in_range h.holds.stands.tree fits) in
+    record {
+      device = h.device;
+      contents = h.contents;
+      holds = held;
+      listed = subst (λ (es : List Entry). All (λ (e : Entry). Contains keys e.key) es) same (leaf_listed keys image h.device root h.holds.leaf h.holds.leaf_texts kept h.holds.stands);
+      newer = subst (λ (es : List Entry). All (λ (e : Entry). IsInTree image e.addr ⊎ (root.head ≤ e.addr)) es) same
+          (All-weaker (λ (e : Entry). IsInTree image e.addr) (λ (e : Entry). IsInTree image e.addr ⊎ (root.head ≤ e.addr)) (λ e there. inl there) h.holds.leaf
+          (leaf_in_tree image h.device root h.holds.leaf h.holds.leaf_texts h.holds.stands));
+    }
+
+-- an entry more, or another one in its place, of a page that was appended
+pub listed_written : (root : Root) (mapped now : ℕ) (loaded touched was_touched : Bool) (known : List Entry) (place : Result ℕ ℕ) (entry : Entry) (image later : Image) (device : Device) (contents : Blocks) (keys more : List (List ℕ)) → HoldsListedBy root mapped loaded was_touched known image keys → HoldsBy root now loaded touched (placed known place entry) later device contents → IsEarlier image later → later.cell ≡ image.cell → root.head ≤ entry.addr → Contains (keys ++ more) entry.key → HoldsListedBy root now loaded touched (placed known place entry) later (keys ++ more)
+listed_written root mapped now loaded touched was_touched known place entry image later device contents keys more h held earlier same after has = record {
+  device = device;
+  contents = contents;
+  holds = held;
+  listed = All-placed (λ (e : Entry). Contains (keys ++ more) e.key) known place entry (listed_more keys more known h.listed) has;
+  newer = All-placed (λ (e : Entry). IsInTree later e.addr ⊎ (root.head ≤ e.addr)) known place entry (newer_later image later root.head known earlier same h.newer) (inr after);
+}
+
+-- an entry less
+pub listed_trimmed : (root : Root) (mapped now : ℕ) (loaded touched was_touched : Bool) (known : List Entry) (at : ℕ) (image : Image) (device : Device) (contents : Blocks) (keys : List (List ℕ)) → HoldsListedBy root mapped loaded was_touched known image keys → HoldsBy root now loaded touched (remove known at) image device contents → HoldsListedBy root now loaded touched (remove known at) image keys
+listed_trimmed root mapped now loaded touched was_touched known at image device contents keys h held = record {
+  device = device;
+  contents = contents;
+  holds = held;
+  listed = All-remove (λ (e : Entry). Contains keys e.key) known at h.listed;
+  newer = All-remove (λ (e : Entry). IsInTree image e.addr ⊎ (root.head ≤ e.addr)) known at h.newer;
+}
+
+-- a session that has read nothing
+pub listed_mounted : (root : Root) (mapped : ℕ) (loaded touched : Bool) (known : List Entry) (image : Image) (device : Device) (contents : Blocks) (keys : List (List ℕ)) → known ≡ [] → HoldsBy root mapped loaded touched known image device contents → HoldsListedBy root mapped loaded touched known image keys
+listed_mounted root mapped loaded touched known image device contents keys none held = record {
+  device = device;
+  contents = contents;
+  holds = held;
+  listed = subst (λ (es : List Entry). All (λ (e : Entry). Contains keys e.key) es) (sym none) (All-nil (λ (e : Entry). Contains keys e.key));
+  newer = subst (λ (es : List Entry). All (λ (e : Entry). IsInTree image e.addr ⊎ (root.head ≤ e.addr)) es) (sym none) (All-nil (λ (e : Entry). IsInTree image e.addr ⊎ (root.head ≤ e.addr)));
+}
+
+-- a session whose leaf was published
+pub listed_committed : (root : Root) (mapped : ℕ) (loaded touched : Bool) (known : List Entry) (image : Image) (device : Device) (contents : Blocks) (texts : List (List ℕ)) (keys : List (List ℕ)) → HoldsBy root mapped loaded touched known image device contents → loaded ≡ true → touched ≡ false → All (λ e. Contains keys e.key) known → StandsByLeaf image device root known texts → HoldsListedBy root mapped loaded touched known image keys
+listed_committed root mapped loaded touched known image device contents texts keys held is_loaded untouched listed leaf = record {
+  device = device;
+  contents = contents;
+  holds = held;
+  listed = listed;
+  newer = All-weaker (λ (e : Entry). IsInTree image e.addr) (λ (e : Entry). IsInTree image e.addr ⊎ (root.head ≤ e.addr)) (λ e there. inl there) known (leaf_in_tree image device root known texts leaf);
+}
+
+-- ---- an erasure
+
+pub kept_look : (keys : List (List ℕ)) (old new : History) → Steps old new → new.present ≡ old.present → Kept keys old.present → During old new (Kept keys)
+kept_look keys old new steps same kept = During-step old new (Kept keys) steps kept (subst (Kept keys) (sym same) kept)
+
+pub kept_erased : (keys : List (List ℕ)) (old mid new : History) → Steps old mid → mid.present ≡ old.present → Steps mid new → IsEither mid.present (with_cell mid.present None) new.present → Kept keys old.present → During old new (Kept keys)
+kept_erased keys old mid new look same steps either kept =
+    let first = kept_look keys old mid look same kept in
+    let here = During-now old mid (Kept keys) first in
+    During-call old mid new (Kept keys) first steps (elim either as (λ e. Kept keys new.present) [
+      | inl is ↦ subst (Kept keys) (sym is) here
+      | inr is ↦ subst (Kept keys) (sym is) (kept_cleared keys mid.present here)
+    ])
+
+pub forgets_erased : (old mid new : History) → Steps old mid → mid.present ≡ old.present → Steps mid new → IsEither mid.present (with_cell mid.present None) new.present → IsSound old.present → Forgets old new
+forgets_erased old mid new look same steps either sound =
+    let X = with_cell old.present None in
+    let turns = Turns-either old mid new (λ image. image.cell ≡ old.present.cell) (λ image. image ≡ X) (one_look old mid look same) steps
+    (elim either as (λ e. (new.present.cell ≡ old.present.cell) ⊎ (new.present ≡ X)) [
+      | inl is ↦ inl (ap (λ (i : Image). i.cell) (is ∙ same))
+      | inr is ↦ inr (is ∙ ap (λ (i : Image). with_cell i None) same)
+    ]) in
+    let few = low_few old.present sound (whole-now old).synced in
+    forgets_published old new X sound (None, refl) turns few (λ addr there below. absurd (no_tree X addr refl there))
+
+-- ---- a commit
+
+pub listed_grown : (root : Root) (mapped : ℕ) (loaded touched : Bool) (known : List Entry) (image : Image) (keys more : List (List ℕ)) → HoldsListedBy root mapped loaded touched known image keys → HoldsListedBy root mapped loaded touched known image (keys ++ more)
+listed_grown root mapped loaded touched known image keys more h = record { device = h.device; contents = h.contents; holds = h.holds; listed = listed_more keys more known h.listed; newer = h.newer }
+
+-- the leaf is the record that is appended
+next_record : (root : Root) (mapped : ℕ) (loaded touched : Bool) (known : List Entry) (image : Image) (body : List ℕ) (addr : ℕ) (keys : List (List ℕ)) → HoldsListedBy root mapped loaded touched known image keys → body ≡ record_bytes addr (NodeRecord 1 known) → addr ≡ length image.recorded → FitsNode addr 1 known → All (λ e. IsBytes 32 e.key) known → IsNextRecord image body keys
+next_record root mapped loaded touched known image body addr keys h is at fits sized = record {
+  device = Some h.device;
+  value = NodeRecord 1 known;
+  stands = held_stands root mapped loaded touched known image h.device h.contents h.holds;
+  in_range = (subst (λ (n : ℕ). FitsNode n 1 known) at fits, sized);
+  spelled = is ∙ ap (λ (n : ℕ). record_bytes n (NodeRecord 1 known)) at;
+  listed = h.listed;
+}
+
+pub raise_appends : (tells : Type 0) (drawn drawn_now : Option (List (List ℕ))) (old mid : History) (root : Root) (mapped : ℕ) (loaded touched : Bool) (known : List Entry) (body : List ℕ) (addr : ℕ) (Done : List (List ℕ) → Type 0)
+    → KeepsKeys tells drawn drawn_now old mid (IsNextRecord old.present body) Done
+    → body ≡ record_bytes addr (NodeRecord 1 known) → (tells → addr ≡ length old.present.recorded) → FitsNode addr 1 known → All (λ e. IsBytes 32 e.key) known
+    → KeepsKeys tells drawn drawn_now old mid (HoldsListedBy root mapped loaded touched known old.present) (λ keys. Done keys × HoldsListedBy root mapped loaded touched known old.present keys)
+raise_appends tells drawn drawn_now old mid root mapped loaded touched known body addr Done append is at fits sized =
+    keeps_from tells drawn drawn_now old mid (IsNextRecord old.present body) (HoldsListedBy root mapped loaded touched known old.present) Done (λ keys. Done keys × HoldsListedBy root mapped loaded touched known old.present keys) append
+    (λ told keys h. next_record root mapped loaded touched known old.present body addr keys h is (at told) fits sized)
+    (λ told keys more h done. (done, listed_grown root mapped loaded touched known old.present keys more h))
+
+pub raise_publishes : (tells : Type 0) (drawn drawn_now : Option (List (List ℕ))) (old mid new : History) (first next : Root) (count pages : ℕ) (loaded touched : Bool) (known : List Entry) (Done : List (List ℕ) → Type 0)
+    → KeepsKeys tells drawn drawn_now old mid (HoldsListedBy first count loaded touched known old.present) (λ keys. Contains keys next.key × HoldsListedBy first count loaded touched known old.present keys)
+    → (tells → mid.present ≡ with_page old.present (leaf_page next known) (leaf_page next known))
+    → (tells → length new.present.recorded ≡ length mid.present.recorded)
+    → (tells → Turns mid new (λ image. image.cell ≡ mid.present.cell) (λ image. image ≡ with_cell (all_synced mid.present) (Some (root_bytes next))))
+    → loaded ≡ true → IsNext first next count pages → IsServed first pages → count ≤ first.blocks → pages < 2 ^ 32 → IsBytes 32 next.key → (tells → pages ≡ length old.present.recorded) → AreEntries known first.blocks pages
+    → (tells → (keys : List (List ℕ)) → HoldsListedBy first count loaded touched known old.present keys → Done keys)
+    → KeepsKeys tells drawn drawn_now old new (HoldsListedBy first count loaded touched known old.present) Done
+raise_publishes tells drawn drawn_now old mid new first next count pages loaded touched known Done append appended size turns ready follows served most room sized at are done =
+    let Held : List (List ℕ) → Type 0 = HoldsListedBy first count loaded touched known old.present in
+    keeps_then tells drawn drawn_now drawn_now old mid new Held (λ keys. Contains keys next.key × Held keys) (IsPublishing old.present mid.present next known) (λ keys. Unit {0}) Done append
+    (publish_keeps tells drawn_now old.present mid new next known (λ keys. Unit {0}) appended size turns (λ told keys publishing. tt))
+    (λ told keys kept mids. record {
+      device = Some mids.1.device;
+      stands = subst (λ (i : Image). Stands i (Some mids.1.device)) (sym (appended told))
+          (stands_with_page old.present (leaf_page next known) (leaf_page next known) (Some mids.1.device) (held_stands first count loaded touched known old.present mids.1.device mids.1.contents mids.1.holds));
+      next = committed_device mids.1.device mids.1.contents;
+      texts = mids.1.holds.texts;
+      leaf = raised_leaf first next count pages loaded touched known old.present mids.1.device mids.1.contents ready mids.1.holds follows served most room sized (whole-now old) (at told) are;
+      own = mids.0;
+      listed = mids.1.listed;
+    })
+    (λ told keys more mids never. done told (keys ++ more) (listed_grown first count loaded touched known old.present keys more mids.1))
+
+-- the session after it
+pub raise_listed : (old mid new : History) (first next : Root) (count pages : ℕ) (loaded touched : Bool) (known : List Entry) (keys : List (List ℕ)) → HoldsListedBy first count loaded touched known old.present keys
+    → mid.present ≡ with_page old.present (leaf_page next known) (leaf_page next known) → new.present ≡ with_cell (all_synced mid.present) (Some (root_bytes next))
+    → loaded ≡ true → IsNext first next count pages → IsServed first pages → count ≤ first.blocks → pages < 2 ^ 32 → IsBytes 32 next.key → pages ≡ length old.present.recorded → AreEntries known first.blocks pages
+    → HoldsListedBy next count loaded false known new.present keys
+raise_listed old mid new first next count pages loaded touched known keys h appended published ready follows served most room sized at are =
+    let target : new.present ≡ with_leaf old.present next known = published ∙ ap (λ (i : Image). with_cell (all_synced i) (Some (root_bytes next))) appended in
+    let leaf = subst (λ (i : Image). StandsByLeaf i (committed_device h.device h.contents) next known h.holds.texts) (sym target)
+    (raised_leaf first next count pages loaded touched known old.present h.device h.contents ready h.holds follows served most room sized (whole-now old) at are) in
+    listed_committed next count loaded false known new.present (committed_device h.device h.contents) h.contents h.holds.texts keys
+    (raise_held old mid new first next count pages loaded touched known h.device h.contents ready h.holds follows served most room sized at are appended published) ready refl h.listed leaf
+
+pub raise_forgets : (old mid new : History) (first next : Root) (count pages : ℕ) (loaded touched : Bool) (known : List Entry) (keys : List (List ℕ)) → HoldsListedBy first count loaded touched known old.present keys
+    → Steps old mid → mid.present.cell ≡ old.present.cell
+    → mid.present ≡ with_page old.present (leaf_page next known) (leaf_page next known)
+    → Turns mid new (λ image. image.cell ≡ mid.present.cell) (λ image. image ≡ with_cell (all_synced mid.present) (Some (root_bytes next)))
+    → loaded ≡ true → IsNext first next count pages → IsServed first pages → count ≤ first.blocks → pages < 2 ^ 32 → IsBytes 32 next.key → pages ≡ length old.present.recorded → AreEntries known first.blocks pages
+    → Forgets old new
+raise_forgets old mid new first next count pages loaded touched known keys h steps cell appended turns ready follows served most room sized at are =
+    let X = with_cell (all_synced mid.present) (Some (root_bytes next)) in
+    let target : X ≡ with_leaf old.present next known = ap (λ (i : Image). with_cell (all_synced i) (Some (root_bytes next))) appended in
+    let leaf = subst (λ (i : Image). StandsByLeaf i (committed_device h.device h.contents) next known h.holds.texts) (sym target)
+    (raised_leaf first next count pages loaded touched known old.present h.device h.contents ready h.holds follows served most room sized (whole-now old) at are) in
+    let low : low_of old.present ≡ first.head = low_of_stands old.present h.device first _ (stands_by_leaf old.present h.device first h.holds.leaf h.holds.leaf_texts h.holds.stands) in
+    forgets_leaf old new X (committed_device h.device h.contents) next known h.holds.texts (listed_sound first count loaded touched known old.present keys h)
+    (then_published old mid new X (one_call old mid steps cell) turns) leaf (omega (arith, low, follows.addr, served.within))
+    (subst (λ (n : ℕ). All (λ (e : Entry). IsInTree old.present e.addr ⊎ (n ≤ e.addr)) known) (sym low) h.newer)
+
+-- ---- a write
+
+pub load_keeps : (tells : Type 0) (drawn : Option (List (List ℕ))) (old new : History) (Ready Done : List (List ℕ) → Type 0) → (tells → new.present ≡ old.present) → (tells → During old new (λ image. image.cell ≡ old.present.cell)) → (tells → (keys : List (List ℕ)) → Kept keys old.present → Ready keys → Done keys) → KeepsKeys tells drawn drawn old new Ready Done
+load_keeps tells drawn old new Ready Done same cell done = keeps_idle tells drawn drawn old new Ready Done refl (λ told. same_during old new (same told) (cell told)) done
+
+-- the data record is what is appended
+data_record : (root : Root) (mapped : ℕ) (loaded touched : Bool) (known : List Entry) (image : Image) (body : List ℕ) (addr block : ℕ) (content : List ℕ) (keys : List (List ℕ)) → HoldsListedBy root mapped loaded touched known image keys → body ≡ record_bytes addr (DataRecord block content) → addr ≡ length image.recorded → block < 1048576 → IsBytes 4096 content → IsNextRecord image body keys
+data_record root mapped loaded touched known image body addr block content keys h is at low sized = record {
+  device = Some h.device;
+  value = DataRecord block content;
+  stands = held_stands root mapped loaded touched known image h.device h.contents h.holds;
+  in_range = (low, sized);
+  spelled = is ∙ ap (λ (n : ℕ). record_bytes n (DataRecord block content)) at;
+  listed = tt;
+}
+
+-- a look, and then the append
+pub write_keeps : (tells : Type 0) (drawn drawn_now : Option (List (List ℕ))) (old looked new : History) (root : Root) (mapped : ℕ) (loaded touched : Bool) (known : List Entry) (body : List ℕ) (addr block : ℕ) (content : List ℕ) (Ready Then Done : List (List ℕ) → Type 0)
+    → KeepsKeys tells drawn drawn old looked Ready (HoldsListedBy root mapped loaded touched known looked.present)
+    → KeepsKeys tells drawn drawn_now looked new (IsNextRecord looked.present body) Then
+    → body ≡ record_bytes addr (DataRecord block content) → (tells → addr ≡ length looked.present.recorded) → block < 1048576 → IsBytes 4096 content
+    → (tells → (keys more : List (List ℕ)) → HoldsListedBy root mapped loaded touched known looked.present keys → Then (keys ++ more) → Done (keys ++ more))
+    → KeepsKeys tells drawn drawn_now old new Ready Done
+write_keeps tells drawn drawn_now old looked new root mapped loaded touched known body addr block content Ready Then Done look append is at low sized done =
+    keeps_then tells drawn drawn drawn_now old looked new Ready (HoldsListedBy root mapped loaded touched known looked.present) (IsNextRecord looked.present body) Then Done look append
+    (λ told keys kept h. data_record root mapped loaded touched known looked.present body addr block content keys h is (at told) low sized) done
