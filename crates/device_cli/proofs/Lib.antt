@@ -13,3 +13,4 @@ pub mod ScriptLaws
 pub mod CompleteLaws
 pub mod ServedLaws
 pub mod ServingLaws
+pub mod ReachingLaws

@@ -7,3 +7,4 @@ pub mod Ran
 pub mod Represents
 pub mod World
 pub mod Pages
+pub mod Reaching

@@ -1,5 +1,5 @@
 //! What a run keeps between lines, and the answer to each command.
-ghost use Rattle.std.specs.Prelude.{◌≡◌, ◌≢◌, ◌<◌, ◌≤◌, ◌+◌, ◌⊎◌, ℕ, true, false, IsNone, IfOk, OnOk, IfErr, IsErrOf, IfSome, None, Some, Ok, length};
+ghost use Rattle.std.specs.Prelude.{◌≡◌, ◌≢◌, ◌<◌, ◌≤◌, ◌+◌, ◌⊎◌, ℕ, List, Option, true, false, IsNone, IfOk, OnOk, IfErr, IsErrOf, IfSome, None, Some, Ok, length};
 ghost use Rattle.arrayvec.specs.ArrayVec.{ArrayVec as Bytes};
 ghost use Rattle.sdbt_base.specs.Faults.{Rose};
 ghost use Rattle.script_lang.specs.Replies.{CanWrite};
@@ -32,6 +32,7 @@ impl Desk {
     ghost use Rattle.device_cli.specs.World.{world};
     ghost use Rattle.device_cli.specs.Pages.{pages_after};
     ghost use Rattle.device_cli.specs.Represents.{Represents};
+    ghost use Rattle.device_cli.specs.Reaching.{IsListed, KeepsOn};
 
     /// No session.
     pub(crate) fn new(alloc: Global) -> Desk
@@ -75,6 +76,10 @@ impl Desk {
         ensures pages { P.tells → (entry : State)
             → Represents (world self.old.session (P.history platform.old) (P.head platform.old) (P.capacity platform.old)) entry
             → IfOk result (λ reply. P.head platform.new ≡ pages_after entry command.now reply (P.head platform.old)) }
+        // Each moment keeps the keys that the image kept before, with those that were drawn, and what was deleted stays so.
+        ensures keeps { KeepsOn P.tells (T.drawn tape.old) (T.drawn tape.new) self.old.session
+            (P.history platform.old) (P.history platform.new)
+            (λ keys. OnOk result (IsListed self.new.session (P.history platform.new).present keys)) }
         ensures answered { P.tells → (entry : State)
             → Represents (world self.old.session (P.history platform.old) (P.head platform.old) (P.capacity platform.old)) entry
             → Serves (world self.old.session (P.history platform.old) (P.head platform.old) (P.capacity platform.old))
@@ -126,6 +131,10 @@ impl Desk {
         ensures pages { P.tells → (entry : State)
             → Represents (world self.old.session (P.history platform.old) (P.head platform.old) (P.capacity platform.old)) entry
             → IfOk result (λ reply. P.head platform.new ≡ pages_after entry (Command.Format blocks order) reply (P.head platform.old)) }
+        // Each moment keeps the keys that the image kept before, with those that were drawn, and what was deleted stays so.
+        ensures keeps { KeepsOn P.tells (T.drawn tape.old) (T.drawn tape.new) self.old.session
+            (P.history platform.old) (P.history platform.new)
+            (λ keys. OnOk result (IsListed self.new.session (P.history platform.new).present keys)) }
         ensures answered { P.tells → (entry : State)
             → Represents (world self.old.session (P.history platform.old) (P.head platform.old) (P.capacity platform.old)) entry
             → Serves (world self.old.session (P.history platform.old) (P.head platform.old) (P.capacity platform.old))
@@ -167,6 +176,10 @@ impl Desk {
         ensures pages { P.tells → (entry : State)
             → Represents (world self.old.session (P.history platform.old) (P.head platform.old) (P.capacity platform.old)) entry
             → IfOk result (λ reply. P.head platform.new ≡ pages_after entry Command.Mount reply (P.head platform.old)) }
+        // Each moment keeps the keys that the image kept before, and what was deleted stays so.
+        ensures keeps { (drawn : Option (List (List ℕ))) → KeepsOn P.tells drawn drawn self.old.session
+            (P.history platform.old) (P.history platform.new)
+            (λ keys. OnOk result (IsListed self.new.session (P.history platform.new).present keys)) }
         ensures answered { P.tells → (entry : State)
             → Represents (world self.old.session (P.history platform.old) (P.head platform.old) (P.capacity platform.old)) entry
             → Serves (world self.old.session (P.history platform.old) (P.head platform.old) (P.capacity platform.old))
@@ -210,6 +223,10 @@ impl Desk {
         ensures pages { P.tells → (entry : State)
             → Represents (world self.old.session (P.history platform.old) (P.head platform.old) (P.capacity platform.old)) entry
             → IfOk result (λ reply. P.head platform.new ≡ pages_after entry (Command.Read block) reply (P.head platform.old)) }
+        // Each moment keeps the keys that the image kept before, and what was deleted stays so.
+        ensures keeps { (drawn : Option (List (List ℕ))) → KeepsOn P.tells drawn drawn self.old.session
+            (P.history platform.old) (P.history platform.new)
+            (λ keys. OnOk result (IsListed self.new.session (P.history platform.new).present keys)) }
         ensures answered { P.tells → (entry : State)
             → Represents (world self.old.session (P.history platform.old) (P.head platform.old) (P.capacity platform.old)) entry
             → Serves (world self.old.session (P.history platform.old) (P.head platform.old) (P.capacity platform.old))
@@ -258,6 +275,10 @@ impl Desk {
             → Represents (world self.old.session (P.history platform.old) (P.head platform.old) (P.capacity platform.old)) entry
             → (bytes : Bytes ℕ)
             → IfOk result (λ reply. P.head platform.new ≡ pages_after entry (Command.Write block bytes) reply (P.head platform.old)) }
+        // Each moment keeps the keys that the image kept before, with those that were drawn, and what was deleted stays so.
+        ensures keeps { KeepsOn P.tells (T.drawn tape.old) (T.drawn tape.new) self.old.session
+            (P.history platform.old) (P.history platform.new)
+            (λ keys. OnOk result (IsListed self.new.session (P.history platform.new).present keys)) }
         ensures answered { P.tells → (entry : State)
             → Represents (world self.old.session (P.history platform.old) (P.head platform.old) (P.capacity platform.old)) entry
             → (bytes : Bytes ℕ) → bytes.items ≡ content.now
@@ -301,6 +322,10 @@ impl Desk {
         ensures pages { P.tells → (entry : State)
             → Represents (world self.old.session (P.history platform.old) (P.head platform.old) (P.capacity platform.old)) entry
             → IfOk result (λ reply. P.head platform.new ≡ pages_after entry (Command.Trim block) reply (P.head platform.old)) }
+        // Each moment keeps the keys that the image kept before, and what was deleted stays so.
+        ensures keeps { (drawn : Option (List (List ℕ))) → KeepsOn P.tells drawn drawn self.old.session
+            (P.history platform.old) (P.history platform.new)
+            (λ keys. OnOk result (IsListed self.new.session (P.history platform.new).present keys)) }
         ensures answered { P.tells → (entry : State)
             → Represents (world self.old.session (P.history platform.old) (P.head platform.old) (P.capacity platform.old)) entry
             → Serves (world self.old.session (P.history platform.old) (P.head platform.old) (P.capacity platform.old))
@@ -346,6 +371,10 @@ impl Desk {
         ensures pages { P.tells → (entry : State)
             → Represents (world self.old.session (P.history platform.old) (P.head platform.old) (P.capacity platform.old)) entry
             → IfOk result (λ reply. P.head platform.new ≡ pages_after entry Command.Commit reply (P.head platform.old)) }
+        // Each moment keeps the keys that the image kept before, with those that were drawn, and what was deleted stays so.
+        ensures keeps { KeepsOn P.tells (T.drawn tape.old) (T.drawn tape.new) self.old.session
+            (P.history platform.old) (P.history platform.new)
+            (λ keys. OnOk result (IsListed self.new.session (P.history platform.new).present keys)) }
         ensures answered { P.tells → (entry : State)
             → Represents (world self.old.session (P.history platform.old) (P.head platform.old) (P.capacity platform.old)) entry
             → Serves (world self.old.session (P.history platform.old) (P.head platform.old) (P.capacity platform.old))
@@ -408,6 +437,10 @@ impl Desk {
         ensures pages { P.tells → (entry : State)
             → Represents (world self.old.session (P.history platform.old) (P.head platform.old) (P.capacity platform.old)) entry
             → IfOk result (λ reply. P.head platform.new ≡ pages_after entry Command.Erase reply (P.head platform.old)) }
+        // Each moment keeps the keys that the image kept before, and what was deleted stays so.
+        ensures keeps { (drawn : Option (List (List ℕ))) → KeepsOn P.tells drawn drawn self.old.session
+            (P.history platform.old) (P.history platform.new)
+            (λ keys. OnOk result (IsListed self.new.session (P.history platform.new).present keys)) }
         ensures answered { P.tells → (entry : State)
             → Represents (world self.old.session (P.history platform.old) (P.head platform.old) (P.capacity platform.old)) entry
             → Serves (world self.old.session (P.history platform.old) (P.head platform.old) (P.capacity platform.old))

@@ -13,6 +13,7 @@ ghost use Rattle.script_lang.specs.declared.devices.Device.{Device};
 ghost use Rattle.device_cli.specs.World.{world};
 ghost use Rattle.device_cli.specs.Represents.{StandsFor, closed};
 ghost use Rattle.device_cli.specs.Ran.{AnswersScript, IsAmple, IsComplete};
+ghost use Rattle.device_cli.specs.Reaching.{DisclosesTree};
 ghost use Rattle.device_cli.specs.Run.{IsStatus, Took, NoneFell, NoneRose, counts};
 
 mod desk;
@@ -68,6 +69,9 @@ pub fn run_main<P: Platform, T: Tape, I: Source, O: Sink, L: Sink>(
     ensures answers { AnswersScript P.tells (world None (P.history platform.old) (P.head platform.old) (P.capacity platform.old))
         (world None (P.history platform.new) (P.head platform.new) (P.capacity platform.new))
         result (I.left input.old) (I.left input.new) (O.written output.old) (O.written output.new) }
+
+    // Chains of opening from the root key reach at each moment exactly the device's records, and what was deleted never.
+    ensures discloses { DisclosesTree P.tells (T.drawn tape.old) (T.drawn tape.new) (P.history platform.old) (P.history platform.new) }
 
     // With room for a page a line, a short input and no fault, each line has its reply, unless no memory is given.
     ensures complete { P.tells → (there : Option Device) → StandsFor (P.history platform.old).present there

@@ -1,5 +1,5 @@
 //! Serves a script line by line.
-ghost use Rattle.std.specs.Prelude.{◌≡◌, ◌≤◌, ◌⊎◌, ◌∷◌, [], ◌++◌, ℕ, List, IfErr, OnOk, IsOk, IsErrOf, ◌+◌, length, IfSome, IfNone, Option, None, option_copied};
+ghost use Rattle.std.specs.Prelude.{◌≡◌, ◌≤◌, ◌⊎◌, ◌∷◌, [], ◌++◌, ℕ, List, IfErr, OnOk, IsOk, IsErrOf, ◌+◌, length, IfSome, IfNone, Option, None, ⊤, option_copied};
 ghost use Rattle.arrayvec.specs.ArrayVec.{array_vec_len};
 ghost use Rattle.sdbt_base.specs.Faults.{Rose};
 ghost use Rattle.sdbt_base.specs.Told.{Got, GotPart};
@@ -15,6 +15,7 @@ ghost use Rattle.device_cli.specs.Run.{counts, NoneFell, HasCause, IsOfLine, IsR
 ghost use Rattle.device_cli.specs.Kept.{IsKept, IsPending};
 ghost use Rattle.device_cli.specs.Replied.{Handled, HasPut, IsSound, no_line, damage_line};
 ghost use Rattle.device_cli.specs.Ran.{Ran};
+ghost use Rattle.device_cli.specs.Reaching.{IsListed, KeepsOn};
 
 use crate::desk::Desk;
 use crate::entry::check_cell;
@@ -41,6 +42,7 @@ pub(crate) fn run<P: Platform, T: Tape, I: Source, O: Sink, L: Sink>(
     ensures refused_only { P.tells → IfErr result (λ stop. status_of stop ≡ 8 → IsServedImage (P.history platform.old).present → ⊥) }
     ensures refused { P.tells → (IsServedImage (P.history platform.old).present → ⊥) → IfErr result (λ stop. IsRefusal stop)
         × (IsOk result → ⊥) }
+    ensures keeps { KeepsOn P.tells (T.drawn tape.old) (T.drawn tape.new) None (P.history platform.old) (P.history platform.new) (λ keys. ⊤) }
     ensures counts { NoneFell
         (counts (P.faults platform.old) (T.faults tape.old) (I.faults input.old) (O.faults output.old) (L.faults ledger.old))
         (counts (P.faults platform.new) (T.faults tape.new) (I.faults input.new) (O.faults output.new) (L.faults ledger.new)) }
@@ -82,6 +84,8 @@ fn serve_input<P: Platform, T: Tape, I: Source, O: Sink, L: Sink>(
     requires cell { P.tells → IsServedImage (P.history platform.old).present }
     requires mounted { P.tells → IfSome desk.old.session (IsMounted (P.history platform.old).present) }
     ensures bad_root { P.tells → IsErrOf result (Stop.Device DeviceStop.BadRoot) → ⊥ }
+    ensures keeps { KeepsOn P.tells (T.drawn tape.old) (T.drawn tape.new) desk.old.session (P.history platform.old) (P.history platform.new)
+        (λ keys. OnOk result (IsListed desk.new.session (P.history platform.new).present keys)) }
     ensures counts { NoneFell
         (counts (P.faults platform.old) (T.faults tape.old) (I.faults input.old) (O.faults output.old) (L.faults ledger.old))
         (counts (P.faults platform.new) (T.faults tape.new) (I.faults input.new) (O.faults output.new) (L.faults ledger.new)) }
@@ -140,6 +144,8 @@ fn serve_piece<P: Platform, T: Tape, O: Sink, L: Sink>(
     ensures mounted { P.tells → OnOk result (IfSome desk.new.session (IsMounted (P.history platform.new).present)) }
     ensures unput { L.written ledger.new ≡ L.written ledger.old }
     ensures bad_root { P.tells → IsErrOf result (Stop.Device DeviceStop.BadRoot) → ⊥ }
+    ensures keeps { KeepsOn P.tells (T.drawn tape.old) (T.drawn tape.new) desk.old.session (P.history platform.old) (P.history platform.new)
+        (λ keys. OnOk result (IsListed desk.new.session (P.history platform.new).present keys)) }
     ensures counts { NoneFell (counts (P.faults platform.old) (T.faults tape.old) 0 (O.faults output.old) (L.faults ledger.old))
         (counts (P.faults platform.new) (T.faults tape.new) 0 (O.faults output.new) (L.faults ledger.new)) }
     ensures cause { IfErr result (HasCause
@@ -192,6 +198,8 @@ fn serve_end<P: Platform, T: Tape, O: Sink, L: Sink>(
     ensures mounted { P.tells → OnOk result (IfSome desk.new.session (IsMounted (P.history platform.new).present)) }
     ensures unput { L.written ledger.new ≡ L.written ledger.old }
     ensures bad_root { P.tells → IsErrOf result (Stop.Device DeviceStop.BadRoot) → ⊥ }
+    ensures keeps { KeepsOn P.tells (T.drawn tape.old) (T.drawn tape.new) desk.old.session (P.history platform.old) (P.history platform.new)
+        (λ keys. OnOk result (IsListed desk.new.session (P.history platform.new).present keys)) }
     ensures counts { NoneFell (counts (P.faults platform.old) (T.faults tape.old) 0 (O.faults output.old) (L.faults ledger.old))
         (counts (P.faults platform.new) (T.faults tape.new) 0 (O.faults output.new) (L.faults ledger.new)) }
     ensures cause { IfErr result (HasCause
@@ -226,6 +234,8 @@ fn answer<P: Platform, T: Tape, O: Sink, L: Sink>(
     ensures mounted { P.tells → OnOk result (IfSome desk.new.session (IsMounted (P.history platform.new).present)) }
     ensures unput { L.written ledger.new ≡ L.written ledger.old }
     ensures bad_root { P.tells → IsErrOf result (Stop.Device DeviceStop.BadRoot) → ⊥ }
+    ensures keeps { KeepsOn P.tells (T.drawn tape.old) (T.drawn tape.new) desk.old.session (P.history platform.old) (P.history platform.new)
+        (λ keys. OnOk result (IsListed desk.new.session (P.history platform.new).present keys)) }
     ensures counts { NoneFell (counts (P.faults platform.old) (T.faults tape.old) 0 (O.faults output.old) (L.faults ledger.old))
         (counts (P.faults platform.new) (T.faults tape.new) 0 (O.faults output.new) (L.faults ledger.new)) }
     ensures cause { IfErr result (HasCause

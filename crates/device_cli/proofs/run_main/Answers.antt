@@ -6,6 +6,7 @@ use Rattle.device_cli.specs.Ran.{IsComplete}
 use Rattle.device_cli.specs.Run.{counts}
 use Rattle.device_cli.specs.Represents.{closed}
 use Rattle.device_cli.proofs.CompleteLaws.{complete_ending}
+use Rattle.device_cli.proofs.ReachingLaws.{on_start, discloses, passed_stands}
 use Rattle.device_cli.proofs.run_main.Goals as goal
 
 pub returns-then-not-are_run_words-clause-answers : goal.returns-then-not-are_run_words-clause-answers
@@ -65,3 +66,21 @@ returns-in-Err-clause-complete g c told there stands served words text ample qui
     (subst (λ (status : ℕ). AnswersScript P.tells old new status (left c.args.input.now) (left c.run.new.input) (written c.args.output.now) (written c.run.new.output))
     c.status.ensures (returns-in-Err-clause-answers g c))
     ran.taken ran.gave ran.took c.in-Err.ensures.cause quiet ample)
+
+pub returns-then-not-are_run_words-clause-discloses : goal.returns-then-not-are_run_words-clause-discloses
+returns-then-not-are_run_words-clause-discloses g c =
+    let history = g.P.Platform.history c.args.platform.now in
+    discloses _ _ _ history history _ (on_start _ _ None history)
+    (λ told device stands served. let passes = ((returns-then-not-are_run_words-clause-answers g c).answered told device stands served).passes in passed_stands history history _ _ _ _ passes)
+
+pub returns-in-Ok-clause-discloses : goal.returns-in-Ok-clause-discloses
+returns-in-Ok-clause-discloses g c =
+    let history = g.P.Platform.history in
+    discloses _ _ _ (history c.args.platform.now) (history c.run.new.platform) _ c.run.ensures.keeps
+    (λ told device stands served. let passes = ((returns-in-Ok-clause-answers g c).answered told device stands served).passes in passed_stands (history c.args.platform.now) (history c.run.new.platform) _ _ _ _ passes)
+
+pub returns-in-Err-clause-discloses : goal.returns-in-Err-clause-discloses
+returns-in-Err-clause-discloses g c =
+    let history = g.P.Platform.history in
+    discloses _ _ _ (history c.args.platform.now) (history c.run.new.platform) _ c.run.ensures.keeps
+    (λ told device stands served. let passes = ((returns-in-Err-clause-answers g c).answered told device stands served).passes in passed_stands (history c.args.platform.now) (history c.run.new.platform) _ _ _ _ passes)

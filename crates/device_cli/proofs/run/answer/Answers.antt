@@ -5,6 +5,7 @@ use Rattle.device_cli.proofs.RepliedLaws.{IsLater-refl, Handled-line, Handled-st
 use Rattle.platform.proofs.Moments.{During-now}
 use Rattle.device_core.specs.Leaf.{IsServedImage}
 use Rattle.device_cli.proofs.CellLaws.{serves_now}
+use Rattle.device_cli.proofs.ReachingLaws.{on_start, on_done, on_ok}
 use Rattle.device_cli.proofs.run.answer.Goals as goal
 
 pub returns-in_default-clause-handled : goal.returns-in_default-clause-handled
@@ -41,3 +42,12 @@ returns-in-Err-clause-handled g c text kept =
 
 pub returns-in_default-clause-cell : goal.returns-in_default-clause-cell
 returns-in_default-clause-cell g c = λ told. serves_now _ (c.requires.cell told)
+
+pub returns-in_default-clause-keeps : goal.returns-in_default-clause-keeps
+returns-in_default-clause-keeps g c = on_done _ _ _ c.args.desk.now.session _ _ _ _ (on_start _ _ c.args.desk.now.session _) (λ keys h. on_ok c.put_reply.result _ h)
+
+pub returns-in-Ok-clause-keeps : goal.returns-in-Ok-clause-keeps
+returns-in-Ok-clause-keeps g c = on_done _ _ _ c.args.desk.now.session _ _ _ _ c.in-Ok.ensures.keeps (λ keys h. on_ok c.put_reply-in-Ok.result _ h)
+
+pub returns-in-Err-clause-keeps : goal.returns-in-Err-clause-keeps
+returns-in-Err-clause-keeps g c = on_done _ _ _ c.args.desk.now.session _ _ _ _ c.serve.ensures.keeps (λ keys h. tt)

@@ -8,6 +8,9 @@ use Rattle.device_cli.specs.declared.stop.Stop.TheVariants as stops
 use Rattle.device_cli.proofs.RanLaws.{Ran-refused, Ran-ended, Ran-other, Ran-after, sound_of}
 use Rattle.device_cli.proofs.StillLaws.{still_after}
 use Rattle.device_cli.proofs.CellLaws.{serves_looked, serves_then}
+use Rattle.device_cli.specs.Reaching.{IsListed}
+use Rattle.device_cli.proofs.ReachingLaws.{on_look, on_done, on_then, listed_none, listed_image}
+use Rattle.device_core.proofs.MomentLaws.{one_look}
 use Rattle.device_cli.proofs.run.run.Goals as goal
 
 -- why the cell can't be served
@@ -100,3 +103,33 @@ returns-clause-cell g c = λ told served. serves_then _ _ _ (serves_looked _ _ (
 
 pub returns-in_default-clause-cell : goal.returns-in_default-clause-cell
 returns-in_default-clause-cell g c = λ told served. serves_then _ _ _ (serves_looked _ _ (c.check_cell.ensures.time told) (c.check_cell.ensures.image told) served) (c.serve_input.ensures.cell told)
+
+pub returns-in-Err-clause-keeps : goal.returns-in-Err-clause-keeps
+returns-in-Err-clause-keeps g c = on_look _ _ None _ _ _ c.check_cell.ensures.image (λ told. one_look _ _ (c.check_cell.ensures.time told) (c.check_cell.ensures.image told)) (λ told keys kept h. tt)
+
+pub returns-in-Device-clause-keeps : goal.returns-in-Device-clause-keeps
+returns-in-Device-clause-keeps g c =
+    let P = g.P.Platform in
+    let none = c.new-desk.ensures.session in
+    let looked = on_look P.tells (g.T.Tape.drawn c.args.tape.now) None (P.history c.args.platform.now) (P.history c.check_cell.new.platform) (IsListed c.new-desk.result.session (P.history c.check_cell.new.platform).present)
+    c.check_cell.ensures.image (λ told. one_look _ _ (c.check_cell.ensures.time told) (c.check_cell.ensures.image told))
+    (λ told keys kept h. listed_none None c.new-desk.result.session _ keys none (listed_image None _ _ keys (c.check_cell.ensures.image told) h)) in
+    on_then _ _ _ _ None c.new-desk.result.session _ _ _ _ looked (on_done _ _ _ c.new-desk.result.session _ _ _ _ c.serve_input.ensures.keeps (λ keys h. tt))
+
+pub returns-clause-keeps : goal.returns-clause-keeps
+returns-clause-keeps g c =
+    let P = g.P.Platform in
+    let none = c.new-desk.ensures.session in
+    let looked = on_look P.tells (g.T.Tape.drawn c.args.tape.now) None (P.history c.args.platform.now) (P.history c.check_cell.new.platform) (IsListed c.new-desk.result.session (P.history c.check_cell.new.platform).present)
+    c.check_cell.ensures.image (λ told. one_look _ _ (c.check_cell.ensures.time told) (c.check_cell.ensures.image told))
+    (λ told keys kept h. listed_none None c.new-desk.result.session _ keys none (listed_image None _ _ keys (c.check_cell.ensures.image told) h)) in
+    on_then _ _ _ _ None c.new-desk.result.session _ _ _ _ looked (on_done _ _ _ c.new-desk.result.session _ _ _ _ c.serve_input.ensures.keeps (λ keys h. tt))
+
+pub returns-in_default-clause-keeps : goal.returns-in_default-clause-keeps
+returns-in_default-clause-keeps g c =
+    let P = g.P.Platform in
+    let none = c.new-desk.ensures.session in
+    let looked = on_look P.tells (g.T.Tape.drawn c.args.tape.now) None (P.history c.args.platform.now) (P.history c.check_cell.new.platform) (IsListed c.new-desk.result.session (P.history c.check_cell.new.platform).present)
+    c.check_cell.ensures.image (λ told. one_look _ _ (c.check_cell.ensures.time told) (c.check_cell.ensures.image told))
+    (λ told keys kept h. listed_none None c.new-desk.result.session _ keys none (listed_image None _ _ keys (c.check_cell.ensures.image told) h)) in
+    on_then _ _ _ _ None c.new-desk.result.session _ _ _ _ looked (on_done _ _ _ c.new-desk.result.session _ _ _ _ c.serve_input.ensures.keeps (λ keys h. tt))

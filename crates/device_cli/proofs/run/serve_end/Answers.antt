@@ -4,6 +4,7 @@ use Rattle.device_cli.specs.Replied.{Handled, no_line}
 use Rattle.device_cli.specs.World.{World, world}
 use Rattle.device_cli.proofs.RepliedLaws.{Handled-nothing}
 use Rattle.device_cli.proofs.CellLaws.{serves_now}
+use Rattle.device_cli.proofs.ReachingLaws.{on_start}
 use Rattle.device_cli.proofs.run.serve_end.Goals as goal
 
 pub returns-then-is_empty-clause-handled : goal.returns-then-is_empty-clause-handled
@@ -17,3 +18,6 @@ returns-then-is_empty-clause-handled g c rest pending =
 
 pub returns-then-is_empty-clause-cell : goal.returns-then-is_empty-clause-cell
 returns-then-is_empty-clause-cell g c = λ told. serves_now _ (c.requires.cell told)
+
+pub returns-then-is_empty-clause-keeps : goal.returns-then-is_empty-clause-keeps
+returns-then-is_empty-clause-keeps g c = on_start _ _ c.args.desk.now.session _

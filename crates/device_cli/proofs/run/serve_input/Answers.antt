@@ -7,6 +7,7 @@ use Rattle.script_lang.specs.Lines.{rest_of}
 use Rattle.device_cli.specs.World.{World, world}
 use Rattle.device_cli.proofs.Reading.{IsReading, IsReading-start, IsReading-more, IsReading-stop, IsReading-end, IsReading-failed, IsReading-limit}
 use Rattle.device_cli.proofs.CellLaws.{serves_now, served_at, serves_then}
+use Rattle.device_cli.proofs.ReachingLaws.{on_start, on_done, on_then}
 use Rattle.device_cli.proofs.run.serve_input.Goals as goal
 
 -- nothing given leaves all
@@ -30,6 +31,7 @@ loop-left-init g c =
       ready = c.requires.ready;
       cell = λ told. serves_now _ (c.requires.cell told);
       mounted = c.requires.mounted;
+      keeps = on_start _ _ c.args.desk.now.session _;
       unput = refl;
       counts = grind (arith, common_steps);
       reading = IsReading-start P.tells (world c.args.desk.now.session (P.history c.args.platform.now) (P.head c.args.platform.now) (P.capacity c.args.platform.now)) (g.I.Source.left c.args.input.now)
@@ -106,6 +108,7 @@ loop-left-preserved g c =
       ready = c.in-Ok-serve_piece.ensures.ready;
       cell = λ told. serves_then _ _ _ (c.loop-left.invariant.cell told) (c.in-Ok-serve_piece.ensures.cell told);
       mounted = c.in-Ok-serve_piece.ensures.mounted;
+      keeps = on_then _ _ _ _ c.args.desk.now.session c.loop-left.desk.session _ _ _ _ c.loop-left.invariant.keeps c.in-Ok-serve_piece.ensures.keeps;
       unput = c.serve_piece.ensures.unput ∙ c.loop-left.invariant.unput;
       counts = grind (arith, c.loop-left.invariant.counts, c.serve_piece.ensures.counts, c.take.ensures.count);
       reading = IsReading-more P.tells old mid new (left c.args.input.now) (left c.loop-left.input) (left c.take.new.self) (written c.args.output.now) (written c.loop-left.output) (written c.serve_piece.new.output)
@@ -132,3 +135,15 @@ serve_end-requires-clause-cell g c = λ told. served_at _ _ (c.loop-left.invaria
 
 pub serve_piece-requires-clause-cell : goal.serve_piece-requires-clause-cell
 serve_piece-requires-clause-cell g c = λ told. served_at _ _ (c.loop-left.invariant.cell told)
+
+pub returns-in_default-clause-keeps : goal.returns-in_default-clause-keeps
+returns-in_default-clause-keeps g c = on_done _ _ _ c.args.desk.now.session _ _ _ _ c.loop-left.invariant.keeps (λ keys h. tt)
+
+pub returns-then-count-eq0-clause-keeps : goal.returns-then-count-eq0-clause-keeps
+returns-then-count-eq0-clause-keeps g c = on_then _ _ _ _ c.args.desk.now.session c.loop-left.desk.session _ _ _ _ c.loop-left.invariant.keeps c.serve_end.ensures.keeps
+
+pub returns-in-Err-clause-keeps : goal.returns-in-Err-clause-keeps
+returns-in-Err-clause-keeps g c = on_then _ _ _ _ c.args.desk.now.session c.loop-left.desk.session _ _ _ _ c.loop-left.invariant.keeps (on_done _ _ _ c.loop-left.desk.session _ _ _ _ c.serve_piece.ensures.keeps (λ keys h. tt))
+
+pub returns-clause-keeps : goal.returns-clause-keeps
+returns-clause-keeps g c = on_done _ _ _ c.args.desk.now.session _ _ _ _ c.loop-left.invariant.keeps (λ keys h. tt)

@@ -5,6 +5,7 @@ use Rattle.device_core.specs.Leaf.{IsServedImage}
 use Rattle.device_cli.specs.Desk.{IsReady, IsMounted}
 use Rattle.device_cli.specs.Run.{counts, NoneFell}
 use Rattle.device_cli.specs.World.{world}
+use Rattle.device_cli.specs.Reaching.{IsListed, KeepsOn}
 use Rattle.device_cli.proofs.Reading.{IsReading}
 use Rattle.device_cli.proofs.run.serve_input.Given as goal
 
@@ -19,6 +20,7 @@ invariant-loop-left g l =
       ready : IsReady l.desk (P.head l.platform);
       cell : P.tells → During (P.history l.fn.platform) (P.history l.platform) IsServedImage;
       mounted : P.tells → IfSome l.desk.session (IsMounted (P.history l.platform).present);
+      keeps : KeepsOn P.tells (T.drawn l.fn.tape) (T.drawn l.tape) l.fn.desk.session (P.history l.fn.platform) (P.history l.platform) (IsListed l.desk.session (P.history l.platform).present);
       unput : L.written l.ledger ≡ L.written l.fn.ledger;
       counts : NoneFell (counts (P.faults l.fn.platform) (T.faults l.fn.tape) (I.faults l.fn.input) (O.faults l.fn.output) (L.faults l.fn.ledger)) (counts (P.faults l.platform) (T.faults l.tape) (I.faults l.input) (O.faults l.output) (L.faults l.ledger));
       reading : IsReading P.tells (world l.fn.desk.session (P.history l.fn.platform) (P.head l.fn.platform) (P.capacity l.fn.platform)) (world l.desk.session (P.history l.platform) (P.head l.platform) (P.capacity l.platform))

@@ -6,6 +6,7 @@ use Rattle.device_cli.specs.Kept.{IsKept}
 use Rattle.device_cli.specs.World.{World, world}
 use Rattle.device_cli.proofs.Serving.{IsServing-start, IsServing-line, IsServing-stop, IsServing-end}
 use Rattle.device_cli.proofs.CellLaws.{serves_now, served_at, serves_then}
+use Rattle.device_cli.proofs.ReachingLaws.{on_start, on_done, on_then}
 use Rattle.device_cli.proofs.run.serve_piece.Goals as goal
 
 pub loop-front-init : goal.loop-front-init
@@ -15,6 +16,7 @@ loop-front-init g c =
       ready = c.requires.ready;
       cell = λ told. serves_now _ (c.requires.cell told);
       mounted = c.requires.mounted;
+      keeps = on_start _ _ c.args.desk.now.session _;
       unput = refl;
       counts = grind (arith, common_steps);
       serving = λ rest pending. IsServing-start P.tells (world c.args.desk.now.session (P.history c.args.platform.now) (P.head c.args.platform.now) (P.capacity c.args.platform.now))
@@ -32,6 +34,7 @@ loop-front-preserved g c =
       ready = c.in_default-answer.ensures.ready;
       cell = λ told. serves_then _ _ _ (c.loop-front.invariant.cell told) (c.in_default-answer.ensures.cell told);
       mounted = c.in_default-answer.ensures.mounted;
+      keeps = on_then _ _ _ _ c.args.desk.now.session c.loop-front.desk.session _ _ _ _ c.loop-front.invariant.keeps c.in_default-answer.ensures.keeps;
       unput = c.in_default-answer.ensures.unput ∙ c.loop-front.invariant.unput;
       counts = grind (arith, c.loop-front.invariant.counts, c.answer.ensures.counts);
       serving = λ rest pending.
@@ -79,3 +82,9 @@ returns-in-Err-clause-cell g c = λ told. serves_then _ _ _ (c.loop-front.invari
 
 pub answer-requires-clause-cell : goal.answer-requires-clause-cell
 answer-requires-clause-cell g c = λ told. served_at _ _ (c.loop-front.invariant.cell told)
+
+pub returns-in-Err-clause-keeps : goal.returns-in-Err-clause-keeps
+returns-in-Err-clause-keeps g c = on_then _ _ _ _ c.args.desk.now.session c.loop-front.desk.session _ _ _ _ c.loop-front.invariant.keeps (on_done _ _ _ c.loop-front.desk.session _ _ _ _ c.answer.ensures.keeps (λ keys h. tt))
+
+pub returns-clause-keeps : goal.returns-clause-keeps
+returns-clause-keeps g c = c.loop-front.invariant.keeps

@@ -6,6 +6,7 @@ use Rattle.device_cli.specs.Desk.{IsReady, IsMounted}
 use Rattle.device_cli.specs.Run.{counts, NoneFell}
 use Rattle.device_cli.specs.Kept.{IsPending}
 use Rattle.device_cli.specs.World.{world}
+use Rattle.device_cli.specs.Reaching.{IsListed, KeepsOn}
 use Rattle.device_cli.proofs.Serving.{IsServing}
 use Rattle.device_cli.proofs.run.serve_piece.Given as goal
 
@@ -19,6 +20,7 @@ invariant-loop-front g l =
       ready : IsReady l.desk (P.head l.platform);
       cell : P.tells → During (P.history l.fn.platform) (P.history l.platform) IsServedImage;
       mounted : P.tells → IfSome l.desk.session (IsMounted (P.history l.platform).present);
+      keeps : KeepsOn P.tells (T.drawn l.fn.tape) (T.drawn l.tape) l.fn.desk.session (P.history l.fn.platform) (P.history l.platform) (IsListed l.desk.session (P.history l.platform).present);
       unput : L.written l.ledger ≡ L.written l.fn.ledger;
       counts : NoneFell (counts (P.faults l.fn.platform) (T.faults l.fn.tape) 0 (O.faults l.fn.output) (L.faults l.fn.ledger)) (counts (P.faults l.platform) (T.faults l.tape) 0 (O.faults l.output) (L.faults l.ledger));
       serving : (rest : List ℕ) → IsPending l.fn.pending rest

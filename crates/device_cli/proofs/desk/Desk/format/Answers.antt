@@ -19,6 +19,7 @@ use Rattle.device_cli.proofs.ServedLaws.{on, halts_still, gives_format_range, gi
 use Rattle.device_cli.proofs.ServingLaws.{KeepsCell, serves_formatted, serves_format_full, serves_not_empty, serves_refused, halts_format}
 use Rattle.device_cli.proofs.Choices.{not_these, none_of}
 use Rattle.device_core.proofs.ServedLaws.{serves_still as serves_while_cell}
+use Rattle.device_cli.proofs.ReachingLaws.{on_look, on_call, on_ok, sound_of, listed_image, listed_keys, format_listed}
 use Rattle.device_cli.proofs.desk.Desk.format.Goals as goal
 
 -- what the looking for a device ended with
@@ -125,3 +126,27 @@ returns-in-Some-clause-answered g c told entry rep =
 
 pub returns-in-Some-clause-cell : goal.returns-in-Some-clause-cell
 returns-in-Some-clause-cell g c = λ told. serves_while_cell _ _ (c.refuse_format.ensures.time told) (c.requires.cell told)
+
+pub returns-in-Ok-clause-keeps : goal.returns-in-Ok-clause-keeps
+returns-in-Ok-clause-keeps g c = on_call _ _ _ c.args.self.now.session _ _ _ _ _ c.format.ensures.keeps (λ told keys h. sound_of _ _ keys h) (λ told keys h. c.format.ensures.forgets told (sound_of _ _ keys h)) (λ told keys more h done. format_listed _ _ _ keys _ _ (c.in-Ok.ensures.empty told) (c.in-Ok.ensures.made told) h)
+
+pub returns-in-Err-NotEmpty-clause-keeps : goal.returns-in-Err-NotEmpty-clause-keeps
+returns-in-Err-NotEmpty-clause-keeps g c = on_call _ _ _ c.args.self.now.session _ _ _ _ _ c.format.ensures.keeps (λ told keys h. sound_of _ _ keys h) (λ told keys h. c.format.ensures.forgets told (sound_of _ _ keys h)) (λ told keys more h done. listed_keys _ _ _ keys more (c.format.ensures.same told (inl (cc))) h)
+
+pub returns-in-Err-Full-clause-keeps : goal.returns-in-Err-Full-clause-keeps
+returns-in-Err-Full-clause-keeps g c = on_call _ _ _ c.args.self.now.session _ _ _ _ _ c.format.ensures.keeps (λ told keys h. sound_of _ _ keys h) (λ told keys h. c.format.ensures.forgets told (sound_of _ _ keys h)) (λ told keys more h done. listed_keys _ _ _ keys more (c.format.ensures.same told (inr (cc))) h)
+
+pub returns-in-Err-Memory-clause-keeps : goal.returns-in-Err-Memory-clause-keeps
+returns-in-Err-Memory-clause-keeps g c = on_call _ _ _ c.args.self.now.session _ _ _ _ _ c.format.ensures.keeps (λ told keys h. sound_of _ _ keys h) (λ told keys h. c.format.ensures.forgets told (sound_of _ _ keys h)) (λ told keys more h done. tt)
+
+pub returns-in-Err-TapeFault-clause-keeps : goal.returns-in-Err-TapeFault-clause-keeps
+returns-in-Err-TapeFault-clause-keeps g c = on_call _ _ _ c.args.self.now.session _ _ _ _ _ c.format.ensures.keeps (λ told keys h. sound_of _ _ keys h) (λ told keys h. c.format.ensures.forgets told (sound_of _ _ keys h)) (λ told keys more h done. tt)
+
+pub returns-in-Err-LedgerFault-clause-keeps : goal.returns-in-Err-LedgerFault-clause-keeps
+returns-in-Err-LedgerFault-clause-keeps g c = on_call _ _ _ c.args.self.now.session _ _ _ _ _ c.format.ensures.keeps (λ told keys h. sound_of _ _ keys h) (λ told keys h. c.format.ensures.forgets told (sound_of _ _ keys h)) (λ told keys more h done. tt)
+
+pub returns-in-Err-PlatformFault-clause-keeps : goal.returns-in-Err-PlatformFault-clause-keeps
+returns-in-Err-PlatformFault-clause-keeps g c = on_call _ _ _ c.args.self.now.session _ _ _ _ _ c.format.ensures.keeps (λ told keys h. sound_of _ _ keys h) (λ told keys h. c.format.ensures.forgets told (sound_of _ _ keys h)) (λ told keys more h done. tt)
+
+pub returns-in-Some-clause-keeps : goal.returns-in-Some-clause-keeps
+returns-in-Some-clause-keeps g c = on_look _ _ c.args.self.now.session _ _ _ c.refuse_format.ensures.image c.refuse_format.ensures.time (λ told keys kept h. on_ok c.refuse_format.result _ (listed_image _ _ _ keys (c.refuse_format.ensures.image told) h))

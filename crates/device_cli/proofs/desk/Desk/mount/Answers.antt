@@ -13,6 +13,7 @@ use Rattle.device_cli.proofs.ServedLaws.{halts_still}
 use Rattle.device_cli.proofs.ServingLaws.{serves_already, serves_mounted, serves_no_device}
 use Rattle.device_core.proofs.ServedLaws.{serves_still as serves_while_cell}
 use Rattle.device_cli.proofs.CellLaws.{serves_now}
+use Rattle.device_cli.proofs.ReachingLaws.{on_start, on_look, listed_image, mount_listed}
 use Rattle.device_cli.proofs.desk.Desk.mount.Goals as goal
 
 some_of : (s : Option Session) → (s ≡ None → ⊥) → (Goal : Type 0) → ((session : Session) → s ≡ Some session → Goal) → Goal
@@ -88,3 +89,23 @@ returns-in-Err-Memory-clause-cell g c = λ told. serves_while_cell _ _ (c.mount.
 
 pub returns-in-Err-BadRoot-clause-cell : goal.returns-in-Err-BadRoot-clause-cell
 returns-in-Err-BadRoot-clause-cell g c = λ told. serves_while_cell _ _ (c.mount.ensures.time told) (c.requires.cell told)
+
+pub returns-then-is_some-clause-keeps : goal.returns-then-is_some-clause-keeps
+returns-then-is_some-clause-keeps g c = λ drawn. on_start _ drawn c.args.self.now.session _
+
+pub returns-in-Ok-clause-keeps : goal.returns-in-Ok-clause-keeps
+returns-in-Ok-clause-keeps g c = λ drawn. on_look _ drawn c.args.self.now.session _ _ _ c.mount.ensures.image c.mount.ensures.time (λ told keys kept h.
+    let none : c.args.self.now.session ≡ None = grind (arith, common_steps, c.is_some.ensures, c.if-is_some.false) in
+    mount_listed c.args.self.now.session (g.P.Platform.history c.args.platform.now).present keys keys _ _ none (c.in-Ok.ensures.found told) h (λ device stands. c.in-Ok.ensures.listed told device stands keys))
+
+pub returns-in-Err-NoDevice-clause-keeps : goal.returns-in-Err-NoDevice-clause-keeps
+returns-in-Err-NoDevice-clause-keeps g c = λ drawn. on_look _ drawn c.args.self.now.session _ _ _ c.mount.ensures.image c.mount.ensures.time (λ told keys kept h. listed_image _ _ _ keys (c.mount.ensures.image told) h)
+
+pub returns-in-Err-BadRoot-clause-keeps : goal.returns-in-Err-BadRoot-clause-keeps
+returns-in-Err-BadRoot-clause-keeps g c = λ drawn. on_look _ drawn c.args.self.now.session _ _ _ c.mount.ensures.image c.mount.ensures.time (λ told keys kept h. tt)
+
+pub returns-in-Err-PlatformFault-clause-keeps : goal.returns-in-Err-PlatformFault-clause-keeps
+returns-in-Err-PlatformFault-clause-keeps g c = λ drawn. on_look _ drawn c.args.self.now.session _ _ _ c.mount.ensures.image c.mount.ensures.time (λ told keys kept h. tt)
+
+pub returns-in-Err-Memory-clause-keeps : goal.returns-in-Err-Memory-clause-keeps
+returns-in-Err-Memory-clause-keeps g c = λ drawn. on_look _ drawn c.args.self.now.session _ _ _ c.mount.ensures.image c.mount.ensures.time (λ told keys kept h. tt)

@@ -13,6 +13,7 @@ use Rattle.device_cli.proofs.ServingLaws.{serves_unmounted}
 use Rattle.device_cli.proofs.Choices.{inside, not_both}
 use Rattle.device_core.proofs.ServedLaws.{serves_still as serves_while_cell}
 use Rattle.device_cli.proofs.CellLaws.{serves_now}
+use Rattle.device_cli.proofs.ReachingLaws.{on_start, on_look, listed_some}
 use Rattle.device_cli.proofs.desk.Desk.read.Goals as goal
 
 pub returns-in_default-clause-answered : goal.returns-in_default-clause-answered
@@ -79,3 +80,18 @@ returns-in-Err-BadRecord-clause-cell g c = λ told. serves_while_cell _ _ (c.rea
 
 pub returns-in-Err-PlatformFault-clause-cell : goal.returns-in-Err-PlatformFault-clause-cell
 returns-in-Err-PlatformFault-clause-cell g c = λ told. serves_while_cell _ _ (c.read.ensures.time told) (c.requires.cell told)
+
+pub returns-in_default-clause-keeps : goal.returns-in_default-clause-keeps
+returns-in_default-clause-keeps g c = λ drawn. on_start _ drawn c.args.self.now.session _
+
+pub returns-in-Ok-clause-keeps : goal.returns-in-Ok-clause-keeps
+returns-in-Ok-clause-keeps g c = λ drawn. on_look _ drawn c.args.self.now.session _ _ _ c.read.ensures.image c.read.ensures.time (λ told keys kept h. c.read.ensures.listed told keys kept (listed_some _ c.in-Some.session _ keys c.in-Some.is h))
+
+pub returns-in-Err-Range-clause-keeps : goal.returns-in-Err-Range-clause-keeps
+returns-in-Err-Range-clause-keeps g c = λ drawn. on_look _ drawn c.args.self.now.session _ _ _ c.read.ensures.image c.read.ensures.time (λ told keys kept h. c.read.ensures.listed told keys kept (listed_some _ c.in-Some.session _ keys c.in-Some.is h))
+
+pub returns-in-Err-BadRecord-clause-keeps : goal.returns-in-Err-BadRecord-clause-keeps
+returns-in-Err-BadRecord-clause-keeps g c = λ drawn. on_look _ drawn c.args.self.now.session _ _ _ c.read.ensures.image c.read.ensures.time (λ told keys kept h. tt)
+
+pub returns-in-Err-PlatformFault-clause-keeps : goal.returns-in-Err-PlatformFault-clause-keeps
+returns-in-Err-PlatformFault-clause-keeps g c = λ drawn. on_look _ drawn c.args.self.now.session _ _ _ c.read.ensures.image c.read.ensures.time (λ told keys kept h. tt)

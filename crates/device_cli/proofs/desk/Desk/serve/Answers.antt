@@ -8,6 +8,7 @@ use Rattle.device_cli.specs.Replied.{Serves}
 use Rattle.script_lang.specs.declared.commands.Command.{Command}
 use Rattle.device_cli.proofs.ServingLaws.{serves_seize}
 use Rattle.device_cli.proofs.CellLaws.{serves_now}
+use Rattle.device_cli.proofs.ReachingLaws.{on_start, on_done, on_ok, listed_none}
 use Rattle.device_cli.proofs.desk.Desk.serve.Goals as goal
 
 pub returns-in-Write-clause-answered : goal.returns-in-Write-clause-answered
@@ -39,3 +40,24 @@ returns-in-Write-clause-pages g c told entry rep =
     let P = g.P.Platform in
     subst (λ (command : Command). IfOk c.write.result (λ reply. P.head c.write.new.platform ≡ pages_after entry command reply (P.head c.args.platform.now))) (sym c.in-Write.is)
     (c.write.ensures.pages told entry rep c.in-Write.content)
+
+pub returns-in-Drop-clause-keeps : goal.returns-in-Drop-clause-keeps
+returns-in-Drop-clause-keeps g c = on_done _ _ _ c.args.self.now.session _ _ _ _ (on_start _ _ c.args.self.now.session _) (λ keys h. on_ok c.give_up.result _ (listed_none c.args.self.now.session c.give_up.new.self.session _ keys c.give_up.ensures.session h))
+
+pub returns-in-Stat-clause-keeps : goal.returns-in-Stat-clause-keeps
+returns-in-Stat-clause-keeps g c = on_done _ _ _ c.args.self.now.session _ _ _ _ (on_start _ _ c.args.self.now.session _) (λ keys h. on_ok c.stat.result _ h)
+
+pub returns-in-Seize-clause-keeps : goal.returns-in-Seize-clause-keeps
+returns-in-Seize-clause-keeps g c = on_start _ _ c.args.self.now.session _
+
+pub returns-in-Mount-clause-keeps : goal.returns-in-Mount-clause-keeps
+returns-in-Mount-clause-keeps g c = c.mount.ensures.keeps (g.T.Tape.drawn c.args.tape.now)
+
+pub returns-in-Read-clause-keeps : goal.returns-in-Read-clause-keeps
+returns-in-Read-clause-keeps g c = c.read.ensures.keeps (g.T.Tape.drawn c.args.tape.now)
+
+pub returns-in-Trim-clause-keeps : goal.returns-in-Trim-clause-keeps
+returns-in-Trim-clause-keeps g c = c.trim.ensures.keeps (g.T.Tape.drawn c.args.tape.now)
+
+pub returns-in-Erase-clause-keeps : goal.returns-in-Erase-clause-keeps
+returns-in-Erase-clause-keeps g c = c.erase.ensures.keeps (g.T.Tape.drawn c.args.tape.now)

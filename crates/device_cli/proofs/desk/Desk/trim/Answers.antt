@@ -15,6 +15,7 @@ use Rattle.device_cli.proofs.ServingLaws.{serves_unmounted}
 use Rattle.device_cli.proofs.Choices.{inside, not_both}
 use Rattle.device_core.proofs.ServedLaws.{serves_still as serves_while_cell}
 use Rattle.device_cli.proofs.CellLaws.{serves_now}
+use Rattle.device_cli.proofs.ReachingLaws.{on_start, on_look, listed_some}
 use Rattle.device_cli.proofs.desk.Desk.trim.Goals as goal
 
 pub returns-in_default-clause-answered : goal.returns-in_default-clause-answered
@@ -94,3 +95,21 @@ returns-in-Err-PlatformFault-clause-cell g c = λ told. serves_while_cell _ _ (c
 
 pub returns-in-Err-Memory-clause-cell : goal.returns-in-Err-Memory-clause-cell
 returns-in-Err-Memory-clause-cell g c = λ told. serves_while_cell _ _ (c.trim.ensures.time told) (c.requires.cell told)
+
+pub returns-in_default-clause-keeps : goal.returns-in_default-clause-keeps
+returns-in_default-clause-keeps g c = λ drawn. on_start _ drawn c.args.self.now.session _
+
+pub returns-in-Ok-clause-keeps : goal.returns-in-Ok-clause-keeps
+returns-in-Ok-clause-keeps g c = λ drawn. on_look _ drawn c.args.self.now.session _ _ _ c.trim.ensures.image c.trim.ensures.time (λ told keys kept h. c.trim.ensures.listed told keys kept (listed_some _ c.in-Some.session _ keys c.in-Some.is h))
+
+pub returns-in-Err-Range-clause-keeps : goal.returns-in-Err-Range-clause-keeps
+returns-in-Err-Range-clause-keeps g c = λ drawn. on_look _ drawn c.args.self.now.session _ _ _ c.trim.ensures.image c.trim.ensures.time (λ told keys kept h. c.trim.ensures.listed told keys kept (listed_some _ c.in-Some.session _ keys c.in-Some.is h))
+
+pub returns-in-Err-Memory-clause-keeps : goal.returns-in-Err-Memory-clause-keeps
+returns-in-Err-Memory-clause-keeps g c = λ drawn. on_look _ drawn c.args.self.now.session _ _ _ c.trim.ensures.image c.trim.ensures.time (λ told keys kept h. tt)
+
+pub returns-in-Err-BadRecord-clause-keeps : goal.returns-in-Err-BadRecord-clause-keeps
+returns-in-Err-BadRecord-clause-keeps g c = λ drawn. on_look _ drawn c.args.self.now.session _ _ _ c.trim.ensures.image c.trim.ensures.time (λ told keys kept h. tt)
+
+pub returns-in-Err-PlatformFault-clause-keeps : goal.returns-in-Err-PlatformFault-clause-keeps
+returns-in-Err-PlatformFault-clause-keeps g c = λ drawn. on_look _ drawn c.args.self.now.session _ _ _ c.trim.ensures.image c.trim.ensures.time (λ told keys kept h. tt)

@@ -17,6 +17,8 @@ use Rattle.device_cli.proofs.ServingLaws.{serves_unmounted}
 use Rattle.device_cli.proofs.Choices.{inside, not_both}
 use Rattle.device_core.proofs.ServedLaws.{serves_still as serves_while_cell}
 use Rattle.device_cli.proofs.CellLaws.{serves_now}
+use Rattle.page_store.proofs.FloorLaws.{forgets_still}
+use Rattle.device_cli.proofs.ReachingLaws.{on_start, on_call, sound_of, listed_some}
 use Rattle.device_cli.proofs.desk.Desk.write.Goals as goal
 
 pub returns-in_default-clause-answered : goal.returns-in_default-clause-answered
@@ -128,3 +130,27 @@ returns-in-Err-TapeFault-clause-cell g c = λ told. serves_while_cell _ _ (c.wri
 
 pub returns-in-Err-PlatformFault-clause-cell : goal.returns-in-Err-PlatformFault-clause-cell
 returns-in-Err-PlatformFault-clause-cell g c = λ told. serves_while_cell _ _ (c.write.ensures.time told) (c.requires.cell told)
+
+pub returns-in_default-clause-keeps : goal.returns-in_default-clause-keeps
+returns-in_default-clause-keeps g c = on_start _ _ c.args.self.now.session _
+
+pub returns-in-Ok-clause-keeps : goal.returns-in-Ok-clause-keeps
+returns-in-Ok-clause-keeps g c = on_call _ _ _ c.args.self.now.session _ _ _ _ _ c.write.ensures.keeps (λ told keys h. listed_some _ c.in-Some.session _ keys c.in-Some.is h) (λ told keys h. forgets_still _ _ (sound_of _ _ keys h) (c.write.ensures.time told)) (λ told keys more h done. done)
+
+pub returns-in-Err-Range-clause-keeps : goal.returns-in-Err-Range-clause-keeps
+returns-in-Err-Range-clause-keeps g c = on_call _ _ _ c.args.self.now.session _ _ _ _ _ c.write.ensures.keeps (λ told keys h. listed_some _ c.in-Some.session _ keys c.in-Some.is h) (λ told keys h. forgets_still _ _ (sound_of _ _ keys h) (c.write.ensures.time told)) (λ told keys more h done. done)
+
+pub returns-in-Err-Full-clause-keeps : goal.returns-in-Err-Full-clause-keeps
+returns-in-Err-Full-clause-keeps g c = on_call _ _ _ c.args.self.now.session _ _ _ _ _ c.write.ensures.keeps (λ told keys h. listed_some _ c.in-Some.session _ keys c.in-Some.is h) (λ told keys h. forgets_still _ _ (sound_of _ _ keys h) (c.write.ensures.time told)) (λ told keys more h done. done)
+
+pub returns-in-Err-Memory-clause-keeps : goal.returns-in-Err-Memory-clause-keeps
+returns-in-Err-Memory-clause-keeps g c = on_call _ _ _ c.args.self.now.session _ _ _ _ _ c.write.ensures.keeps (λ told keys h. listed_some _ c.in-Some.session _ keys c.in-Some.is h) (λ told keys h. forgets_still _ _ (sound_of _ _ keys h) (c.write.ensures.time told)) (λ told keys more h done. tt)
+
+pub returns-in-Err-BadRecord-clause-keeps : goal.returns-in-Err-BadRecord-clause-keeps
+returns-in-Err-BadRecord-clause-keeps g c = on_call _ _ _ c.args.self.now.session _ _ _ _ _ c.write.ensures.keeps (λ told keys h. listed_some _ c.in-Some.session _ keys c.in-Some.is h) (λ told keys h. forgets_still _ _ (sound_of _ _ keys h) (c.write.ensures.time told)) (λ told keys more h done. tt)
+
+pub returns-in-Err-TapeFault-clause-keeps : goal.returns-in-Err-TapeFault-clause-keeps
+returns-in-Err-TapeFault-clause-keeps g c = on_call _ _ _ c.args.self.now.session _ _ _ _ _ c.write.ensures.keeps (λ told keys h. listed_some _ c.in-Some.session _ keys c.in-Some.is h) (λ told keys h. forgets_still _ _ (sound_of _ _ keys h) (c.write.ensures.time told)) (λ told keys more h done. tt)
+
+pub returns-in-Err-PlatformFault-clause-keeps : goal.returns-in-Err-PlatformFault-clause-keeps
+returns-in-Err-PlatformFault-clause-keeps g c = on_call _ _ _ c.args.self.now.session _ _ _ _ _ c.write.ensures.keeps (λ told keys h. listed_some _ c.in-Some.session _ keys c.in-Some.is h) (λ told keys h. forgets_still _ _ (sound_of _ _ keys h) (c.write.ensures.time told)) (λ told keys more h done. tt)
