@@ -19,7 +19,8 @@ use Rattle.device_core.specs.Leaf.{IsServed, AreEntries}
 use Rattle.root_codec.specs.declared.root.Root.{Root}
 use Rattle.root_codec.specs.RootRecord.{root_bytes}
 use Rattle.page_store.specs.Device.{Device}
-use Rattle.page_store.specs.Tree.{DataOf, NodeOver, Place}
+use Rattle.key_graph.specs.Trace.{DataOf, NodeOver}
+use Rattle.page_store.specs.Tree.{Place}
 use Rattle.page_store.specs.Leaf.{leaf_parts, StandsByLeaf}
 use Rattle.page_store.specs.Stands.{Stands, IsSound}
 use Rattle.page_store.specs.Kept.{Kept}

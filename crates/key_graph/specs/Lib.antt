@@ -2,3 +2,4 @@ pub mod Opening
 pub mod Chains
 pub mod OwnKeys
 pub mod Maps
+pub mod Trace

@@ -13,7 +13,8 @@ use Rattle.root_codec.specs.declared.root.Root.{Root}
 use Rattle.root_codec.specs.RootRecord.{FitsRoot, root_bytes}
 use Rattle.root_codec.specs.Laws.{one_root}
 use Rattle.page_store.specs.Device.{Device}
-use Rattle.page_store.specs.Tree.{DataOf, NodeOver, Place, Parts, Tree}
+use Rattle.key_graph.specs.Trace.{DataOf, NodeOver}
+use Rattle.page_store.specs.Tree.{Place, Parts, Tree}
 use Rattle.page_store.specs.Stands.{StandsBy, Stands}
 use Rattle.page_store.specs.Leaf.{leaf_parts, StandsByLeaf}
 use Rattle.page_store.proofs.LeafStandsLaws.{stands_by_leaf}

@@ -14,7 +14,8 @@ use Rattle.root_codec.specs.declared.root.Root.{Root}
 use Rattle.root_codec.specs.RootRecord.{FitsRoot}
 use Rattle.page_store.specs.Device.{Device}
 use Rattle.page_store.specs.Places.{IsRecordAt, IsNodeWanted, FitsAt, root_want}
-use Rattle.page_store.specs.Tree.{DataOf, NodeOver, Place, Parts}
+use Rattle.key_graph.specs.Trace.{DataOf, NodeOver}
+use Rattle.page_store.specs.Tree.{Place, Parts}
 use Rattle.page_store.specs.Stands.{pairs_of, StandsBy}
 use Rattle.page_store.specs.Leaf.{leaf_parts, IsLeaf, StandsByLeaf}
 use Rattle.page_store.proofs.RecordLaws.{one_record, record_appended}

@@ -10,7 +10,8 @@ use Rattle.root_codec.specs.declared.root.Root.{Root}
 use Rattle.root_codec.specs.RootRecord.{FitsRoot, root_bytes}
 use Rattle.page_store.specs.Device.{Device}
 use Rattle.page_store.specs.Places.{IsRecordAt, FitsAt, root_want}
-use Rattle.page_store.specs.Tree.{DataOf, Place, Mapped, Parts, node_parts}
+use Rattle.key_graph.specs.Trace.{DataOf}
+use Rattle.page_store.specs.Tree.{Place, Mapped, Parts, node_parts}
 
 -- the entries of a leaf, each with the content of its data record
 abbrev pub mapped_by : List Entry → List (List ℕ) → List Mapped

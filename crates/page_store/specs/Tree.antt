@@ -3,13 +3,9 @@ use Rattle.std.specs.Prelude.{◌≡◌, ◌⊎◌, ℕ, zero, suc, List, [], �
 use Rattle.node_codec.specs.declared.body.Entry.{Entry}
 use Rattle.node_codec.specs.Record.{DataRecord, NodeRecord}
 use Rattle.root_codec.specs.declared.root.Root.{Root}
+use Rattle.key_graph.specs.Trace.{TraceEntry, DataOf, NodeOver}
 use Rattle.page_store.specs.declared.wants.Want.{Want}
 use Rattle.page_store.specs.Places.{FitsAt, NothingFits, root_want, child_want}
-
--- what a trace says of an address: a data record of a block, or a node with the addresses of its children
-pub data TraceEntry : Type 0 where
-  DataOf : (block : ℕ) → TraceEntry
-  NodeOver : (children : List ℕ) → TraceEntry
 
 -- a place of a tree
 pub record Place : Type 0 where
