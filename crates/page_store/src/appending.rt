@@ -5,6 +5,7 @@ ghost use Rattle.sdbt_base.specs.Told.{Drew};
 ghost use Rattle.platform.specs.Image.{with_page, MayHavePage};
 ghost use Rattle.platform.specs.History.{Steps};
 ghost use Rattle.seal_record.specs.Sealing.{masked};
+ghost use Rattle.node_codec.specs.Record.{Record, FitsRecord, record_bytes};
 ghost use Rattle.page_store.specs.Keeping.{KeepsKeys, IsNextRecord};
 
 use crate::buffers::Buffers;
@@ -51,10 +52,12 @@ impl Buffers {
             × (P.tells → MayHavePage (P.history platform.old).present (masked key self.old.body)
             (P.history platform.new).present) }
 
-        // Each moment keeps the keys that the image kept before, with the one that was drawn.
-        ensures keeps { KeepsKeys P.tells (T.drawn tape.old) (T.drawn tape.new)
-            (P.history platform.old) (P.history platform.new)
-            (IsNextRecord (P.history platform.old).present self.old.body)
+        // Where the body is a record of the next address: a page that was handed over is that record, sealed under the key that
+        // was drawn, and with this key each moment keeps the keys that the image kept before.
+        ensures keeps { (value : Record) → FitsRecord (P.head platform.old) value
+            → self.old.body ≡ record_bytes (P.head platform.old) value
+            → KeepsKeys P.tells (T.drawn tape.old) (T.drawn tape.new) (P.history platform.old) (P.history platform.new)
+            (IsNextRecord (P.history platform.old).present value)
             (λ keys. IfOk result (λ placed. Contains keys placed.key)) }
 
         ensures cell { P.tells → (P.history platform.new).present.cell ≡ (P.history platform.old).present.cell }

@@ -18,27 +18,29 @@ returns-in_default-append-clause-spent g c = λ _. (
 )
 
 pub returns-in_default-clause-keeps : goal.returns-in_default-clause-keeps
-returns-in_default-clause-keeps g c =
+returns-in_default-clause-keeps g c = λ value fits is.
     let history = g.P.Platform.history c.args.platform.now in
     keeps_idle g.P.Platform.tells (g.T.Tape.drawn c.args.tape.now) (g.T.Tape.drawn c.draw.new.self) history history
-    (IsNextRecord history.present c.args.self.now.body) _ c.in_default.ensures.undrawn (λ told. During-start history (λ image. image ≡ history.present) refl) (λ told keys kept ready. tt)
+    (IsNextRecord history.present value) _ c.in_default.ensures.undrawn (λ told. During-start history (λ image. image ≡ history.present) refl) (λ told keys kept ready. tt)
 
 pub returns-in_default-append-clause-keeps : goal.returns-in_default-append-clause-keeps
-returns-in_default-append-clause-keeps g c =
+returns-in_default-append-clause-keeps g c = λ value fits is.
     let key = c.seal_body-key.result in
     let page : c.deref.result.now ≡ masked key c.args.self.now.body = c.deref.ensures.value ∙ ap (λ (held : Held). held.page) (c.self.view_is ∙ c.seal_body-key.ensures.page) in
-    keeps_append g.P.Platform.tells (g.T.Tape.drawn c.args.tape.now) (g.T.Tape.drawn c.draw.new.self) key c.args.self.now.body
-    (g.P.Platform.history c.args.platform.now) (g.P.Platform.history c.append.new.self) _ (ap (λ (held : Held). length held.body) (sym (c.self.view_is ∙ c.seal_body-key.ensures.page)) ∙ c.self.invariant.1) (rw c.seal_body-key.ensures.used c.in-Ok.ensures.drawn)
+    keeps_append g.P.Platform.tells (g.T.Tape.drawn c.args.tape.now) (g.T.Tape.drawn c.draw.new.self) key c.args.self.now.body (g.P.Platform.head c.args.platform.now) value
+    (g.P.Platform.history c.args.platform.now) (g.P.Platform.history c.append.new.self) _ (ap (λ (held : Held). length held.body) (sym (c.self.view_is ∙ c.seal_body-key.ensures.page)) ∙ c.self.invariant.1)
+    fits is (λ told. sym (g.met.P.Platform.counts_pages told c.args.platform.now)) (rw c.seal_body-key.ensures.used c.in-Ok.ensures.drawn)
     c.append.ensures.time
     (λ told. subst (λ (bytes : List ℕ). MayHavePage (g.P.Platform.history c.args.platform.now).present bytes (g.P.Platform.history c.append.new.self).present) page (c.append.ensures.either told))
     (λ keys has. tt)
 
 pub returns-clause-keeps : goal.returns-clause-keeps
-returns-clause-keeps g c =
+returns-clause-keeps g c = λ value fits is.
     let key = c.seal_body-key.result in
     let page : c.deref.result.now ≡ masked key c.args.self.now.body = c.deref.ensures.value ∙ ap (λ (held : Held). held.page) (c.self.view_is ∙ c.seal_body-key.ensures.page) in
-    keeps_append g.P.Platform.tells (g.T.Tape.drawn c.args.tape.now) (g.T.Tape.drawn c.draw.new.self) key c.args.self.now.body
-    (g.P.Platform.history c.args.platform.now) (g.P.Platform.history c.append.new.self) _ (ap (λ (held : Held). length held.body) (sym (c.self.view_is ∙ c.seal_body-key.ensures.page)) ∙ c.self.invariant.1) (rw c.seal_body-key.ensures.used c.in-Ok.ensures.drawn)
+    keeps_append g.P.Platform.tells (g.T.Tape.drawn c.args.tape.now) (g.T.Tape.drawn c.draw.new.self) key c.args.self.now.body (g.P.Platform.head c.args.platform.now) value
+    (g.P.Platform.history c.args.platform.now) (g.P.Platform.history c.append.new.self) _ (ap (λ (held : Held). length held.body) (sym (c.self.view_is ∙ c.seal_body-key.ensures.page)) ∙ c.self.invariant.1)
+    fits is (λ told. sym (g.met.P.Platform.counts_pages told c.args.platform.now)) (rw c.seal_body-key.ensures.used c.in-Ok.ensures.drawn)
     c.append.ensures.time
     (λ told. subst (λ (bytes : List ℕ). MayHavePage (g.P.Platform.history c.args.platform.now).present bytes (g.P.Platform.history c.append.new.self).present) page (c.append.ensures.either told))
     (λ keys has. has)
