@@ -17,14 +17,14 @@ use Rattle.root_codec.specs.RootRecord.{root_fields, root_bytes}
 use Rattle.key_graph.specs.Chains.{Link, link, Reached, Distinct, OneOpener}
 use Rattle.key_graph.specs.OwnKeys.{HaveOwnKeys}
 use Rattle.key_graph.specs.Maps.{addresses_of, AreListed, AreFirst, ReachesExactly}
-use Rattle.key_graph.proofs.ChainLaws.{earlier_map, contains_map}
+use Rattle.key_graph.proofs.ChainLaws.{earlier_map, contains_map, map_contains}
 use Rattle.std.proofs.lemmas.List.Elements.{All-map, All-contains}
 use Rattle.page_store.specs.Device.{Device}
 use Rattle.page_store.specs.Tree.{Place, Parts, Tree}
 use Rattle.page_store.specs.Stands.{StandsBy, Stands, IsSound}
 use Rattle.page_store.specs.Kept.{links_of, IsRootOf, Kept, ReachesTree}
 use Rattle.page_store.proofs.TreeMaps.{tree_closed}
-use Rattle.page_store.specs.Floors.{IsInTree, head_in, floor_of, low_of, Forgets, KeepsDeleted, NeverReached, ReachesStill}
+use Rattle.page_store.specs.Floors.{IsInTree, HasPlace, IsNewRoot, Succeeds, head_in, floor_of, low_of, Forgets, KeepsDeleted, NeverReached, ReachesStill}
 use Rattle.page_store.proofs.TreeLaws.{one_tree}
 use Rattle.page_store.proofs.KeptLaws.{one_root_in, root_of_stands, tree_later, recorded_tree, may_leave_itself}
 
@@ -140,6 +140,62 @@ in_tree_before image later addr (Some device, (root, parts, stands)) earlier sam
       has = subst (λ (p : Parts). Contains (addresses_of (links_of p.places)) addr) one is.has;
     }
 
+-- ---- places of the tree
+
+pub place_in_tree : (image : Image) (place : Place) → HasPlace image place → IsInTree image place.addr
+place_in_tree image place is = record {
+  root = is.root;
+  parts = is.parts;
+  is = is.is;
+  tree = is.tree;
+  has = map_contains (λ (l : Link). l.addr) (links_of is.parts.places) (link place.addr place.key) (map_contains (λ (p : Place). link p.addr p.key) is.parts.places place is.has);
+}
+
+-- a place at an address of the tree
+pub place_at : (image : Image) (addr : ℕ) → IsInTree image addr → (place : Place) × (place.addr ≡ addr) × HasPlace image place
+place_at image addr is =
+    let spot : Place → Link = λ p. link p.addr p.key in
+    let at = contains_map (λ (l : Link). l.addr) (map spot is.parts.places) addr is.has in
+    let place = contains_map spot is.parts.places at.0 at.1 in
+    (place.0, ap (λ (l : Link). l.addr) place.2 ∙ at.2, record { root = is.root; parts = is.parts; is = is.is; tree = is.tree; has = place.1 })
+
+pub place_later : (image later : Image) (place : Place) → IsEarlier image later → later.cell ≡ image.cell → HasPlace image place → HasPlace later place
+place_later image later place earlier same is = record {
+  root = is.root;
+  parts = is.parts;
+  is = root_kept image later is.root same is.is;
+  tree = tree_later image later is.root is.parts earlier is.tree;
+  has = is.has;
+}
+
+place_before : (image later : Image) (place : Place) → IsSound image → IsEarlier image later → later.cell ≡ image.cell → HasPlace later place → HasPlace image place
+place_before image later place (None, stands) earlier same is = absurd (let no : None ≡ Some (root_bytes is.root) = sym stands ∙ (sym same ∙ is.is.cell) in cc)
+place_before image later place (Some device, (root, parts, stands)) earlier same is =
+    let here : IsRootOf image is.root = root_kept later image is.root (sym same) is.is in
+    let roots : root ≡ is.root = one_root_in image image root is.root refl (root_of_stands image device root parts stands) here in
+    let tree : Tree image.readable is.root parts = subst (λ (r : Root). Tree image.readable r parts) roots stands.tree in
+    let one : is.parts ≡ parts = one_tree later.readable is.root is.parts parts is.is.in_range is.tree (tree_later image later is.root parts earlier tree) in
+    record {
+      root = is.root;
+      parts = parts;
+      is = here;
+      tree = tree;
+      has = subst (λ (p : Parts). Contains p.places place) one is.has;
+    }
+
+-- the place of a tree that an image stands by is one of its parts
+pub place_of_stands : (image : Image) (device : Device) (root : Root) (parts : Parts) (place : Place) → StandsBy image device root parts → HasPlace image place → Contains parts.places place
+place_of_stands image device root parts place stands is =
+    let roots : root ≡ is.root = one_root_in image image root is.root refl (root_of_stands image device root parts stands) is.is in
+    let tree : Tree image.readable is.root parts = subst (λ (r : Root). Tree image.readable r parts) roots stands.tree in
+    subst (λ (p : Parts). Contains p.places place) (one_tree image.readable is.root is.parts parts is.is.in_range is.tree tree) is.has
+
+-- of the addresses below the old head the new tree has only those of the old
+old_only_of : (old new : Image) (addr : ℕ) → Succeeds old new → IsInTree new addr → addr < low_of old → IsInTree old addr
+old_only_of old new addr succeeds there below =
+    let place = place_at new addr there in
+    subst (IsInTree old) place.1 (place_in_tree old place.0 (succeeds.kept place.0 place.2 (let is = place.1 in omega (arith, is, below))))
+
 -- ---- pairs of moments
 
 -- the floor doesn't fall, and the later tree has below it only addresses of the earlier one
@@ -230,7 +286,7 @@ kept_turn start old new i t from forgets sound low before high first last =
     let same : floor_of start new i ≡ floor_of start new m = floor_between start new m i from low to_i in
     let low_m : low_of (image_at new m) ≡ low_of old.present = ap low_of was in
     let low_n : low_of (image_at new n) ≡ low_of new.present = ap low_of now in
-    let rises = forgets.rises in
+    let rises = forgets.succeeds.rises in
     let lows : low_of (image_at new m) ≤ low_of (image_at new t) = elim (split (cell_at new t)) [
       | inr some ↦
           let a : low_of (image_at new t) ≡ head_in some.0 = ap (λ (c : Option (List ℕ)). option_map_or head_in c (length (image_at new t).recorded)) some.1 in
@@ -249,7 +305,7 @@ kept_turn start old new i t from forgets sound low before high first last =
       floors = omega (arith, same, floors);
       old_only = λ addr there below.
           let at_n : IsInTree (image_at new n) addr = in_tree_later (image_at new t) (image_at new n) addr (new.ascends t n high) (last n high (omega arith)) there in
-          let gone : IsInTree old.present addr = forgets.old_only addr (subst (λ (x : Image). IsInTree x addr) now at_n) (omega (arith, below, same, under, low_m)) in
+          let gone : IsInTree old.present addr = old_only_of old.present new.present addr forgets.succeeds (subst (λ (x : Image). IsInTree x addr) now at_n) (omega (arith, below, same, under, low_m)) in
           in_tree_later (image_at new m) (image_at new i) addr (new.ascends m i low) (to_i i low (omega arith)) (subst (λ (x : Image). IsInTree x addr) (sym was) gone);
     }
 
@@ -364,13 +420,16 @@ forgets_still old new sound during =
     record {
       sound = still_sound old new sound during;
       turns = Turns-not old new (λ image. image.cell ≡ old.present.cell) (λ image. image.cell ≡ new.present.cell) during;
-      rises = low_later old.present new.present earlier.pages now;
-      old_only = λ addr there below. in_tree_before old.present new.present addr sound earlier now there;
+      succeeds = record {
+        rises = low_later old.present new.present earlier.pages now;
+        kept = λ place there below. place_before old.present new.present place sound earlier now there;
+        root = λ root is. inl (root_kept new.present old.present root (sym now) is);
+      };
     }
 
 -- calls that leave the cell until it is that of another image
-pub forgets_published : (old new : History) (X : Image) → IsSound old.present → IsSound X → Turns old new (λ image. image.cell ≡ old.present.cell) (λ image. image ≡ X) → low_of old.present ≤ low_of X → ((addr : ℕ) → IsInTree X addr → addr < low_of old.present → IsInTree old.present addr) → Forgets old new
-forgets_published old new X sound next turns rises old_only = elim (Turns-cases old new (λ image. image.cell ≡ old.present.cell) (λ image. image ≡ X) turns) [
+pub forgets_published : (old new : History) (X : Image) → IsSound old.present → IsSound X → Turns old new (λ image. image.cell ≡ old.present.cell) (λ image. image ≡ X) → Succeeds old.present X → Forgets old new
+forgets_published old new X sound next turns succeeds = elim (Turns-cases old new (λ image. image.cell ≡ old.present.cell) (λ image. image ≡ X) turns) [
   | inl still ↦ forgets_still old new sound still
   | inr is ↦ record {
     sound = record {
@@ -382,8 +441,7 @@ forgets_published old new X sound next turns rises old_only = elim (Turns-cases 
     };
     turns = Turns-weaker old new (λ image. image.cell ≡ old.present.cell) (λ image. image ≡ X) (λ image. image.cell ≡ old.present.cell) (λ image. image.cell ≡ new.present.cell)
         (λ image same. same) (λ image same. ap (λ (i : Image). i.cell) same ∙ ap (λ (i : Image). i.cell) (sym is)) turns;
-    rises = subst (λ (i : Image). low_of old.present ≤ low_of i) (sym is) rises;
-    old_only = λ addr there below. old_only addr (subst (λ (i : Image). IsInTree i addr) is there) below;
+    succeeds = subst (Succeeds old.present) (sym is) succeeds;
   }
 ]
 
@@ -545,17 +603,25 @@ reaches_still keys old new stands kept distinct one i j from order to root is ad
     tree_reached keys new.present.recorded (image_at new i) (image_at new j) at.0 root (at.1 (image_at new i) (may_leave_itself new i)) (kept.each i from (omega arith))
     (new.ascends i j order).recorded (earlier-now new j to).recorded last.pages distinct one is addr
 
--- a root record whose tree has, below the low of the image from before, only addresses of that image's tree: of any number of levels
-pub forgets_tree : (old new : History) (X : Image) (device : Device) (root : Root) (parts : Parts) → IsSound old.present → Turns old new (λ image. image.cell ≡ old.present.cell) (λ image. image ≡ X) → StandsBy X device root parts → low_of old.present ≤ root.head → All (λ p. IsInTree old.present p.addr ⊎ (low_of old.present ≤ p.addr)) parts.places → Forgets old new
-forgets_tree old new X device root parts sound turns stands low newer =
-    let head = low_of_stands X device root parts stands in
-    let spot : Place → Link = λ p. link p.addr p.key in
-    forgets_published old new X sound (Some device, (root, parts, stands)) turns (omega (arith, low, head))
-    (λ addr there below.
-    let at = contains_map (λ (l : Link). l.addr) (map spot parts.places) addr (tree_of_stands X device root parts addr stands there) in
-    let place = contains_map spot parts.places at.0 at.1 in
-    let same : place.0.addr ≡ addr = ap (λ (l : Link). l.addr) place.2 ∙ at.2 in
-    elim (All-contains (λ (p : Place). IsInTree old.present p.addr ⊎ (low_of old.present ≤ p.addr)) parts.places place.0 newer place.1) as (λ e. IsInTree old.present addr) [
-      | inl was ↦ subst (IsInTree old.present) same was
-      | inr after ↦ absurd (omega (arith, same, below, after))
-    ])
+-- an image without a root record succeeds each one with as many pages at most
+pub succeeds_none : (old new : Image) → new.cell ≡ None → low_of old ≤ low_of new → Succeeds old new
+succeeds_none old new none rises = record {
+  rises = rises;
+  kept = λ place there below. absurd (no_tree new place.addr none (place_in_tree new place there));
+  root = λ root is. absurd (let no : None ≡ Some (root_bytes root) = sym none ∙ is.cell in cc);
+}
+
+-- a root record whose tree has, below the low of the image from before, only places of that image's tree, and not that of its root node: of any
+-- number of levels
+pub succeeds_tree : (old X : Image) (device : Device) (root : Root) (parts : Parts) → StandsBy X device root parts → low_of old ≤ root.addr → root.addr < root.head → root.head ≡ length X.recorded
+    → All (λ p. HasPlace old p ⊎ (low_of old ≤ p.addr)) parts.places
+    → ((former : Root) → IsRootOf old former → IsInTree X former.addr → ⊥) → Succeeds old X
+succeeds_tree old X device root parts stands low within size newer gone = record {
+  rises = let head = low_of_stands X device root parts stands in omega (arith, low, within, head);
+  kept = λ place there below.
+      elim (All-contains (λ (p : Place). HasPlace old p ⊎ (low_of old ≤ p.addr)) parts.places place newer (place_of_stands X device root parts place stands there)) [
+        | inl was ↦ was
+        | inr after ↦ absurd (omega (arith, below, after))
+      ];
+  root = λ other is. inr (subst (IsNewRoot old X) (one_root_in X X root other refl (root_of_stands X device root parts stands) is) (record { node = low; head = size; gone = gone }));
+}
