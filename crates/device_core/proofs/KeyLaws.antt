@@ -1,44 +1,40 @@
 -- What a format, a commit and a write do to the keys that the image keeps.
-use Rattle.std.proofs.Common.{◌≡◌, ◌⊎◌, inl, inr, Bool, true, false, Result, ℕ, zero, suc, ◌<◌, ◌≤◌, ◌^◌, List, [], ◌∷◌, ◌++◌, map, length, get_or, refl, sym, ◌∙◌, ap, subst, arith}
-use Rattle.std.specs.Prelude.{Option, None, Some, All, Contains, remove}
-use Rattle.std.proofs.lemmas.List.Elements.{All-nil, All-cons, All-head, All-tail, All-weaker, All-contains, Contains-append_left, Contains-get_or}
+use Rattle.std.proofs.Common.{◌≡◌, ◌⊎◌, inl, inr, Bool, true, false, Result, ℕ, zero, suc, ◌<◌, ◌≤◌, ◌^◌, List, [], ◌∷◌, ◌++◌, map, length, get_or, refl, sym, ◌∙◌, ap, subst, arith, length-append}
+use Rattle.std.specs.Prelude.{◌≢◌, Option, None, Some, All, Contains, remove}
+use Rattle.std.proofs.lemmas.List.Elements.{All-nil, All-cons, All-head, All-tail, All-weaker, All-map, All-contains, Contains-append_left, Contains-get_or}
 use Rattle.platform.specs.Image.{Image, IsEarlier, IsWhole, with_page, with_cell, all_synced}
 use Rattle.platform.specs.History.{History, Steps, During, Turns}
 use Rattle.platform.proofs.Moments.{During-step, During-now, During-call, Turns-either, whole-now}
 use Rattle.platform.specs.Image.{IsEither}
 use Rattle.device_core.proofs.MomentLaws.{one_look, one_call, then_published}
-use Rattle.page_store.proofs.FloorLaws.{low_few, no_tree}
 use Rattle.page_store.proofs.KeptLaws.{kept_cleared, same_during}
 use Rattle.sdbt_base.specs.Bytes.{IsBytes}
 use Rattle.device_core.specs.Blocks.{new_device}
 use Rattle.device_core.proofs.EntryLaws.{AreEntries-none, All-remove}
 use Rattle.node_codec.specs.declared.body.Entry.{Entry}
-use Rattle.node_codec.specs.Record.{DataRecord, NodeRecord, FitsNode, record_bytes}
+use Rattle.node_codec.specs.Record.{Record, DataRecord, NodeRecord, FitsNode, FitsRecord, record_bytes}
 use Rattle.device_core.specs.Replies.{committed_device}
 use Rattle.device_core.specs.Leaf.{IsServed, AreEntries}
 use Rattle.root_codec.specs.declared.root.Root.{Root}
 use Rattle.root_codec.specs.RootRecord.{root_bytes}
 use Rattle.page_store.specs.Device.{Device}
-use Rattle.key_graph.specs.Trace.{DataOf, NodeOver}
+use Rattle.key_graph.specs.Trace.{TraceEntry, DataOf, NodeOver}
 use Rattle.page_store.specs.Tree.{Place}
 use Rattle.page_store.specs.Leaf.{leaf_parts, StandsByLeaf}
 use Rattle.page_store.specs.Stands.{Stands, IsSound}
-use Rattle.page_store.specs.Kept.{Kept}
+use Rattle.page_store.specs.Kept.{IsRootOf, Kept}
 use Rattle.page_store.specs.Keeping.{KeepsKeys, IsNextRecord}
 use Rattle.page_store.specs.Places.{FitsAt, root_want}
-use Rattle.page_store.specs.Kept.{links_of}
-use Rattle.page_store.specs.Floors.{IsInTree, low_of, Forgets}
-use Rattle.key_graph.specs.Chains.{Link, link}
-use Rattle.key_graph.specs.Maps.{addresses_of}
+use Rattle.page_store.specs.Floors.{IsInTree, HasPlace, Succeeds, low_of, Forgets}
 use Rattle.key_graph.proofs.ChainLaws.{contains_map, map_contains}
-use Rattle.page_store.proofs.FloorLaws.{in_tree_later, low_of_stands, forgets_published, tree_of_stands}
+use Rattle.page_store.proofs.FloorLaws.{low_few, low_of_stands, place_later, place_at, place_of_stands, succeeds_none, succeeds_tree, forgets_published}
 use Rattle.device_core.specs.Blocks.{Blocks}
 use Rattle.device_core.specs.Leaf.{placed}
 use Rattle.device_core.specs.Holding.{HoldsBy}
 use Rattle.device_core.specs.Knowing.{HoldsListedBy}
 use Rattle.page_store.proofs.LeafStandsLaws.{stands_by_leaf, leaf_found}
 use Rattle.page_store.proofs.StandsLaws.{stands_with_page}
-use Rattle.page_store.proofs.KeptLaws.{kept_leaf, kept_published, root_of_stands}
+use Rattle.page_store.proofs.KeptLaws.{kept_leaf, kept_published, one_root_in, root_of_stands}
 use Rattle.page_store.proofs.KeepingLaws.{keeps_idle, keeps_still, keeps_then, keeps_from}
 use Rattle.device_core.proofs.HoldLaws.{IsNext, raised_leaf, raise_held, held_stands, holds_later, loaded, All-placed, leaf_page, with_leaf, committed, none_mapped, first_root, first_fits, first_one, no_entries_fit}
 
@@ -68,7 +64,7 @@ pub publish_keeps : (tells : Type 0) (drawn : Option (List (List ℕ))) (base : 
     → (tells → (keys : List (List ℕ)) → IsPublishing base mid.present root entries keys → Done keys)
     → KeepsKeys tells drawn drawn mid new (IsPublishing base mid.present root entries) Done
 publish_keeps tells drawn base mid new root entries Done appended size turns done =
-    keeps_still tells drawn drawn mid new (IsPublishing base mid.present root entries) Done refl size
+    keeps_still tells drawn drawn mid new (IsPublishing base mid.present root entries) Done refl (λ told. (turns told).extends) size
     (λ told keys kept ready.
     let X = with_cell (all_synced mid.present) (Some (root_bytes root)) in
     let target : X ≡ with_leaf base root entries = ap (λ (i : Image). with_cell (all_synced i) (Some (root_bytes root))) (appended told) in
@@ -93,25 +89,25 @@ leaf_listed keys image device root entries texts kept leaf =
 -- ---- a format
 
 -- the empty leaf is the record that is appended
-first_record : (image : Image) (body : List ℕ) (addr : ℕ) (keys : List (List ℕ)) → IsSound image → body ≡ record_bytes addr (NodeRecord 1 []) → addr ≡ length image.recorded → IsNextRecord image body keys
-first_record image body addr keys sound is at = record {
-  device = sound.0;
-  value = NodeRecord 1 [];
-  stands = sound.1;
-  in_range = (no_entries_fit (length image.recorded), All-nil (λ (e : Entry). IsBytes 32 e.key));
-  spelled = is ∙ ap (λ (n : ℕ). record_bytes n (NodeRecord 1 [])) at;
-  listed = All-nil (λ (e : Entry). Contains keys e.key);
-}
+first_record : (image : Image) (keys : List (List ℕ)) → IsSound image → IsNextRecord image (NodeRecord 1 []) keys
+first_record image keys sound = record { device = sound.0; stands = sound.1; listed = All-nil (λ (e : Entry). Contains keys e.key) }
+
+-- a call that appends a body where it is a record of the address
+abbrev Appends : Type 0 → Option (List (List ℕ)) → Option (List (List ℕ)) → History → History → List ℕ → ℕ → (List (List ℕ) → Type 0) → Type 0
+Appends tells drawn drawn_now old new body at Done =
+    (value : Record) → FitsRecord at value → body ≡ record_bytes at value → KeepsKeys tells drawn drawn_now old new (IsNextRecord old.present value) Done
 
 -- a look, and then the append
-pub format_appends : (tells : Type 0) (drawn drawn_now : Option (List (List ℕ))) (old looked mid : History) (body : List ℕ) (addr : ℕ) (Done : List (List ℕ) → Type 0)
+pub format_appends : (tells : Type 0) (drawn drawn_now : Option (List (List ℕ))) (old looked mid : History) (body : List ℕ) (addr at : ℕ) (Done : List (List ℕ) → Type 0)
     → (tells → Steps old looked) → (tells → looked.present ≡ old.present)
-    → KeepsKeys tells drawn drawn_now looked mid (IsNextRecord looked.present body) Done
-    → body ≡ record_bytes addr (NodeRecord 1 []) → (tells → addr ≡ length looked.present.recorded)
+    → Appends tells drawn drawn_now looked mid body at Done
+    → body ≡ record_bytes addr (NodeRecord 1 []) → addr ≡ at
     → KeepsKeys tells drawn drawn_now old mid (λ keys. IsSound old.present) (λ keys. IsSound looked.present × Done keys)
-format_appends tells drawn drawn_now old looked mid body addr Done steps same append is at =
-    keeps_then tells drawn drawn drawn_now old looked mid (λ keys. IsSound old.present) (λ keys. IsSound looked.present) (IsNextRecord looked.present body) Done (λ keys. IsSound looked.present × Done keys)
-    (look_keeps tells drawn old looked steps same) append (λ told keys kept sound. first_record looked.present body addr keys sound is (at told)) (λ told keys more sound done. (sound, done))
+format_appends tells drawn drawn_now old looked mid body addr at Done steps same append is here =
+    let leaf : Record = NodeRecord 1 [] in
+    keeps_then tells drawn drawn drawn_now old looked mid (λ keys. IsSound old.present) (λ keys. IsSound looked.present) (IsNextRecord looked.present leaf) Done (λ keys. IsSound looked.present × Done keys)
+    (look_keeps tells drawn old looked steps same) (append leaf (no_entries_fit at, All-nil (λ (e : Entry). IsBytes 32 e.key)) (is ∙ ap (λ (n : ℕ). record_bytes n leaf) here))
+    (λ told keys kept sound. first_record looked.present keys sound) (λ told keys more sound done. (sound, done))
 
 -- the image with the empty leaf stands by it
 pub first_leaf : (image : Image) (blocks order addr : ℕ) (key : List ℕ) → IsWhole image → 1 ≤ blocks → blocks ≤ 64 → order ≡ 64 → addr < 2 ^ 32 → IsBytes 32 key → addr ≡ length image.recorded → StandsByLeaf (with_leaf image (first_root blocks order addr key) []) (new_device blocks order) (first_root blocks order addr key) [] []
@@ -145,29 +141,86 @@ format_publishes tells drawn drawn_now old looked mid new blocks order addr key 
 
 -- ---- what a publishing forgets
 
-leaf_addresses : (root : Root) (entries : List Entry) (texts : List (List ℕ)) (addr : ℕ) → Contains (addresses_of (links_of (leaf_parts root.addr root.key entries texts).places)) addr → (addr ≡ root.addr) ⊎ ((e : Entry) × Contains entries e × (e.addr ≡ addr))
-leaf_addresses root entries texts addr (zero, within, is) = inl (sym is)
-leaf_addresses root entries texts addr (suc k, within, is) =
-    let place : Entry → Place = λ e. record { addr = e.addr; key = e.key; trace = DataOf e.low } in
-    let spot : Place → Link = λ p. link p.addr p.key in
-    let at = contains_map (λ (l : Link). l.addr) (map spot (map place entries)) addr (k, omega (arith, within), is) in
-    let places = contains_map spot (map place entries) at.0 at.1 in
-    let entry = contains_map place entries places.0 places.1 in
-    inr (entry.0, entry.1, ap (λ (p : Place). p.addr) entry.2 ∙ (ap (λ (l : Link). l.addr) places.2 ∙ at.2))
+-- the place of an entry's data record
+abbrev pub data_place : Entry → Place
+data_place e = record { addr = e.addr; key = e.key; trace = DataOf e.low }
 
-pub forgets_leaf : (old new : History) (X : Image) (device : Device) (root : Root) (entries : List Entry) (texts : List (List ℕ)) → IsSound old.present → Turns old new (λ image. image.cell ≡ old.present.cell) (λ image. image ≡ X) → StandsByLeaf X device root entries texts → low_of old.present ≤ root.addr → All (λ e. IsInTree old.present e.addr ⊎ (low_of old.present ≤ e.addr)) entries → Forgets old new
-forgets_leaf old new X device root entries texts sound turns leaf low newer =
-    let stands = stands_by_leaf X device root entries texts leaf in
+-- each entry is of the tree of the image from before, or names a page from behind its root record
+abbrev pub AreNewer : Image → ℕ → List Entry → Type 0
+AreNewer image head entries = All (λ e. HasPlace image (data_place e) ⊎ (head ≤ e.addr)) entries
+
+abbrev is_data : TraceEntry → Bool
+is_data (DataOf block) = true
+is_data (NodeOver children) = false
+
+first_or_rest : (top : Place) (rest : List Place) (place : Place) → Contains (top ∷ rest) place → (top ≡ place) ⊎ Contains rest place
+first_or_rest top rest place (zero, within, is) = inl is
+first_or_rest top rest place (suc k, within, is) = inr (k, omega (arith, within), is)
+
+-- the root node of a leaf that an image stands by is none of its data records
+root_apart : (image : Image) (device : Device) (root : Root) (entries : List Entry) (texts : List (List ℕ)) (place : Place) → StandsByLeaf image device root entries texts → HasPlace image place → is_data place.trace ≡ true → place.addr ≡ root.addr → ⊥
+root_apart image device root entries texts place leaf there of_data same =
+    let stands = stands_by_leaf image device root entries texts leaf in
     let parts = leaf_parts root.addr root.key entries texts in
-    let head = low_of_stands X device root parts stands in
-    forgets_published old new X sound (Some device, (root, parts, stands)) turns (omega (arith, low, head, leaf.in_range.addr))
-    (λ addr there below. elim (leaf_addresses root entries texts addr (tree_of_stands X device root parts addr stands there)) as (λ e. IsInTree old.present addr) [
-      | inl is ↦ absurd (omega (arith, is, below, low))
-      | inr found ↦ elim (All-contains (λ (e : Entry). IsInTree old.present e.addr ⊎ (low_of old.present ≤ e.addr)) entries found.0 newer found.1) as (λ e. IsInTree old.present addr) [
-        | inl was ↦ subst (IsInTree old.present) found.2 was
-        | inr after ↦ absurd (let same = found.2 in omega (arith, same, below, after))
-      ]
-    ])
+    let top : Place = record { addr = root.addr; key = root.key; trace = NodeOver (map (λ (e : Entry). e.addr) entries) } in
+    elim (first_or_rest top (map data_place entries) place (place_of_stands image device root parts place stands there)) [
+      | inl is ↦ let no : false ≡ true = ap (λ (p : Place). is_data p.trace) is ∙ of_data in cc
+      | inr at ↦ stands.apart 0 (suc at.0) place (omega arith) (let within = at.1 in omega (arith, within)) (sym (ap (λ (p : Place). p.addr) at.2 ∙ same))
+    ]
+
+stands_leaf : (image : Image) (device : Device) (root : Root) (entries : List Entry) (texts : List (List ℕ)) → StandsByLeaf image device root entries texts → Stands image (Some device)
+stands_leaf image device root entries texts leaf = (root, leaf_parts root.addr root.key entries texts, stands_by_leaf image device root entries texts leaf)
+
+-- where an image stands by a leaf, another root record whose leaf has only newer entries succeeds it
+succeeds_leaf : (old X : Image) (device : Device) (root : Root) (entries : List Entry) (texts : List (List ℕ)) → StandsByLeaf X device root entries texts → low_of old ≤ root.addr → root.addr < root.head → root.head ≡ length X.recorded
+    → AreNewer old (low_of old) entries
+    → ((former : Root) → IsRootOf old former → IsInTree X former.addr → ⊥) → Succeeds old X
+succeeds_leaf old X device root entries texts leaf low within size newer gone =
+    let stands = stands_by_leaf X device root entries texts leaf in
+    let Newer : Place → Type 0 = λ p. HasPlace old p ⊎ (low_of old ≤ p.addr) in
+    succeeds_tree old X device root (leaf_parts root.addr root.key entries texts) stands low within size
+    (All-cons Newer (record { addr = root.addr; key = root.key; trace = NodeOver (map (λ (e : Entry). e.addr) entries) }) (map data_place entries) (inr low) (All-map Newer data_place entries newer))
+    gone
+
+-- the old root node is none of the new leaf's places
+leaf_gone : (old X : Image) (device was : Device) (root first : Root) (entries leaf : List Entry) (texts leaf_texts : List (List ℕ)) → StandsByLeaf old was first leaf leaf_texts → StandsByLeaf X device root entries texts → low_of old ≤ root.addr
+    → AreNewer old (low_of old) entries → (former : Root) → IsRootOf old former → IsInTree X former.addr → ⊥
+leaf_gone old X device was root first entries leaf texts leaf_texts stood stands low newer former is there =
+    let before = stands_by_leaf old was first leaf leaf_texts stood in
+    let after = stands_by_leaf X device root entries texts stands in
+    let parts = leaf_parts root.addr root.key entries texts in
+    let same : first ≡ former = one_root_in old old first former refl (root_of_stands old was first (leaf_parts first.addr first.key leaf leaf_texts) before) is in
+    let head = low_of_stands old was first (leaf_parts first.addr first.key leaf leaf_texts) before in
+    let below : first.addr < first.head = All-head (λ (p : Place). p.addr < first.head) (record { addr = first.addr; key = first.key; trace = NodeOver (map (λ (e : Entry). e.addr) leaf) }) (map data_place leaf) before.below in
+    let addr : former.addr ≡ first.addr = ap (λ (r : Root). r.addr) (sym same) in
+    let place = place_at X former.addr there in
+    let top : Place = record { addr = root.addr; key = root.key; trace = NodeOver (map (λ (e : Entry). e.addr) entries) } in
+    elim (first_or_rest top (map data_place entries) place.0 (place_of_stands X device root parts place.0 after place.2)) [
+      | inl at ↦ let here : root.addr ≡ former.addr = ap (λ (p : Place). p.addr) at ∙ place.1 in omega (arith, here, low, below, head, addr)
+      | inr at ↦
+          let entry = contains_map data_place entries place.0 at in
+          let here : entry.0.addr ≡ first.addr = ap (λ (p : Place). p.addr) entry.2 ∙ (place.1 ∙ addr) in
+          elim (All-contains (λ (e : Entry). HasPlace old (data_place e) ⊎ (low_of old ≤ e.addr)) entries entry.0 newer entry.1) [
+            | inl was_there ↦ root_apart old was first leaf leaf_texts (data_place entry.0) stood was_there refl here
+            | inr later ↦ omega (arith, here, below, head, later)
+          ]
+    ]
+
+-- a leaf is published where there was none
+pub forgets_first : (old new : History) (X : Image) (device : Device) (root : Root) → old.present.cell ≡ None → IsSound old.present → Turns old new (λ image. image.cell ≡ old.present.cell) (λ image. image ≡ X) → StandsByLeaf X device root [] []
+    → low_of old.present ≤ root.addr → root.addr < root.head → root.head ≡ length X.recorded → Forgets old new
+forgets_first old new X device root none sound turns leaf low within size =
+    forgets_published old new X sound (Some device, stands_leaf X device root [] [] leaf) turns
+    (succeeds_leaf old.present X device root [] [] leaf low within size (All-nil (λ (e : Entry). HasPlace old.present (data_place e) ⊎ (low_of old.present ≤ e.addr)))
+    (λ former is there. let no : None ≡ Some (root_bytes former) = sym none ∙ is.cell in cc))
+
+-- a leaf is published after another one
+pub forgets_leaf : (old new : History) (X : Image) (was device : Device) (first root : Root) (leaf entries : List Entry) (leaf_texts texts : List (List ℕ)) → StandsByLeaf old.present was first leaf leaf_texts → Turns old new (λ image. image.cell ≡ old.present.cell) (λ image. image ≡ X) → StandsByLeaf X device root entries texts
+    → low_of old.present ≤ root.addr → root.addr < root.head → root.head ≡ length X.recorded → AreNewer old.present (low_of old.present) entries → Forgets old new
+forgets_leaf old new X was device first root leaf entries leaf_texts texts stood turns stands low within size newer =
+    forgets_published old new X (Some was, stands_leaf old.present was first leaf leaf_texts stood) (Some device, stands_leaf X device root entries texts stands) turns
+    (succeeds_leaf old.present X device root entries texts stands low within size newer
+    (leaf_gone old.present X device was root first entries leaf texts leaf_texts stood stands low newer))
 
 -- ---- sessions
 
@@ -175,11 +228,11 @@ pub listed_same : (root : Root) (mapped : ℕ) (loaded touched : Bool) (known : 
 listed_same root mapped loaded touched known image other keys same h = subst (λ (i : Image). HoldsListedBy root mapped loaded touched known i keys) (sym same) h
 
 -- what a session's pages are in a later image with the same cell
-newer_later : (image later : Image) (head : ℕ) (known : List Entry) → IsEarlier image later → later.cell ≡ image.cell → All (λ e. IsInTree image e.addr ⊎ (head ≤ e.addr)) known → All (λ e. IsInTree later e.addr ⊎ (head ≤ e.addr)) known
+newer_later : (image later : Image) (head : ℕ) (known : List Entry) → IsEarlier image later → later.cell ≡ image.cell → AreNewer image head known → AreNewer later head known
 newer_later image later head known earlier same newer =
-    All-weaker (λ (e : Entry). IsInTree image e.addr ⊎ (head ≤ e.addr)) (λ (e : Entry). IsInTree later e.addr ⊎ (head ≤ e.addr))
-    (λ e either. elim either as (λ x. IsInTree later e.addr ⊎ (head ≤ e.addr)) [
-      | inl there ↦ inl (in_tree_later image later e.addr earlier same there)
+    All-weaker (λ (e : Entry). HasPlace image (data_place e) ⊎ (head ≤ e.addr)) (λ (e : Entry). HasPlace later (data_place e) ⊎ (head ≤ e.addr))
+    (λ e either. elim either as (λ x. HasPlace later (data_place e) ⊎ (head ≤ e.addr)) [
+      | inl there ↦ inl (place_later image later (data_place e) earlier same there)
       | inr after ↦ inr after
     ]) known newer
 
@@ -198,20 +251,18 @@ listed_later root mapped loaded touched known image later keys more earlier same
 pub listed_sound : (root : Root) (mapped : ℕ) (loaded touched : Bool) (known : List Entry) (image : Image) (keys : List (List ℕ)) → HoldsListedBy root mapped loaded touched known image keys → IsSound image
 listed_sound root mapped loaded touched known image keys h = (Some h.device, held_stands root mapped loaded touched known image h.device h.contents h.holds)
 
--- the entries of the leaf that an image stands by are in its tree
-leaf_in_tree : (image : Image) (device : Device) (root : Root) (entries : List Entry) (texts : List (List ℕ)) → StandsByLeaf image device root entries texts → All (λ e. IsInTree image e.addr) entries
-leaf_in_tree image device root entries texts leaf =
+-- the data records of the leaf that an image stands by are places of its tree
+leaf_places : (image : Image) (device : Device) (root : Root) (entries : List Entry) (texts : List (List ℕ)) → StandsByLeaf image device root entries texts → All (λ e. HasPlace image (data_place e)) entries
+leaf_places image device root entries texts leaf =
     let stands = stands_by_leaf image device root entries texts leaf in
     let parts = leaf_parts root.addr root.key entries texts in
-    let place : Entry → Place = λ e. record { addr = e.addr; key = e.key; trace = DataOf e.low } in
-    let spot : Place → Link = λ p. link p.addr p.key in
     λ k d inside. record {
       root = root;
       parts = parts;
       is = root_of_stands image device root parts stands;
       tree = stands.tree;
       has =
-          let at = map_contains (λ (l : Link). l.addr) (map spot (map place entries)) _ (map_contains spot (map place entries) _ (map_contains place entries (get_or entries k d) (Contains-get_or entries k d inside))) in
+          let at = map_contains data_place entries (get_or entries k d) (Contains-get_or entries k d inside) in
           (suc at.0, omega (arith, at.1), at.2);
     }
 
@@ -225,9 +276,9 @@ listed_loaded root mapped touched known read image keys kept h fits =
       contents = h.contents;
       holds = held;
       listed = subst (λ (es : List Entry). All (λ (e : Entry). Contains keys e.key) es) same (leaf_listed keys image h.device root h.holds.leaf h.holds.leaf_texts kept h.holds.stands);
-      newer = subst (λ (es : List Entry). All (λ (e : Entry). IsInTree image e.addr ⊎ (root.head ≤ e.addr)) es) same
-          (All-weaker (λ (e : Entry). IsInTree image e.addr) (λ (e : Entry). IsInTree image e.addr ⊎ (root.head ≤ e.addr)) (λ e there. inl there) h.holds.leaf
-          (leaf_in_tree image h.device root h.holds.leaf h.holds.leaf_texts h.holds.stands));
+      newer = subst (λ (es : List Entry). AreNewer image root.head es) same
+          (All-weaker (λ (e : Entry). HasPlace image (data_place e)) (λ (e : Entry). HasPlace image (data_place e) ⊎ (root.head ≤ e.addr)) (λ e there. inl there) h.holds.leaf
+          (leaf_places image h.device root h.holds.leaf h.holds.leaf_texts h.holds.stands));
     }
 
 -- an entry more, or another one in its place, of a page that was appended
@@ -237,7 +288,7 @@ listed_written root mapped now loaded touched was_touched known place entry imag
   contents = contents;
   holds = held;
   listed = All-placed (λ (e : Entry). Contains (keys ++ more) e.key) known place entry (listed_more keys more known h.listed) has;
-  newer = All-placed (λ (e : Entry). IsInTree later e.addr ⊎ (root.head ≤ e.addr)) known place entry (newer_later image later root.head known earlier same h.newer) (inr after);
+  newer = All-placed (λ (e : Entry). HasPlace later (data_place e) ⊎ (root.head ≤ e.addr)) known place entry (newer_later image later root.head known earlier same h.newer) (inr after);
 }
 
 -- an entry less
@@ -247,7 +298,7 @@ listed_trimmed root mapped now loaded touched was_touched known at image device 
   contents = contents;
   holds = held;
   listed = All-remove (λ (e : Entry). Contains keys e.key) known at h.listed;
-  newer = All-remove (λ (e : Entry). IsInTree image e.addr ⊎ (root.head ≤ e.addr)) known at h.newer;
+  newer = All-remove (λ (e : Entry). HasPlace image (data_place e) ⊎ (root.head ≤ e.addr)) known at h.newer;
 }
 
 -- a session that has read nothing
@@ -257,7 +308,7 @@ listed_mounted root mapped loaded touched known image device contents keys none 
   contents = contents;
   holds = held;
   listed = subst (λ (es : List Entry). All (λ (e : Entry). Contains keys e.key) es) (sym none) (All-nil (λ (e : Entry). Contains keys e.key));
-  newer = subst (λ (es : List Entry). All (λ (e : Entry). IsInTree image e.addr ⊎ (root.head ≤ e.addr)) es) (sym none) (All-nil (λ (e : Entry). IsInTree image e.addr ⊎ (root.head ≤ e.addr)));
+  newer = subst (λ (es : List Entry). AreNewer image root.head es) (sym none) (All-nil (λ (e : Entry). HasPlace image (data_place e) ⊎ (root.head ≤ e.addr)));
 }
 
 -- a session whose leaf was published
@@ -267,7 +318,7 @@ listed_committed root mapped loaded touched known image device contents texts ke
   contents = contents;
   holds = held;
   listed = listed;
-  newer = All-weaker (λ (e : Entry). IsInTree image e.addr) (λ (e : Entry). IsInTree image e.addr ⊎ (root.head ≤ e.addr)) (λ e there. inl there) known (leaf_in_tree image device root known texts leaf);
+  newer = All-weaker (λ (e : Entry). HasPlace image (data_place e)) (λ (e : Entry). HasPlace image (data_place e) ⊎ (root.head ≤ e.addr)) (λ e there. inl there) known (leaf_places image device root known texts leaf);
 }
 
 -- ---- an erasure
@@ -293,7 +344,7 @@ forgets_erased old mid new look same steps either sound =
       | inr is ↦ inr (is ∙ ap (λ (i : Image). with_cell i None) same)
     ]) in
     let few = low_few old.present sound (whole-now old).synced in
-    forgets_published old new X sound (None, refl) turns few (λ addr there below. absurd (no_tree X addr refl there))
+    forgets_published old new X sound (None, refl) turns (succeeds_none old.present X refl few)
 
 -- ---- a commit
 
@@ -301,23 +352,22 @@ pub listed_grown : (root : Root) (mapped : ℕ) (loaded touched : Bool) (known :
 listed_grown root mapped loaded touched known image keys more h = record { device = h.device; contents = h.contents; holds = h.holds; listed = listed_more keys more known h.listed; newer = h.newer }
 
 -- the leaf is the record that is appended
-next_record : (root : Root) (mapped : ℕ) (loaded touched : Bool) (known : List Entry) (image : Image) (body : List ℕ) (addr : ℕ) (keys : List (List ℕ)) → HoldsListedBy root mapped loaded touched known image keys → body ≡ record_bytes addr (NodeRecord 1 known) → addr ≡ length image.recorded → FitsNode addr 1 known → All (λ e. IsBytes 32 e.key) known → IsNextRecord image body keys
-next_record root mapped loaded touched known image body addr keys h is at fits sized = record {
+next_record : (root : Root) (mapped : ℕ) (loaded touched : Bool) (known : List Entry) (image : Image) (keys : List (List ℕ)) → HoldsListedBy root mapped loaded touched known image keys → IsNextRecord image (NodeRecord 1 known) keys
+next_record root mapped loaded touched known image keys h = record {
   device = Some h.device;
-  value = NodeRecord 1 known;
   stands = held_stands root mapped loaded touched known image h.device h.contents h.holds;
-  in_range = (subst (λ (n : ℕ). FitsNode n 1 known) at fits, sized);
-  spelled = is ∙ ap (λ (n : ℕ). record_bytes n (NodeRecord 1 known)) at;
   listed = h.listed;
 }
 
-pub raise_appends : (tells : Type 0) (drawn drawn_now : Option (List (List ℕ))) (old mid : History) (root : Root) (mapped : ℕ) (loaded touched : Bool) (known : List Entry) (body : List ℕ) (addr : ℕ) (Done : List (List ℕ) → Type 0)
-    → KeepsKeys tells drawn drawn_now old mid (IsNextRecord old.present body) Done
-    → body ≡ record_bytes addr (NodeRecord 1 known) → (tells → addr ≡ length old.present.recorded) → FitsNode addr 1 known → All (λ e. IsBytes 32 e.key) known
+pub raise_appends : (tells : Type 0) (drawn drawn_now : Option (List (List ℕ))) (old mid : History) (root : Root) (mapped : ℕ) (loaded touched : Bool) (known : List Entry) (body : List ℕ) (addr at : ℕ) (Done : List (List ℕ) → Type 0)
+    → Appends tells drawn drawn_now old mid body at Done
+    → body ≡ record_bytes addr (NodeRecord 1 known) → addr ≡ at → FitsNode addr 1 known → All (λ e. IsBytes 32 e.key) known
     → KeepsKeys tells drawn drawn_now old mid (HoldsListedBy root mapped loaded touched known old.present) (λ keys. Done keys × HoldsListedBy root mapped loaded touched known old.present keys)
-raise_appends tells drawn drawn_now old mid root mapped loaded touched known body addr Done append is at fits sized =
-    keeps_from tells drawn drawn_now old mid (IsNextRecord old.present body) (HoldsListedBy root mapped loaded touched known old.present) Done (λ keys. Done keys × HoldsListedBy root mapped loaded touched known old.present keys) append
-    (λ told keys h. next_record root mapped loaded touched known old.present body addr keys h is (at told) fits sized)
+raise_appends tells drawn drawn_now old mid root mapped loaded touched known body addr at Done append is here fits sized =
+    let leaf : Record = NodeRecord 1 known in
+    keeps_from tells drawn drawn_now old mid (IsNextRecord old.present leaf) (HoldsListedBy root mapped loaded touched known old.present) Done (λ keys. Done keys × HoldsListedBy root mapped loaded touched known old.present keys)
+    (append leaf (subst (λ (n : ℕ). FitsNode n 1 known) here fits, sized) (is ∙ ap (λ (n : ℕ). record_bytes n leaf) here))
+    (λ told keys h. next_record root mapped loaded touched known old.present keys h)
     (λ told keys more h done. (done, listed_grown root mapped loaded touched known old.present keys more h))
 
 pub raise_publishes : (tells : Type 0) (drawn drawn_now : Option (List (List ℕ))) (old mid new : History) (first next : Root) (count pages : ℕ) (loaded touched : Bool) (known : List Entry) (Done : List (List ℕ) → Type 0)
@@ -368,33 +418,26 @@ raise_forgets old mid new first next count pages loaded touched known keys h ste
     let leaf = subst (λ (i : Image). StandsByLeaf i (committed_device h.device h.contents) next known h.holds.texts) (sym target)
     (raised_leaf first next count pages loaded touched known old.present h.device h.contents ready h.holds follows served most room sized (whole-now old) at are) in
     let low : low_of old.present ≡ first.head = low_of_stands old.present h.device first _ (stands_by_leaf old.present h.device first h.holds.leaf h.holds.leaf_texts h.holds.stands) in
-    forgets_leaf old new X (committed_device h.device h.contents) next known h.holds.texts (listed_sound first count loaded touched known old.present keys h)
-    (then_published old mid new X (one_call old mid steps cell) turns) leaf (omega (arith, low, follows.addr, served.within))
-    (subst (λ (n : ℕ). All (λ (e : Entry). IsInTree old.present e.addr ⊎ (n ≤ e.addr)) known) (sym low) h.newer)
+    let longer : next.head ≡ length X.recorded = omega (arith, follows.head, at, simp length-append at (ap (λ (i : Image). length i.recorded) target)) in
+    forgets_leaf old new X h.device (committed_device h.device h.contents) first next h.holds.leaf known h.holds.leaf_texts h.holds.texts h.holds.stands
+    (then_published old mid new X (one_call old mid steps cell) turns) leaf (omega (arith, low, follows.addr, served.within)) (omega (arith, follows.addr, follows.head)) longer
+    (subst (λ (n : ℕ). AreNewer old.present n known) (sym low) h.newer)
 
 -- ---- a write
 
 pub load_keeps : (tells : Type 0) (drawn : Option (List (List ℕ))) (old new : History) (Ready Done : List (List ℕ) → Type 0) → (tells → new.present ≡ old.present) → (tells → During old new (λ image. image.cell ≡ old.present.cell)) → (tells → (keys : List (List ℕ)) → Kept keys old.present → Ready keys → Done keys) → KeepsKeys tells drawn drawn old new Ready Done
 load_keeps tells drawn old new Ready Done same cell done = keeps_idle tells drawn drawn old new Ready Done refl (λ told. same_during old new (same told) (cell told)) done
 
--- the data record is what is appended
-data_record : (root : Root) (mapped : ℕ) (loaded touched : Bool) (known : List Entry) (image : Image) (body : List ℕ) (addr block : ℕ) (content : List ℕ) (keys : List (List ℕ)) → HoldsListedBy root mapped loaded touched known image keys → body ≡ record_bytes addr (DataRecord block content) → addr ≡ length image.recorded → block < 1048576 → IsBytes 4096 content → IsNextRecord image body keys
-data_record root mapped loaded touched known image body addr block content keys h is at low sized = record {
-  device = Some h.device;
-  value = DataRecord block content;
-  stands = held_stands root mapped loaded touched known image h.device h.contents h.holds;
-  in_range = (low, sized);
-  spelled = is ∙ ap (λ (n : ℕ). record_bytes n (DataRecord block content)) at;
-  listed = tt;
-}
-
--- a look, and then the append
-pub write_keeps : (tells : Type 0) (drawn drawn_now : Option (List (List ℕ))) (old looked new : History) (root : Root) (mapped : ℕ) (loaded touched : Bool) (known : List Entry) (body : List ℕ) (addr block : ℕ) (content : List ℕ) (Ready Then Done : List (List ℕ) → Type 0)
+-- a look, and then the append of a data record
+pub write_keeps : (tells : Type 0) (drawn drawn_now : Option (List (List ℕ))) (old looked new : History) (root : Root) (mapped : ℕ) (loaded touched : Bool) (known : List Entry) (body : List ℕ) (addr block : ℕ) (content : List ℕ) (at : ℕ) (Ready Then Done : List (List ℕ) → Type 0)
     → KeepsKeys tells drawn drawn old looked Ready (HoldsListedBy root mapped loaded touched known looked.present)
-    → KeepsKeys tells drawn drawn_now looked new (IsNextRecord looked.present body) Then
-    → body ≡ record_bytes addr (DataRecord block content) → (tells → addr ≡ length looked.present.recorded) → block < 1048576 → IsBytes 4096 content
+    → Appends tells drawn drawn_now looked new body at Then
+    → body ≡ record_bytes addr (DataRecord block content) → addr ≡ at → block < 1048576 → IsBytes 4096 content
     → (tells → (keys more : List (List ℕ)) → HoldsListedBy root mapped loaded touched known looked.present keys → Then (keys ++ more) → Done (keys ++ more))
     → KeepsKeys tells drawn drawn_now old new Ready Done
-write_keeps tells drawn drawn_now old looked new root mapped loaded touched known body addr block content Ready Then Done look append is at low sized done =
-    keeps_then tells drawn drawn drawn_now old looked new Ready (HoldsListedBy root mapped loaded touched known looked.present) (IsNextRecord looked.present body) Then Done look append
-    (λ told keys kept h. data_record root mapped loaded touched known looked.present body addr block content keys h is (at told) low sized) done
+write_keeps tells drawn drawn_now old looked new root mapped loaded touched known body addr block content at Ready Then Done look append is here low sized done =
+    let value : Record = DataRecord block content in
+    keeps_then tells drawn drawn drawn_now old looked new Ready (HoldsListedBy root mapped loaded touched known looked.present) (IsNextRecord looked.present value) Then Done look
+    (append value (low, sized) (is ∙ ap (λ (n : ℕ). record_bytes n value) here))
+    (λ told keys kept h. record { device = Some h.device; stands = held_stands root mapped loaded touched known looked.present h.device h.contents h.holds; listed = tt })
+    done

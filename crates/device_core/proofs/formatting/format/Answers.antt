@@ -1,4 +1,4 @@
-use Rattle.std.proofs.Common.{◌≡◌, ◌∙◌, ◌+◌, ◌≤◌, ◌<◌, ◌^◌, ℕ, List, [], Option, None, Some, Bool, false, refl, ap, sym, subst, inl, inr, arith, rules}
+use Rattle.std.proofs.Common.{◌≡◌, ◌∙◌, ◌+◌, ◌≤◌, ◌<◌, ◌^◌, ℕ, List, [], Option, None, Some, Bool, false, refl, ap, sym, subst, inl, inr, arith, rules, length-append}
 use Rattle.sdbt_base.specs.Bytes.{IsBytes}
 use Rattle.platform.specs.Image.{with_page}
 use Rattle.seal_record.specs.Sealing.{masked}
@@ -13,7 +13,7 @@ use Rattle.device_core.proofs.HoldLaws.{during_stands, first_root, first_fits, f
 use Rattle.device_core.proofs.ServedLaws.{serves_still, serves_turned, served_published}
 use Rattle.page_store.specs.Stands.{IsSound}
 use Rattle.page_store.proofs.KeepingLaws.{keeps_idle, keeps_from}
-use Rattle.device_core.proofs.KeyLaws.{looks, format_appends, format_publishes, forgets_leaf, first_leaf}
+use Rattle.device_core.proofs.KeyLaws.{looks, format_appends, format_publishes, forgets_first, first_leaf}
 use Rattle.page_store.proofs.FloorLaws.{forgets_still, low_few}
 use Rattle.platform.proofs.Moments.{whole-now}
 use Rattle.platform.specs.Image.{Image, with_cell, all_synced}
@@ -213,6 +213,10 @@ returns-in-Err-PlatformFault-clause-kept g c = λ told before.
     call_more _ _ _ (one_look _ _ (c.load_root.ensures.time told) (c.load_root.ensures.image told)) (c.append.ensures.time told) (c.append.ensures.cell told)
 
 -- a cell that is not full is empty
+empty_cell : (full : Bool) (cell : Option (List ℕ)) → full ≡ false → IsTrue full ↔ IsSome cell → cell ≡ None
+empty_cell full None not_so same = refl
+empty_cell full (Some bytes) not_so same = let t : IsTrue full = same.1 (search rules) in grind (arith, common_steps, t, not_so)
+
 not_full : (full : Bool) (cell : Option (List ℕ)) → full ≡ false → IsTrue full ↔ IsSome cell → cell ≢ None → ⊥
 not_full full None not_so same is = is refl
 not_full full (Some bytes) not_so same is = let t : IsTrue full = same.1 (search rules) in grind (arith, common_steps, t, not_so)
@@ -251,8 +255,8 @@ returns-in-Err-TapeFault-clause-keeps g c =
     let drawn = g.T.Tape.drawn in
     let body : c.put_node.new.self.body ≡ record_bytes c.head-2.result (NodeRecord 1 []) = ap (λ (b : Held). b.body) c.put_node.ensures in
     let first = format_appends g.P.Platform.tells (drawn c.args.tape.now) (drawn c.append.new.tape) (history c.args.platform.now) (history c.load_root.new.self) (history c.append.new.platform)
-    c.put_node.new.self.body c.head-2.result _ c.load_root.ensures.time c.load_root.ensures.image c.append.ensures.keeps body
-    (λ told. c.head-2.ensures.value ∙ sym (g.met.P.Platform.counts_pages told c.load_root.new.self)) in
+    c.put_node.new.self.body c.head-2.result _ _ c.load_root.ensures.time c.load_root.ensures.image c.append.ensures.keeps body
+    c.head-2.ensures.value in
     keeps_from _ _ _ _ _ _ (λ keys. IsSound (history c.args.platform.now).present) _ (λ keys. Unit {0}) first (λ told keys ready. ready) (λ told keys more ready done. tt)
 
 pub returns-in-Err-PlatformFault-clause-keeps : goal.returns-in-Err-PlatformFault-clause-keeps
@@ -261,8 +265,8 @@ returns-in-Err-PlatformFault-clause-keeps g c =
     let drawn = g.T.Tape.drawn in
     let body : c.put_node.new.self.body ≡ record_bytes c.head-2.result (NodeRecord 1 []) = ap (λ (b : Held). b.body) c.put_node.ensures in
     let first = format_appends g.P.Platform.tells (drawn c.args.tape.now) (drawn c.append.new.tape) (history c.args.platform.now) (history c.load_root.new.self) (history c.append.new.platform)
-    c.put_node.new.self.body c.head-2.result _ c.load_root.ensures.time c.load_root.ensures.image c.append.ensures.keeps body
-    (λ told. c.head-2.ensures.value ∙ sym (g.met.P.Platform.counts_pages told c.load_root.new.self)) in
+    c.put_node.new.self.body c.head-2.result _ _ c.load_root.ensures.time c.load_root.ensures.image c.append.ensures.keeps body
+    c.head-2.ensures.value in
     keeps_from _ _ _ _ _ _ (λ keys. IsSound (history c.args.platform.now).present) _ (λ keys. Unit {0}) first (λ told keys ready. ready) (λ told keys more ready done. tt)
 
 pub returns-in-Ok-publish-clause-keeps : goal.returns-in-Ok-publish-clause-keeps
@@ -271,8 +275,8 @@ returns-in-Ok-publish-clause-keeps g c =
     let drawn = g.T.Tape.drawn in
     let body : c.put_node.new.self.body ≡ record_bytes c.head-2.result (NodeRecord 1 []) = ap (λ (b : Held). b.body) c.put_node.ensures in
     let first = format_appends g.P.Platform.tells (drawn c.args.tape.now) (drawn c.append.new.tape) (history c.args.platform.now) (history c.load_root.new.self) (history c.append.new.platform)
-    c.put_node.new.self.body c.head-2.result _ c.load_root.ensures.time c.load_root.ensures.image c.in-Ok-append.ensures.keeps body
-    (λ told. c.head-2.ensures.value ∙ sym (g.met.P.Platform.counts_pages told c.load_root.new.self)) in
+    c.put_node.new.self.body c.head-2.result _ _ c.load_root.ensures.time c.load_root.ensures.image c.in-Ok-append.ensures.keeps body
+    c.head-2.ensures.value in
     let head = g.P.Platform.head in
     let addr = c.in-Ok-append.placed.addr in
     let key = c.in-Ok-append.placed.key in
@@ -292,8 +296,8 @@ returns-clause-keeps g c =
     let drawn = g.T.Tape.drawn in
     let body : c.put_node.new.self.body ≡ record_bytes c.head-2.result (NodeRecord 1 []) = ap (λ (b : Held). b.body) c.put_node.ensures in
     let first = format_appends g.P.Platform.tells (drawn c.args.tape.now) (drawn c.append.new.tape) (history c.args.platform.now) (history c.load_root.new.self) (history c.append.new.platform)
-    c.put_node.new.self.body c.head-2.result _ c.load_root.ensures.time c.load_root.ensures.image c.in-Ok-append.ensures.keeps body
-    (λ told. c.head-2.ensures.value ∙ sym (g.met.P.Platform.counts_pages told c.load_root.new.self)) in
+    c.put_node.new.self.body c.head-2.result _ _ c.load_root.ensures.time c.load_root.ensures.image c.in-Ok-append.ensures.keeps body
+    c.head-2.ensures.value in
     let head = g.P.Platform.head in
     let addr = c.in-Ok-append.placed.addr in
     let key = c.in-Ok-append.placed.key in
@@ -346,9 +350,11 @@ returns-in-Ok-publish-clause-forgets g c = λ told sound.
     (first_leaf looked.present c.args.blocks c.args.order addr key (whole-now looked) c.requires.least c.requires.most c.requires.order room c.in-Ok-append.ensures.key (sym pages)) in
     let few = low_few old.present sound (whole-now old).synced in
     let same : length old.present.recorded ≡ addr = ap (λ (i : Image). length i.recorded) (sym (c.load_root.ensures.image told)) ∙ pages in
-    forgets_leaf old (history c.publish.new.platform) X (new_device c.args.blocks c.args.order) root [] [] sound
+    let none : old.present.cell ≡ None = empty_cell c.in-Ok.is_full old.present.cell c.if-is_full.false (c.in-Ok.ensures.full told) in
+    let longer : length X.recorded ≡ addr + 1 = ap (λ (i : Image). length i.recorded) target ∙ simp length-append (ap (λ (n : ℕ). n + 1) pages) in
+    forgets_first old (history c.publish.new.platform) X (new_device c.args.blocks c.args.order) root none sound
     (then_published old mid (history c.publish.new.platform) _ (call_more _ _ _ (one_look _ _ (c.load_root.ensures.time told) (c.load_root.ensures.image told)) (c.append.ensures.time told) (c.append.ensures.cell told)) (c.publish.ensures.time told))
-    leaf (omega (arith, few, same)) (All-nil (λ (e : Entry). IsInTree old.present e.addr ⊎ (low_of old.present ≤ e.addr)))
+    leaf (omega (arith, few, same)) (omega arith) (sym longer)
 
 pub returns-clause-forgets : goal.returns-clause-forgets
 returns-clause-forgets g c = λ told sound.
@@ -371,6 +377,8 @@ returns-clause-forgets g c = λ told sound.
     (first_leaf looked.present c.args.blocks c.args.order addr key (whole-now looked) c.requires.least c.requires.most c.requires.order room c.in-Ok-append.ensures.key (sym pages)) in
     let few = low_few old.present sound (whole-now old).synced in
     let same : length old.present.recorded ≡ addr = ap (λ (i : Image). length i.recorded) (sym (c.load_root.ensures.image told)) ∙ pages in
-    forgets_leaf old (history c.publish.new.platform) X (new_device c.args.blocks c.args.order) root [] [] sound
+    let none : old.present.cell ≡ None = empty_cell c.in-Ok.is_full old.present.cell c.if-is_full.false (c.in-Ok.ensures.full told) in
+    let longer : length X.recorded ≡ addr + 1 = ap (λ (i : Image). length i.recorded) target ∙ simp length-append (ap (λ (n : ℕ). n + 1) pages) in
+    forgets_first old (history c.publish.new.platform) X (new_device c.args.blocks c.args.order) root none sound
     (then_published old mid (history c.publish.new.platform) _ (call_more _ _ _ (one_look _ _ (c.load_root.ensures.time told) (c.load_root.ensures.image told)) (c.append.ensures.time told) (c.append.ensures.cell told)) (c.publish.ensures.time told))
-    leaf (omega (arith, few, same)) (All-nil (λ (e : Entry). IsInTree old.present e.addr ⊎ (low_of old.present ≤ e.addr)))
+    leaf (omega (arith, few, same)) (omega arith) (sym longer)

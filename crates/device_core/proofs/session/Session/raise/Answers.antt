@@ -214,7 +214,7 @@ returns-in-Err-TapeFault-clause-keeps g c =
     let pages = g.met.P.Platform.counts_pages in
     let here = subst (λ (n : ℕ). AreEntries self.entries.items self.root.blocks n) (sym c.head.ensures.value) c.requires.open.entries in
     let first = raise_appends g.P.Platform.tells (drawn c.args.tape.now) (drawn c.append.new.tape) old mid self.root self.mapped self.is_loaded self.is_touched self.entries.items
-    c.put_node.new.self.body c.head.result _ c.append.ensures.keeps body (λ told. c.head.ensures.value ∙ sym (pages told c.args.platform.now))
+    c.put_node.new.self.body c.head.result _ _ c.append.ensures.keeps body c.head.ensures.value
     (entries_fit self.root c.head.result self.entries.items c.requires.open.served.leaf here) c.requires.open.entries.keys in
     keeps_from _ _ _ _ _ _ (HoldsListed self old.present) _ (λ keys. Unit {0}) first (λ told keys ready. ready) (λ told keys more ready done. tt)
 
@@ -234,7 +234,7 @@ returns-in-Err-PlatformFault-clause-keeps g c =
     let pages = g.met.P.Platform.counts_pages in
     let here = subst (λ (n : ℕ). AreEntries self.entries.items self.root.blocks n) (sym c.head.ensures.value) c.requires.open.entries in
     let first = raise_appends g.P.Platform.tells (drawn c.args.tape.now) (drawn c.append.new.tape) old mid self.root self.mapped self.is_loaded self.is_touched self.entries.items
-    c.put_node.new.self.body c.head.result _ c.append.ensures.keeps body (λ told. c.head.ensures.value ∙ sym (pages told c.args.platform.now))
+    c.put_node.new.self.body c.head.result _ _ c.append.ensures.keeps body c.head.ensures.value
     (entries_fit self.root c.head.result self.entries.items c.requires.open.served.leaf here) c.requires.open.entries.keys in
     keeps_from _ _ _ _ _ _ (HoldsListed self old.present) _ (λ keys. Unit {0}) first (λ told keys ready. ready) (λ told keys more ready done. tt)
 
@@ -254,7 +254,7 @@ returns-in_default-clause-keeps g c =
     let pages = g.met.P.Platform.counts_pages in
     let here = subst (λ (n : ℕ). AreEntries self.entries.items self.root.blocks n) (sym c.head.ensures.value) c.requires.open.entries in
     let first = raise_appends g.P.Platform.tells (drawn c.args.tape.now) (drawn c.append.new.tape) old mid self.root self.mapped self.is_loaded self.is_touched self.entries.items
-    c.put_node.new.self.body c.head.result _ c.in-Ok.ensures.keeps body (λ told. c.head.ensures.value ∙ sym (pages told c.args.platform.now))
+    c.put_node.new.self.body c.head.result _ _ c.in-Ok.ensures.keeps body c.head.ensures.value
     (entries_fit self.root c.head.result self.entries.items c.requires.open.served.leaf here) c.requires.open.entries.keys in
     let new = history c.publish.new.platform in
     let addr = c.in-Ok.placed.addr in
@@ -303,7 +303,7 @@ returns-clause-keeps g c =
     let pages = g.met.P.Platform.counts_pages in
     let here = subst (λ (n : ℕ). AreEntries self.entries.items self.root.blocks n) (sym c.head.ensures.value) c.requires.open.entries in
     let first = raise_appends g.P.Platform.tells (drawn c.args.tape.now) (drawn c.append.new.tape) old mid self.root self.mapped self.is_loaded self.is_touched self.entries.items
-    c.put_node.new.self.body c.head.result _ c.in-Ok.ensures.keeps body (λ told. c.head.ensures.value ∙ sym (pages told c.args.platform.now))
+    c.put_node.new.self.body c.head.result _ _ c.in-Ok.ensures.keeps body c.head.ensures.value
     (entries_fit self.root c.head.result self.entries.items c.requires.open.served.leaf here) c.requires.open.entries.keys in
     let new = history c.publish.new.platform in
     let addr = c.in-Ok.placed.addr in

@@ -216,8 +216,8 @@ returns-in-Err-TapeFault-clause-keeps g c =
     let text = padded c.args.content.now in
     let look = load_keeps g.P.Platform.tells (drawn c.args.tape.now) old looked (HoldsListed c.args.self.now old.present) (HoldsListed session looked.present) c.load.ensures.image c.load.ensures.time c.load.ensures.listed in
     let body : c.put_block.new.self.body ≡ record_bytes c.head-addr.result (DataRecord c.args.block text) = ap (λ (b : Held). b.body) c.put_block.ensures in
-    write_keeps g.P.Platform.tells (drawn c.args.tape.now) (drawn c.append.new.tape) old looked new session.root session.mapped session.is_loaded session.is_touched session.entries.items c.put_block.new.self.body c.head-addr.result c.args.block text
-    (HoldsListed c.args.self.now old.present) _ _ look c.append.ensures.keeps body (λ told. c.head-addr.ensures.value ∙ sym (g.met.P.Platform.counts_pages told c.load.new.platform)) (omega (arith, c.requires.open.served.leaf.blocks))
+    write_keeps g.P.Platform.tells (drawn c.args.tape.now) (drawn c.append.new.tape) old looked new session.root session.mapped session.is_loaded session.is_touched session.entries.items c.put_block.new.self.body c.head-addr.result c.args.block text _
+    (HoldsListed c.args.self.now old.present) _ _ look c.append.ensures.keeps body c.head-addr.ensures.value (omega (arith, c.requires.open.served.leaf.blocks))
     (padded_bytes c.args.content.now c.requires.size c.are_bytes.ensures)
     (λ told keys more h done. listed_later _ _ _ _ _ _ _ keys more (Extends-earlier _ _ (c.append.ensures.time told).extends) (c.append.ensures.cell told) h)
 
@@ -232,8 +232,8 @@ returns-in-Err-PlatformFault-append-clause-keeps g c =
     let text = padded c.args.content.now in
     let look = load_keeps g.P.Platform.tells (drawn c.args.tape.now) old looked (HoldsListed c.args.self.now old.present) (HoldsListed session looked.present) c.load.ensures.image c.load.ensures.time c.load.ensures.listed in
     let body : c.put_block.new.self.body ≡ record_bytes c.head-addr.result (DataRecord c.args.block text) = ap (λ (b : Held). b.body) c.put_block.ensures in
-    write_keeps g.P.Platform.tells (drawn c.args.tape.now) (drawn c.append.new.tape) old looked new session.root session.mapped session.is_loaded session.is_touched session.entries.items c.put_block.new.self.body c.head-addr.result c.args.block text
-    (HoldsListed c.args.self.now old.present) _ _ look c.append.ensures.keeps body (λ told. c.head-addr.ensures.value ∙ sym (g.met.P.Platform.counts_pages told c.load.new.platform)) (omega (arith, c.requires.open.served.leaf.blocks))
+    write_keeps g.P.Platform.tells (drawn c.args.tape.now) (drawn c.append.new.tape) old looked new session.root session.mapped session.is_loaded session.is_touched session.entries.items c.put_block.new.self.body c.head-addr.result c.args.block text _
+    (HoldsListed c.args.self.now old.present) _ _ look c.append.ensures.keeps body c.head-addr.ensures.value (omega (arith, c.requires.open.served.leaf.blocks))
     (padded_bytes c.args.content.now c.requires.size c.are_bytes.ensures)
     (λ told keys more h done. listed_later _ _ _ _ _ _ _ keys more (Extends-earlier _ _ (c.append.ensures.time told).extends) (c.append.ensures.cell told) h)
 
@@ -250,8 +250,8 @@ returns-clause-keeps g c =
     let body : c.put_block.new.self.body ≡ record_bytes c.head-addr.result (DataRecord c.args.block text) = ap (λ (b : Held). b.body) c.put_block.ensures in
     let entry : Entry = record { low = c.args.block; addr = c.in-Ok-append.placed.addr; key = c.in-Ok-append.placed.key } in
     let opened = c.load.ensures.open in
-    write_keeps g.P.Platform.tells (drawn c.args.tape.now) (drawn c.append.new.tape) old looked new session.root session.mapped session.is_loaded session.is_touched session.entries.items c.put_block.new.self.body c.head-addr.result c.args.block text
-    (HoldsListed c.args.self.now old.present) _ _ look c.in-Ok-append.ensures.keeps body (λ told. c.head-addr.ensures.value ∙ sym (g.met.P.Platform.counts_pages told c.load.new.platform)) (omega (arith, c.requires.open.served.leaf.blocks))
+    write_keeps g.P.Platform.tells (drawn c.args.tape.now) (drawn c.append.new.tape) old looked new session.root session.mapped session.is_loaded session.is_touched session.entries.items c.put_block.new.self.body c.head-addr.result c.args.block text _
+    (HoldsListed c.args.self.now old.present) _ _ look c.in-Ok-append.ensures.keeps body c.head-addr.ensures.value (omega (arith, c.requires.open.served.leaf.blocks))
     (padded_bytes c.args.content.now c.requires.size c.are_bytes.ensures)
     (λ told keys more h has.
     let pages = g.met.P.Platform.counts_pages told c.load.new.platform in
