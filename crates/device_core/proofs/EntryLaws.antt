@@ -1,11 +1,11 @@
 -- The entries of a leaf, whose lows ascend: where the entry of a block stands, and what a new entry leaves.
 use Rattle.std.proofs.Common.{◌≡◌, ℕ, zero, suc, ◌+◌, ◌-◌, ◌<◌, ◌≤◌, List, [], ◌∷◌, All, map, take, drop, length, get_or, set, Result, Ok, Err, IsErr, slice_index, refl, sym, subst, ap, ◌∙◌, arith, length-drop, length-take}
-use Rattle.std.specs.Prelude.{insert, remove}
+use Rattle.std.specs.Prelude.{Contains, insert, remove}
 use Rattle.std.proofs.Math.Seq.{map-set_same}
 use Rattle.std.specs.List.Sorted.{IsStrictlyIncreasing}
-use Rattle.std.proofs.lemmas.List.{get_or-drop, length-map, map-append, take-map, drop-map}
+use Rattle.std.proofs.lemmas.List.{get_or-drop, get_or-set_same, length-set, length-map, map-append, take-map, drop-map}
 use Rattle.std.proofs.lemmas.Grind.{common_steps}
-use Rattle.std.proofs.lemmas.List.Edits.{length-insert}
+use Rattle.std.proofs.lemmas.List.Edits.{length-insert, get_or-insert_at}
 use Rattle.std.proofs.lemmas.List.Elements.{All-nil, All-set, All-weaker, All-take, All-drop, All-append, All-cons}
 use Rattle.sdbt_base.specs.Bytes.{IsBytes}
 use Rattle.node_codec.specs.declared.body.Entry.{Entry}
@@ -152,3 +152,11 @@ pub length-entries : (entries : List Entry) (blocks head : ℕ) → AreEntries e
 length-entries entries blocks head h =
     let len = length-map entries (λ (x : Entry). x.low) in
     omega (arith, len, length-ascending (lows entries) blocks h.ascend (λ k within. lows_below entries blocks (length entries) (All-take (λ x. x.low < blocks) (length entries) entries h.lows) k (omega (arith, len)) (omega (arith, len))))
+
+-- what was placed is among the elements
+pub placed_there : (entries : List Entry) (block : ℕ) (place : Result ℕ ℕ) (entry : Entry) → IsPlace entries block place → Contains (placed entries place entry) entry
+placed_there entries block (Ok at) entry is = (at, subst (λ (n : ℕ). at < n) (sym (length-set entries at entry)) is.0, get_or-set_same entries at entry entry is.0)
+placed_there entries block (Err at) entry is =
+    let size = length-insert entries at entry is.0 in
+    let below = is.0 in
+    (at, omega (arith, size, below), get_or-insert_at entries at entry entry is.0)

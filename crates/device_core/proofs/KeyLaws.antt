@@ -31,6 +31,7 @@ use Rattle.page_store.proofs.FloorLaws.{low_few, low_of_stands, place_later, pla
 use Rattle.device_core.specs.Blocks.{Blocks}
 use Rattle.device_core.specs.Leaf.{placed}
 use Rattle.device_core.specs.Holding.{HoldsBy}
+use Rattle.device_core.specs.Drawing.{data_place, KeepsTree}
 use Rattle.device_core.specs.Knowing.{HoldsListedBy}
 use Rattle.page_store.proofs.LeafStandsLaws.{stands_by_leaf, leaf_found}
 use Rattle.page_store.proofs.StandsLaws.{stands_with_page}
@@ -140,10 +141,6 @@ format_publishes tells drawn drawn_now old looked mid new blocks order addr key 
     (λ told keys more mids done. tt)
 
 -- ---- what a publishing forgets
-
--- the place of an entry's data record
-abbrev pub data_place : Entry → Place
-data_place e = record { addr = e.addr; key = e.key; trace = DataOf e.low }
 
 -- each entry is of the tree of the image from before, or names a page from behind its root record
 abbrev pub AreNewer : Image → ℕ → List Entry → Type 0
@@ -335,14 +332,19 @@ kept_erased keys old mid new look same steps either kept =
       | inr is ↦ subst (Kept keys) (sym is) (kept_cleared keys mid.present here)
     ])
 
-pub forgets_erased : (old mid new : History) → Steps old mid → mid.present ≡ old.present → Steps mid new → IsEither mid.present (with_cell mid.present None) new.present → IsSound old.present → Forgets old new
-forgets_erased old mid new look same steps either sound =
+pub turns_erased : (old mid new : History) → Steps old mid → mid.present ≡ old.present → Steps mid new → IsEither mid.present (with_cell mid.present None) new.present → Turns old new (λ image. image.cell ≡ old.present.cell) (λ image. image ≡ with_cell old.present None)
+turns_erased old mid new look same steps either =
     let X = with_cell old.present None in
-    let turns = Turns-either old mid new (λ image. image.cell ≡ old.present.cell) (λ image. image ≡ X) (one_look old mid look same) steps
+    Turns-either old mid new (λ image. image.cell ≡ old.present.cell) (λ image. image ≡ X) (one_look old mid look same) steps
     (elim either as (λ e. (new.present.cell ≡ old.present.cell) ⊎ (new.present ≡ X)) [
       | inl is ↦ inl (ap (λ (i : Image). i.cell) (is ∙ same))
       | inr is ↦ inr (is ∙ ap (λ (i : Image). with_cell i None) same)
-    ]) in
+    ])
+
+pub forgets_erased : (old mid new : History) → Steps old mid → mid.present ≡ old.present → Steps mid new → IsEither mid.present (with_cell mid.present None) new.present → IsSound old.present → Forgets old new
+forgets_erased old mid new look same steps either sound =
+    let X = with_cell old.present None in
+    let turns = turns_erased old mid new look same steps either in
     let few = low_few old.present sound (whole-now old).synced in
     forgets_published old new X sound (None, refl) turns (succeeds_none old.present X refl few)
 
@@ -405,6 +407,21 @@ raise_listed old mid new first next count pages loaded touched known keys h appe
     (raised_leaf first next count pages loaded touched known old.present h.device h.contents ready h.holds follows served most room sized (whole-now old) at are) in
     listed_committed next count loaded false known new.present (committed_device h.device h.contents) h.contents h.holds.texts keys
     (raise_held old mid new first next count pages loaded touched known h.device h.contents ready h.holds follows served most room sized at are appended published) ready refl h.listed leaf
+
+-- and no key that isn't of the new tree
+pub raise_knows : (old mid new : History) (first next : Root) (count pages : ℕ) (loaded touched : Bool) (known : List Entry) (device : Device) (contents : Blocks) → HoldsBy first count loaded touched known old.present device contents
+    → mid.present ≡ with_page old.present (leaf_page next known) (leaf_page next known) → new.present ≡ with_cell (all_synced mid.present) (Some (root_bytes next))
+    → loaded ≡ true → IsNext first next count pages → IsServed first pages → count ≤ first.blocks → pages < 2 ^ 32 → IsBytes 32 next.key → pages ≡ length old.present.recorded → AreEntries known first.blocks pages
+    → KeepsTree next known new.present
+raise_knows old mid new first next count pages loaded touched known device contents h appended published ready follows served most room sized at are =
+    let target : new.present ≡ with_leaf old.present next known = published ∙ ap (λ (i : Image). with_cell (all_synced i) (Some (root_bytes next))) appended in
+    let later = committed_device device contents in
+    let leaf = subst (λ (i : Image). StandsByLeaf i later next known h.texts) (sym target)
+    (raised_leaf first next count pages loaded touched known old.present device contents ready h follows served most room sized (whole-now old) at are) in
+    record {
+      cell = root_of_stands new.present later next (leaf_parts next.addr next.key known h.texts) (stands_by_leaf new.present later next known h.texts leaf);
+      entries = leaf_places new.present later next known h.texts leaf;
+    }
 
 pub raise_forgets : (old mid new : History) (first next : Root) (count pages : ℕ) (loaded touched : Bool) (known : List Entry) (keys : List (List ℕ)) → HoldsListedBy first count loaded touched known old.present keys
     → Steps old mid → mid.present.cell ≡ old.present.cell

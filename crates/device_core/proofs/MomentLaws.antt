@@ -1,8 +1,9 @@
 -- How the moments of calls on a device compose: the cell stays as it was, until the root record is replaced.
-use Rattle.std.proofs.Common.{◌≡◌, ◌⊎◌, inl, inr, List, ℕ, Option, Some, refl, ap, ◌∙◌}
+use Rattle.std.proofs.Common.{◌≡◌, ◌⊎◌, inl, inr, List, ℕ, Option, Some, refl, ap, sym, ◌∙◌}
 use Rattle.platform.specs.Image.{Image, IsEither, with_cell, all_synced}
 use Rattle.platform.specs.History.{History, Steps, During, Turns}
 use Rattle.platform.specs.Image.{IsEarlier}
+use Rattle.platform.proofs.RunLaws.{Turns-cases}
 use Rattle.platform.proofs.Moments.{During-step, During-call, During-start, During-now, Turns-not, Turns-either, Turns-after, Turns-weaker, Extends-earlier}
 
 -- the cell is what it was
@@ -49,6 +50,14 @@ then_published old mid new X during turns =
     let cell = During-now old mid (HasCell old.present.cell) during in
     Turns-after old mid new (HasCell old.present.cell) (λ image. image ≡ X) during
     (Turns-weaker mid new (HasCell mid.present.cell) (λ image. image ≡ X) (HasCell old.present.cell) (λ image. image ≡ X) (λ image is. is ∙ cell) (λ image is. is) turns)
+
+-- a cell that stays until it is that of another image changes once at most
+pub once : (old new : History) (X : Image) → Turns old new (λ image. image.cell ≡ old.present.cell) (λ image. image ≡ X) → Turns old new (λ image. image.cell ≡ old.present.cell) (λ image. image.cell ≡ new.present.cell)
+once old new X turns = elim (Turns-cases old new (HasCell old.present.cell) (λ image. image ≡ X) turns) [
+  | inl stays ↦ Turns-not old new (HasCell old.present.cell) (HasCell new.present.cell) stays
+  | inr is ↦ Turns-weaker old new (HasCell old.present.cell) (λ image. image ≡ X) (HasCell old.present.cell) (HasCell new.present.cell)
+      (λ image same. same) (λ image same. ap (λ (i : Image). i.cell) same ∙ ap (λ (i : Image). i.cell) (sym is)) turns
+]
 
 -- the image before is earlier than the one after
 pub earlier : (old new : History) (P : Image → Type 0) → During old new P → IsEarlier old.present new.present

@@ -4,9 +4,9 @@ use Rattle.platform.specs.Image.{Image}
 use Rattle.node_codec.specs.declared.body.Entry.{Entry}
 use Rattle.root_codec.specs.declared.root.Root.{Root}
 use Rattle.page_store.specs.Device.{Device}
-use Rattle.key_graph.specs.Trace.{DataOf}
 use Rattle.page_store.specs.Floors.{HasPlace}
 use Rattle.device_core.specs.Blocks.{Blocks}
+use Rattle.device_core.specs.Drawing.{data_place}
 use Rattle.device_core.specs.Holding.{HoldsBy}
 use Rattle.device_core.specs.declared.session.Session.{Session}
 
@@ -17,7 +17,7 @@ pub record HoldsListedBy (root : Root) (mapped : ℕ) (is_loaded is_touched : Bo
   pub contents : Blocks
   pub holds : HoldsBy root mapped is_loaded is_touched known image device contents
   pub listed : All (λ e. Contains keys e.key) known
-  pub newer : All (λ e. HasPlace image (record { addr = e.addr; key = e.key; trace = DataOf e.low }) ⊎ (root.head ≤ e.addr)) known
+  pub newer : All (λ e. HasPlace image (data_place e) ⊎ (root.head ≤ e.addr)) known
 
 abbrev pub HoldsListed : Session → Image → List (List ℕ) → Type 0
 HoldsListed session image keys = HoldsListedBy session.root session.mapped session.is_loaded session.is_touched session.entries.items image keys

@@ -5,4 +5,5 @@ pub mod Damage
 pub mod Open
 pub mod Holds
 pub mod Replies
+pub mod Drawing
 pub mod Knowing

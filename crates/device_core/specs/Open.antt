@@ -34,6 +34,10 @@ root_node session = session.root.addr
 abbrev pub root_of : Session → Root
 root_of session = session.root
 
+-- the entries of the leaf, where it was read
+abbrev pub entries_of : Session → List Entry
+entries_of session = session.entries.items
+
 -- the bytes of the last page that was read or sealed, and of its record
 abbrev pub buffers_of : Session → Held
 buffers_of session = session.buffers

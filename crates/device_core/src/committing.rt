@@ -10,6 +10,7 @@ ghost use Rattle.page_store.specs.Keeping.{KeepsKeys};
 ghost use Rattle.page_store.specs.Floors.{Forgets};
 ghost use Rattle.device_core.specs.Leaf.{IsServedImage};
 ghost use Rattle.device_core.specs.Blocks.{Blocks};
+ghost use Rattle.device_core.specs.Drawing.{NamesLast, KeepsTree};
 ghost use Rattle.device_core.specs.Replies.{device_after, committed_device};
 
 use crate::publishing::publish;
@@ -21,7 +22,7 @@ use root_codec::Root;
 use sdbt_base::{Sink, Tape};
 
 impl Session {
-    ghost use Rattle.device_core.specs.Open.{IsOpen, blocks_of, number_of, mapped_of, root_of, buffers_of, is_touched};
+    ghost use Rattle.device_core.specs.Open.{IsOpen, blocks_of, number_of, mapped_of, entries_of, root_of, buffers_of, is_touched};
     ghost use Rattle.device_core.specs.Holds.{Holds, Follows};
     ghost use Rattle.device_core.specs.Knowing.{HoldsListed};
 
@@ -68,6 +69,17 @@ impl Session {
             (λ keys. IfOk result (λ answer. HoldsListed answer.0 (P.history platform.new).present keys)) }
         ensures forgets { P.tells → (keys : List (List ℕ)) → HoldsListed self (P.history platform.old).present keys
             → Forgets (P.history platform.old) (P.history platform.new) }
+        ensures once { P.tells → Turns (P.history platform.old) (P.history platform.new)
+            (λ image. image.cell ≡ (P.history platform.old).present.cell) (λ image. image.cell ≡ (P.history platform.new).present.cell) }
+
+        // After a commit that raised the number the root record names the page and the key of this call, and every key that the
+        // session has is one of the new tree. Where no key was drawn none is missing on the tape.
+        ensures named { is_touched self ≡ true → P.head platform.old ≢ P.capacity platform.old
+            → IfOk result (λ answer. NamesLast (T.drawn tape.old) (T.drawn tape.new) (P.head platform.new) (root_of answer.0)) }
+        ensures known { P.tells → (device : Device) (contents : Blocks) → Holds self (P.history platform.old).present device contents
+            → is_touched self ≡ true → P.head platform.old ≢ P.capacity platform.old
+            → IfOk result (λ answer. KeepsTree (root_of answer.0) (entries_of answer.0) (P.history platform.new).present) }
+        ensures untaken { IsErrOf result CommitFault.TapeFault → T.drawn tape.new ≡ T.drawn tape.old }
 
         // The cell is as it was at each moment, if not for a commit or a fault of the platform.
         ensures still { P.tells → IsOk result ⊎ (IsErrOf result CommitFault.PlatformFault
@@ -141,6 +153,12 @@ impl Session {
             (λ keys. IfOk result (λ answer. HoldsListed answer.0 (P.history platform.new).present keys)) }
         ensures forgets { P.tells → (keys : List (List ℕ)) → HoldsListed self (P.history platform.old).present keys
             → Forgets (P.history platform.old) (P.history platform.new) }
+        ensures once { P.tells → Turns (P.history platform.old) (P.history platform.new)
+            (λ image. image.cell ≡ (P.history platform.old).present.cell) (λ image. image.cell ≡ (P.history platform.new).present.cell) }
+        ensures named { IfOk result (λ answer. NamesLast (T.drawn tape.old) (T.drawn tape.new) (P.head platform.new) (root_of answer.0)) }
+        ensures known { P.tells → (device : Device) (contents : Blocks) → Holds self (P.history platform.old).present device contents
+            → IfOk result (λ answer. KeepsTree (root_of answer.0) (entries_of answer.0) (P.history platform.new).present) }
+        ensures untaken { IsErrOf result CommitFault.TapeFault → T.drawn tape.new ≡ T.drawn tape.old }
 
         ensures still { P.tells → IsOk result ⊎ (IsErrOf result CommitFault.PlatformFault
             ⊎ During (P.history platform.old) (P.history platform.new) (λ image. image.cell ≡ (P.history platform.old).present.cell)) }

@@ -31,6 +31,9 @@ pub fn erase<P: Platform>(platform: &mut P) -> Result<(), EraseRefusal>
         → During (P.history platform.old) (P.history platform.new) (Kept keys) }
     ensures forgets { P.tells → IsSound (P.history platform.old).present → Forgets (P.history platform.old) (P.history platform.new) }
 
+    ensures once { P.tells → Turns (P.history platform.old) (P.history platform.new)
+        (λ image. image.cell ≡ (P.history platform.old).present.cell) (λ image. image.cell ≡ (P.history platform.new).present.cell) }
+
     ensures still { P.tells → IsOk result ⊎ (IsErrOf result EraseRefusal.PlatformFault
         ⊎ During (P.history platform.old) (P.history platform.new) (λ image. image.cell ≡ (P.history platform.old).present.cell)) }
     // A cell that can be served is one at each moment.

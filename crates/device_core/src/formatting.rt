@@ -1,4 +1,4 @@
-ghost use Rattle.std.specs.Prelude.{◌≡◌, ◌≢◌, ◌<◌, ◌≤◌, ◌+◌, ◌⊎◌, Option, None, Some, OnOk, IsOk, IsErrOf, ⊤};
+ghost use Rattle.std.specs.Prelude.{◌≡◌, ◌≢◌, ◌<◌, ◌≤◌, ◌+◌, ◌⊎◌, Option, None, Some, OnOk, OnErr, IsOk, IsErrOf, ⊤};
 ghost use Rattle.sdbt_base.specs.Faults.{Rose};
 ghost use Rattle.platform.specs.Image.{LeavesOnly};
 ghost use Rattle.platform.specs.History.{During, Turns};
@@ -7,7 +7,10 @@ ghost use Rattle.page_store.specs.Stands.{Stands, IsSound};
 ghost use Rattle.page_store.specs.Keeping.{KeepsKeys};
 ghost use Rattle.page_store.specs.Floors.{Forgets};
 ghost use Rattle.device_core.specs.Leaf.{IsServedImage};
+ghost use Rattle.root_codec.specs.declared.root.Root.{Root};
+ghost use Rattle.root_codec.specs.RootRecord.{root_bytes};
 ghost use Rattle.device_core.specs.Blocks.{new_device};
+ghost use Rattle.device_core.specs.Drawing.{NamesLast};
 
 use crate::publishing::publish;
 use crate::refusals::FormatRefusal;
@@ -56,7 +59,17 @@ pub fn format<P: Platform, T: Tape, L: Sink>(
     ensures keeps { KeepsKeys P.tells (T.drawn tape.old) (T.drawn tape.new) (P.history platform.old) (P.history platform.new)
         (λ keys. IsSound (P.history platform.old).present) (λ keys. ⊤) }
 
-    // What was deleted before stays deleted.
+    // The new root record names the page and the key of this call. No key is drawn where there is a device already or no page is
+    // free, nor at any other refusal, if not for a fault of the platform.
+    ensures named { P.tells → OnOk result ((root : Root) × ((P.history platform.new).present.cell ≡ Some (root_bytes root))
+        × NamesLast (T.drawn tape.old) (T.drawn tape.new) (P.head platform.new) root) }
+    ensures untaken { P.tells → ((P.history platform.old).present.cell ≢ None) ⊎ (P.head platform.old ≡ P.capacity platform.old)
+        → tape.new ≡ tape.old }
+    ensures undrawn { OnErr result (IsErrOf result FormatRefusal.PlatformFault ⊎ (T.drawn tape.new ≡ T.drawn tape.old)) }
+
+    // What was deleted before stays deleted, and the cell changes once at most, on any image.
+    ensures once { P.tells → Turns (P.history platform.old) (P.history platform.new)
+        (λ image. image.cell ≡ (P.history platform.old).present.cell) (λ image. image.cell ≡ (P.history platform.new).present.cell) }
     ensures forgets { P.tells → IsSound (P.history platform.old).present → Forgets (P.history platform.old) (P.history platform.new) }
 
     // The cell is as it was at each moment, if not for the new device or a fault of the platform.

@@ -9,6 +9,7 @@ ghost use Rattle.page_store.specs.Keeping.{KeepsKeys};
 ghost use Rattle.page_store.specs.Tree.{Wrong};
 ghost use Rattle.device_core.specs.Blocks.{Blocks};
 ghost use Rattle.device_core.specs.Damage.{IsDamaged};
+ghost use Rattle.device_core.specs.Drawing.{NamesPage};
 
 use crate::leaves::{mapped_with, place_of, put_entry};
 use crate::refusals::{TrimRefusal, WriteRefusal};
@@ -19,7 +20,7 @@ use platform::Platform;
 use sdbt_base::Tape;
 
 impl Session {
-    ghost use Rattle.device_core.specs.Open.{IsOpen, IsMapped, IsUnmapped, blocks_of, mapped_of, root_of, root_node, is_touched};
+    ghost use Rattle.device_core.specs.Open.{IsOpen, IsMapped, IsUnmapped, blocks_of, mapped_of, entries_of, root_of, root_node, is_touched};
     ghost use Rattle.device_core.specs.Holds.{Holds, Follows};
     ghost use Rattle.device_core.specs.Knowing.{HoldsListed};
 
@@ -49,6 +50,9 @@ impl Session {
         // Each moment keeps the keys that the image kept before, with the one that was drawn.
         ensures keeps { KeepsKeys P.tells (T.drawn tape.old) (T.drawn tape.new) (P.history platform.old) (P.history platform.new)
             (HoldsListed self.old (P.history platform.old).present) (HoldsListed self.new (P.history platform.new).present) }
+        // The new entry names the page and the key of this call. A refusal draws no key, if not for a fault of the platform.
+        ensures entered { OnOk result (NamesPage (T.drawn tape.old) (T.drawn tape.new) (entries_of self.new) block (P.head platform.old)) }
+        ensures undrawn { OnErr result (IsErrOf result WriteRefusal.PlatformFault ⊎ (T.drawn tape.new ≡ T.drawn tape.old)) }
         // On any pages: what is named is a place of the root's tree that doesn't fit, or the root node, where
         // the block has no entry and as many blocks are mapped as there are.
         ensures follows { P.tells → Follows self.old (P.history platform.old).present → Follows self.new (P.history platform.new).present }

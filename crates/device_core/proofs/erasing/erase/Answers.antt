@@ -1,8 +1,8 @@
 use Rattle.std.proofs.Common.{inr, None}
-use Rattle.device_core.proofs.MomentLaws.{one_look}
+use Rattle.device_core.proofs.MomentLaws.{one_look, once}
 use Rattle.device_core.proofs.ServedLaws.{serves_still, serves_cleared}
 use Rattle.device_core.proofs.HoldLaws.{during_stands, erased}
-use Rattle.device_core.proofs.KeyLaws.{kept_look, kept_erased, forgets_erased}
+use Rattle.device_core.proofs.KeyLaws.{kept_look, kept_erased, turns_erased, forgets_erased}
 use Rattle.page_store.proofs.FloorLaws.{forgets_still}
 use Rattle.device_core.proofs.erasing.erase.Goals as goal
 
@@ -62,3 +62,9 @@ returns-in-Err-clear_root-clause-keeps g c = λ told keys kept. kept_erased keys
 
 pub returns-in-Err-clear_root-clause-forgets : goal.returns-in-Err-clear_root-clause-forgets
 returns-in-Err-clear_root-clause-forgets g c = λ told sound. forgets_erased _ _ _ (c.load_root.ensures.time told) (c.load_root.ensures.image told) (c.clear_root.ensures.time told) (c.clear_root.ensures.either told) sound
+
+pub returns-in-Ok-clause-once : goal.returns-in-Ok-clause-once
+returns-in-Ok-clause-once g c = λ told. once _ _ _ (turns_erased _ _ _ (c.load_root.ensures.time told) (c.load_root.ensures.image told) (c.clear_root.ensures.time told) (c.clear_root.ensures.either told))
+
+pub returns-in-Err-clear_root-clause-once : goal.returns-in-Err-clear_root-clause-once
+returns-in-Err-clear_root-clause-once g c = λ told. once _ _ _ (turns_erased _ _ _ (c.load_root.ensures.time told) (c.load_root.ensures.image told) (c.clear_root.ensures.time told) (c.clear_root.ensures.either told))

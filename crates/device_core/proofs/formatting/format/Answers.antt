@@ -8,7 +8,7 @@ use Rattle.device_core.specs.Leaf.{IsServed, IsServedImage}
 use Rattle.device_core.specs.Blocks.{new_device}
 use Rattle.std.specs.Prelude.{IsTrue, IsSome, ◌↔◌, ◌≢◌}
 use Rattle.std.proofs.lemmas.Grind.{common_steps}
-use Rattle.device_core.proofs.MomentLaws.{one_look, call_more, then_published}
+use Rattle.device_core.proofs.MomentLaws.{one_look, call_more, then_published, once}
 use Rattle.device_core.proofs.HoldLaws.{during_stands, first_root, first_fits, first_one, no_entries_fit, format_turns, format_made}
 use Rattle.device_core.proofs.ServedLaws.{serves_still, serves_turned, served_published}
 use Rattle.page_store.specs.Stands.{IsSound}
@@ -382,3 +382,11 @@ returns-clause-forgets g c = λ told sound.
     forgets_first old (history c.publish.new.platform) X (new_device c.args.blocks c.args.order) root none sound
     (then_published old mid (history c.publish.new.platform) _ (call_more _ _ _ (one_look _ _ (c.load_root.ensures.time told) (c.load_root.ensures.image told)) (c.append.ensures.time told) (c.append.ensures.cell told)) (c.publish.ensures.time told))
     leaf (omega (arith, few, same)) (omega arith) (sym longer)
+
+pub returns-in-Ok-publish-clause-once : goal.returns-in-Ok-publish-clause-once
+returns-in-Ok-publish-clause-once g c = λ told.
+    once _ _ _ (then_published _ _ _ _ (call_more _ _ _ (one_look _ _ (c.load_root.ensures.time told) (c.load_root.ensures.image told)) (c.append.ensures.time told) (c.append.ensures.cell told)) (c.publish.ensures.time told))
+
+pub returns-clause-once : goal.returns-clause-once
+returns-clause-once g c = λ told.
+    once _ _ _ (then_published _ _ _ _ (call_more _ _ _ (one_look _ _ (c.load_root.ensures.time told) (c.load_root.ensures.image told)) (c.append.ensures.time told) (c.append.ensures.cell told)) (c.publish.ensures.time told))

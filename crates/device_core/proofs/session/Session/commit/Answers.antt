@@ -42,3 +42,6 @@ returns-then-head-capacity-clause-keeps g c =
 
 pub returns-then-head-capacity-clause-forgets : goal.returns-then-head-capacity-clause-forgets
 returns-then-head-capacity-clause-forgets g c = λ told keys h. forgets_still _ _ (listed_sound _ _ _ _ _ _ keys h) (still _)
+
+pub returns-clause-known : goal.returns-clause-known
+returns-clause-known g c = λ told device contents h touched room. c.raise.ensures.known told device contents h

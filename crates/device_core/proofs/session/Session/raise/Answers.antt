@@ -11,7 +11,7 @@ use Rattle.page_store.specs.Device.{Device}
 use Rattle.device_core.specs.Blocks.{Blocks}
 use Rattle.device_core.specs.Holding.{HoldsBy}
 use Rattle.device_core.specs.Replies.{committed_device}
-use Rattle.device_core.proofs.MomentLaws.{one_call, then_published}
+use Rattle.device_core.proofs.MomentLaws.{one_call, then_published, once}
 use Rattle.device_core.proofs.EntryLaws.{AreEntries-later}
 use Rattle.device_core.proofs.HoldLaws.{during_stands, entries_fit, IsNext, next_fits, next_leaf, raise_turns, raise_held, held_stands}
 use Rattle.platform.proofs.Moments.{whole-now}
@@ -20,7 +20,7 @@ use Rattle.device_core.proofs.FollowLaws.{follows_committed}
 use Rattle.device_core.proofs.ServedLaws.{serves_still, serves_turned, served_published}
 use Rattle.page_store.proofs.KeepingLaws.{keeps_from}
 use Rattle.page_store.proofs.FloorLaws.{forgets_still}
-use Rattle.device_core.proofs.KeyLaws.{listed_sound, raise_appends, raise_publishes, raise_listed, raise_forgets}
+use Rattle.device_core.proofs.KeyLaws.{listed_sound, raise_appends, raise_publishes, raise_listed, raise_knows, raise_forgets}
 use Rattle.device_core.specs.Knowing.{HoldsListed}
 use Rattle.device_core.proofs.session.Session.raise.Goals as goal
 
@@ -338,3 +338,28 @@ returns-clause-forgets g c = λ told keys h.
     let follows = is_next self.root self.mapped addr (head c.args.platform.now) c.in-Ok.placed.key address in
     raise_forgets old mid new self.root root self.mapped (head c.args.platform.now) self.is_loaded self.is_touched self.entries.items keys h (c.append.ensures.time told) (c.append.ensures.cell told) (appended told) (c.publish.ensures.time told)
     (c.requires.open.loaded c.requires.touched) follows c.requires.open.served c.requires.open.mapped room c.in-Ok.ensures.key (sym (pages told c.args.platform.now)) c.requires.open.entries
+
+pub returns-in_default-clause-once : goal.returns-in_default-clause-once
+returns-in_default-clause-once g c = λ told. once _ _ _ (then_published _ _ _ _ (one_call _ _ (c.append.ensures.time told) (c.append.ensures.cell told)) (c.publish.ensures.time told))
+
+pub returns-clause-once : goal.returns-clause-once
+returns-clause-once g c = λ told. once _ _ _ (then_published _ _ _ _ (one_call _ _ (c.append.ensures.time told) (c.append.ensures.cell told)) (c.publish.ensures.time told))
+
+pub returns-clause-known : goal.returns-clause-known
+returns-clause-known g c = λ told device contents h.
+    let history = g.P.Platform.history in
+    let head = g.P.Platform.head in
+    let self = c.args.self in
+    let old = history c.args.platform.now in
+    let mid = history c.append.new.platform in
+    let pages = g.met.P.Platform.counts_pages in
+    let new = history c.publish.new.platform in
+    let addr = c.in-Ok.placed.addr in
+    let root = next_root self.root self.mapped addr c.in-Ok.placed.key in
+    let address : addr ≡ head c.args.platform.now = c.in-Ok.ensures.address in
+    let room : head c.args.platform.now < 2 ^ 32 = omega (arith, c.requires.room, g.met.P.Platform.is_limited c.args.platform.now) in
+    let appended : g.P.Platform.tells → mid.present ≡ with_page old.present (masked c.in-Ok.placed.key (record_bytes addr (NodeRecord 1 self.entries.items))) (masked c.in-Ok.placed.key (record_bytes addr (NodeRecord 1 self.entries.items)))
+    = λ told. c.in-Ok.ensures.appended told ∙ ap (λ (bytes : List ℕ). with_page old.present bytes bytes)
+    (page_is addr c.head.result c.in-Ok.placed.key c.put_node.new.self.body c.deref.result.now self.entries.items (ap (λ (b : Held). b.body) c.put_node.ensures) c.deref.ensures.0 (c.head.ensures.value ∙ sym address)) in
+    let follows = is_next self.root self.mapped addr (head c.args.platform.now) c.in-Ok.placed.key address in
+    raise_knows old mid new self.root root self.mapped (head c.args.platform.now) self.is_loaded self.is_touched self.entries.items device contents h (appended told) (c.in-Ok-publish.ensures.published told) (c.requires.open.loaded c.requires.touched) follows c.requires.open.served c.requires.open.mapped room c.in-Ok.ensures.key (sym (pages told c.args.platform.now)) c.requires.open.entries

@@ -6,11 +6,12 @@ use Rattle.node_codec.specs.Record.{DataRecord, record_bytes}
 use Rattle.root_codec.specs.declared.root.Root.{Root}
 use Rattle.page_store.specs.Buffer.{Held, padded}
 use Rattle.platform.specs.Image.{Image, with_page}
-use Rattle.device_core.specs.Leaf.{AreEntries}
+use Rattle.device_core.specs.Leaf.{AreEntries, placed}
 use Rattle.device_core.proofs.MomentLaws.{still, call_more}
-use Rattle.device_core.proofs.EntryLaws.{AreEntries-placed, room_where_none}
+use Rattle.device_core.proofs.EntryLaws.{AreEntries-placed, room_where_none, placed_there}
 use Rattle.device_core.proofs.HoldLaws.{holds_same, holds_later, some_unmapped, padded_bytes, written, data_page}
 use Rattle.std.proofs.Common.{inl, inr}
+use Rattle.std.specs.Prelude.{Contains}
 use Rattle.device_core.proofs.FollowLaws.{follows_same, follows_later, follows_written, unmapped_place, miscounted_full, new_place, placed_mapped}
 use Rattle.page_store.specs.Tree.{Wrong}
 use Rattle.device_core.specs.Damage.{IsMiscounted}
@@ -268,3 +269,15 @@ returns-clause-keeps g c =
     (padded_bytes c.args.content.now c.requires.size c.are_bytes.ensures) c.in-Some.ensures.found.1 earlier later in
     rw c.put_entry.ensures (listed_written session.root session.mapped _ session.is_loaded _ session.is_touched session.entries.items c.place_of-place.result entry looked.present new.present h.device _ keys more h held earlier
     (c.append.ensures.cell told) (omega (arith, address, opened.served.within)) has))
+
+pub returns-clause-entered : goal.returns-clause-entered
+returns-clause-entered g c =
+    let entry : Entry = record { low = c.args.block; addr = c.in-Ok-append.placed.addr; key = c.in-Ok-append.placed.key } in
+    let place = rw c.as_slice.ensures.value at c.place_of-place.ensures in
+    let here : c.in-Ok-append.placed.addr ≡ g.P.Platform.head c.args.platform.now = c.in-Ok-append.ensures.address ∙ c.load.ensures.head in
+    record {
+      key = c.in-Ok-append.placed.key;
+      drew = c.in-Ok-append.ensures.drew;
+      entry = rw c.put_entry.ensures (subst (λ (n : ℕ). Contains (placed c.load.new.self.entries.items c.place_of-place.result entry) (record { low = c.args.block; addr = n; key = c.in-Ok-append.placed.key })) here
+          (placed_there c.load.new.self.entries.items c.args.block c.place_of-place.result entry place));
+    }
