@@ -3,3 +3,5 @@ pub mod Chains
 pub mod OwnKeys
 pub mod Maps
 pub mod Trace
+pub mod Said
+pub mod Search
