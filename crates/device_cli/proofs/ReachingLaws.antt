@@ -4,19 +4,17 @@ use Rattle.std.specs.Prelude.{OnOk}
 use Rattle.page_store.specs.Device.{Device as StoredDevice}
 use Rattle.root_codec.specs.RootRecord.{root_bytes}
 use Rattle.platform.specs.Image.{Image, LeavesOnly}
-use Rattle.platform.specs.History.{History, During, image_at}
+use Rattle.platform.specs.History.{History, Extends, During}
 use Rattle.platform.specs.Runs.{Passes}
 use Rattle.platform.proofs.Moments.{During-start, During-now}
-use Rattle.key_graph.specs.Chains.{Distinct, OneOpener}
 use Rattle.page_store.specs.Stands.{Stands, IsSound}
-use Rattle.page_store.specs.Kept.{Kept, ReachesTree}
+use Rattle.page_store.specs.Kept.{Kept}
 use Rattle.page_store.specs.Keeping.{KeepsKeys}
 use Rattle.page_store.specs.Floors.{Forgets}
-use Rattle.page_store.proofs.KeptLaws.{same_during, may_leave_itself, moments_reach}
+use Rattle.page_store.proofs.KeptLaws.{same_during}
+use Rattle.page_store.proofs.DisclosingLaws.{discloses as run_discloses}
 use Rattle.page_store.proofs.KeepingLaws.{keeps_idle, keeps_then, keeps_from, keeps_still}
-use Rattle.page_store.proofs.FloorLaws.{deleted_start, deleted_call, deleted_then, forgets_still, never_reached, reaches_still}
-use Rattle.key_graph.proofs.LaterLaws.{no_more}
-use Rattle.platform.proofs.Moments.{Extends-earlier}
+use Rattle.page_store.proofs.FloorLaws.{deleted_start, deleted_call, deleted_then, forgets_still}
 use Rattle.device_core.specs.Knowing.{HoldsListed}
 use Rattle.device_core.specs.Leaf.{IsServedImage}
 use Rattle.device_core.specs.declared.session.Session.{Session}
@@ -78,22 +76,11 @@ pub discloses : (tells : Type 0) (drawn drawn_now : Option (List (List ℕ))) (o
 discloses tells drawn drawn_now old new Done on stands = record {
   grew = on.keys.grew;
   drew = on.keys.drew;
+  handed = on.keys.handed;
   only = λ told device there served keys kept.
-      let all = keys ++ on.keys.grew in
-      let h : IsSound old.present = (_, there) in
-      let k = on.keys.keeps told keys kept h in
-      let exact : Distinct all → OneOpener all new.present.recorded → During old new (LeavesOnly ReachesTree)
-      = λ distinct opener. moments_reach all old new (stands told device there served) k.kept distinct opener in
-      record {
-        kept = During-now old new (Kept all) k.kept;
-        added = k.added;
-        same = λ distinct opener roots listed addr. no_more keys on.keys.grew old.present.recorded new.present.recorded roots kept.pages (Extends-earlier old new k.kept.extends).recorded k.added distinct opener listed addr;
-        still = λ distinct opener. reaches_still all old new (stands told device there served) k.kept distinct opener;
-        exact = exact;
-        deleted = λ distinct opener.
-            let reaches = exact distinct opener in
-            never_reached old new (on.deleted told keys kept h) (record { extends = reaches.extends; each = λ i from to. reaches.each i from to (image_at new i) (may_leave_itself new i) });
-      };
+      let sound : IsSound old.present = (_, there) in
+      let k = on.keys.keeps told keys kept sound in
+      run_discloses keys on.keys.grew old new kept (on.keys.handed told) k.kept (on.deleted told keys kept sound) (stands told device there served);
 }
 
 -- ---- calls of a session
@@ -129,9 +116,9 @@ on_ok (Ok t) X x = x
 on_ok (Err e) X x = tt
 
 -- a call that draws none and adds no page
-pub on_kept : (tells : Type 0) (drawn : Option (List (List ℕ))) (session : Option Session) (old new : History) (Done : List (List ℕ) → Type 0) → (tells → length new.present.recorded ≡ length old.present.recorded) → (tells → (keys : List (List ℕ)) → Kept keys old.present → During old new (Kept keys)) → (tells → IsSound old.present → Forgets old new) → (tells → (keys : List (List ℕ)) → IsListed session old.present keys → Done keys) → KeepsOn tells drawn drawn session old new Done
-on_kept tells drawn session old new Done size kept forgets done = record {
-  keys = keeps_still tells drawn drawn old new (IsListed session old.present) Done refl size (λ told keys k h. kept told keys k) done;
+pub on_kept : (tells : Type 0) (drawn : Option (List (List ℕ))) (session : Option Session) (old new : History) (Done : List (List ℕ) → Type 0) → (tells → Extends old new) → (tells → length new.present.recorded ≡ length old.present.recorded) → (tells → (keys : List (List ℕ)) → Kept keys old.present → During old new (Kept keys)) → (tells → IsSound old.present → Forgets old new) → (tells → (keys : List (List ℕ)) → IsListed session old.present keys → Done keys) → KeepsOn tells drawn drawn session old new Done
+on_kept tells drawn session old new Done extends size kept forgets done = record {
+  keys = keeps_still tells drawn drawn old new (IsListed session old.present) Done refl extends size (λ told keys k h. kept told keys k) done;
   deleted = λ told keys k h. deleted_call old new (forgets told (sound_of session old.present keys h));
 }
 

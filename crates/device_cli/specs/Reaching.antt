@@ -1,12 +1,12 @@
 -- What the pages of a run disclose to whoever has the root record's key.
-use Rattle.std.specs.Prelude.{◌↔◌, ℕ, List, ◌++◌, Option, None, Some, All, Contains}
-use Rattle.platform.specs.Image.{Image, LeavesOnly}
-use Rattle.platform.specs.History.{History, During}
-use Rattle.key_graph.specs.Chains.{Reached, Distinct, OneOpener}
+use Rattle.std.specs.Prelude.{ℕ, List, Option, None, Some}
+use Rattle.platform.specs.Image.{Image}
+use Rattle.platform.specs.History.{History}
 use Rattle.page_store.specs.Stands.{IsSound}
-use Rattle.page_store.specs.Kept.{Kept, ReachesTree}
-use Rattle.page_store.specs.Keeping.{DrewAll, AddedUnder, KeepsKeys}
-use Rattle.page_store.specs.Floors.{KeepsDeleted, NeverReached, ReachesStill}
+use Rattle.page_store.specs.Kept.{Kept}
+use Rattle.page_store.specs.Keeping.{DrewAll, HandedOver, KeepsKeys}
+use Rattle.page_store.specs.Floors.{KeepsDeleted}
+use Rattle.page_store.specs.Disclosing.{DisclosesBy}
 use Rattle.device_core.specs.Knowing.{HoldsListed}
 use Rattle.device_core.specs.Leaf.{IsServedImage}
 use Rattle.device_core.specs.declared.session.Session.{Session}
@@ -24,23 +24,11 @@ pub record KeepsOn (tells : Type 0) (drawn drawn_now : Option (List (List ℕ)))
   pub keys : KeepsKeys tells drawn drawn_now old new (IsListed session old.present) Done
   pub deleted : tells → (keys : List (List ℕ)) → Kept keys old.present → IsListed session old.present keys → KeepsDeleted old new
 
--- from an image that keeps these keys, by a run that drew those that grew: at the end all of them are kept, and each page that was
--- added is opened at its address by one that grew. Where they are distinct, and no two of them open a page at its address, chains of
--- opening from the root key reach, at each moment and after a loss of power then, exactly the tree; and what was deleted never
-pub record DisclosesBy (keys grew : List (List ℕ)) (old new : History) : Type 0 where
-  pub kept : Kept (keys ++ grew) new.present
-  pub added : AddedUnder grew old.present new.present
-  -- the keys from before reach what they reached before
-  pub same : Distinct (keys ++ grew) → OneOpener (keys ++ grew) new.present.recorded
-      → (roots : List (List ℕ)) → All (Contains keys) roots → (addr : ℕ) → Reached roots new.present.recorded addr ↔ Reached roots old.present.recorded addr
-  -- and the root key of a moment the tree of that moment, over the pages of each later one
-  pub still : Distinct (keys ++ grew) → OneOpener (keys ++ grew) new.present.recorded → ReachesStill old new
-  pub exact : Distinct (keys ++ grew) → OneOpener (keys ++ grew) new.present.recorded → During old new (LeavesOnly ReachesTree)
-  pub deleted : Distinct (keys ++ grew) → OneOpener (keys ++ grew) new.present.recorded → NeverReached old new
-
--- the same of a run from each image that stands for a device which can be served, and for each list of keys that it keeps
+-- a run drew some keys, and each page that it handed over is a record sealed under one of them, on any image; and over an image that stands
+-- for a device which can be served, with each list of keys that this image keeps, it discloses its trees and no more
 pub record DisclosesTree (tells : Type 0) (drawn drawn_now : Option (List (List ℕ))) (old new : History) : Type 0 where
   pub grew : List (List ℕ)
   pub drew : DrewAll drawn grew drawn_now
+  pub handed : tells → HandedOver grew old.present new.present
   pub only : tells → (device : Option Device) → StandsFor old.present device → IsServedImage old.present
       → (keys : List (List ℕ)) → Kept keys old.present → DisclosesBy keys grew old new

@@ -56,3 +56,8 @@ abbrev pub OneOpener : List (List ℕ) → List (List ℕ) → Type 0
 OneOpener keys pages =
     (addr : ℕ) (one other : List ℕ) → Contains keys one → Contains keys other
     → OpensAt pages (link addr one) → OpensAt pages (link addr other) → one ≡ other
+
+-- the premises on keys: none stands twice in the list, and no two of them open one page
+pub record KeyPremises (keys pages : List (List ℕ)) : Type 0 where
+  pub distinct : Distinct keys
+  pub one_opener : OneOpener keys pages

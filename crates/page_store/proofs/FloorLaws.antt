@@ -458,8 +458,12 @@ tree_of_stands image device root parts addr stands is =
 
 -- ---- one run after another
 
-floor_first : (old new : History) → floor_of old new (moment old) ≡ low_of (image_at new (moment old))
+pub floor_first : (old new : History) → floor_of old new (moment old) ≡ low_of (image_at new (moment old))
 floor_first old new = let none : moment old - moment old ≡ 0 = omega arith in ap (F new (moment old)) none
+
+-- a floor is no higher than the low of its moment
+pub floor_below : (old new : History) (i : ℕ) → moment old ≤ i → floor_of old new i ≤ low_of (image_at new i)
+floor_below old new i from = subst (λ (x : ℕ). floor_of old new i ≤ low_of (image_at new x)) (omega arith) (floor_low new (moment old) (i - moment old))
 
 -- the floor by an earlier start is that by a later one, or the cell has been empty since then
 record IsEmptySince (start mid new : History) (x : ℕ) : Type 0 where

@@ -9,3 +9,4 @@ pub mod TreeMaps
 pub mod KeptLaws
 pub mod KeepingLaws
 pub mod FloorLaws
+pub mod DisclosingLaws

@@ -29,10 +29,10 @@ returns-in-Err-PlatformFault-clause-answered g c told entry rep =
     halts_erase old new entry (c.erase.ensures.time told _ rep.device)
 
 pub returns-in-Ok-clause-keeps : goal.returns-in-Ok-clause-keeps
-returns-in-Ok-clause-keeps g c = λ drawn. on_kept _ drawn c.args.self.now.session _ _ _ (λ told. let pages = g.met.P.Platform.counts_pages in pages told c.erase.new.platform ∙ (c.erase.ensures.head ∙ sym (pages told c.args.platform.now))) c.erase.ensures.keeps c.erase.ensures.forgets (λ told keys h. (None, c.in-Ok.ensures.erased told))
+returns-in-Ok-clause-keeps g c = λ drawn. on_kept _ drawn c.args.self.now.session _ _ _ (λ told. (c.erase.ensures.once told).extends) (λ told. let pages = g.met.P.Platform.counts_pages in pages told c.erase.new.platform ∙ (c.erase.ensures.head ∙ sym (pages told c.args.platform.now))) c.erase.ensures.keeps c.erase.ensures.forgets (λ told keys h. (None, c.in-Ok.ensures.erased told))
 
 pub returns-in-Err-NoDevice-clause-keeps : goal.returns-in-Err-NoDevice-clause-keeps
-returns-in-Err-NoDevice-clause-keeps g c = λ drawn. on_kept _ drawn c.args.self.now.session _ _ _ (λ told. let pages = g.met.P.Platform.counts_pages in pages told c.erase.new.platform ∙ (c.erase.ensures.head ∙ sym (pages told c.args.platform.now))) c.erase.ensures.keeps c.erase.ensures.forgets (λ told keys h. listed_image _ _ _ keys (c.erase.ensures.same told (cc)) h)
+returns-in-Err-NoDevice-clause-keeps g c = λ drawn. on_kept _ drawn c.args.self.now.session _ _ _ (λ told. (c.erase.ensures.once told).extends) (λ told. let pages = g.met.P.Platform.counts_pages in pages told c.erase.new.platform ∙ (c.erase.ensures.head ∙ sym (pages told c.args.platform.now))) c.erase.ensures.keeps c.erase.ensures.forgets (λ told keys h. listed_image _ _ _ keys (c.erase.ensures.same told (cc)) h)
 
 pub returns-in-Err-PlatformFault-clause-keeps : goal.returns-in-Err-PlatformFault-clause-keeps
-returns-in-Err-PlatformFault-clause-keeps g c = λ drawn. on_kept _ drawn c.args.self.now.session _ _ _ (λ told. let pages = g.met.P.Platform.counts_pages in pages told c.erase.new.platform ∙ (c.erase.ensures.head ∙ sym (pages told c.args.platform.now))) c.erase.ensures.keeps c.erase.ensures.forgets (λ told keys h. tt)
+returns-in-Err-PlatformFault-clause-keeps g c = λ drawn. on_kept _ drawn c.args.self.now.session _ _ _ (λ told. (c.erase.ensures.once told).extends) (λ told. let pages = g.met.P.Platform.counts_pages in pages told c.erase.new.platform ∙ (c.erase.ensures.head ∙ sym (pages told c.args.platform.now))) c.erase.ensures.keeps c.erase.ensures.forgets (λ told keys h. tt)
