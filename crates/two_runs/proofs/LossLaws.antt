@@ -6,6 +6,12 @@ use Rattle.std.proofs.lemmas.List.{take_more}
 use Rattle.std.proofs.lemmas.List.Elements.{Contains-push, Contains-push_cases, Contains-append_left, Contains-append_right}
 use Rattle.platform.specs.Image.{Image, MayLeave}
 use Rattle.platform.specs.History.{During, image_at}
+use Rattle.platform.proofs.Moments.{During-now}
+use Rattle.page_store.specs.Kept.{Kept}
+use Rattle.page_store.specs.Disclosing.{DisclosesBy}
+use Rattle.page_store.proofs.KeepingLaws.{drew_then}
+use Rattle.page_store.proofs.KeptLaws.{kept_left}
+use Rattle.page_store.proofs.DisclosingLaws.{discloses_on}
 use Rattle.page_store.proofs.StandsLaws.{stands_left}
 use Rattle.device_core.specs.Leaf.{IsServedCell, IsServedImage}
 use Rattle.script_lang.specs.Arrays.{State}
@@ -15,7 +21,8 @@ use Rattle.script_lang.specs.declared.replies.Reply.{Reply}
 use Rattle.device_cli.specs.World.{World}
 use Rattle.device_cli.specs.Represents.{StandsFor, closed}
 use Rattle.device_cli.specs.Ran.{AnswersScript}
-use Rattle.two_runs.specs.TwoRuns.{Tore, GoesOnFrom, GoesOn, GoesOnAnywhere}
+use Rattle.device_cli.specs.Reaching.{DisclosesTree}
+use Rattle.two_runs.specs.TwoRuns.{Tore, GoesOnFrom, GoesOn, GoesOnAnywhere, DisclosesTwice}
 
 -- one loss of power after another
 pub MayLeave-then : (a b c : Image) → MayLeave a b → MayLeave b c → MayLeave a c
@@ -113,4 +120,31 @@ anywhere old mid first left left_now written written_now one there stands served
           let mark = from.passes.each i start end in
           from_there (closed there) one.lines (one.replies ++ from.ahead) (from.passes.mark i) mark.0 cut new status given given_now put put_now
           mark.1 (mark.2 cut.history.present lost) (served_left (image_at mid.history i) cut.history.present lost (during.each i start end)) run;
+    }
+
+-- what both runs disclose
+pub discloses_twice : (drawn between drawn_now : Option (List (List ℕ))) (old mid cut new : World) (first : ℕ) (left left_now written written_now : Option (List ℕ))
+    → (one : DisclosesTree (Unit {0}) drawn between old.history mid.history) → (two : DisclosesTree (Unit {0}) between drawn_now cut.history new.history)
+    → AnswersScript (Unit {0}) old mid first left left_now written written_now → MayLeave mid.history.present cut.history.present
+    → (IsServedImage old.history.present → IsServedImage cut.history.present)
+    → DisclosesTwice drawn drawn_now old.history mid.history cut.history new.history
+discloses_twice drawn between drawn_now old mid cut new first left left_now written written_now one two answers lost serves =
+    let both : (device : Option Device) → StandsFor old.history.present device → IsServedImage old.history.present → (keys : List (List ℕ)) → Kept keys old.history.present
+        → DisclosesBy keys one.grew old.history mid.history × DisclosesBy (keys ++ one.grew) two.grew cut.history new.history
+    = λ device there served keys kept.
+    let exits = (answers.answered tt device there served).exits in
+    let a = one.only tt device there served keys kept in
+    let after = During-now old.history mid.history (Kept (keys ++ one.grew)) a.kept in
+    let stands : StandsFor cut.history.present exits.there = stands_left mid.history.present cut.history.present _ lost exits.stands in
+    (a, two.only tt exits.there stands (serves served) (keys ++ one.grew) (kept_left (keys ++ one.grew) mid.history.present cut.history.present _ exits.stands after lost)) in
+    record {
+      one = one.grew;
+      two = two.grew;
+      drew = drew_then drawn between drawn_now one.grew two.grew one.drew two.drew;
+      handed_first = one.handed tt;
+      handed_second = two.handed tt;
+      kept = λ device there served keys kept. During-now cut.history new.history (Kept ((keys ++ one.grew) ++ two.grew)) (both device there served keys kept).1.kept;
+      only = λ device there served keys kept premises.
+          let d = both device there served keys kept in
+          discloses_on keys one.grew two.grew old.history mid.history cut.history new.history d.0 d.1 lost premises;
     }

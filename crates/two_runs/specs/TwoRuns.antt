@@ -2,7 +2,11 @@
 use Rattle.std.specs.Prelude.{◌≡◌, ℕ, ◌+◌, ◌<◌, ◌≤◌, List, ◌++◌, Option, Some, Contains, length, slice_get}
 use Rattle.medium_trace.specs.Page.{zero_page}
 use Rattle.platform.specs.Image.{Image, MayLeave}
-use Rattle.platform.specs.History.{image_at, moment}
+use Rattle.platform.specs.History.{History, image_at, moment}
+use Rattle.key_graph.specs.Chains.{KeyPremises}
+use Rattle.page_store.specs.Kept.{Kept}
+use Rattle.page_store.specs.Keeping.{DrewAll, HandedOver}
+use Rattle.page_store.specs.Disclosing.{DisclosesOn}
 use Rattle.script_lang.specs.Arrays.{State}
 use Rattle.script_lang.specs.Answers.{IsMark}
 use Rattle.script_lang.specs.declared.devices.Device.{Device}
@@ -52,8 +56,22 @@ pub record GoesOnAnywhere (entry : State) (lines : List (List ℕ)) (replies : L
   pub within : (i : ℕ) → mark i ≤ length replies + length ahead
   pub each : (i : ℕ) → moment old.history ≤ i → i ≤ moment mid.history → Resumes entry lines (replies ++ ahead) mid i (mark i)
 
+-- each run drew some keys, and each page that it handed over is a record sealed under one of those; where the image at the start stands for a device which can be
+-- served, the two runs disclose their trees and no more, under the premises on the keys that this image keeps with all that were drawn, which
+-- are kept at the end
+pub record DisclosesTwice (drawn drawn_now : Option (List (List ℕ))) (old mid cut new : History) : Type 0 where
+  pub one : List (List ℕ)
+  pub two : List (List ℕ)
+  pub drew : DrewAll drawn (one ++ two) drawn_now
+  pub handed_first : HandedOver one old.present mid.present
+  pub handed_second : HandedOver two cut.present new.present
+  pub kept : (device : Option Device) → StandsFor old.present device → IsServedImage old.present
+      → (keys : List (List ℕ)) → Kept keys old.present → Kept ((keys ++ one) ++ two) new.present
+  pub only : (device : Option Device) → StandsFor old.present device → IsServedImage old.present
+      → (keys : List (List ℕ)) → Kept keys old.present → KeyPremises ((keys ++ one) ++ two) new.present.recorded → DisclosesOn keys one old mid cut new
+
 -- the first run answers its script and ends; the power is lost; over what is left the second run answers its own
-pub record TwoRuns (torn : List ℕ) (old new : World) (first second : ℕ) (left left_now other other_now written written_now : Option (List ℕ)) : Type 0 where
+pub record TwoRuns (torn : List ℕ) (drawn drawn_now : Option (List (List ℕ))) (old new : World) (first second : ℕ) (left left_now other other_now written written_now : Option (List ℕ)) : Type 0 where
   pub mid : World
   pub cut : World
   pub written_then : Option (List ℕ)
@@ -62,6 +80,7 @@ pub record TwoRuns (torn : List ℕ) (old new : World) (first second : ℕ) (lef
   pub two : AnswersScript (Unit {0}) cut new second other other_now written_then written_now
   pub goes_on : (there : Option Device) → StandsFor old.history.present there → IsServedImage old.history.present
       → GoesOn (closed there) one.lines one.replies cut new second two.lines two.replies two.part
+  pub discloses : DisclosesTwice drawn drawn_now old.history mid.history cut.history new.history
   -- the same, had the power been lost at any other moment of the first run
   pub anywhere : (there : Option Device) → StandsFor old.history.present there → IsServedImage old.history.present
       → GoesOnAnywhere (closed there) one.lines one.replies old mid

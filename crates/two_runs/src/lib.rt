@@ -19,7 +19,7 @@ use std::alloc::Global;
 /// `torn` names pages that read as zero bytes from the loss of power on; those in it that are synced, and those that
 /// there are not, stay as they are. It answers the exit statuses of both runs: see
 /// [`run_main`]. On a device that stands, the second run finds the device after the replies of the first that stand
-/// whole in the output, or the one after one more.
+/// whole in the output, or the one after one more. What the first run deleted is reached in neither, nor is what the second did.
 pub fn run_twice<T: Tape, I: Source, O: Sink, L: Sink>(
     alloc: Global,
     platform: &mut MemPlatform,
@@ -30,7 +30,7 @@ pub fn run_twice<T: Tape, I: Source, O: Sink, L: Sink>(
     ledger: &mut L,
     torn: &[u64],
 ) -> (u8, u8)
-    ensures { TwoRuns torn.now
+    ensures { TwoRuns torn.now (T.drawn tape.old) (T.drawn tape.new)
         (world None (mem_history platform.old) (length (image_of_now platform.old).recorded) (capacity_of platform.old))
         (world None (mem_history platform.new) (length (image_of_now platform.new).recorded) (capacity_of platform.new))
         result.0 result.1 (I.left first.old) (I.left first.new) (I.left second.old) (I.left second.new)

@@ -3,7 +3,7 @@ use Rattle.platform.specs.Mem.{mem_history, image_of_now, capacity_of}
 use Rattle.platform.proofs.Moments.{During-now}
 use Rattle.device_core.specs.Leaf.{IsServedImage}
 use Rattle.device_cli.specs.World.{World, world}
-use Rattle.two_runs.proofs.LossLaws.{goes_on, anywhere, served_left}
+use Rattle.two_runs.proofs.LossLaws.{goes_on, anywhere, discloses_twice, served_left}
 use Rattle.two_runs.proofs.run_twice.Goals as goal
 
 pub returns : goal.returns
@@ -21,6 +21,10 @@ returns g c =
       two = c.run_main-other.ensures.answers;
       goes_on = λ there stands served. goes_on old mid cut new _ _ _ _ _ _ _ _ _ c.run_main-status.ensures.answers c.lose_power.ensures.left.may c.run_main-other.ensures.answers there stands served
           (served_left (image_of_now c.run_main-status.new.platform) (image_of_now c.lose_power.new.platform) c.lose_power.ensures.left.may
+          (During-now (mem_history c.args.platform.now) (mem_history c.run_main-status.new.platform) IsServedImage (c.run_main-status.ensures.served tt served)));
+      discloses = discloses_twice (g.T.Tape.drawn c.args.tape.now) (g.T.Tape.drawn c.run_main-status.new.tape) (g.T.Tape.drawn c.run_main-other.new.tape) old mid cut new _ _ _ _ _
+          c.run_main-status.ensures.discloses c.run_main-other.ensures.discloses c.run_main-status.ensures.answers c.lose_power.ensures.left.may
+          (λ served. served_left (image_of_now c.run_main-status.new.platform) (image_of_now c.lose_power.new.platform) c.lose_power.ensures.left.may
           (During-now (mem_history c.args.platform.now) (mem_history c.run_main-status.new.platform) IsServedImage (c.run_main-status.ensures.served tt served)));
       anywhere = λ there stands served. anywhere old mid _ _ _ _ _ c.run_main-status.ensures.answers there stands served (c.run_main-status.ensures.served tt served);
     }
