@@ -8,6 +8,8 @@ mod first_path;
 #[cfg(test)]
 mod forged;
 #[cfg(test)]
+mod reached_pages;
+#[cfg(test)]
 mod run;
 #[cfg(test)]
 mod several_runs;
