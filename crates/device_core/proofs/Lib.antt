@@ -7,3 +7,4 @@ pub mod FollowLaws
 pub mod ServedLaws
 pub mod CountLaws
 pub mod KeyLaws
+pub mod ReadingLaws

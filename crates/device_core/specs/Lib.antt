@@ -6,4 +6,5 @@ pub mod Open
 pub mod Holds
 pub mod Replies
 pub mod Drawing
+pub mod Reading
 pub mod Knowing

@@ -5,6 +5,7 @@ ghost use Rattle.page_store.specs.Device.{Device};
 ghost use Rattle.page_store.specs.Kept.{Kept};
 ghost use Rattle.page_store.specs.Places.{NothingFits, FitsAt, block_want};
 ghost use Rattle.page_store.specs.Tree.{Wrong};
+ghost use Rattle.node_codec.specs.declared.body.Entry.{Entry};
 ghost use Rattle.node_codec.specs.Record.{Record, DataRecord};
 ghost use Rattle.device_core.specs.Blocks.{Blocks, block_content};
 ghost use Rattle.device_core.specs.Damage.{IsDamaged};
@@ -20,6 +21,7 @@ impl Session {
     ghost use Rattle.device_core.specs.Open.{IsOpen, blocks_of, level_of, root_of, is_touched};
     ghost use Rattle.device_core.specs.Holds.{Holds, Follows};
     ghost use Rattle.device_core.specs.Knowing.{HoldsListed};
+    ghost use Rattle.device_core.specs.Reading.{IsLeafOf, ReadsAs, IsFirstMisfit};
 
     /// Puts the content of a block into the 4,096 bytes of `out`: zeros where it is not mapped.
     ///
@@ -48,6 +50,13 @@ impl Session {
         ensures damaged { P.tells → Follows self.old (P.history platform.old).present → (addr : ℕ)
             → IsErrOf result (ReadRefusal.BadRecord addr)
             → IsDamaged (P.history platform.new).present.readable (root_of self.old) addr }
+        // On any pages: the content is what the leaf and the block's data record say, and what is named is the first of the two that
+        // doesn't fit. No count is asked.
+        ensures finds { P.tells → OnOk result ((leaf : List Entry)
+            × IsLeafOf self.old (P.history platform.old).present.readable leaf
+            × ReadsAs (P.history platform.old).present.readable leaf block out.new) }
+        ensures misfit { P.tells → (addr : ℕ) → IsErrOf result (ReadRefusal.BadRecord addr)
+            → IsFirstMisfit self.old (P.history platform.old).present.readable block addr }
         // Where the image keeps the keys, those of the session's data records are listed still.
         ensures listed { P.tells → (keys : List (List ℕ)) → Kept keys (P.history platform.old).present
             → HoldsListed self.old (P.history platform.old).present keys → HoldsListed self.new (P.history platform.new).present keys }

@@ -37,7 +37,8 @@ pub struct Session {
 }
 
 impl Session {
-    ghost use Rattle.device_core.specs.Open.{IsOpen, blocks_of, number_of, mapped_of, level_of, is_touched};
+    ghost use Rattle.device_core.specs.Open.{IsOpen, blocks_of, number_of, mapped_of, level_of, entries_of, is_touched};
+    ghost use Rattle.device_core.specs.Reading.{IsLeafOf};
     ghost use Rattle.device_core.specs.Holds.{Holds, Follows};
     ghost use Rattle.device_core.specs.Knowing.{HoldsListed};
 
@@ -137,6 +138,11 @@ impl Session {
             → Wrong (P.history platform.old).present.readable self.old.root addr }
         ensures bad { P.tells → (device : Device) (contents : Blocks) → Holds self.old (P.history platform.old).present device contents
             → (addr : ℕ) → IsErrOf result (FetchRefusal.BadRecord addr) → ⊥ }
+        // On any pages: the entries are the leaf's, and what is named is a leaf that was still to be read, and doesn't fit.
+        ensures leaf { P.tells → OnOk result (IsLeafOf self.old (P.history platform.old).present.readable (entries_of self.new)) }
+        ensures misfit { P.tells → (addr : ℕ) → IsErrOf result (FetchRefusal.BadRecord addr)
+            → (self.old.is_loaded ≡ false) × (addr ≡ self.old.root.addr)
+            × NothingFits (P.history platform.old).present.readable (root_want self.old.root) self.old.root.key }
 
         ensures image { P.tells → (P.history platform.new).present ≡ (P.history platform.old).present }
         ensures time { P.tells

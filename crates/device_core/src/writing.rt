@@ -7,6 +7,7 @@ ghost use Rattle.page_store.specs.Device.{Device};
 ghost use Rattle.page_store.specs.Kept.{Kept};
 ghost use Rattle.page_store.specs.Keeping.{KeepsKeys};
 ghost use Rattle.page_store.specs.Tree.{Wrong};
+ghost use Rattle.node_codec.specs.declared.body.Entry.{Entry};
 ghost use Rattle.device_core.specs.Blocks.{Blocks};
 ghost use Rattle.device_core.specs.Damage.{IsDamaged};
 ghost use Rattle.device_core.specs.Drawing.{NamesPage};
@@ -23,6 +24,7 @@ impl Session {
     ghost use Rattle.device_core.specs.Open.{IsOpen, IsMapped, IsUnmapped, blocks_of, mapped_of, entries_of, root_of, root_node, is_touched};
     ghost use Rattle.device_core.specs.Holds.{Holds, Follows};
     ghost use Rattle.device_core.specs.Knowing.{HoldsListed};
+    ghost use Rattle.device_core.specs.Reading.{IsLeafOf, IsEntryOf};
 
     /// Writes a block: at most 4,096 bytes, and zeros up to its end. It is the session's alone until a commit.
     ///
@@ -67,8 +69,9 @@ impl Session {
         ensures refused_still { P.tells
             → (IsErrOf result WriteRefusal.Range ⊎ (IsErrOf result WriteRefusal.Full ⊎ IsErrOf result WriteRefusal.TapeFault))
             → (P.history platform.new).present ≡ (P.history platform.old).present }
-        // Where as many blocks are mapped as there are, none is written that has no entry.
-        ensures counter { block < blocks_of self.old → mapped_of self.old ≡ blocks_of self.old → IsUnmapped self.new block
+        // Where as many blocks are mapped as there are, none is written that had no entry.
+        ensures counter { P.tells → (leaf : List Entry) → IsLeafOf self.old (P.history platform.old).present.readable leaf
+            → All (λ e. e.low ≢ block) leaf → mapped_of self.old ≡ blocks_of self.old
             → (IsOk result ⊎ IsErrOf result WriteRefusal.TapeFault) → ⊥ }
         ensures range { IsErrOf result WriteRefusal.Range ↔ (blocks_of self.old ≤ block) }
         ensures no_memory { IsErrOf result WriteRefusal.Memory → ⊥ }
@@ -157,8 +160,9 @@ impl Session {
         ensures damaged { P.tells → Follows self.old (P.history platform.old).present → (addr : ℕ)
             → IsErrOf result (TrimRefusal.BadRecord addr)
             → IsDamaged (P.history platform.new).present.readable (root_of self.old) addr }
-        // Where no block is mapped, none is trimmed that has an entry.
-        ensures counter { mapped_of self.old ≡ 0 → IsMapped self.new block → IsOk result → ⊥ }
+        // Where no block is mapped, none is trimmed that had an entry.
+        ensures counter { P.tells → (leaf : List Entry) (entry : Entry) → IsLeafOf self.old (P.history platform.old).present.readable leaf
+            → IsEntryOf leaf block entry → mapped_of self.old ≡ 0 → IsOk result → ⊥ }
         ensures no_memory { IsErrOf result TrimRefusal.Memory → ⊥ }
         ensures range { IsErrOf result TrimRefusal.Range ↔ (blocks_of self.old ≤ block) }
         ensures open { IsOpen self.new (P.head platform.new) }

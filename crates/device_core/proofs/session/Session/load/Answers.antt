@@ -15,6 +15,7 @@ use Rattle.page_store.proofs.WrongLaws.{wrong_root}
 use Rattle.device_core.proofs.FollowLaws.{follows_same, follows_read}
 use Rattle.device_core.specs.Knowing.{HoldsListedBy}
 use Rattle.device_core.proofs.KeyLaws.{listed_same, listed_loaded}
+use Rattle.device_core.proofs.ReadingLaws.{loaded_or_not}
 use Rattle.device_core.proofs.session.Session.load.Goals as goal
 
 -- a node that is wanted at the root of one leaf is a leaf
@@ -141,3 +142,33 @@ returns-in-Node-clause-listed g c = λ told keys kept h.
     let unread = subst (λ (b : Bool). HoldsListedBy self.root self.mapped b self.is_touched self.entries.items (history c.args.platform.now).present keys) c.if-self.false h in
     listed_same _ _ _ _ _ (history c.args.platform.now).present _ keys (c.fetch.ensures.image told)
     (listed_loaded self.root self.mapped self.is_touched self.entries.items c.in-Node.node.entries.items (history c.args.platform.now).present keys kept unread at_one)
+
+pub returns-then-self-clause-leaf : goal.returns-then-self-clause-leaf
+returns-then-self-clause-leaf g c = λ told. record { read = λ is. refl; unread = λ isnt. absurd (loaded_or_not c.args.self.now.is_loaded c.if-self.true isnt) }
+
+pub returns-in-Node-clause-leaf : goal.returns-in-Node-clause-leaf
+returns-in-Node-clause-leaf g c = λ told.
+    let history = g.P.Platform.history in
+    let head = g.P.Platform.head in
+    let self = c.args.self.now in
+    let pages = (history c.args.platform.now).present.readable in
+    let wanted = rw c.in-Node.is at c.in-Ok.ensures.wanted in
+    let read = leaf_wanted_read c.of_root-want.result self.root c.in-Node.node.level (head c.args.platform.now) c.in-Node.node.entries.items _ c.of_root-want.ensures c.requires.served.leaf.level (omega (arith, c.requires.served.fits.addr, c.requires.served.within)) wanted in
+    let fits = rw c.in-Node.is at (c.in-Ok.ensures.fits told) in
+    let of_root = subst (λ (w : Want). FitsAt pages w self.root.key (NodeRecord c.in-Node.node.level c.in-Node.node.entries.items)) c.of_root-want.ensures fits in
+    record {
+      read = λ is. absurd (loaded_or_not self.is_loaded is c.if-self.false);
+      unread = λ isnt. subst (λ (n : ℕ). FitsAt pages (root_want self.root) self.root.key (NodeRecord n c.in-Node.node.entries.items)) read.0 of_root;
+    }
+
+pub returns-in-Err-clause-misfit : goal.returns-in-Err-clause-misfit
+returns-in-Err-clause-misfit g c = λ told addr is. (
+  c.if-self.false,
+  c.in-Err.ensures.bad addr (cc) ∙ ap (λ (w : Want). w.addr) c.of_root-want.ensures,
+  subst (λ (w : Want). NothingFits (g.P.Platform.history c.args.platform.now).present.readable w c.args.self.now.root.key) c.of_root-want.ensures (c.in-Err.ensures.nothing_fits told addr (cc)),
+)
+
+pub returns-in-Block-clause-misfit : goal.returns-in-Block-clause-misfit
+returns-in-Block-clause-misfit g c = λ told addr is.
+    let wanted = rw c.in-Block.is at c.in-Ok.ensures.wanted in
+    absurd (no_block c.of_root-want.result c.args.self.now.root _ _ _ c.of_root-want.ensures c.requires.served.leaf.level wanted)

@@ -8,6 +8,11 @@ use Rattle.platform.specs.Image.{Image}
 use Rattle.page_store.specs.Tree.{Wrong}
 use Rattle.device_core.proofs.FollowLaws.{follows_same, wrong_found}
 use Rattle.device_core.proofs.KeyLaws.{listed_same}
+use Rattle.std.proofs.Common.{Err, refl, inr}
+use Rattle.node_codec.specs.Record.{Record, DataRecord}
+use Rattle.page_store.specs.Places.{FitsAt, NothingFits, block_want}
+use Rattle.device_core.proofs.FollowLaws.{unmapped_place}
+use Rattle.device_core.proofs.ReadingLaws.{entry_at}
 use Rattle.device_core.proofs.session.Session.read.Goals as goal
 
 pub returns-then-block-self-clause-time : goal.returns-then-block-self-clause-time
@@ -117,3 +122,45 @@ returns-in-Err-BadRecord-fetch_block-clause-listed g c = λ told keys kept h. li
 
 pub returns-in-Err-PlatformFault-fetch_block-clause-listed : goal.returns-in-Err-PlatformFault-fetch_block-clause-listed
 returns-in-Err-PlatformFault-fetch_block-clause-listed g c = λ told keys kept h. listed_same _ _ _ _ _ _ _ keys (c.fetch_block.ensures.image told) (c.load.ensures.listed told keys kept h)
+
+pub returns-in_default-clause-finds : goal.returns-in_default-clause-finds
+returns-in_default-clause-finds g c = λ told.
+    let place = rw c.as_slice.ensures.value at c.in_default.ensures in (
+      c.load.new.self.entries.items,
+      c.in-Ok.ensures.leaf told,
+      inl (unmapped_place c.load.new.self.entries.items (Err _) c.args.block place refl, c.fill.ensures.after (λ y same. same) ∙ ap (λ (n : ℕ). replicate n 0) c.requires.size),
+    )
+
+pub returns-in-Ok-fetch_block-clause-finds : goal.returns-in-Ok-fetch_block-clause-finds
+returns-in-Ok-fetch_block-clause-finds g c = λ told.
+    let history = g.P.Platform.history in
+    let entry = c.index-deref-place.result in
+    let place = rw c.as_slice.ensures.value at c.in-Ok-place_of.ensures in
+    let at : entry ≡ get_or c.load.new.self.entries.items c.in-Ok-place_of.place entry = rw c.deref.ensures.0 at c.index-deref-place.is in
+    let there = c.in-Ok-fetch_block.ensures.fits told in
+    let fits = subst (λ (v : Record). FitsAt (history c.load.new.platform).present.readable (block_want entry.addr c.args.block) entry.key v) there.2 there.1 in (
+      c.load.new.self.entries.items,
+      c.in-Ok.ensures.leaf told,
+      inr (entry, entry_at c.load.new.self.entries.items c.args.block c.in-Ok-place_of.place entry place at,
+      subst (λ (i : Image). FitsAt i.readable (block_want entry.addr c.args.block) entry.key (DataRecord c.args.block c.fetch_block.new.out)) (c.load.ensures.image told) fits),
+    )
+
+pub returns-in-Err-BadRecord-clause-misfit : goal.returns-in-Err-BadRecord-clause-misfit
+returns-in-Err-BadRecord-clause-misfit g c = λ told addr is. inl (c.load.ensures.misfit told addr (cc))
+
+pub returns-in-Err-BadRecord-fetch_block-clause-misfit : goal.returns-in-Err-BadRecord-fetch_block-clause-misfit
+returns-in-Err-BadRecord-fetch_block-clause-misfit g c = λ told addr is.
+    let history = g.P.Platform.history in
+    let entry = c.index-deref-place.result in
+    let place = rw c.as_slice.ensures.value at c.in-Ok-place_of.ensures in
+    let at : entry ≡ get_or c.load.new.self.entries.items c.in-Ok-place_of.place entry = rw c.deref.ensures.0 at c.index-deref-place.is in
+    let nothing = c.fetch_block.ensures.nothing_fits told c.in-Err-BadRecord-fetch_block.addr (cc) in
+    let named : addr ≡ entry.addr = let same : c.in-Err-BadRecord-fetch_block.addr ≡ addr = cc in sym same ∙ c.fetch_block.ensures.bad c.in-Err-BadRecord-fetch_block.addr (cc) in
+    inr (
+      c.load.new.self.entries.items,
+      entry,
+      c.in-Ok.ensures.leaf told,
+      entry_at c.load.new.self.entries.items c.args.block c.in-Ok-place_of.place entry place at,
+      named,
+      subst (λ (i : Image). NothingFits i.readable (block_want entry.addr c.args.block) entry.key) (c.load.ensures.image told) nothing,
+    )

@@ -6,11 +6,14 @@ use Rattle.device_core.proofs.EntryLaws.{AreEntries-removed}
 use Rattle.device_core.proofs.HoldLaws.{content_none, remove_none, trimmed, some_mapped, touched_none, touched_some, is_mapped}
 use Rattle.std.proofs.Common.{inl, inr}
 use Rattle.root_codec.specs.declared.root.Root.{Root}
-use Rattle.device_core.proofs.FollowLaws.{follows_removed, miscounted_none, mapped_or_not, unmapped_place}
+use Rattle.device_core.proofs.FollowLaws.{follows_removed, miscounted_none, unmapped_place}
 use Rattle.platform.specs.Image.{Image}
 use Rattle.page_store.specs.Tree.{Wrong}
 use Rattle.device_core.specs.Damage.{IsMiscounted}
 use Rattle.device_core.proofs.KeyLaws.{listed_trimmed}
+use Rattle.std.specs.Prelude.{◌≢◌, List, All}
+use Rattle.node_codec.specs.declared.body.Entry.{Entry}
+use Rattle.device_core.proofs.ReadingLaws.{one_leaf, has_place}
 use Rattle.device_core.proofs.session.Session.trim.Goals as goal
 
 pub returns-then-block-self-clause-time : goal.returns-then-block-self-clause-time
@@ -92,9 +95,10 @@ returns-then-self-eq0-clause-damaged g c = λ told follows addr is.
     )
 
 pub returns-in_default-clause-counter : goal.returns-in_default-clause-counter
-returns-in_default-clause-counter g c = λ none mapped ok.
+returns-in_default-clause-counter g c = λ told leaf entry is has none ok.
     let place = rw c.as_slice.ensures.value at c.in_default.ensures in
-    mapped_or_not c.load.new.self.entries.items c.args.block (unmapped_place c.load.new.self.entries.items (Err _) c.args.block place refl) mapped
+    let same = one_leaf c.args.self.now.root c.args.self.now.is_loaded c.args.self.now.entries.items _ leaf c.load.new.self.entries.items (omega (arith, c.requires.served.fits.addr, c.requires.served.fits.head)) is (c.in-Ok.ensures.leaf told) in
+    has_place leaf c.args.block entry has (subst (λ (es : List Entry). All (λ (e : Entry). e.low ≢ c.args.block) es) (sym same) (unmapped_place c.load.new.self.entries.items (Err _) c.args.block place refl))
 
 pub returns-clause-listed : goal.returns-clause-listed
 returns-clause-listed g c = λ told keys kept h.

@@ -12,7 +12,7 @@ use Rattle.device_core.proofs.EntryLaws.{AreEntries-placed, room_where_none, pla
 use Rattle.device_core.proofs.HoldLaws.{holds_same, holds_later, some_unmapped, padded_bytes, written, data_page}
 use Rattle.std.proofs.Common.{inl, inr}
 use Rattle.std.specs.Prelude.{Contains}
-use Rattle.device_core.proofs.FollowLaws.{follows_same, follows_later, follows_written, unmapped_place, miscounted_full, new_place, placed_mapped}
+use Rattle.device_core.proofs.FollowLaws.{follows_same, follows_later, follows_written, unmapped_place, miscounted_full, new_place}
 use Rattle.page_store.specs.Tree.{Wrong}
 use Rattle.device_core.specs.Damage.{IsMiscounted}
 use Rattle.std.proofs.Common.{refl}
@@ -20,6 +20,8 @@ use Rattle.platform.proofs.Moments.{During-start}
 use Rattle.page_store.proofs.KeepingLaws.{keeps_idle}
 use Rattle.device_core.specs.Knowing.{HoldsListed}
 use Rattle.device_core.proofs.KeyLaws.{load_keeps, write_keeps, listed_later, listed_written}
+use Rattle.std.specs.Prelude.{◌≢◌, All}
+use Rattle.device_core.proofs.ReadingLaws.{one_leaf}
 use Rattle.device_core.proofs.session.Session.write.Goals as goal
 
 pub returns-then-block-self-clause-time : goal.returns-then-block-self-clause-time
@@ -169,17 +171,20 @@ returns-in_default-clause-damaged g c = λ told follows addr is.
     )
 
 pub returns-in-Err-TapeFault-clause-counter : goal.returns-in-Err-TapeFault-clause-counter
-returns-in-Err-TapeFault-clause-counter g c = λ low all unmapped is.
+returns-in-Err-TapeFault-clause-counter g c = λ told leaf is none all stop.
     let place = rw c.as_slice.ensures.value at c.place_of-place.ensures in
-    let new = new_place c.load.new.self.entries.items c.place_of-place.result c.args.block place unmapped in
-    let none = c.mapped_with.ensures.none.1 (new, c.load.ensures.same.1 ∙ all ∙ sym (ap (λ (r : Root). r.blocks) c.load.ensures.same.0)) in
-    grind (arith, none, c.in-Some.is)
+    let same = one_leaf c.args.self.now.root c.args.self.now.is_loaded c.args.self.now.entries.items _ leaf c.load.new.self.entries.items (omega (arith, c.requires.open.served.fits.addr, c.requires.open.served.fits.head)) is (c.in-Ok.ensures.leaf told) in
+    let new = new_place c.load.new.self.entries.items c.place_of-place.result c.args.block place (subst (λ (es : List Entry). All (λ (e : Entry). e.low ≢ c.args.block) es) same none) in
+    let no = c.mapped_with.ensures.none.1 (new, c.load.ensures.same.1 ∙ all ∙ sym (ap (λ (r : Root). r.blocks) c.load.ensures.same.0)) in
+    grind (arith, no, c.in-Some.is)
 
 pub returns-clause-counter : goal.returns-clause-counter
-returns-clause-counter g c = λ low all unmapped is.
+returns-clause-counter g c = λ told leaf is none all stop.
     let place = rw c.as_slice.ensures.value at c.place_of-place.ensures in
-    let entry : Entry = record { low = c.args.block; addr = c.in-Ok-append.placed.addr; key = c.in-Ok-append.placed.key } in
-    placed_mapped c.load.new.self.entries.items c.place_of-place.result entry place (rw c.put_entry.ensures at unmapped)
+    let same = one_leaf c.args.self.now.root c.args.self.now.is_loaded c.args.self.now.entries.items _ leaf c.load.new.self.entries.items (omega (arith, c.requires.open.served.fits.addr, c.requires.open.served.fits.head)) is (c.in-Ok.ensures.leaf told) in
+    let new = new_place c.load.new.self.entries.items c.place_of-place.result c.args.block place (subst (λ (es : List Entry). All (λ (e : Entry). e.low ≢ c.args.block) es) same none) in
+    let no = c.mapped_with.ensures.none.1 (new, c.load.ensures.same.1 ∙ all ∙ sym (ap (λ (r : Root). r.blocks) c.load.ensures.same.0)) in
+    grind (arith, no, c.in-Some.is)
 
 pub returns-in-Err-TapeFault-clause-refused_still : goal.returns-in-Err-TapeFault-clause-refused_still
 returns-in-Err-TapeFault-clause-refused_still g c = λ told is. c.append.ensures.unchanged told (cc) ∙ c.load.ensures.image told
