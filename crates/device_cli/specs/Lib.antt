@@ -8,3 +8,4 @@ pub mod Represents
 pub mod World
 pub mod Pages
 pub mod Reaching
+pub mod Unserved

@@ -14,6 +14,7 @@ ghost use Rattle.device_cli.specs.World.{world};
 ghost use Rattle.device_cli.specs.Represents.{StandsFor, closed};
 ghost use Rattle.device_cli.specs.Ran.{AnswersScript, IsAmple, IsComplete};
 ghost use Rattle.device_cli.specs.Reaching.{DisclosesTree};
+ghost use Rattle.device_cli.specs.Unserved.{IsUnserved};
 ghost use Rattle.device_cli.specs.Run.{IsStatus, Took, NoneFell, NoneRose, counts};
 
 mod desk;
@@ -63,6 +64,12 @@ pub fn run_main<P: Platform, T: Tape, I: Source, O: Sink, L: Sink>(
     ensures bad_root_only { P.tells → result ≡ 8 → IsServedImage (P.history platform.old).present → ⊥ }
     ensures bad_root { P.tells → (IsServedImage (P.history platform.old).present → ⊥) → AreRunWords (map string_bytes words.now)
         → (result ≡ 8) ⊎ (result ≡ 4) ⊎ (result ≡ 5) }
+    // At 8 all is as it was but for the line that says so, and at 2 all is.
+    ensures unserved { P.tells → result ≡ 8
+        → IsUnserved tape.old tape.new input.old input.new ledger.old ledger.new (P.head platform.old) (P.head platform.new)
+        (O.written output.old) (O.written output.new) (P.history platform.old) (P.history platform.new) }
+    ensures other_words { result ≡ 2 → (platform.new ≡ platform.old) × (tape.new ≡ tape.old) × (input.new ≡ input.old)
+        × (output.new ≡ output.old) × (ledger.new ≡ ledger.old) }
 
     // The bytes put are the lines of replies, one for each line in turn, and perhaps a part behind them; on a device that
     // stands they are the replies of an array of blocks, and at each moment a loss of power leaves a device that they passed.

@@ -16,6 +16,7 @@ ghost use Rattle.device_cli.specs.Kept.{IsKept, IsPending};
 ghost use Rattle.device_cli.specs.Replied.{Handled, HasPut, IsSound, no_line, damage_line};
 ghost use Rattle.device_cli.specs.Ran.{Ran};
 ghost use Rattle.device_cli.specs.Reaching.{IsListed, KeepsOn};
+ghost use Rattle.device_cli.specs.Unserved.{IsUnserved};
 
 use crate::desk::Desk;
 use crate::entry::check_cell;
@@ -42,6 +43,9 @@ pub(crate) fn run<P: Platform, T: Tape, I: Source, O: Sink, L: Sink>(
     ensures refused_only { P.tells → IfErr result (λ stop. status_of stop ≡ 8 → IsServedImage (P.history platform.old).present → ⊥) }
     ensures refused { P.tells → (IsServedImage (P.history platform.old).present → ⊥) → IfErr result (λ stop. IsRefusal stop)
         × (IsOk result → ⊥) }
+    ensures unserved { P.tells → IfErr result (λ stop. status_of stop ≡ 8
+        → IsUnserved tape.old tape.new input.old input.new ledger.old ledger.new (P.head platform.old) (P.head platform.new)
+        (O.written output.old) (O.written output.new) (P.history platform.old) (P.history platform.new)) }
     ensures keeps { KeepsOn P.tells (T.drawn tape.old) (T.drawn tape.new) None (P.history platform.old) (P.history platform.new) (λ keys. ⊤) }
     ensures counts { NoneFell
         (counts (P.faults platform.old) (T.faults tape.old) (I.faults input.old) (O.faults output.old) (L.faults ledger.old))
