@@ -1,5 +1,5 @@
 -- Two runs with a loss of power between them.
-use Rattle.std.specs.Prelude.{◌≡◌, ℕ, ◌+◌, ◌<◌, ◌≤◌, List, ◌++◌, Option, Some, Contains, length, slice_get}
+use Rattle.std.specs.Prelude.{◌≡◌, ◌≢◌, ℕ, ◌+◌, ◌<◌, ◌≤◌, List, ◌++◌, Option, Some, Contains, length, slice_get}
 use Rattle.medium_trace.specs.Page.{zero_page}
 use Rattle.platform.specs.Image.{Image, MayLeave}
 use Rattle.platform.specs.History.{History, image_at, moment}
@@ -12,6 +12,8 @@ use Rattle.script_lang.specs.Answers.{IsMark}
 use Rattle.script_lang.specs.declared.devices.Device.{Device}
 use Rattle.script_lang.specs.declared.replies.Reply.{Reply}
 use Rattle.device_core.specs.Leaf.{IsServedImage}
+use Rattle.sdbt_base.specs.Faults.{Rose}
+use Rattle.device_cli.specs.Run.{Counts, NoneFell}
 use Rattle.device_cli.specs.World.{World}
 use Rattle.device_cli.specs.Represents.{StandsFor, closed}
 use Rattle.device_cli.specs.Ran.{AnswersScript, AnswersFrom}
@@ -55,6 +57,22 @@ pub record GoesOnAnywhere (entry : State) (lines : List (List ℕ)) (replies : L
   pub rises : (i j : ℕ) → i ≤ j → mark i ≤ mark j
   pub within : (i : ℕ) → mark i ≤ length replies + length ahead
   pub each : (i : ℕ) → moment old.history ≤ i → i ≤ moment mid.history → Resumes entry lines (replies ++ ahead) mid i (mark i)
+
+-- a run that was given no words ends with a status that names an object only where the count of faults of that object rose
+pub record HasCause (status : ℕ) (before now : Counts) : Type 0 where
+  pub none_fell : NoneFell before now
+  pub words : status ≢ 2
+  pub input : status ≡ 3 → Rose before.input now.input
+  pub output : status ≡ 4 → Rose before.output now.output
+  pub platform : status ≡ 5 → Rose before.platform now.platform
+  pub tape : status ≡ 6 → Rose before.tape now.tape
+  pub ledger : status ≡ 7 → Rose before.ledger now.ledger
+
+-- the same of two runs, each with an input of its own
+pub record HaveCauses (first second : ℕ) (before now : Counts) (other other_now : ℕ) : Type 0 where
+  pub between : Counts
+  pub one : HasCause first before between
+  pub two : HasCause second (record between { input = other }) (record now { input = other_now })
 
 -- each run drew some keys, and each page that it handed over is a record sealed under one of those; where the image at the start stands for a device which can be
 -- served, the two runs disclose their trees and no more, under the premises on the keys that this image keeps with all that were drawn, which

@@ -2,9 +2,10 @@
 #![tactic(auto)]
 
 ghost use Rattle.std.specs.Prelude.{◌≡◌, ◌≤◌, ◌∷◌, [], None, length};
-ghost use Rattle.platform.specs.Mem.{mem_history, image_of_now, capacity_of};
+ghost use Rattle.platform.specs.Mem.{mem_history, image_of_now, capacity_of, faults_of};
+ghost use Rattle.device_cli.specs.Run.{counts};
 ghost use Rattle.device_cli.specs.World.{world};
-ghost use Rattle.two_runs.specs.TwoRuns.{Tore, TwoRuns};
+ghost use Rattle.two_runs.specs.TwoRuns.{Tore, TwoRuns, HaveCauses};
 
 #[cfg(test)]
 mod tests;
@@ -30,11 +31,16 @@ pub fn run_twice<T: Tape, I: Source, O: Sink, L: Sink>(
     ledger: &mut L,
     torn: &[u64],
 ) -> (u8, u8)
-    ensures { TwoRuns torn.now (T.drawn tape.old) (T.drawn tape.new)
+    ensures runs { TwoRuns torn.now (T.drawn tape.old) (T.drawn tape.new)
         (world None (mem_history platform.old) (length (image_of_now platform.old).recorded) (capacity_of platform.old))
         (world None (mem_history platform.new) (length (image_of_now platform.new).recorded) (capacity_of platform.new))
         result.0 result.1 (I.left first.old) (I.left first.new) (I.left second.old) (I.left second.new)
         (O.written output.old) (O.written output.new) }
+    // Each status that names an object comes only where the count of faults of that object rose in that run.
+    ensures causes { HaveCauses result.0 result.1
+        (counts (faults_of platform.old) (T.faults tape.old) (I.faults first.old) (O.faults output.old) (L.faults ledger.old))
+        (counts (faults_of platform.new) (T.faults tape.new) (I.faults first.new) (O.faults output.new) (L.faults ledger.new))
+        (I.faults second.old) (I.faults second.new) }
 {
     let status = run_main(alloc, &[], platform, tape, first, output, ledger);
     lose_power(platform, torn);
@@ -46,6 +52,7 @@ pub fn run_twice<T: Tape, I: Source, O: Sink, L: Sink>(
 fn lose_power(platform: &mut MemPlatform, torn: &[u64])
     ensures left { Tore torn.now (image_of_now platform.old) (image_of_now platform.new) }
     ensures capacity { capacity_of platform.new ≡ capacity_of platform.old }
+    ensures faults { faults_of platform.new ≡ faults_of platform.old }
 {
     platform.power_cut(&[]);
     for addr in torn {
@@ -57,6 +64,7 @@ fn lose_power(platform: &mut MemPlatform, torn: &[u64])
 fn tear_page(platform: &mut MemPlatform, addr: u64)
     ensures left { Tore (addr ∷ []) (image_of_now platform.old) (image_of_now platform.new) }
     ensures capacity { capacity_of platform.new ≡ capacity_of platform.old }
+    ensures faults { faults_of platform.new ≡ faults_of platform.old }
 {
     if platform.synced() <= addr && addr < platform.head() {
         platform.power_cut(&[addr]);

@@ -11,6 +11,7 @@ pub loop-addr-init : goal.loop-addr-init
 loop-addr-init c = record {
   left = Tore-none (image_of_now c.args.platform.now) (image_of_now c.power_cut.new.self) c.power_cut.ensures.left (λ addr. c.power_cut.ensures.torn.other_pages addr (none_among addr));
   capacity = c.power_cut.ensures.rest.capacity;
+  faults = c.power_cut.ensures.rest.faults;
 }
 
 pub loop-addr-preserved : goal.loop-addr-preserved
@@ -21,6 +22,7 @@ loop-addr-preserved c =
       left = Tore-more c.args.torn.now (image_of_now c.args.platform.now) (image_of_now c.loop-addr.platform) (image_of_now c.tear_page.new.platform) c.loop-addr.addr-index addr
           c.loop-addr-test.true at c.loop-addr.invariant.left c.tear_page.ensures.left;
       capacity = c.tear_page.ensures.capacity ∙ c.loop-addr.invariant.capacity;
+      faults = c.tear_page.ensures.faults ∙ c.loop-addr.invariant.faults;
     }
 
 pub returns-clause-left : goal.returns-clause-left

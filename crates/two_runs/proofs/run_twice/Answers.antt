@@ -6,8 +6,8 @@ use Rattle.device_cli.specs.World.{World, world}
 use Rattle.two_runs.proofs.LossLaws.{goes_on, anywhere, discloses_twice, served_left}
 use Rattle.two_runs.proofs.run_twice.Goals as goal
 
-pub returns : goal.returns
-returns g c =
+pub returns-clause-runs : goal.returns-clause-runs
+returns-clause-runs g c =
     let old : World = world None (mem_history c.args.platform.now) (length (image_of_now c.args.platform.now).recorded) (capacity_of c.args.platform.now) in
     let mid : World = world None (mem_history c.run_main-status.new.platform) (length (image_of_now c.run_main-status.new.platform).recorded) (capacity_of c.run_main-status.new.platform) in
     let cut : World = world None (mem_history c.lose_power.new.platform) (length (image_of_now c.lose_power.new.platform).recorded) (capacity_of c.lose_power.new.platform) in
