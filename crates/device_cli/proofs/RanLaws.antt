@@ -15,6 +15,7 @@ use Rattle.device_cli.proofs.PassLaws.{IsMark-none, Passes-stay}
 use Rattle.script_lang.specs.declared.replies.Reply.{Reply}
 use Rattle.device_cli.specs.Run.{TookUntil, Took, status_of}
 use Rattle.device_cli.specs.Replied.{Ending, IsBehind, IsDamageAt, IsAhead, IsSound, Answered, no_line, damage_line}
+use Rattle.device_cli.specs.Added.{HasAdded}
 use Rattle.device_cli.specs.Ran.{Ran}
 use Rattle.device_cli.specs.declared.stop.Stop.{Stop}
 use Rattle.device_cli.specs.declared.stop.Stop.TheVariants as stops
@@ -149,7 +150,7 @@ Ran-refused tells old new stop left written which later same still sound = recor
         pages = old.head;
         answers = (refl, refl);
         ends = sound told entry rep;
-        near = (later.rises, omega (arith, same));
+        near = none_added stop which;
         ahead = [];
         is_ahead = none_ahead stop which;
         passes = let both = still told entry rep in Passes-stay old.history new.history entry [] [] rep.there.device both.1;
@@ -167,6 +168,14 @@ Ran-refused tells old new stop left written which later same still sound = recor
     no_damage device.Memory w = tt
     no_damage (device.BadRecord addr) (inl e) = cc
     no_damage (device.BadRecord addr) (inr e) = cc
+
+    none_added : (s : DeviceStop) → (s ≡ device.BadRoot) ⊎ (s ≡ device.Platform) → HasAdded s old.head new.head
+    none_added device.BadRoot w = same
+    none_added device.Platform w = (later.rises, omega (arith, same))
+    none_added device.Tape w = same
+    none_added device.Ledger w = (later.rises, omega (arith, same))
+    none_added device.Memory w = same
+    none_added (device.BadRecord addr) w = same
 
     none_ahead : (s : DeviceStop) → (s ≡ device.BadRoot) ⊎ (s ≡ device.Platform) → IsAhead (Err (stops.Device s)) []
     none_ahead device.BadRoot w = refl

@@ -23,6 +23,7 @@ use Rattle.device_core.specs.Leaf.{IsServedImage}
 use Rattle.device_cli.specs.Run.{IsOfLine}
 use Rattle.device_cli.specs.World.{World, is_full, IsLater}
 use Rattle.device_cli.specs.Represents.{Stood, StandsFor, Leaves}
+use Rattle.device_cli.specs.Added.{HasAdded}
 use Rattle.device_cli.specs.Pages.{pages_after, TurnIf, AnswersOn}
 use Rattle.device_cli.specs.Replied.{no_line, Ending, AreMany, IfNext, IsDamageAt, IsAhead, HasMark, ExitsAt, EndsIn, Answered, Replied, Handled, AsksForBlock, IsSound, IsOfBlock, IsWrongPage, Halts, Serves, HasPut}
 use Rattle.device_cli.specs.declared.stop.Stop.{Stop}
@@ -201,11 +202,11 @@ halted old new entry line command device.BadRoot spells stands h = absurd h
 halted old new entry line command (device.BadRecord addr) spells stands h = absurd h
 
 -- a line that the device stopped at
-pub Replied-stop : (tells : Type 0) (old new : World) (line : List ℕ) (command : Command) (stop : DeviceStop) → Spells line command → IsLater old new → new.head ≤ old.head + 1
+pub Replied-stop : (tells : Type 0) (old new : World) (line : List ℕ) (command : Command) (stop : DeviceStop) → Spells line command → IsLater old new → HasAdded stop old.head new.head
     → IsDamageAt tells new.history.present [] (line ∷ []) (Err (stops.Device stop))
     → (tells → (entry : State) → Stood old entry → Halts old new entry command stop)
     → Replied tells old new no_line (Err (stops.Device stop)) (line ∷ []) []
-Replied-stop tells old new line command stop spells later one_more damage halts = record {
+Replied-stop tells old new line command stop spells later added damage halts = record {
   replies = [];
   part = [];
   put_is = refl;
@@ -221,7 +222,7 @@ Replied-stop tells old new line command stop spells later one_more damage halts 
         pages = old.head;
         answers = (refl, refl);
         ends = h.sound;
-        near = (later.rises, one_more);
+        near = added;
         ahead = h.ahead;
         is_ahead = h.is_ahead;
         passes = h.passes;
@@ -504,13 +505,13 @@ turned_command old new entry line command reply spells served pages (now, is, re
 
 -- a line that the device stopped at
 pub Handled-stop : (tells : Type 0) (old new : World) (line : List ℕ) (command : Command) (stop : DeviceStop) (written : Option (List ℕ)) → Spells line command
-    → IsLater old new → new.head ≤ old.head + 1 → ((addr : ℕ) → stop ≡ device.BadRecord addr → IsOfBlock command × (tells → IsWrongPage new.history.present addr))
+    → IsLater old new → HasAdded stop old.head new.head → ((addr : ℕ) → stop ≡ device.BadRecord addr → IsOfBlock command × (tells → IsWrongPage new.history.present addr))
     → (tells → (entry : State) → Stood old entry → Halts old new entry command stop)
     → Handled tells old new no_line (Err (stops.Device stop)) (line ∷ []) written written
-Handled-stop tells old new line command stop written spells later one_more met halts = record {
+Handled-stop tells old new line command stop written spells later added met halts = record {
   put = [];
   got = Got-nothing written;
-  replied = Replied-stop tells old new line command stop spells later one_more (damage stop met) halts;
+  replied = Replied-stop tells old new line command stop spells later added (damage stop met) halts;
 }
   where
     damage : (s : DeviceStop) → ((addr : ℕ) → s ≡ device.BadRecord addr → IsOfBlock command × (tells → IsWrongPage new.history.present addr))

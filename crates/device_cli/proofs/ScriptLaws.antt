@@ -15,6 +15,8 @@ use Rattle.platform.specs.History.{History}
 use Rattle.device_cli.specs.World.{World, world}
 use Rattle.device_cli.specs.Represents.{StandsFor, IsSessionOf, Represents, closed}
 use Rattle.device_cli.specs.Replied.{Ending, IsBehind, AreMany, IsDamageAt, IfNext, AsksForBlock, IsWrongPage, IsFirstPart, IsAhead, EndsIn, Answered, damage_line}
+use Rattle.device_cli.specs.Added.{IsNear}
+use Rattle.device_cli.specs.Pages.{IsOneMore}
 use Rattle.device_cli.specs.Ran.{Ran, AreLines, HaveCome, AnswersFrom, AnswersScript}
 use Rattle.device_cli.specs.declared.stop.Stop.TheVariants as stops
 use Rattle.device_cli.specs.declared.stop.DeviceStop.{DeviceStop}
@@ -200,6 +202,34 @@ none_ahead (Err (stops.Device device.Memory)) ahead h p q = h
 none_ahead (Err (stops.Device device.BadRoot)) ahead h p q = h
 none_ahead (Err (stops.Device (device.BadRecord addr))) ahead h p q = h
 
+near : (ending : Ending) (pages now : ℕ) → IsNear ending pages now → IsOneMore pages now
+near (Ok done) pages now h = h
+near (Err stops.Source) pages now h = h
+near (Err stops.Limit) pages now h = h
+near (Err stops.Sink) pages now h = h
+near (Err (stops.Device device.Platform)) pages now h = h
+near (Err (stops.Device device.Ledger)) pages now h = h
+near (Err (stops.Device device.Tape)) pages now h = (omega (arith, h), omega (arith, h))
+near (Err (stops.Device device.Memory)) pages now h = (omega (arith, h), omega (arith, h))
+near (Err (stops.Device device.BadRoot)) pages now h = (omega (arith, h), omega (arith, h))
+near (Err (stops.Device (device.BadRecord addr))) pages now h = (omega (arith, h), omega (arith, h))
+
+no_other : (status : ℕ) → (status ≡ 6 → ⊥) → (status ≡ 11 → ⊥) → (status ≡ 6) ⊎ (status ≡ 11) → ⊥
+no_other status six eleven (inl e) = six e
+no_other status six eleven (inr e) = eleven e
+
+exact : (ending : Ending) (pages now : ℕ) → IsNear ending pages now → (exit_of ending ≡ 6) ⊎ (exit_of ending ≡ 11) → now ≡ pages
+exact (Ok done) pages now h e = absurd (no_other 0 (λ p. omega (arith, p)) (λ p. omega (arith, p)) e)
+exact (Err stops.Source) pages now h e = absurd (no_other 3 (λ p. omega (arith, p)) (λ p. omega (arith, p)) e)
+exact (Err stops.Limit) pages now h e = absurd (no_other 12 (λ p. omega (arith, p)) (λ p. omega (arith, p)) e)
+exact (Err stops.Sink) pages now h e = absurd (no_other 4 (λ p. omega (arith, p)) (λ p. omega (arith, p)) e)
+exact (Err (stops.Device device.Platform)) pages now h e = absurd (no_other 5 (λ p. omega (arith, p)) (λ p. omega (arith, p)) e)
+exact (Err (stops.Device device.Ledger)) pages now h e = absurd (no_other 7 (λ p. omega (arith, p)) (λ p. omega (arith, p)) e)
+exact (Err (stops.Device device.Tape)) pages now h e = h
+exact (Err (stops.Device device.Memory)) pages now h e = h
+exact (Err (stops.Device device.BadRoot)) pages now h e = h
+exact (Err (stops.Device (device.BadRecord addr))) pages now h e = h
+
 -- what a run answered, by its status
 answers_from : (old new : World) (ending : Ending) (entry : State) (lines : List (List ℕ)) (replies : List Reply) (part : List ℕ)
     → Answered old new ending entry lines replies part → AnswersFrom old new (exit_of ending) entry lines replies part
@@ -210,7 +240,8 @@ answers_from old new ending entry lines replies part f = record {
   ends = ends old new ending entry f.now lines replies part f.pages f.ends;
   next = next old new ending entry f.now lines replies part f.pages f.ends;
   sound = sound old new ending entry f.now lines replies part f.pages f.ends;
-  near = f.near;
+  near = near ending f.pages new.head f.near;
+  exact = exact ending f.pages new.head f.near;
   ahead = f.ahead;
   one_ahead = one_ahead ending f.ahead f.is_ahead;
   none_ahead = none_ahead ending f.ahead f.is_ahead;
@@ -229,6 +260,7 @@ forget old session history head capacity status entry lines replies part f = rec
   next = f.next;
   sound = f.sound;
   near = f.near;
+  exact = f.exact;
   ahead = f.ahead;
   one_ahead = f.one_ahead;
   none_ahead = f.none_ahead;
@@ -289,6 +321,7 @@ answers_nothing tells w left written = record {
     next = λ e. absurd (omega (arith, e));
     sound = (λ e. omega (arith, e), λ e. omega (arith, e));
     near = (omega arith, omega arith);
+    exact = λ e. absurd (no_other 2 (λ p. omega (arith, p)) (λ p. omega (arith, p)) e);
     ahead = [];
     one_ahead = omega arith;
     none_ahead = λ p q. refl;

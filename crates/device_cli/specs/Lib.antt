@@ -9,3 +9,4 @@ pub mod World
 pub mod Pages
 pub mod Reaching
 pub mod Unserved
+pub mod Added

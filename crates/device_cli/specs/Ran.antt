@@ -52,8 +52,9 @@ pub record AnswersFrom (old new : World) (status : ℕ) (entry : State) (lines :
   pub next : status ≡ 4 → (reply : Reply) × (then : State) × AnswersOn old.capacity entry old.head lines (replies ++ reply ∷ []) then new.head
       × IsFirstPart (line_of reply) part × StandsFor new.history.present then.device
   pub sound : (status ≢ 8) × (status ≢ 9)
-  -- a command that was cut short may have added one page more
+  -- a command that was cut short may have added one page more, but none where no key or no memory was given
   pub near : IsOneMore pages new.head
+  pub exact : (status ≡ 6) ⊎ (status ≡ 11) → new.head ≡ pages
   -- at each moment a loss of power leaves a device that the replies passed, in their order; at 4 and 5 perhaps the one
   -- after one more reply. The last moment has the device after all of them, or that one more
   pub ahead : List Reply

@@ -19,7 +19,8 @@ use Rattle.script_lang.specs.declared.replies.Reply.{Reply}
 use Rattle.script_lang.specs.declared.replies.Reply.TheVariants.{Full}
 use Rattle.device_cli.specs.World.{World, is_full, IsLater}
 use Rattle.device_cli.specs.Represents.{Represents, Stood, StandsFor, Leaves}
-use Rattle.device_cli.specs.Pages.{AnswersOn, IsOneMore}
+use Rattle.device_cli.specs.Pages.{AnswersOn}
+use Rattle.device_cli.specs.Added.{IsNear}
 use Rattle.device_cli.specs.declared.stop.Stop.{Stop}
 use Rattle.device_cli.specs.declared.stop.Stop.TheVariants as stops
 use Rattle.device_cli.specs.declared.stop.DeviceStop.{DeviceStop}
@@ -146,7 +147,7 @@ pub record Answered (old new : World) (ending : Ending) (entry : State) (lines :
   pub pages : ℕ
   pub answers : AnswersOn old.capacity entry old.head lines replies now pages
   pub ends : EndsIn old new entry lines replies part now pages ending
-  pub near : IsOneMore pages new.head
+  pub near : IsNear ending pages new.head
   pub ahead : List Reply
   pub is_ahead : IsAhead ending ahead
   pub passes : Passes old.history new.history (HasMark entry lines (replies ++ ahead)) (length replies + length ahead)

@@ -31,6 +31,7 @@ impl Desk {
     ghost use Rattle.device_cli.specs.Desk.{IsReady, IsMounted};
     ghost use Rattle.device_cli.specs.World.{world};
     ghost use Rattle.device_cli.specs.Pages.{pages_after};
+    ghost use Rattle.device_cli.specs.Added.{HasAdded};
     ghost use Rattle.device_cli.specs.Represents.{Represents};
     ghost use Rattle.device_cli.specs.Reaching.{IsListed, KeepsOn};
 
@@ -69,6 +70,7 @@ impl Desk {
         ensures capacity { P.capacity platform.new ≡ P.capacity platform.old }
         ensures head_rises { P.head platform.old ≤ P.head platform.new }
         ensures head_by_one { P.head platform.new ≤ P.head platform.old + 1 }
+        ensures added { IfErr result (λ stop. HasAdded stop (P.head platform.old) (P.head platform.new)) }
         ensures full { IfOk result (λ reply. reply ≡ Reply.Full → P.head platform.new ≡ P.capacity platform.new) }
         ensures of_block { (addr : ℕ) → IsErrOf result (DeviceStop.BadRecord addr) → IsOfBlock command.now }
         ensures damage { P.tells → (addr : ℕ) → IsErrOf result (DeviceStop.BadRecord addr)
@@ -126,6 +128,7 @@ impl Desk {
         ensures capacity { P.capacity platform.new ≡ P.capacity platform.old }
         ensures head_rises { P.head platform.old ≤ P.head platform.new }
         ensures head_by_one { P.head platform.new ≤ P.head platform.old + 1 }
+        ensures added { IfErr result (λ stop. HasAdded stop (P.head platform.old) (P.head platform.new)) }
         ensures full { IfOk result (λ reply. reply ≡ Reply.Full → P.head platform.new ≡ P.capacity platform.new) }
         ensures damage { (addr : ℕ) → IsErrOf result (DeviceStop.BadRecord addr) → ⊥ }
         ensures pages { P.tells → (entry : State)
@@ -171,6 +174,7 @@ impl Desk {
         ensures capacity { P.capacity platform.new ≡ P.capacity platform.old }
         ensures head_rises { P.head platform.old ≤ P.head platform.new }
         ensures head_by_one { P.head platform.new ≤ P.head platform.old + 1 }
+        ensures added { IfErr result (λ stop. HasAdded stop (P.head platform.old) (P.head platform.new)) }
         ensures full { IfOk result (λ reply. reply ≡ Reply.Full → P.head platform.new ≡ P.capacity platform.new) }
         ensures damage { (addr : ℕ) → IsErrOf result (DeviceStop.BadRecord addr) → ⊥ }
         ensures pages { P.tells → (entry : State)
@@ -217,6 +221,7 @@ impl Desk {
         ensures capacity { P.capacity platform.new ≡ P.capacity platform.old }
         ensures head_rises { P.head platform.old ≤ P.head platform.new }
         ensures head_by_one { P.head platform.new ≤ P.head platform.old + 1 }
+        ensures added { IfErr result (λ stop. HasAdded stop (P.head platform.old) (P.head platform.new)) }
         ensures full { IfOk result (λ reply. reply ≡ Reply.Full → P.head platform.new ≡ P.capacity platform.new) }
         ensures damage { P.tells → (addr : ℕ) → IsErrOf result (DeviceStop.BadRecord addr)
             → IsWrongPage (P.history platform.new).present addr }
@@ -268,6 +273,7 @@ impl Desk {
         ensures capacity { P.capacity platform.new ≡ P.capacity platform.old }
         ensures head_rises { P.head platform.old ≤ P.head platform.new }
         ensures head_by_one { P.head platform.new ≤ P.head platform.old + 1 }
+        ensures added { IfErr result (λ stop. HasAdded stop (P.head platform.old) (P.head platform.new)) }
         ensures full { IfOk result (λ reply. reply ≡ Reply.Full → P.head platform.new ≡ P.capacity platform.new) }
         ensures damage { P.tells → (addr : ℕ) → IsErrOf result (DeviceStop.BadRecord addr)
             → IsWrongPage (P.history platform.new).present addr }
@@ -316,6 +322,7 @@ impl Desk {
         ensures capacity { P.capacity platform.new ≡ P.capacity platform.old }
         ensures head_rises { P.head platform.old ≤ P.head platform.new }
         ensures head_by_one { P.head platform.new ≤ P.head platform.old + 1 }
+        ensures added { IfErr result (λ stop. HasAdded stop (P.head platform.old) (P.head platform.new)) }
         ensures full { IfOk result (λ reply. reply ≡ Reply.Full → P.head platform.new ≡ P.capacity platform.new) }
         ensures damage { P.tells → (addr : ℕ) → IsErrOf result (DeviceStop.BadRecord addr)
             → IsWrongPage (P.history platform.new).present addr }
@@ -366,6 +373,7 @@ impl Desk {
         ensures capacity { P.capacity platform.new ≡ P.capacity platform.old }
         ensures head_rises { P.head platform.old ≤ P.head platform.new }
         ensures head_by_one { P.head platform.new ≤ P.head platform.old + 1 }
+        ensures added { IfErr result (λ stop. HasAdded stop (P.head platform.old) (P.head platform.new)) }
         ensures full { IfOk result (λ reply. reply ≡ Reply.Full → P.head platform.new ≡ P.capacity platform.new) }
         ensures damage { (addr : ℕ) → IsErrOf result (DeviceStop.BadRecord addr) → ⊥ }
         ensures pages { P.tells → (entry : State)
@@ -432,6 +440,7 @@ impl Desk {
         ensures capacity { P.capacity platform.new ≡ P.capacity platform.old }
         ensures head_rises { P.head platform.old ≤ P.head platform.new }
         ensures head_by_one { P.head platform.new ≤ P.head platform.old + 1 }
+        ensures added { IfErr result (λ stop. HasAdded stop (P.head platform.old) (P.head platform.new)) }
         ensures full { IfOk result (λ reply. reply ≡ Reply.Full → P.head platform.new ≡ P.capacity platform.new) }
         ensures damage { (addr : ℕ) → IsErrOf result (DeviceStop.BadRecord addr) → ⊥ }
         ensures pages { P.tells → (entry : State)

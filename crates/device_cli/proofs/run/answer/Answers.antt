@@ -36,7 +36,7 @@ returns-in-Err-clause-handled g c text kept =
     let old : World = world c.args.desk.now.session (P.history c.args.platform.now) (P.head c.args.platform.now) (P.capacity c.args.platform.now) in
     let new : World = world c.serve.new.self.session (P.history c.serve.new.platform) (P.head c.serve.new.platform) (P.capacity c.serve.new.platform) in
     let later : IsLater old new = record { capacity = c.serve.ensures.capacity; rises = c.serve.ensures.head_rises; within = g.met.P.Platform.has_room c.serve.new.platform } in
-    Handled-stop P.tells old new text c.in-Some.command c.in-Err.stop (g.O.Sink.written c.args.output.now) (c.in-Some.ensures.found text kept) later c.serve.ensures.head_by_one
+    Handled-stop P.tells old new text c.in-Some.command c.in-Err.stop (g.O.Sink.written c.args.output.now) (c.in-Some.ensures.found text kept) later c.in-Err.ensures.added
     (λ addr e. (c.in-Err.ensures.of_block addr (cc), λ told. c.in-Err.ensures.damage told addr (cc)))
     (λ told entry rep. c.in-Err.ensures.answered told entry rep.there)
 
