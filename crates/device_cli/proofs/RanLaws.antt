@@ -10,7 +10,7 @@ use Rattle.std.proofs.lemmas.List.Elements.{All-nil}
 use Rattle.platform.specs.History.{During}
 use Rattle.device_cli.specs.World.{World, IsLater}
 use Rattle.device_cli.specs.Represents.{Stood, Leaves}
-use Rattle.device_cli.proofs.RepliedLaws.{Replied-idle, Handled-then}
+use Rattle.device_cli.proofs.RepliedLaws.{Replied-idle, Handled-then, count-then}
 use Rattle.device_cli.proofs.PassLaws.{IsMark-none, Passes-stay}
 use Rattle.script_lang.specs.declared.replies.Reply.{Reply}
 use Rattle.device_cli.specs.Run.{TookUntil, Took, status_of}
@@ -36,6 +36,10 @@ Ran-after tells old mid new last ending left left_now a b later same still r = r
   come = r.come;
   handled = Handled-then tells old mid new last ending [] r.lines a a b
       (record { put = []; got = Got-nothing a; replied = Replied-idle tells old mid last later same still }) r.handled;
+  prompt =
+      let more = count-then tells old mid new last ending [] r.lines a a b (record { put = []; got = Got-nothing a; replied = Replied-idle tells old mid last later same still }) r.handled in
+      let p = r.prompt in
+      record { before = p.before; last = p.last; parts = p.parts; piece = p.piece; served = omega (arith, p.served, more) };
 }
 
 -- a run that ends otherwise than by a stop of the device has no last line
@@ -60,6 +64,7 @@ Ran-other tells old new ending left left_now a b other r = let p = r.handled.rep
     got = r.handled.got;
     replied = record { replies = p.replies; part = p.part; put_is = p.put_is; behind = IsBehind-other ending p.part other p.behind; many = p.many; damage = p.damage; later = p.later; full = p.full; answered = p.answered };
   };
+  prompt = r.prompt;
 }
 
 -- after a stop of the device what stands behind the replies says nothing of the device
@@ -92,6 +97,7 @@ Ran-last tells old new stop left left_now a b c r got = let p = r.handled.replie
       answered = λ told entry rep. Answered-part old new stop entry r.lines p.replies p.part (damage_line stop) (p.answered told entry rep);
     };
   };
+  prompt = r.prompt;
 }
 
 -- the same where the last line couldn't be put
@@ -119,6 +125,7 @@ Ran-cut tells old new stop left left_now a b c r (n, got) damaged = let p = r.ha
       answered = λ told entry rep. absurd (damaged (p.answered told entry rep).ends);
     };
   };
+  prompt = r.prompt;
 }
 
 -- a run that was refused before its first line
@@ -158,6 +165,7 @@ Ran-refused tells old new stop left written which later same still sound = recor
       };
     };
   };
+  prompt = record { before = []; last = []; parts = refl; piece = omega arith; served = omega arith };
 }
   where
     no_damage : (s : DeviceStop) → (s ≡ device.BadRoot) ⊎ (s ≡ device.Platform) → IsDamageAt tells new.history.present [] [] (Err (stops.Device s))

@@ -9,11 +9,12 @@ use Rattle.script_lang.proofs.LineLaws.{whole_lines_of-append, rest_of-append, l
 use Rattle.device_cli.specs.Run.{IsOfLine, TookUntil}
 use Rattle.device_cli.specs.Kept.{IsKept, IsPending}
 use Rattle.device_cli.specs.Replied.{Ending, Handled, no_line}
-use Rattle.device_cli.specs.Ran.{Ran, AreLines, HaveCome}
+use Rattle.device_cli.specs.Ran.{Ran, AreLines, HaveCome, IsPrompt}
 use Rattle.device_cli.specs.declared.stop.Stop.{Stop}
 use Rattle.device_cli.specs.declared.stop.Stop.TheVariants as stops
 use Rattle.device_cli.proofs.RunLaws.{TookUntil-line}
-use Rattle.device_cli.proofs.RepliedLaws.{Handled-nothing, Handled-then, Handled-cut}
+use Rattle.std.proofs.lemmas.List.{append-nil}
+use Rattle.device_cli.proofs.RepliedLaws.{Handled-nothing, Handled-then, Handled-cut, Handled-lines, count-lines, count-then, count-cut}
 
 -- so much was taken that with the room that is left it is the limit; the whole lines in it are handled, and this is kept of the rest
 pub record IsReading (tells : Type 0) (old new : World) (left left_now written written_now : Option (List ℕ)) (kept : Option (List ℕ)) (room : ℕ) : Type 0 where
@@ -39,8 +40,25 @@ IsReading-lines : (tells : Type 0) (old mid new : World) (ending : Ending) (left
     → (r : IsReading tells old mid left left_now a b kept room) → Handled tells mid new no_line ending (whole_lines_of (rest_of r.taken ++ piece)) b c
     → Handled tells old new no_line ending (whole_lines_of (r.taken ++ piece)) a c
 IsReading-lines tells old mid new ending left left_now a b c kept room piece r handled =
-    subst (λ (lines : List (List ℕ)). Handled tells old new no_line ending lines a c) (sym (whole_lines_of-append r.taken piece))
+    Handled-lines tells old new no_line ending (whole_lines_of r.taken ++ whole_lines_of (rest_of r.taken ++ piece)) (whole_lines_of (r.taken ++ piece)) a c (sym (whole_lines_of-append r.taken piece))
     (Handled-then tells old mid new no_line ending (whole_lines_of r.taken) (whole_lines_of (rest_of r.taken ++ piece)) a b c r.handled handled)
+
+-- the lines from before the piece have their replies
+prompt_lines : (tells : Type 0) (old mid new : World) (ending : Ending) (left left_now a b c kept : Option (List ℕ)) (room : ℕ) (piece : List ℕ)
+    → (r : IsReading tells old mid left left_now a b kept room) (handled : Handled tells mid new no_line ending (whole_lines_of (rest_of r.taken ++ piece)) b c)
+    → length (whole_lines_of r.taken) ≤ length (IsReading-lines tells old mid new ending left left_now a b c kept room piece r handled).replied.replies
+unfolding IsReading-lines
+prompt_lines tells old mid new ending left left_now a b c kept room piece r handled =
+    let all = whole_lines_of r.taken ++ whole_lines_of (rest_of r.taken ++ piece) in
+    let both = Handled-then tells old mid new no_line ending (whole_lines_of r.taken) (whole_lines_of (rest_of r.taken ++ piece)) a b c r.handled handled in
+    let one = count-then tells old mid new no_line ending (whole_lines_of r.taken) (whole_lines_of (rest_of r.taken ++ piece)) a b c r.handled handled in
+    let two = count-lines tells old new no_line ending all (whole_lines_of (r.taken ++ piece)) a c (sym (whole_lines_of-append r.taken piece)) both in
+    let many : length r.handled.replied.replies ≡ length (whole_lines_of r.taken) = r.handled.replied.many in
+    omega (arith, one, two, many)
+
+-- a run whose whole lines all have their replies took no piece too much
+pub prompt_all : (taken : List ℕ) (replies : ℕ) → length (whole_lines_of taken) ≤ replies → IsPrompt taken replies
+prompt_all taken replies all = record { before = taken; last = []; parts = sym (append-nil taken); piece = omega arith; served = all }
 
 -- one piece more
 pub IsReading-more : (tells : Type 0) (old mid new : World) (left half left_now a b c kept kept_now : Option (List ℕ)) (room room_now : ℕ) (piece : List ℕ)
@@ -63,15 +81,16 @@ AreLines-line (stops.Device stop) taken left lines line come = come
 
 -- a stop at a line of one piece more
 pub IsReading-stop : (tells : Type 0) (old mid new : World) (left half left_now a b c kept : Option (List ℕ)) (room : ℕ) (piece : List ℕ) (stop : Stop)
-    → (r : IsReading tells old mid left half a b kept room) → Gave half piece left_now → length piece ≤ room → IsOfLine stop
+    → (r : IsReading tells old mid left half a b kept room) → Gave half piece left_now → length piece ≤ room → length piece ≤ 4096 → IsOfLine stop
     → Handled tells mid new no_line (Err stop) (whole_lines_of (rest_of r.taken ++ piece)) b c → Ran tells old new no_line (Err stop) left left_now a c
-IsReading-stop tells old mid new left half left_now a b c kept room piece stop r gave less line handled = record {
+IsReading-stop tells old mid new left half left_now a b c kept room piece stop r gave less few line handled = record {
   taken = r.taken ++ piece;
   lines = whole_lines_of (r.taken ++ piece);
   gave = Gave-then left r.taken half piece left_now r.gave gave;
   took = TookUntil-line stop (r.taken ++ piece) left_now line (omega (arith, r.most, less, length-append r.taken piece));
   come = AreLines-line stop (r.taken ++ piece) left_now (whole_lines_of (r.taken ++ piece)) line (inl refl);
   handled = IsReading-lines tells old mid new (Err stop) left half a b c kept room piece r handled;
+  prompt = record { before = r.taken; last = piece; parts = refl; piece = few; served = prompt_lines tells old mid new (Err stop) left half a b c kept room piece r handled };
 }
 
 -- the end of the input
@@ -84,8 +103,14 @@ IsReading-end tells old mid new ending left left_now a b c kept room r some end 
   gave = r.gave;
   took = took ending r.taken left_now ends (omega (arith, r.most, some)) end;
   come = come ending r.taken left_now ends end;
-  handled = subst (λ (lines : List (List ℕ)). Handled tells old new no_line ending lines a c) (sym (lines_of-whole r.taken))
+  handled = Handled-lines tells old new no_line ending (whole_lines_of r.taken ++ line_at_end (rest_of r.taken)) (lines_of r.taken) a c (sym (lines_of-whole r.taken))
       (Handled-then tells old mid new no_line ending (whole_lines_of r.taken) (line_at_end (rest_of r.taken)) a b c r.handled handled);
+  prompt =
+      let both = Handled-then tells old mid new no_line ending (whole_lines_of r.taken) (line_at_end (rest_of r.taken)) a b c r.handled handled in
+      let one = count-then tells old mid new no_line ending (whole_lines_of r.taken) (line_at_end (rest_of r.taken)) a b c r.handled handled in
+      let two = count-lines tells old new no_line ending (whole_lines_of r.taken ++ line_at_end (rest_of r.taken)) (lines_of r.taken) a c (sym (lines_of-whole r.taken)) both in
+      let many : length r.handled.replied.replies ≡ length (whole_lines_of r.taken) = r.handled.replied.many in
+      prompt_all r.taken _ (omega (arith, one, two, many));
 }
   where
     took : (e : Ending) (t : List ℕ) (l : Option (List ℕ)) → IfErr e IsOfLine → length t < 2 ^ 32 → IsAtEnd l → TookUntil e t l
@@ -106,6 +131,10 @@ IsReading-failed tells old new left left_now a b kept room r some = record {
   took = record { most = omega (arith, r.most); whole = tt; failed = λ p. omega (arith, r.most, some); limit = λ p. cc };
   come = refl;
   handled = (Handled-cut tells old new no_line (whole_lines_of r.taken) a b r.handled).0;
+  prompt =
+      let one = (count-cut tells old new no_line (whole_lines_of r.taken) a b r.handled).0 in
+      let many : length r.handled.replied.replies ≡ length (whole_lines_of r.taken) = r.handled.replied.many in
+      prompt_all r.taken _ (omega (arith, one, many));
 }
 
 -- the limit is reached
@@ -118,4 +147,8 @@ IsReading-limit tells old new left left_now a b kept room r none = record {
   took = record { most = omega (arith, r.most); whole = tt; failed = λ p. cc; limit = λ p. omega (arith, r.most, none) };
   come = refl;
   handled = (Handled-cut tells old new no_line (whole_lines_of r.taken) a b r.handled).1;
+  prompt =
+      let one = (count-cut tells old new no_line (whole_lines_of r.taken) a b r.handled).1 in
+      let many : length r.handled.replied.replies ≡ length (whole_lines_of r.taken) = r.handled.replied.many in
+      prompt_all r.taken _ (omega (arith, one, many));
 }

@@ -522,3 +522,40 @@ Handled-stop tells old new line command stop written spells later added met halt
     damage device.Memory d = tt
     damage device.BadRoot d = tt
     damage (device.BadRecord addr) d = let both = d addr refl in ((command, spells, both.0), both.1)
+
+-- the same lines
+pub Handled-lines : (tells : Type 0) (old new : World) (last : DeviceStop → List ℕ) (ending : Ending) (lines others : List (List ℕ)) (a b : Option (List ℕ))
+    → lines ≡ others → Handled tells old new last ending lines a b → Handled tells old new last ending others a b
+Handled-lines tells old new last ending lines others a b same p = let r = p.replied in record {
+  put = p.put;
+  got = p.got;
+  replied = record {
+    replies = r.replies;
+    part = r.part;
+    put_is = r.put_is;
+    behind = r.behind;
+    many = subst (λ (ls : List (List ℕ)). AreMany (length r.replies) (length ls) ending) same r.many;
+    damage = subst (λ (ls : List (List ℕ)). IsDamageAt tells new.history.present r.replies ls ending) same r.damage;
+    later = r.later;
+    full = r.full;
+    answered = λ told entry rep. subst (λ (ls : List (List ℕ)). Answered old new ending entry ls r.replies r.part) same (r.answered told entry rep);
+  };
+}
+
+-- ---- how many replies there are
+
+pub count-lines : (tells : Type 0) (old new : World) (last : DeviceStop → List ℕ) (ending : Ending) (lines others : List (List ℕ)) (a b : Option (List ℕ))
+    → (same : lines ≡ others) (p : Handled tells old new last ending lines a b) → length p.replied.replies ≤ length (Handled-lines tells old new last ending lines others a b same p).replied.replies
+unfolding Handled-lines
+count-lines tells old new last ending lines others a b same p = omega arith
+
+pub count-then : (tells : Type 0) (old mid new : World) (last : DeviceStop → List ℕ) (ending : Ending) (lines more : List (List ℕ)) (a b c : Option (List ℕ))
+    → (p : Handled tells old mid last (Ok tt) lines a b) (q : Handled tells mid new last ending more b c)
+    → length p.replied.replies + length q.replied.replies ≤ length (Handled-then tells old mid new last ending lines more a b c p q).replied.replies
+unfolding Handled-then Replied-then
+count-then tells old mid new last ending lines more a b c p q = omega (arith, length-append p.replied.replies q.replied.replies)
+
+pub count-cut : (tells : Type 0) (old new : World) (last : DeviceStop → List ℕ) (lines : List (List ℕ)) (a b : Option (List ℕ)) (p : Handled tells old new last (Ok tt) lines a b)
+    → (length p.replied.replies ≤ length (Handled-cut tells old new last lines a b p).0.replied.replies) × (length p.replied.replies ≤ length (Handled-cut tells old new last lines a b p).1.replied.replies)
+unfolding Handled-cut Replied-cut
+count-cut tells old new last lines a b p = (omega arith, omega arith)

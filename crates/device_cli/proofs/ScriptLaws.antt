@@ -281,6 +281,7 @@ answers_script tells old session history head capacity ending left left_now writ
   part = p.part;
   got = subst (λ (put : List ℕ). Got written put written_now) p.put_is r.handled.got;
   few = few ending (length p.replies) (length r.lines) p.many;
+  prompt = r.prompt;
   all = all ending (length p.replies) (length r.lines) r.taken left_now r.lines p.many r.come;
   whole = whole ending (length p.replies) (length r.lines) r.taken left_now r.lines p.many r.come;
   no_part = no_part ending p.part p.behind;
@@ -306,6 +307,7 @@ answers_nothing tells w left written = record {
   part = [];
   got = Got-nothing written;
   few = omega arith;
+  prompt = record { before = []; last = []; parts = refl; piece = omega arith; served = omega arith };
   all = λ e. absurd (omega (arith, e));
   whole = λ e. absurd (not_whole 2 (λ p. omega (arith, p)) (λ p. omega (arith, p)) e);
   no_part = λ p q r. refl;

@@ -32,6 +32,14 @@ AreLines (Err stops.Limit) taken left lines = lines ≡ whole_lines_of taken
 AreLines (Err stops.Sink) taken left lines = HaveCome taken left lines
 AreLines (Err (stops.Device stop)) taken left lines = HaveCome taken left lines
 
+-- what was taken, but for a last piece of 4,096 bytes at most, ended no more lines than have replies: a run serves what it took before it takes more
+pub record IsPrompt (taken : List ℕ) (replies : ℕ) : Type 0 where
+  pub before : List ℕ
+  pub last : List ℕ
+  pub parts : taken ≡ before ++ last
+  pub piece : length last ≤ 4096
+  pub served : length (whole_lines_of before) ≤ replies
+
 -- a run that took its lines from an input and put its replies to an output
 pub record Ran (tells : Type 0) (old new : World) (last : DeviceStop → List ℕ) (ending : Ending) (left left_now written written_now : Option (List ℕ)) : Type 0 where
   pub taken : List ℕ
@@ -40,6 +48,7 @@ pub record Ran (tells : Type 0) (old new : World) (last : DeviceStop → List �
   pub took : TookUntil ending taken left_now
   pub come : AreLines ending taken left_now lines
   pub handled : Handled tells old new last ending lines written written_now
+  pub prompt : IsPrompt taken (length handled.replied.replies)
 
 -- the replies are those of the array, from the state at entry on, where a run ends with this status: at 0, 3 and 12 the
 -- image at the exit stands for the state after them; at 4 for the one that one more reply leads to, of whose line a first
@@ -74,6 +83,7 @@ pub record AnswersScript (tells : Type 0) (old new : World) (status : ℕ) (left
   pub part : List ℕ
   pub got : Got written (flat_map line_of replies ++ part) written_now
   pub few : length replies ≤ length lines
+  pub prompt : IsPrompt taken (length replies)
   -- at the end of the input each line has its reply; where the input failed or reached its limit, each whole line
   pub all : status ≡ 0 → IsAtEnd left_now × (lines ≡ lines_of taken) × (length replies ≡ length lines)
   pub whole : (status ≡ 3) ⊎ (status ≡ 12) → (lines ≡ whole_lines_of taken) × (length replies ≡ length lines)

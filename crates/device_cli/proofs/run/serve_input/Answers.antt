@@ -84,8 +84,10 @@ returns-in-Err-clause-ran g c =
     let bound : c.in-Ok.count ≤ length into = omega (arith, c.in-Ok.ensures.bound, c.take.auto.into) in
     let gave = subst (λ (bytes : List ℕ). Gave (left c.loop-left.input) bytes (left c.take.new.self)) (front into behind c.in-Ok.count bound) c.in-Ok.ensures.taken in
     let short : length piece ≤ c.loop-left.left = omega (arith, length-take c.in-Ok.count (into ++ behind), length-append into behind) in
+    let size : length into ≤ 4096 = grind (arith, common_steps, c.take.auto.into, c.min-room.ensures) in
+    let few : length piece ≤ 4096 = omega (arith, length-take c.in-Ok.count (into ++ behind), length-append into behind) in
     IsReading-stop P.tells old mid new (left c.args.input.now) (left c.loop-left.input) (left c.take.new.self) (written c.args.output.now) (written c.loop-left.output) (written c.serve_piece.new.output)
-    c.loop-left.pending c.loop-left.left piece c.in-Err.stop reading gave short c.in-Err.ensures.stops
+    c.loop-left.pending c.loop-left.left piece c.in-Err.stop reading gave short few c.in-Err.ensures.stops
     (c.in-Err.ensures.handled (rest_of reading.taken) reading.pending)
 
 pub loop-left-preserved : goal.loop-left-preserved
