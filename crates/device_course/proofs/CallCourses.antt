@@ -1,0 +1,313 @@
+-- Each call of a device is a course: from its public clauses.
+use Rattle.std.proofs.Common.{◌≡◌, inl, inr, ℕ, List, [], ◌∷◌, ◌++◌, Bool, true, false, ◌+◌, Option, None, Some, length, refl, sym, ◌∙◌, subst, ap}
+use Rattle.platform.specs.Image.{Image}
+use Rattle.platform.specs.History.{History, Extends, During, Turns}
+use Rattle.platform.specs.Runs.{Passes}
+use Rattle.platform.proofs.Moments.{During-now, During-turns, LeavesOnly-now, Turns-not}
+use Rattle.platform.proofs.RunLaws.{Passes-start, Passes-during, Passes-turns, Turns-cases}
+use Rattle.page_store.specs.Device.{Device}
+use Rattle.page_store.specs.Stands.{Stands, IsSound}
+use Rattle.page_store.specs.Kept.{Kept}
+use Rattle.page_store.specs.Keeping.{KeepsKeys}
+use Rattle.page_store.specs.Floors.{Forgets}
+use Rattle.page_store.proofs.StandsLaws.{one_device, stands_during, stands_leaves}
+use Rattle.page_store.proofs.KeptLaws.{same_during}
+use Rattle.page_store.proofs.KeepingLaws.{keeps_idle, keeps_still, keeps_from}
+use Rattle.page_store.proofs.FloorLaws.{deleted_call, forgets_still}
+use Rattle.device_core.specs.Blocks.{Blocks}
+use Rattle.device_core.specs.Holds.{Holds}
+use Rattle.device_core.specs.Open.{is_touched, number_of}
+use Rattle.std.proofs.lemmas.Bool.Decides.{eqb_tells}
+use Rattle.device_core.specs.declared.refusals.CommitReply.TheVariants.{Committed, Full}
+use Rattle.device_core.specs.Knowing.{HoldsListed}
+use Rattle.device_core.specs.Leaf.{IsServedImage}
+use Rattle.device_core.specs.Replies.{device_after, committed_device}
+use Rattle.device_core.specs.declared.refusals.CommitReply.{CommitReply}
+use Rattle.device_core.specs.declared.session.Session.{Session}
+use Rattle.device_core.proofs.ServedLaws.{serves_still}
+use Rattle.device_course.specs.Marks.{Leaves, HasMark, last_mark}
+use Rattle.device_course.specs.States.{Outside, State, Closed, Open, StandsFor, IsAt, IsListed, IsLater, device_of, committed_of}
+use Rattle.device_course.specs.Course.{Course, Stopped}
+use Rattle.device_course.proofs.CourseLaws.{sound_of, stands_at}
+
+-- what a call tells beside the devices that a loss of power leaves
+pub record Calls (tells : Type 0) (old new : Outside) (before after : Option Session) (entry : State) : Type 0 where
+  pub told : tells
+  pub at : IsAt old.history.present before entry
+  pub serves : During old.history new.history IsServedImage
+  pub later : IsLater old new
+  pub keys : KeepsKeys tells old.drawn new.drawn old.history new.history (IsListed before old.history.present) (IsListed after new.history.present)
+  pub forgets : (keys : List (List ℕ)) → IsListed before old.history.present keys → Forgets old.history new.history
+
+course_of : (tells : Type 0) (old new : Outside) (before after : Option Session) (entry exit : State) (marks : List (Option Device)) → Calls tells old new before after entry
+    → Passes old.history new.history (HasMark (device_of entry) marks) (length marks) → device_of exit ≡ last_mark (device_of entry) marks → StandsFor new.history.present after exit
+    → Course old new before after entry marks exit
+course_of tells old new before after entry exit marks c passes last there = record {
+  passes = passes;
+  last = last;
+  exits = record { there = there; served = During-now old.history new.history IsServedImage c.serves };
+  serves = c.serves;
+  later = c.later;
+  grew = c.keys.grew;
+  drew = c.keys.drew;
+  handed = c.keys.handed c.told;
+  keeps = λ keys kept h. c.keys.keeps c.told keys kept h;
+  deleted = λ keys kept h. deleted_call old.history new.history (c.forgets keys h);
+}
+
+-- a call at whose moments the device stays
+pub stays : (tells : Type 0) (old new : Outside) (before after : Option Session) (entry exit : State) → Calls tells old new before after entry
+    → During old.history new.history (Leaves (device_of entry)) → device_of exit ≡ device_of entry → StandsFor new.history.present after exit → Course old new before after entry [] exit
+stays tells old new before after entry exit c during same there =
+    let d : Option Device = device_of entry in
+    course_of tells old new before after entry exit [] c
+    (Passes-during old.history old.history new.history (HasMark d []) 0 (Passes-start old.history (HasMark d []) 0 (stands_leaves old.history.present d (stands_at old.history.present before entry c.at.there))) during)
+    same there
+
+-- a call that may come to another device, and at whose end the image stands for this one
+made : (old new : History) (d next here : Option Device) → Turns old new (Leaves d) (Leaves next) → Stands new.present here → Turns old new (Leaves d) (Leaves here)
+made old new d next here turns stands = elim (Turns-cases old new (Leaves d) (Leaves next) turns) as (λ e. Turns old new (Leaves d) (Leaves here)) [
+  | inl during ↦ Turns-not old new (Leaves d) (Leaves here) during
+  | inr come ↦
+      let same : next ≡ here = one_device new.present next here (LeavesOnly-now new (λ left. Stands left next) come) stands in
+      subst (λ (x : Option Device). Turns old new (Leaves d) (Leaves x)) same turns
+]
+
+pub makes : (tells : Type 0) (old new : Outside) (before after : Option Session) (entry exit : State) (next : Option Device) → Calls tells old new before after entry
+    → Turns old.history new.history (Leaves (device_of entry)) (Leaves next) → StandsFor new.history.present after exit → Course old new before after entry (device_of exit ∷ []) exit
+makes tells old new before after entry exit next c turns there =
+    let d : Option Device = device_of entry in
+    let marks : List (Option Device) = device_of exit ∷ [] in
+    let stands = stands_at new.history.present after exit there in
+    course_of tells old new before after entry exit marks c
+    (Passes-turns old.history old.history new.history (HasMark d marks) 0 (Passes-start old.history (HasMark d marks) 0 (stands_leaves old.history.present d (stands_at old.history.present before entry c.at.there)))
+    (made old.history new.history d next (device_of exit) turns stands))
+    refl there
+
+-- at the end of which the image stands for the device that there was
+pub stayed : (old new : History) (d next : Option Device) → Turns old new (Leaves d) (Leaves next) → Stands new.present d → During old new (Leaves d)
+stayed old new d next turns stands =
+    let either = During-turns old new (Leaves d) (Leaves d) (made old new d next d turns stands) in
+    record { extends = either.extends; each = λ i from to. elim (either.each i from to) [ inl one ↦ one | inr other ↦ other ] }
+
+-- a call that stopped on its way to another device
+pub stops : (tells : Type 0) (old new : Outside) (before : Option Session) (entry : State) (next : Option Device)
+    → ((device : Option Device) → Stands new.history.present device → Calls tells old new before None entry)
+    → Turns old.history new.history (Leaves (device_of entry)) (Leaves next)
+    → Stopped old new before None entry next (Closed (device_of entry)) (Closed next)
+stops tells old new before entry next c turns =
+    let d : Option Device = device_of entry in
+    let n = new.history in
+    elim (Turns-cases old.history n (Leaves d) (Leaves next) turns) as (λ e. Stopped old new before None entry next (Closed d) (Closed next)) [
+      | inl during ↦
+          let stands = LeavesOnly-now n (λ left. Stands left d) (During-now old.history n (Leaves d) during) in
+          inl (stays tells old new before None entry (Closed d) (c d stands) during refl stands)
+      | inr come ↦
+          let stands = LeavesOnly-now n (λ left. Stands left next) come in
+          inr (makes tells old new before None entry (Closed next) next (c next stands) turns stands)
+    ]
+
+-- ---- what each call has of `Calls`
+
+-- the cell stays at each moment of the call
+pub cell_stays : (tells : Type 0) (told : tells) (old new : Outside) (before after : Option Session) (entry : State) → IsAt old.history.present before entry
+    → During old.history new.history (λ image. image.cell ≡ old.history.present.cell) → IsLater old new
+    → KeepsKeys tells old.drawn new.drawn old.history new.history (IsListed before old.history.present) (IsListed after new.history.present)
+    → Calls tells old new before after entry
+cell_stays tells told old new before after entry at cell later keys = record {
+  told = told;
+  at = at;
+  serves = serves_still old.history new.history cell at.served;
+  later = later;
+  keys = keys;
+  forgets = λ keys h. forgets_still old.history new.history (sound_of before old.history.present keys h) cell;
+}
+
+-- such a call, whose end is in a state of the same device
+pub course_still : (tells : Type 0) (told : tells) (old new : Outside) (before after : Option Session) (entry exit : State) → IsAt old.history.present before entry
+    → During old.history new.history (λ image. image.cell ≡ old.history.present.cell) → IsLater old new
+    → KeepsKeys tells old.drawn new.drawn old.history new.history (IsListed before old.history.present) (IsListed after new.history.present)
+    → device_of exit ≡ device_of entry → StandsFor new.history.present after exit → Course old new before after entry [] exit
+course_still tells told old new before after entry exit at cell later keys same there =
+    stays tells old new before after entry exit (cell_stays tells told old new before after entry at cell later keys)
+    (stands_during old.history new.history (device_of entry) (stands_at old.history.present before entry at.there) cell) same there
+
+-- the keys of a call that draws none and leaves the image as it was
+pub look_keys : (tells : Type 0) (drawn : Option (List (List ℕ))) (old new : History) (before after : Option Session) → (tells → new.present ≡ old.present) → (tells → During old new (λ image. image.cell ≡ old.present.cell))
+    → (tells → (keys : List (List ℕ)) → Kept keys old.present → IsListed before old.present keys → IsListed after new.present keys)
+    → KeepsKeys tells drawn drawn old new (IsListed before old.present) (IsListed after new.present)
+look_keys tells drawn old new before after same cell listed = keeps_idle tells drawn drawn old new (IsListed before old.present) (IsListed after new.present) refl (λ told. same_during old new (same told) (cell told)) listed
+
+-- ---- the calls
+
+-- a write, whatever its answer: the array is as it says
+pub write_course : (tells : Type 0) (told : tells) (old new : Outside) (session now : Session) (device : Device) (array next : Blocks) (was touched : Bool) → IsAt old.history.present (Some session) (Open device array was) → IsLater old new
+    → (tells → During old.history new.history (λ image. image.cell ≡ old.history.present.cell))
+    → KeepsKeys tells old.drawn new.drawn old.history new.history (HoldsListed session old.history.present) (HoldsListed now new.history.present)
+    → Holds now new.history.present device next → is_touched now ≡ touched
+    → Course old new (Some session) (Some now) (Open device array was) [] (Open device next touched)
+write_course tells told old new session now device array next was touched at later time keeps holds is =
+    course_still tells told old new (Some session) (Some now) (Open device array was) (Open device next touched) at (time told) later keeps refl (holds, is)
+
+-- a read or a trim: no page is added, and no key drawn
+pub look_course : (tells : Type 0) (told : tells) (old new : Outside) (session now : Session) (device : Device) (array next : Blocks) (was touched : Bool) → IsAt old.history.present (Some session) (Open device array was) → IsLater old new → new.drawn ≡ old.drawn
+    → (tells → new.history.present ≡ old.history.present) → (tells → During old.history new.history (λ image. image.cell ≡ old.history.present.cell))
+    → (tells → (keys : List (List ℕ)) → Kept keys old.history.present → HoldsListed session old.history.present keys → HoldsListed now new.history.present keys)
+    → Holds now new.history.present device next → is_touched now ≡ touched
+    → Course old new (Some session) (Some now) (Open device array was) [] (Open device next touched)
+look_course tells told old new session now device array next was touched at later drawn image time listed holds is =
+    let keys = look_keys tells old.drawn old.history new.history (Some session) (Some now) image time listed in
+    course_still tells told old new (Some session) (Some now) (Open device array was) (Open device next touched) at (time told) later
+    (subst (λ (d : Option (List (List ℕ))). KeepsKeys tells old.drawn d old.history new.history (HoldsListed session old.history.present) (HoldsListed now new.history.present)) (sym drawn) keys) refl (holds, is)
+
+pub mount_course : (tells : Type 0) (told : tells) (old new : Outside) (session : Session) (device : Device) → IsAt old.history.present None (Closed (Some device)) → IsLater old new → new.drawn ≡ old.drawn
+    → (tells → new.history.present ≡ old.history.present) → (tells → During old.history new.history (λ image. image.cell ≡ old.history.present.cell))
+    → (tells → (keys : List (List ℕ)) → HoldsListed session new.history.present keys)
+    → Holds session new.history.present device device.contents → is_touched session ≡ false
+    → Course old new None (Some session) (Closed (Some device)) [] (Open device device.contents false)
+mount_course tells told old new session device at later drawn image time listed holds is =
+    let keys = look_keys tells old.drawn old.history new.history None (Some session) image time (λ told keys kept h. listed told keys) in
+    course_still tells told old new None (Some session) (Closed (Some device)) (Open device device.contents false) at (time told) later
+    (subst (λ (d : Option (List (List ℕ))). KeepsKeys tells old.drawn d old.history new.history (λ keys. IsSound old.history.present) (HoldsListed session new.history.present)) (sym drawn) keys) refl (holds, is)
+
+-- what the clauses of a commit say that hold whatever its answer
+pub record Commits (tells : Type 0) (old new : Outside) (session : Session) (device : Device) (array : Blocks) (touched : Bool) (Then : List (List ℕ) → Type 0) : Type 0 where
+  pub told : tells
+  pub at : IsAt old.history.present (Some session) (Open device array touched)
+  pub later : IsLater old new
+  pub time : Turns old.history new.history (Leaves (Some device)) (Leaves (Some (committed_device device array)))
+  pub keeps : KeepsKeys tells old.drawn new.drawn old.history new.history (HoldsListed session old.history.present) Then
+  pub forgets : tells → (keys : List (List ℕ)) → HoldsListed session old.history.present keys → Forgets old.history new.history
+  pub serves : tells → IsServedImage old.history.present → During old.history new.history IsServedImage
+
+commit_calls : (tells : Type 0) (old new : Outside) (session : Session) (after : Option Session) (device : Device) (array : Blocks) (touched : Bool) (Then : List (List ℕ) → Type 0) → Commits tells old new session device array touched Then
+    → ((keys : List (List ℕ)) → Then keys → IsListed after new.history.present keys) → Calls tells old new (Some session) after (Open device array touched)
+commit_calls tells old new session after device array touched Then c done = record {
+  told = c.told;
+  at = c.at;
+  serves = c.serves c.told c.at.served;
+  later = c.later;
+  keys = keeps_from tells old.drawn new.drawn old.history new.history (HoldsListed session old.history.present) (HoldsListed session old.history.present) Then (IsListed after new.history.present) c.keeps (λ told keys h. h) (λ told keys more h then'. done (keys ++ more) then');
+  forgets = λ keys h. c.forgets c.told keys h;
+}
+
+-- a commit that was answered, with a number: its device is a mark
+pub commit_course : (tells : Type 0) (old new : Outside) (session now : Session) (device : Device) (array : Blocks) (touched : Bool) (reply : CommitReply) (Then : List (List ℕ) → Type 0) → Commits tells old new session device array touched Then
+    → ((keys : List (List ℕ)) → Then keys → HoldsListed now new.history.present keys) → Holds now new.history.present (device_after reply device array) array → is_touched now ≡ false
+    → Course old new (Some session) (Some now) (Open device array touched) (Some (device_after reply device array) ∷ []) (Open (device_after reply device array) array false)
+commit_course tells old new session now device array touched reply Then c done holds is =
+    makes tells old new (Some session) (Some now) (Open device array touched) (Open (device_after reply device array) array false) (Some (committed_device device array))
+    (commit_calls tells old new session (Some now) device array touched Then c done) c.time (holds, is)
+
+-- which number it has
+reply_is : (session now : Session) (image : Image) (device : Device) (array : Blocks) (touched : Bool) (reply : CommitReply) (number head capacity : ℕ) → Holds session image device array → is_touched session ≡ touched → reply ≡ Committed number
+    → (is_touched session ≡ false → (now ≡ session) × (reply ≡ Committed (number_of session)))
+    → (is_touched session ≡ true → head ≡ capacity → reply ≡ Full 1 0)
+    → (is_touched session ≡ true → (head ≡ capacity → ⊥) → (reply ≡ Committed (number_of session + 1)) × (is_touched now ≡ false))
+    → (device_after reply device array ≡ committed_of device array touched) × (is_touched now ≡ false)
+reply_is session now image device array false reply number head capacity holds same is idle full raised =
+    let i = idle same in (
+      ap (λ (r : CommitReply). device_after r device array) i.1
+          ∙ (λ k. record device { number = holds.stands.number k; contents = holds.untouched same k }),
+      ap (λ (s : Session). is_touched s) i.0 ∙ same,
+    )
+reply_is session now image device array true reply number head capacity holds same is idle full raised = elim (eqb_tells head capacity) [
+  | inl equal ↦ absurd (let f = full same equal.1 in cc)
+  | inr differ ↦
+      let r = raised same differ.1 in
+      (ap (λ (x : CommitReply). device_after x device array) r.0 ∙ ap (λ (n : ℕ). record device { number = n + 1; contents = array }) holds.stands.number, r.1)
+]
+
+pub commit_answered : (tells : Type 0) (old new : Outside) (session now : Session) (device : Device) (array : Blocks) (touched : Bool) (reply : CommitReply) (number : ℕ) (Then : List (List ℕ) → Type 0) → Commits tells old new session device array touched Then
+    → ((keys : List (List ℕ)) → Then keys → HoldsListed now new.history.present keys) → Holds now new.history.present (device_after reply device array) array → reply ≡ Committed number
+    → (is_touched session ≡ false → (now ≡ session) × (reply ≡ Committed (number_of session)))
+    → (is_touched session ≡ true → old.head ≡ old.capacity → reply ≡ Full 1 0)
+    → (is_touched session ≡ true → (old.head ≡ old.capacity → ⊥) → (reply ≡ Committed (number_of session + 1)) × (is_touched now ≡ false))
+    → Course old new (Some session) (Some now) (Open device array touched) (Some (committed_of device array touched) ∷ []) (Open (committed_of device array touched) array false)
+commit_answered tells old new session now device array touched reply number Then c done holds is idle full raised =
+    let r = reply_is session now old.history.present device array touched reply number old.head old.capacity c.at.there.0 c.at.there.1 is idle full raised in
+    subst (λ (d : Device). Course old new (Some session) (Some now) (Open device array touched) (Some d ∷ []) (Open d array false)) r.0
+    (commit_course tells old new session now device array touched reply Then c done holds r.1)
+
+-- or that no page is free: nothing was made
+pub commit_full : (tells : Type 0) (old new : Outside) (session now : Session) (device : Device) (array : Blocks) (touched : Bool) (Then : List (List ℕ) → Type 0) → Commits tells old new session device array touched Then
+    → ((keys : List (List ℕ)) → Then keys → HoldsListed now new.history.present keys) → Holds now new.history.present device array → is_touched now ≡ touched
+    → Course old new (Some session) (Some now) (Open device array touched) [] (Open device array touched)
+commit_full tells old new session now device array touched Then c done holds is =
+    let there = stands_at new.history.present (Some now) (Open device array touched) (holds, is) in
+    stays tells old new (Some session) (Some now) (Open device array touched) (Open device array touched)
+    (commit_calls tells old new session (Some now) device array touched Then c done)
+    (stayed old.history new.history (Some device) (Some (committed_device device array)) c.time there) refl (holds, is)
+
+-- the session is then as it was
+same_session : (session now : Session) (touched : Bool) (reply : CommitReply) (needed free head capacity : ℕ) → is_touched session ≡ touched → reply ≡ Full needed free
+    → (is_touched session ≡ false → reply ≡ Committed (number_of session))
+    → (is_touched session ≡ true → head ≡ capacity → now ≡ session)
+    → (is_touched session ≡ true → (head ≡ capacity → ⊥) → reply ≡ Committed (number_of session + 1))
+    → now ≡ session
+same_session session now false reply needed free head capacity same is idle full raised = absurd (let i = idle same in cc)
+same_session session now true reply needed free head capacity same is idle full raised = elim (eqb_tells head capacity) [
+  | inl equal ↦ full same equal.1
+  | inr differ ↦ absurd (let r = raised same differ.1 in cc)
+]
+
+pub commit_refused : (tells : Type 0) (old new : Outside) (session now : Session) (device : Device) (array : Blocks) (touched : Bool) (reply : CommitReply) (needed free : ℕ) (Then : List (List ℕ) → Type 0) → Commits tells old new session device array touched Then
+    → ((keys : List (List ℕ)) → Then keys → HoldsListed now new.history.present keys) → Holds now new.history.present (device_after reply device array) array → reply ≡ Full needed free
+    → (is_touched session ≡ false → reply ≡ Committed (number_of session))
+    → (is_touched session ≡ true → old.head ≡ old.capacity → now ≡ session)
+    → (is_touched session ≡ true → (old.head ≡ old.capacity → ⊥) → reply ≡ Committed (number_of session + 1))
+    → Course old new (Some session) (Some now) (Open device array touched) [] (Open device array touched)
+commit_refused tells old new session now device array touched reply needed free Then c done holds is idle full raised =
+    let same = same_session session now touched reply needed free old.head old.capacity c.at.there.1 is idle full raised in
+    commit_full tells old new session now device array touched Then c done (subst (λ (r : CommitReply). Holds now new.history.present (device_after r device array) array) is holds)
+    (ap (λ (s : Session). is_touched s) same ∙ c.at.there.1)
+
+-- a commit that failed, with which the session ends
+pub commit_stop : (tells : Type 0) (old new : Outside) (session : Session) (device : Device) (array : Blocks) (touched : Bool) (Then : List (List ℕ) → Type 0) → Commits tells old new session device array touched Then
+    → Stopped old new (Some session) None (Open device array touched) (Some (committed_device device array)) (Closed (Some device)) (Closed (Some (committed_device device array)))
+commit_stop tells old new session device array touched Then c =
+    stops tells old new (Some session) (Open device array touched) (Some (committed_device device array))
+    (λ left stands. commit_calls tells old new session None device array touched Then c (λ keys then'. (left, stands))) c.time
+
+-- a format or an erasure
+pub record Remakes (tells : Type 0) (old new : Outside) (before : Option Session) (entry : State) (next : Option Device) : Type 0 where
+  pub told : tells
+  pub at : IsAt old.history.present before entry
+  pub later : IsLater old new
+  pub time : tells → (device : Option Device) → Stands old.history.present device → Turns old.history new.history (Leaves device) (Leaves next)
+  pub keeps : KeepsKeys tells old.drawn new.drawn old.history new.history (λ keys. IsSound old.history.present) (λ keys. Unit {0})
+  pub forgets : tells → IsSound old.history.present → Forgets old.history new.history
+  pub serves : tells → IsServedImage old.history.present → During old.history new.history IsServedImage
+
+remake_calls : (tells : Type 0) (old new : Outside) (before : Option Session) (entry : State) (next device : Option Device) → Remakes tells old new before entry next → Stands new.history.present device → Calls tells old new before None entry
+remake_calls tells old new before entry next device c stands = record {
+  told = c.told;
+  at = c.at;
+  serves = c.serves c.told c.at.served;
+  later = c.later;
+  keys = keeps_from tells old.drawn new.drawn old.history new.history (λ keys. IsSound old.history.present) (IsListed before old.history.present) (λ keys. Unit {0}) (λ keys. IsSound new.history.present) c.keeps (λ told keys h. sound_of before old.history.present keys h) (λ told keys more h then'. (device, stands));
+  forgets = λ keys h. c.forgets c.told (sound_of before old.history.present keys h);
+}
+
+pub remake_course : (tells : Type 0) (old new : Outside) (before : Option Session) (entry : State) (next : Option Device) → Remakes tells old new before entry next → Stands new.history.present next → Course old new before None entry (next ∷ []) (Closed next)
+remake_course tells old new before entry next c stands =
+    makes tells old new before None entry (Closed next) next (remake_calls tells old new before entry next next c stands) (c.time c.told (device_of entry) (stands_at old.history.present before entry c.at.there)) stands
+
+pub remake_stop : (tells : Type 0) (old new : Outside) (before : Option Session) (entry : State) (next : Option Device) → Remakes tells old new before entry next → Stopped old new before None entry next (Closed (device_of entry)) (Closed next)
+remake_stop tells old new before entry next c =
+    stops tells old new before entry next (λ left stands. remake_calls tells old new before entry next left c stands) (c.time c.told (device_of entry) (stands_at old.history.present before entry c.at.there))
+
+-- the keys of an erasure, which draws none and adds no page
+pub erase_keys : (tells : Type 0) (drawn : Option (List (List ℕ))) (old new : History) → (tells → Extends old new) → (tells → length new.present.recorded ≡ length old.present.recorded) → (tells → (keys : List (List ℕ)) → Kept keys old.present → During old new (Kept keys))
+    → KeepsKeys tells drawn drawn old new (λ keys. IsSound old.present) (λ keys. Unit {0})
+erase_keys tells drawn old new extends size keeps = keeps_still tells drawn drawn old new (λ keys. IsSound old.present) (λ keys. Unit {0}) refl extends size (λ told keys kept h. keeps told keys kept) (λ told keys h. tt)
+
+-- a mount that was refused
+pub mount_refused : (tells : Type 0) (told : tells) (old new : Outside) (device : Option Device) → IsAt old.history.present None (Closed device) → IsLater old new → new.drawn ≡ old.drawn
+    → (tells → new.history.present ≡ old.history.present) → (tells → During old.history new.history (λ image. image.cell ≡ old.history.present.cell))
+    → Course old new None None (Closed device) [] (Closed device)
+mount_refused tells told old new device at later drawn image time =
+    let keys = look_keys tells old.drawn old.history new.history None None image time (λ told keys kept h. subst IsSound (sym (image told)) h) in
+    course_still tells told old new None None (Closed device) (Closed device) at (time told) later
+    (subst (λ (d : Option (List (List ℕ))). KeepsKeys tells old.drawn d old.history new.history (λ keys. IsSound old.history.present) (λ keys. IsSound new.history.present)) (sym drawn) keys) refl
+    (subst (λ (i : Image). Stands i device) (sym (image told)) at.there)

@@ -1,0 +1,29 @@
+//! What every part of a run over a device promises, whoever it serves: at each moment one of the devices that it made, in their
+//! order; keys kept; and what was deleted stays so. The functions do nothing: each has a law of these as its contract.
+#![tactic(auto)]
+
+ghost use Rattle.std.specs.Prelude.{◌≤◌, ◌++◌, List, ℕ, [], None, Option};
+ghost use Rattle.page_store.specs.Device.{Device};
+ghost use Rattle.page_store.specs.Kept.{Kept};
+ghost use Rattle.device_core.specs.declared.session.Session.{Session};
+ghost use Rattle.device_course.specs.States.{Outside, State, Closed, IsAt, IsListed, device_of};
+ghost use Rattle.page_store.specs.Disclosing.{DisclosesBy};
+ghost use Rattle.device_course.specs.Course.{Course};
+
+/// How parts of a run compose.
+pub fn courses_compose()
+    ensures start { (old : Outside) (session : Option Session) (entry : State) → old.head ≤ old.capacity → IsAt old.history.present session entry
+        → Course old old session session entry [] entry }
+    ensures then { (first second third : Outside) (before between after : Option Session) (entry mid exit : State) (one two : List (Option Device))
+        → Course first second before between entry one mid → Course second third between after mid two exit
+        → Course first third before after entry (one ++ two) exit }
+    ensures closed { (old new : Outside) (before after : Option Session) (entry exit : State) (marks : List (Option Device))
+        → Course old new before after entry marks exit → Course old new before None entry marks (Closed (device_of exit)) }
+{}
+
+/// What the pages disclose after a part of a run to whoever has the root record's key.
+pub fn course_discloses()
+    ensures { (old new : Outside) (before after : Option Session) (entry exit : State) (marks : List (Option Device)) (keys : List (List ℕ))
+        → (course : Course old new before after entry marks exit) → Kept keys old.history.present → IsListed before old.history.present keys
+        → DisclosesBy keys course.grew old.history new.history }
+{}
