@@ -22,7 +22,7 @@ use Rattle.key_graph.specs.OwnKeys.{HaveOwnKeys}
 use Rattle.key_graph.specs.Maps.{AreOpenedBy}
 use Rattle.key_graph.proofs.ChainLaws.{contains_at}
 use Rattle.page_store.specs.Kept.{Kept}
-use Rattle.page_store.specs.Keeping.{DrewAll, IsSealedRecord, IsAdded, HandedOver, KeepsKeys, HoldsListed, IsNextRecord}
+use Rattle.page_store.specs.Keeping.{DrewAll, IsSealedRecord, IsAdded, HandedOver, KeepsKeys, ListsKeys, IsNextRecord}
 use Rattle.page_store.proofs.RecordYields.{opens_record, data_yields, node_yields}
 use Rattle.page_store.proofs.KeptLaws.{kept_drawn, kept_append, kept_stands, kept_published}
 
@@ -43,7 +43,7 @@ last_page [] page read (suc addr) past there = absurd cc
 last_page (first ∷ pages) page read zero past there = absurd (omega arith)
 last_page (first ∷ pages) page read (suc addr) past there = let rest = last_page pages page read addr (omega arith) there in (ap suc rest.0, rest.1)
 
-yields_listed : (keys : List (List ℕ)) (key body other : List ℕ) (addr : ℕ) (value : Record) → FitsRecord addr value → HoldsListed keys value → masked key (masked key body) ≡ record_bytes addr value → Yields key (masked key body) other → Contains (keys ++ key ∷ []) other
+yields_listed : (keys : List (List ℕ)) (key body other : List ℕ) (addr : ℕ) (value : Record) → FitsRecord addr value → ListsKeys keys value → masked key (masked key body) ≡ record_bytes addr value → Yields key (masked key body) other → Contains (keys ++ key ∷ []) other
 yields_listed keys key body other addr (DataRecord block content) fits listed spelled yields = absurd (data_yields key (masked key body) other addr block content spelled yields)
 yields_listed keys key body other addr (NodeRecord level entries) fits listed spelled yields =
     Contains-append_left keys (key ∷ []) other

@@ -46,12 +46,12 @@ pub record KeepsKeys (tells : Type 0) (drawn drawn_now : Option (List (List ℕ)
   pub keeps : tells → (keys : List (List ℕ)) → Kept keys old.present → Ready keys → Keeps keys grew old new Done
 
 -- every key that a record holds is listed
-abbrev pub HoldsListed : List (List ℕ) → Record → Type 0
-HoldsListed keys (DataRecord block content) = Unit {0}
-HoldsListed keys (NodeRecord level entries) = All (λ e. Contains keys e.key) entries
+abbrev pub ListsKeys : List (List ℕ) → Record → Type 0
+ListsKeys keys (DataRecord block content) = Unit {0}
+ListsKeys keys (NodeRecord level entries) = All (λ e. Contains keys e.key) entries
 
 -- the image stands, and the record that its next page is to be has no key that isn't listed
 pub record IsNextRecord (image : Image) (value : Record) (keys : List (List ℕ)) : Type 0 where
   pub device : Option Device
   pub stands : Stands image device
-  pub listed : HoldsListed keys value
+  pub listed : ListsKeys keys value

@@ -130,7 +130,7 @@ pub discloses_twice : (drawn between drawn_now : Option (List (List ℕ))) (old 
     → DisclosesTwice drawn drawn_now old.history mid.history cut.history new.history
 discloses_twice drawn between drawn_now old mid cut new first left left_now written written_now one two answers lost serves =
     let both : (device : Option Device) → StandsFor old.history.present device → IsServedImage old.history.present → (keys : List (List ℕ)) → Kept keys old.history.present
-        → DisclosesBy keys one.grew old.history mid.history × DisclosesBy (keys ++ one.grew) two.grew cut.history new.history
+    → DisclosesBy keys one.grew old.history mid.history × DisclosesBy (keys ++ one.grew) two.grew cut.history new.history
     = λ device there served keys kept.
     let exits = (answers.answered tt device there served).exits in
     let a = one.only tt device there served keys kept in

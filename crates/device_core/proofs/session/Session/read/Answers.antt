@@ -141,8 +141,11 @@ returns-in-Ok-fetch_block-clause-finds g c = λ told.
     let fits = subst (λ (v : Record). FitsAt (history c.load.new.platform).present.readable (block_want entry.addr c.args.block) entry.key v) there.2 there.1 in (
       c.load.new.self.entries.items,
       c.in-Ok.ensures.leaf told,
-      inr (entry, entry_at c.load.new.self.entries.items c.args.block c.in-Ok-place_of.place entry place at,
-      subst (λ (i : Image). FitsAt i.readable (block_want entry.addr c.args.block) entry.key (DataRecord c.args.block c.fetch_block.new.out)) (c.load.ensures.image told) fits),
+      inr (
+        entry,
+        entry_at c.load.new.self.entries.items c.args.block c.in-Ok-place_of.place entry place at,
+        subst (λ (i : Image). FitsAt i.readable (block_want entry.addr c.args.block) entry.key (DataRecord c.args.block c.fetch_block.new.out)) (c.load.ensures.image told) fits,
+      ),
     )
 
 pub returns-in-Err-BadRecord-clause-misfit : goal.returns-in-Err-BadRecord-clause-misfit
