@@ -1,6 +1,6 @@
 -- What a format, a commit and a write do to the keys that the image keeps.
 use Rattle.std.proofs.Common.{◌≡◌, ◌⊎◌, inl, inr, Bool, true, false, Result, ℕ, zero, suc, ◌<◌, ◌≤◌, ◌^◌, List, [], ◌∷◌, ◌++◌, map, length, get_or, refl, sym, ◌∙◌, ap, subst, arith, length-append}
-use Rattle.std.specs.Prelude.{◌≢◌, Option, None, Some, All, Contains, remove}
+use Rattle.std.specs.Prelude.{Option, None, Some, All, Contains, remove}
 use Rattle.std.proofs.lemmas.List.Elements.{All-nil, All-cons, All-head, All-tail, All-weaker, All-map, All-contains, Contains-append_left, Contains-get_or}
 use Rattle.platform.specs.Image.{Image, IsEarlier, IsWhole, with_page, with_cell, all_synced}
 use Rattle.platform.specs.History.{History, Steps, During, Turns}

@@ -1,6 +1,6 @@
 -- What a session reads of its leaf.
 use Rattle.std.proofs.Common.{◌≡◌, ◌⊎◌, ◌∙◌, inl, inr, ℕ, ◌<◌, ◌^◌, Bool, true, false, List, get_or, Ok, sym, ap}
-use Rattle.std.specs.Prelude.{◌≢◌, All, Contains}
+use Rattle.std.specs.Prelude.{◌≢◌, All}
 use Rattle.std.proofs.lemmas.List.Elements.{All-contains}
 use Rattle.node_codec.specs.declared.body.Entry.{Entry}
 use Rattle.node_codec.specs.Record.{NodeRecord}

@@ -1,5 +1,5 @@
 //! Laws of chains. The functions do nothing: each has its law as its contract.
-ghost use Rattle.std.specs.Prelude.{◌≡◌, ◌↔◌, ℕ, List, [], ◌∷◌, ◌++◌, All, Contains, length};
+ghost use Rattle.std.specs.Prelude.{◌↔◌, ℕ, List, [], ◌∷◌, ◌++◌, All, Contains, length};
 ghost use Rattle.seal_record.specs.Sealing.{Opens};
 ghost use Rattle.key_graph.specs.Opening.{Yields};
 ghost use Rattle.key_graph.specs.Chains.{Link, OpensAt, YieldsAt, ChainEnds, Reached, Distinct, OneOpener};

@@ -1,6 +1,6 @@
 -- What the pages of a run disclose, and those of two runs with a loss of power between them.
-use Rattle.std.proofs.Common.{◌≡◌, ◌↔◌, ℕ, ◌<◌, ◌≤◌, List, [], ◌∷◌, ◌++◌, Option, length, take, get_or, refl, sym, ◌∙◌, ap, subst, arith, length-append}
-use Rattle.std.specs.Prelude.{All, Contains, Some}
+use Rattle.std.proofs.Common.{◌≡◌, ◌↔◌, ℕ, ◌<◌, ◌≤◌, List, [], ◌∷◌, ◌++◌, Option, length, sym, ◌∙◌, ap, subst, arith, length-append}
+use Rattle.std.specs.Prelude.{Contains}
 use Rattle.std.specs.Option.{option_map_or}
 use Rattle.std.proofs.lemmas.List.{get_or_append_left}
 use Rattle.std.proofs.lemmas.List.Elements.{All-nil, All-cons, All-weaker, Contains-append_left}
@@ -8,13 +8,13 @@ use Rattle.platform.specs.Image.{Image, MayLeave, LeavesOnly}
 use Rattle.platform.specs.History.{History, Extends, During, image_at, moment}
 use Rattle.platform.proofs.Moments.{image_at-now, earlier-now, Extends-earlier, Extends-since}
 use Rattle.root_codec.specs.declared.root.Root.{Root}
-use Rattle.key_graph.specs.Chains.{Reached, OpensAt, Distinct, OneOpener, KeyPremises, link}
+use Rattle.key_graph.specs.Chains.{Reached, KeyPremises, link}
 use Rattle.key_graph.specs.Maps.{AreFirst}
 use Rattle.key_graph.proofs.ChainLaws.{opens_later, reached_later}
 use Rattle.key_graph.proofs.LaterLaws.{no_more}
 use Rattle.page_store.specs.Device.{Device}
 use Rattle.page_store.specs.Stands.{Stands}
-use Rattle.page_store.specs.Kept.{IsRootOf, Kept, ReachesTree}
+use Rattle.page_store.specs.Kept.{IsRootOf, Kept}
 use Rattle.page_store.specs.Keeping.{HandedOver}
 use Rattle.page_store.specs.Floors.{IsInTree, IsReached, head_in, low_of, floor_of, KeepsDeleted}
 use Rattle.page_store.specs.Disclosing.{ReachNoMore, DisclosesTrees, DisclosesBy, DisclosesOn}

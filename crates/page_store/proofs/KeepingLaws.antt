@@ -4,7 +4,7 @@ use Rattle.std.specs.Prelude.{All, Option, None, Some, Contains, slice_get}
 use Rattle.std.specs.Option.{option_map}
 use Rattle.std.proofs.lemmas.Bool.{cases_lt}
 use Rattle.std.proofs.lemmas.Option.{slice_get_within, slice_get-get_or}
-use Rattle.std.proofs.lemmas.List.Elements.{All-contains, All-map, Contains-append_left, Contains-append_right, Contains-push}
+use Rattle.std.proofs.lemmas.List.Elements.{All-contains, All-map, Contains-append_left, Contains-push}
 use Rattle.sdbt_base.specs.Told.{Drew}
 use Rattle.platform.specs.Image.{Image, IsEarlier, MayHavePage}
 use Rattle.platform.specs.History.{History, Extends, During, Steps, Turns}

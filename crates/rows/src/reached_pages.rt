@@ -1,5 +1,4 @@
 //! Which pages the key in the cell reaches, found by trying each key on each page, against those of the tree.
-ghost use Rattle.std.specs.Prelude.{◌≡◌, length};
 
 use crate::run::lose_power;
 use device_cli::run_main;

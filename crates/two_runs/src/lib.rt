@@ -1,7 +1,7 @@
 //! Two runs over one platform in memory, with a loss of power between them.
 #![tactic(auto)]
 
-ghost use Rattle.std.specs.Prelude.{◌≡◌, ◌≤◌, ◌∷◌, [], None, length};
+ghost use Rattle.std.specs.Prelude.{◌≡◌, ◌∷◌, [], None, length};
 ghost use Rattle.platform.specs.Mem.{mem_history, image_of_now, capacity_of, faults_of};
 ghost use Rattle.device_cli.specs.Run.{counts};
 ghost use Rattle.device_cli.specs.World.{world};

@@ -17,10 +17,7 @@ use Rattle.device_core.proofs.KeyLaws.{looks, format_appends, format_publishes, 
 use Rattle.page_store.proofs.FloorLaws.{forgets_still, low_few}
 use Rattle.platform.proofs.Moments.{whole-now}
 use Rattle.platform.specs.Image.{Image, with_cell, all_synced}
-use Rattle.std.proofs.lemmas.List.Elements.{All-nil}
-use Rattle.std.proofs.Common.{length, ◌⊎◌}
-use Rattle.node_codec.specs.declared.body.Entry.{Entry}
-use Rattle.page_store.specs.Floors.{IsInTree, low_of}
+use Rattle.std.proofs.Common.{length}
 use Rattle.page_store.specs.Leaf.{StandsByLeaf}
 use Rattle.root_codec.specs.RootRecord.{root_bytes}
 use Rattle.device_core.proofs.HoldLaws.{with_leaf}
