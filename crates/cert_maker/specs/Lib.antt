@@ -1,0 +1,4 @@
+pub mod Cert
+pub mod Trace
+pub mod CertOf
+pub mod Added

@@ -1,0 +1,115 @@
+//! Certificates.
+ghost use Rattle.std.specs.Prelude.{◌≡◌};
+
+use crate::added::AddedList;
+use sdbt_base::{Addrs, UnkeptList};
+use std::marker::Model;
+
+/// What a commit says of its addresses. It holds no key. A contract sees its four numbers and three lists.
+#[derive(Drop)]
+pub struct Cert {
+    commit: u64,
+    base: u64,
+    head: u64,
+    root: u64,
+    added: AddedList,
+    gone: Addrs,
+    never: UnkeptList,
+}
+
+impl Model for Cert {
+    ghost use Rattle.cert_maker.specs.Cert as specs;
+
+    ghost Value = { specs.Cert };
+
+    ghost view = { λ c. record {
+      commit = c.commit;
+      base = c.base;
+      head = c.head;
+      root = c.root;
+      added = c.added;
+      gone = c.gone;
+      never = c.never;
+    } };
+}
+
+impl Cert {
+    /// The certificate of these parts as they stand, for one that is read.
+    pub fn from_parts(
+        commit: u64,
+        base: u64,
+        head: u64,
+        root: u64,
+        added: AddedList,
+        gone: Addrs,
+        never: UnkeptList,
+    ) -> Cert
+        ensures { result ≡ record { commit = commit; base = base; head = head; root = root; added = added; gone = gone; never = never } }
+    {
+        Cert {
+            commit,
+            base,
+            head,
+            root,
+            added,
+            gone,
+            never,
+        }
+    }
+
+    /// The commit's number.
+    pub fn commit(&self) -> u64
+        ensures { result ≡ self.now.commit }
+    {
+        self.commit
+    }
+
+    /// How many pages had been handed over at the commit before it; for a format, when it began.
+    pub fn base(&self) -> u64
+        ensures { result ≡ self.now.base }
+    {
+        self.base
+    }
+
+    /// How many pages have been handed over with it.
+    pub fn head(&self) -> u64
+        ensures { result ≡ self.now.head }
+    {
+        self.head
+    }
+
+    /// The address of its root node.
+    pub fn root(&self) -> u64
+        ensures { result ≡ self.now.root }
+    {
+        self.root
+    }
+
+    /// The addresses that it added.
+    pub fn added(&self) -> &AddedList
+        ensures { result.now ≡ self.now.added }
+    {
+        &self.added
+    }
+
+    /// The addresses that it added, to keep.
+    pub fn into_added(self) -> AddedList
+        ensures { result ≡ self.added }
+    {
+        self.added
+    }
+
+    /// The addresses that it let go.
+    pub fn gone(&self) -> &Addrs
+        ensures { result.now ≡ self.now.gone }
+    {
+        &self.gone
+    }
+
+    /// The data pages that were written since the commit before it, and are in no tree.
+    pub fn never(&self) -> &UnkeptList
+        ensures { result.now ≡ self.now.never }
+    {
+        &self.never
+    }
+}
