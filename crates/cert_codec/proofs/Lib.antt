@@ -1,0 +1,3 @@
+mod Arrays
+mod Writes
+mod RoundTrip

@@ -1,0 +1,5 @@
+use Rattle.cert_codec.proofs.RoundTrip.{flat_cert}
+use Rattle.cert_codec.proofs.laws.what_is_written_is_one_line.Goals as goal
+
+pub returns : goal.returns
+returns c = flat_cert

@@ -1,0 +1,21 @@
+//! Laws of the text. The functions do nothing: each has its law as its contract.
+ghost use Rattle.std.specs.Prelude.{◌≡◌, ◌≢◌, ℕ, List, Contains};
+ghost use Rattle.std.specs.List.{AllByRecursion};
+ghost use Rattle.serde_json.specs.Written.{compact_text};
+ghost use Rattle.cert_maker.specs.Cert as specs;
+ghost use Rattle.cert_codec.specs.Text.{cert_json, Spells, Fits};
+
+/// What is written for a certificate spells it.
+pub fn what_is_written_is_read()
+    ensures { (cert : specs.Cert) → Fits cert → Spells (compact_text (cert_json cert)) cert }
+{}
+
+/// No bytes spell two certificates.
+pub fn one_certificate()
+    ensures { (bytes : List ℕ) (one other : specs.Cert) → Spells bytes one → Spells bytes other → one ≡ other }
+{}
+
+/// What is written for a certificate has no line feed in it.
+pub fn what_is_written_is_one_line()
+    ensures { (cert : specs.Cert) → Fits cert → AllByRecursion (λ byte. byte ≢ 10) (compact_text (cert_json cert)) }
+{}

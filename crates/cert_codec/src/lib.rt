@@ -1,0 +1,13 @@
+//! Certificates as text.
+#![tactic(auto)]
+
+mod laws;
+mod reading;
+mod writing;
+
+pub use laws::{one_certificate, what_is_written_is_one_line, what_is_written_is_read};
+pub use reading::read_line;
+pub use writing::line;
+
+#[cfg(test)]
+mod tests;
