@@ -1,1 +1,3 @@
 pub mod TreeTraces
+pub mod OrderLaws
+pub mod CertLaws

@@ -1,6 +1,7 @@
 //! The addresses that a commit added.
 ghost use Rattle.std.specs.Prelude.{◌≡◌, ◌<◌, ◌↔◌, [], ◌∷◌, ◌++◌, Some, IsTrue, length, slice_get, is_ok, if◌then◌else◌, MatchOption};
 ghost use Rattle.cert_maker.specs.Added.{traced};
+ghost use Rattle.cert_maker.specs.Ordered.{AreOneEach, IsOrderOf};
 
 use sdbt_base::{Addrs, Memory};
 use std::alloc::Global;
@@ -81,5 +82,14 @@ impl AddedList {
         ensures { slice_get self.now i ≡ Some (traced result.now) }
     {
         &self.items[i]
+    }
+
+    // Brings the items into the order of their addresses, and drops repeats.
+    pub(crate) fn ascend(&mut self)
+        requires { AreOneEach (λ item. item.addr) self.old }
+        ensures { IsOrderOf (λ item. item.addr) self.old self.new }
+    {
+        self.items.sort_unstable_by_key(|item| item.addr);
+        self.items.dedup_by_key(|item| item.addr);
     }
 }

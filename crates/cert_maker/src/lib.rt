@@ -4,7 +4,11 @@
 mod added;
 mod certs;
 mod laws;
+mod ordering;
 
 pub use added::{Added, AddedList};
 pub use certs::Cert;
 pub use laws::trees_are_traces;
+
+#[cfg(test)]
+mod tests;
