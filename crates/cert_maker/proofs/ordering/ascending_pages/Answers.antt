@@ -1,5 +1,4 @@
-use Rattle.std.proofs.Common.{◌≡◌, ◌==◌, List, rules, sym, subst, ◌∙◌}
-use Rattle.std.specs.List.{dedup}
+use Rattle.std.proofs.Common.{◌==◌, List, rules, sym, subst, ◌∙◌}
 use Rattle.std.specs.List.Sorted.{IsPermutation}
 use Rattle.std.proofs.lemmas.Fn.{dedup_same}
 use Rattle.std.proofs.lemmas.Result.{IfOk-weaker}
