@@ -1,3 +1,4 @@
 mod Arrays
 mod Writes
 mod RoundTrip
+mod InRange

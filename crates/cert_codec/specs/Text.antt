@@ -59,12 +59,18 @@ abbrev pub TraceFits : TraceEntry → Type 0
 TraceFits (DataOf block) = block < 2 ^ 64
 TraceFits (NodeOver children) = AllByRecursion (λ child. child < 2 ^ 64) children
 
+abbrev pub TracedFits : Traced → Type 0
+TracedFits traced = (traced.addr < 2 ^ 64) × TraceFits traced.trace
+
+abbrev pub PageFits : Unkept → Type 0
+PageFits page = (page.block < 2 ^ 64) × (page.addr < 2 ^ 64)
+
 -- each number of a certificate fits eight bytes
 pub record Fits (cert : Cert) : Type 0 where
   pub commit : cert.commit < 2 ^ 64
   pub base : cert.base < 2 ^ 64
   pub head : cert.head < 2 ^ 64
   pub root : cert.root < 2 ^ 64
-  pub added : AllByRecursion (λ traced. (traced.addr < 2 ^ 64) × TraceFits traced.trace) cert.added
+  pub added : AllByRecursion TracedFits cert.added
   pub gone : AllByRecursion (λ addr. addr < 2 ^ 64) cert.gone
-  pub never : AllByRecursion (λ page. (page.block < 2 ^ 64) × (page.addr < 2 ^ 64)) cert.never
+  pub never : AllByRecursion PageFits cert.never

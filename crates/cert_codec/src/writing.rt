@@ -1,9 +1,10 @@
 //! From a certificate to text.
-ghost use Rattle.std.specs.Prelude.{◌≡◌, ◌++◌, ◌∷◌, [], ℕ, List, Bool, map, decimal, is_ok, IfOk, OnOk};
+ghost use Rattle.std.specs.Prelude.{◌≡◌, ◌<◌, ◌^◌, ◌++◌, ◌∷◌, [], ℕ, List, Bool, map, decimal, is_ok, IfOk, OnOk};
+ghost use Rattle.std.specs.List.{AllByRecursion};
 ghost use Rattle.serde_json.specs.View.{items_of};
 ghost use Rattle.serde_json.specs.Written.{items_text, compact_text, comma_if};
 ghost use Rattle.cert_maker.specs.Added.{traced};
-ghost use Rattle.cert_codec.specs.Text.{whole, numbers, array_of, added_json, never_json, cert_json, entry};
+ghost use Rattle.cert_codec.specs.Text.{whole, numbers, array_of, added_json, never_json, cert_json, entry, PageFits, TracedFits, Fits};
 
 use cert_maker::{Added, AddedList, Cert};
 use sdbt_base::{Addrs, Line, Memory, Unkept, UnkeptList};
@@ -11,7 +12,8 @@ use std::alloc::Global;
 
 /// The entry of a certificate in a ledger.
 pub fn line(alloc: Global, cert: &Cert) -> Result<Line, Memory>
-    ensures { IfOk result (λ line. line ≡ entry cert.now) }
+    ensures entry { IfOk result (λ line. line ≡ entry cert.now) }
+    ensures in_range { OnOk result (Fits cert.now) }
 {
     let mut out = Line::new(alloc);
     out.append(b"\n{\"added\":")?;
@@ -33,7 +35,8 @@ pub fn line(alloc: Global, cert: &Cert) -> Result<Line, Memory>
 }
 
 fn push_number(out: &mut Line, n: u64) -> Result<(), Memory>
-    ensures { OnOk result (out.new ≡ out.old ++ decimal n) }
+    ensures text { OnOk result (out.new ≡ out.old ++ decimal n) }
+    ensures fits { n < 2 ^ 64 }
 {
     out.append(itoa::Buffer::new().format(n).as_bytes())
 }
@@ -49,7 +52,8 @@ fn push_comma(out: &mut Line, later: bool) -> Result<(), Memory>
 
 // The numbers, and the bracket that closes them. `later`: something stands before them.
 fn push_items(out: &mut Line, later: bool, numbers: &Addrs) -> Result<(), Memory>
-    ensures { OnOk result (out.new ≡ out.old ++ items_text later (items_of (map whole numbers.now))) }
+    ensures text { OnOk result (out.new ≡ out.old ++ items_text later (items_of (map whole numbers.now))) }
+    ensures fits { OnOk result (AllByRecursion (λ n. n < 2 ^ 64) numbers.now) }
 {
     let mut after = later;
     for i in 0..numbers.len() {
@@ -61,7 +65,8 @@ fn push_items(out: &mut Line, later: bool, numbers: &Addrs) -> Result<(), Memory
 }
 
 fn push_unkept(out: &mut Line, page: &Unkept) -> Result<(), Memory>
-    ensures { OnOk result (out.new ≡ out.old ++ compact_text (never_json page.now)) }
+    ensures text { OnOk result (out.new ≡ out.old ++ compact_text (never_json page.now)) }
+    ensures fits { OnOk result (PageFits page.now) }
 {
     out.append(b"[")?;
     push_number(out, page.block)?;
@@ -71,7 +76,8 @@ fn push_unkept(out: &mut Line, page: &Unkept) -> Result<(), Memory>
 }
 
 fn push_never(out: &mut Line, pages: &UnkeptList) -> Result<(), Memory>
-    ensures { OnOk result (out.new ≡ out.old ++ compact_text (array_of never_json pages.now)) }
+    ensures text { OnOk result (out.new ≡ out.old ++ compact_text (array_of never_json pages.now)) }
+    ensures fits { OnOk result (AllByRecursion PageFits pages.now) }
 {
     out.append(b"[")?;
     let mut after = false;
@@ -84,7 +90,8 @@ fn push_never(out: &mut Line, pages: &UnkeptList) -> Result<(), Memory>
 }
 
 fn push_traced(out: &mut Line, added: &Added) -> Result<(), Memory>
-    ensures { OnOk result (out.new ≡ out.old ++ compact_text (added_json (traced added.now))) }
+    ensures text { OnOk result (out.new ≡ out.old ++ compact_text (added_json (traced added.now))) }
+    ensures fits { OnOk result (TracedFits (traced added.now)) }
 {
     out.append(b"[")?;
     push_number(out, added.addr)?;
@@ -102,7 +109,8 @@ fn push_traced(out: &mut Line, added: &Added) -> Result<(), Memory>
 }
 
 fn push_added(out: &mut Line, added: &AddedList) -> Result<(), Memory>
-    ensures { OnOk result (out.new ≡ out.old ++ compact_text (array_of added_json added.now)) }
+    ensures text { OnOk result (out.new ≡ out.old ++ compact_text (array_of added_json added.now)) }
+    ensures fits { OnOk result (AllByRecursion TracedFits added.now) }
 {
     out.append(b"[")?;
     let mut after = false;
@@ -115,7 +123,8 @@ fn push_added(out: &mut Line, added: &AddedList) -> Result<(), Memory>
 }
 
 fn push_numbers(out: &mut Line, items: &Addrs) -> Result<(), Memory>
-    ensures { OnOk result (out.new ≡ out.old ++ compact_text (numbers items.now)) }
+    ensures text { OnOk result (out.new ≡ out.old ++ compact_text (numbers items.now)) }
+    ensures fits { OnOk result (AllByRecursion (λ n. n < 2 ^ 64) items.now) }
 {
     out.append(b"[")?;
     push_items(out, false, items)
