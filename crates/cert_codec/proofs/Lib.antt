@@ -2,3 +2,5 @@ mod Arrays
 mod Writes
 mod RoundTrip
 mod InRange
+mod Lacks
+mod Torn

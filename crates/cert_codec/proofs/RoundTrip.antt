@@ -1,12 +1,9 @@
 -- What is written is read, and bytes spell one certificate.
-use Rattle.std.proofs.Common.{Bool, true, false, ◌≡◌, ℕ, ◌<◌, ◌≤◌, ◌^◌, suc, List, [], ◌∷◌, ◌++◌, map, Some, decimal, codes, refl, sym, ap, ap₂, ◌∙◌, subst, arith, append-nil, IsUtf8}
-use Rattle.std.specs.Prelude.{◌≢◌, ◌==◌, ◌&&◌, not, option_and_then, option_map}
+use Rattle.std.proofs.Common.{Bool, true, false, ◌≡◌, ℕ, ◌<◌, ◌≤◌, ◌^◌, suc, List, [], ◌∷◌, map, Some, decimal, codes, refl, sym, ap, ap₂, ◌∙◌, subst, arith, append-nil, IsUtf8}
+use Rattle.std.specs.Prelude.{option_and_then, option_map}
 use Rattle.std.specs.List.{AllByRecursion}
 use Rattle.std.proofs.lemmas.Str.{IsUtf8-append, IsUtf8-nil, IsUtf8-from_ascii}
-use Rattle.std.proofs.lemmas.Fmt.{IsAscii-decimal, decimal_is_IsNumeral}
-use Rattle.std.proofs.lemmas.Str.Parse.{digit_from_value}
-use Rattle.std.proofs.lemmas.Bool.{and_parts, eq-eqb}
-use Rattle.std.specs.Str.Parse.{AllDigits}
+use Rattle.std.proofs.lemmas.Fmt.{IsAscii-decimal}
 use Rattle.json.specs.Lex.{tokens}
 use Rattle.json.specs.Json as json
 use Rattle.json.specs.Tree as tree
@@ -86,7 +83,7 @@ good_numbers ns h = good_array 0 (map whole ns) (good_items whole (λ n. n < 2 ^
 good_never : (page : Unkept) → (page.block < 2 ^ 64) × (page.addr < 2 ^ 64) → IsGood 1 (never_json page)
 good_never page h = good_numbers (page.block ∷ page.addr ∷ []) (h.0, (h.1, tt))
 
-row_fits : (addr : ℕ) (trace : TraceEntry) → addr < 2 ^ 64 → TraceFits trace → AllByRecursion (λ n. n < 2 ^ 64) (row addr trace)
+pub row_fits : (addr : ℕ) (trace : TraceEntry) → addr < 2 ^ 64 → TraceFits trace → AllByRecursion (λ n. n < 2 ^ 64) (row addr trace)
 row_fits addr (DataOf block) small h = let none : 0 < 2 ^ 64 = omega arith in (small, (none, (h, tt)))
 row_fits addr (NodeOver children) small h = let one : 1 < 2 ^ 64 = omega arith in (small, (one, h))
 
@@ -171,56 +168,3 @@ one_cert bytes one other a b =
     let head : one.head ≡ other.head = cc in
     let root : one.root ≡ other.root = cc in
     same_parts one other commit base head root (same_array_of added_json same_added _ _ added) (same_numbers _ _ gone) (same_array_of never_json same_never _ _ never)
-
--- ---- no line feed
-
-abbrev Flat : List ℕ → Type 0
-Flat = AllByRecursion (λ byte. byte ≢ 10)
-
-flat_append : (xs ys : List ℕ) → Flat xs → Flat ys → Flat (xs ++ ys)
-flat_append [] ys h k = k
-flat_append (x ∷ xs) ys h k = (h.0, flat_append xs ys h.1 k)
-
-flat_digits : (text : List ℕ) → AllDigits 10 text → Flat text
-flat_digits [] h = tt
-flat_digits (c ∷ cs) h = let digit = digit_from_value c h.0 in (λ e. omega (arith, digit.0, e), flat_digits cs h.1)
-
-flat_number : (n : ℕ) → n < 2 ^ 64 → Flat (decimal n)
-flat_number n fits = flat_digits (decimal n) (decimal_is_IsNumeral n fits).0.1
-
-flat_comma : (later : Bool) → Flat (comma_if later)
-flat_comma true = (λ e. omega (arith, e), tt)
-flat_comma false = tt
-
-flat_items : {X : Type 0} (json : X → Data) (P : X → Type 0) → ((x : X) → P x → Flat (compact_text (json x))) → (later : Bool) (xs : List X) → AllByRecursion P xs → Flat (items_text later (items_of (map json xs)))
-flat_items json P each later [] h = (λ e. omega (arith, e), tt)
-flat_items json P each later (x ∷ xs) h = flat_append (comma_if later) _ (flat_comma later) (flat_append (compact_text (json x)) _ (each x h.0) (flat_items json P each true xs h.1))
-
-flat_array : {X : Type 0} (json : X → Data) (P : X → Type 0) → ((x : X) → P x → Flat (compact_text (json x))) → (xs : List X) → AllByRecursion P xs → Flat (compact_text (array_of json xs))
-flat_array json P each xs h = (λ e. omega (arith, e), flat_items json P each false xs h)
-
-flat_numbers : (ns : List ℕ) → AllByRecursion (λ n. n < 2 ^ 64) ns → Flat (compact_text (numbers ns))
-flat_numbers = flat_array whole (λ n. n < 2 ^ 64) flat_number
-
-abbrev no_feed : List ℕ → Bool
-no_feed [] = true
-no_feed (x ∷ xs) = not (x == 10) && no_feed xs
-
-flat_literal : (text : List ℕ) → no_feed text ≡ true → Flat text
-flat_literal [] e = tt
-flat_literal (x ∷ xs) e = let p = and_parts (not (x == 10)) (no_feed xs) e in (λ same. let met : (x == 10) ≡ true = eq-eqb x 10 same in let clash : false ≡ true = ap not (sym met) ∙ p.0 in cc, flat_literal xs p.1)
-
-record IsFlat (text : List ℕ) : Type 0 where
-  pub holds : Flat text
-
-is_flat : (text : List ℕ) → Flat text → IsFlat text
-is_flat text h = record { holds = h }
-
-both_flat : {xs ys : List ℕ} → IsFlat xs → IsFlat ys → IsFlat (xs ++ ys)
-both_flat {xs} {ys} h k = record { holds = flat_append xs ys h.holds k.holds }
-
-literal : (text : List ℕ) → no_feed text ≡ true → IsFlat text
-literal text e = is_flat text (flat_literal text e)
-
-pub flat_cert : (cert : Cert) → Fits cert → Flat (compact_text (cert_json cert))
-flat_cert cert fits = let all = (both_flat (literal (codes "{\"added\":") refl) (both_flat (is_flat (compact_text (array_of added_json cert.added)) (flat_array added_json _ (λ t h. flat_numbers (row t.addr t.trace) (row_fits t.addr t.trace h.0 h.1)) cert.added fits.added)) (both_flat (literal (codes ",\"base\":") refl) (both_flat (is_flat (decimal cert.base) (flat_number cert.base fits.base)) (both_flat (literal (codes ",\"commit\":") refl) (both_flat (is_flat (decimal cert.commit) (flat_number cert.commit fits.commit)) (both_flat (literal (codes ",\"gone\":") refl) (both_flat (is_flat (compact_text (numbers cert.gone)) (flat_numbers cert.gone fits.gone)) (both_flat (literal (codes ",\"head\":") refl) (both_flat (is_flat (decimal cert.head) (flat_number cert.head fits.head)) (both_flat (literal (codes ",\"never\":") refl) (both_flat (is_flat (compact_text (array_of never_json cert.never)) (flat_array never_json _ (λ page h. flat_numbers (page.block ∷ page.addr ∷ []) (h.0, (h.1, tt))) cert.never fits.never)) (both_flat (literal (codes ",\"root\":") refl) (both_flat (is_flat (decimal cert.root) (flat_number cert.root fits.root)) (literal (codes "}") refl))))))))))))))) in let one = subst IsFlat (sym (compact_is cert)) all in one.holds

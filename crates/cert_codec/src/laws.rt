@@ -1,5 +1,5 @@
 //! Laws of the text. The functions do nothing: each has its law as its contract.
-ghost use Rattle.std.specs.Prelude.{◌≡◌, ◌≢◌, ℕ, List, Contains};
+ghost use Rattle.std.specs.Prelude.{◌≡◌, ◌≢◌, ◌<◌, ℕ, List, length, take};
 ghost use Rattle.std.specs.List.{AllByRecursion};
 ghost use Rattle.serde_json.specs.Written.{compact_text};
 ghost use Rattle.cert_maker.specs.Cert as specs;
@@ -18,4 +18,10 @@ pub fn one_certificate()
 /// What is written for a certificate has no line feed in it.
 pub fn what_is_written_is_one_line()
     ensures { (cert : specs.Cert) → Fits cert → AllByRecursion (λ byte. byte ≢ 10) (compact_text (cert_json cert)) }
+{}
+
+/// No first part of what is written for a certificate spells one, unless it is the whole: so a line that was torn is no certificate.
+pub fn no_first_part_is_read()
+    ensures { (cert : specs.Cert) → Fits cert → (n : ℕ) → n < length (compact_text (cert_json cert)) → (other : specs.Cert) →
+        ¬ Spells (take n (compact_text (cert_json cert))) other }
 {}

@@ -5,7 +5,9 @@ mod laws;
 mod reading;
 mod writing;
 
-pub use laws::{one_certificate, what_is_written_is_one_line, what_is_written_is_read};
+pub use laws::{
+    no_first_part_is_read, one_certificate, what_is_written_is_one_line, what_is_written_is_read,
+};
 pub use reading::read_line;
 pub use writing::line;
 

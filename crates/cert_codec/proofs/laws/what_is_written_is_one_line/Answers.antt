@@ -1,4 +1,4 @@
-use Rattle.cert_codec.proofs.RoundTrip.{flat_cert}
+use Rattle.cert_codec.proofs.Lacks.{flat_cert}
 use Rattle.cert_codec.proofs.laws.what_is_written_is_one_line.Goals as goal
 
 pub returns : goal.returns

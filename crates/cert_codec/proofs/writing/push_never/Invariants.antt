@@ -1,4 +1,4 @@
-use Rattle.std.proofs.Common.{◌≡◌, ◌<◌, ◌^◌, ◌++◌, take}
+use Rattle.std.proofs.Common.{◌≡◌, ◌++◌, take}
 use Rattle.std.specs.Prelude.{All}
 use Rattle.cert_codec.specs.Text.{never_json, PageFits}
 use Rattle.cert_codec.proofs.Writes.{to_write}
