@@ -13,7 +13,9 @@ use serde_json::Value;
 use std::alloc::Global;
 use std::collections::btree_map::Iter;
 
-/// The certificate that the bytes spell, and `None` where they spell none.
+/// The certificate that the bytes of a line spell, without its line feed, and `None` where they spell none. They are JSON (RFC 8259)
+/// as `serde_json` reads it: white space may stand anywhere, the members in any order, and of a member that is named more than
+/// once the last one counts.
 pub fn read_line(alloc: Global, bytes: &[u8]) -> Result<Option<Cert>, Memory>
     ensures { IfOk result (λ found. MatchOption found
         ((cert : specs.Cert) → ¬ Spells bytes.now cert)
@@ -29,6 +31,7 @@ pub fn read_line(alloc: Global, bytes: &[u8]) -> Result<Option<Cert>, Memory>
     }
 }
 
+// The certificate that a value is.
 fn cert_in(alloc: Global, value: &Value) -> Result<Option<Cert>, Memory>
     ensures { IfOk result (IsReadBack cert_json (view value.now)) }
 {
@@ -59,6 +62,7 @@ fn cert_in(alloc: Global, value: &Value) -> Result<Option<Cert>, Memory>
     Ok(Some(Cert::from_parts(commit, base, head, root, added, gone, never)))
 }
 
+// The members of a certificate, in the order of their names: the first four, and the last three.
 #[derive(Clone, Copy, Drop)]
 struct Front<'v> {
     added: &'v Value,
@@ -80,6 +84,7 @@ struct Found<'v> {
     back: Back<'v>,
 }
 
+// The first four members, which are taken off.
 fn front_in<'v>(members: &mut Iter<'v, String, Value>) -> Option<Front<'v>>
     ensures { MatchOption result
         ((added base commit gone : Data) (rest : Members) → members_view members.old ≢ front_members added base commit gone rest)
@@ -97,6 +102,7 @@ fn front_in<'v>(members: &mut Iter<'v, String, Value>) -> Option<Front<'v>>
     })
 }
 
+// The last three members, behind which there is none.
 fn back_in<'v>(members: &mut Iter<'v, String, Value>) -> Option<Back<'v>>
     ensures { MatchOption result
         ((head never root : Data) → members_view members.old ≢ back_members head never root)
@@ -111,6 +117,7 @@ fn back_in<'v>(members: &mut Iter<'v, String, Value>) -> Option<Back<'v>>
     Some(Back { head, never, root })
 }
 
+// The seven members of an object that has no others.
 fn members_in(value: &Value) -> Option<Found<'_>>
     ensures { MatchOption result
         ((added base commit gone head never root : Data) → view value.now ≢ cert_object added base commit gone head never root)
@@ -122,6 +129,7 @@ fn members_in(value: &Value) -> Option<Found<'_>>
     Some(Found { front, back })
 }
 
+// The next member, if it has this name.
 fn next_named<'v>(members: &mut Iter<'v, String, Value>, name: &str) -> Option<&'v Value>
     ensures { MatchOption result
         ((d : Data) (ms : Members) → members_view members.old ≢ member name.now d ms)
@@ -135,6 +143,7 @@ fn next_named<'v>(members: &mut Iter<'v, String, Value>, name: &str) -> Option<&
     }
 }
 
+// Whole numbers, as each of the items is one.
 fn numbers_in(alloc: Global, items: &[Value]) -> Result<Option<Addrs>, Memory>
     ensures { IfOk result (IsReadBack (map whole) (map view items.now)) }
 {
@@ -167,6 +176,7 @@ fn first_number(items: &[Value]) -> Option<(u64, &[Value])>
     Some((first.as_u64()?, rest))
 }
 
+// A block and an address.
 fn never_row(items: &[Value]) -> Option<Unkept>
     ensures { MatchOption result
         ((block addr : ℕ) → map view items.now ≢ whole block ∷ whole addr ∷ [])
@@ -206,6 +216,7 @@ fn never_in(alloc: Global, value: &Value) -> Result<Option<UnkeptList>, Memory>
     Ok(Some(found))
 }
 
+// The block of a data record, which stands last.
 fn data_block(items: &[Value]) -> Option<u64>
     ensures { MatchOption result
         ((block : ℕ) → map view items.now ≢ whole block ∷ [])
@@ -215,6 +226,7 @@ fn data_block(items: &[Value]) -> Option<u64>
     if rest.is_empty() { Some(block) } else { None }
 }
 
+// An address, then 0 and a block, or 1 and the children.
 fn added_row(alloc: Global, items: &[Value]) -> Result<Option<Added>, Memory>
     ensures { IfOk result (λ found. MatchOption found
         (((addr block : ℕ) → map view items.now ≢ data_row addr block) × ((addr : ℕ) (children : List ℕ) → map view items.now ≢ node_row addr children))
