@@ -1,0 +1,15 @@
+use Rattle.std.proofs.Common.{arith, refl, below_more}
+use Rattle.cert_checker.proofs.LookLaws.{fails}
+use Rattle.cert_checker.proofs.gone.first_not_led.Goals as goal
+
+pub loop-i-init : goal.loop-i-init
+loop-i-init c = λ j below bad. omega arith
+
+pub returns-then-not-is_led : goal.returns-then-not-is_led
+returns-then-not-is_led c = (c.loop-i.i, c.loop-i-test.true, refl, fails c.is_led.result c.is_led.ensures c.if-not-is_led.true, c.loop-i.invariant)
+
+pub loop-i-preserved : goal.loop-i-preserved
+loop-i-preserved c = below_more _ c.loop-i.i c.loop-i.invariant (λ bad. bad (c.is_led.ensures.0 c.if-not-is_led.false))
+
+pub returns : goal.returns
+returns c = λ k below bad. c.loop-i.invariant k (omega arith) bad

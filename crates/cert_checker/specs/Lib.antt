@@ -1,0 +1,14 @@
+pub mod Rules
+pub mod Chain
+pub mod Sound
+pub mod Succession
+pub mod First
+pub mod Held
+pub mod Looks
+pub mod Changes
+pub mod Kept
+pub mod Settles
+pub mod Refused
+pub mod Running
+pub mod Stepping
+pub mod Concluding
