@@ -123,12 +123,6 @@ breaks_top live former cert parents gone v same tree kept was root first = inr (
   least_torn live former.root parents cert tree kept was v (subst (λ (xs : List ℕ). FirstOf (λ k. IsLed parents xs former.root (slice_index xs k) → ⊥) (length xs) (slice_index xs) (Some v)) same first),
 )
 
-goes_first : (live : Entries) (cert : Cert) → ((a : ℕ) → live a ≡ None) → GoesFromTheTop live None cert
-goes_first live cert none = record {
-  root = tt;
-  parents = λ p c child gone. absurd (none-some (NodeOver child.children) (sym (none p) ∙ child.node));
-}
-
 -- ---- rule 9
 
 children_are : (o : Option Held) (children : List ℕ) → option_map trace_of_held o ≡ Some (NodeOver children) → children_or (option_map children_held o) ≡ children
@@ -188,21 +182,6 @@ module _ (live : BTreeMap ℕ Held) (cert : Cert) (gone : List ℕ) (taken : BTr
 pub tells_live : (live : Entries) (cert : Cert) (gone : List ℕ) (answer : Option ℕ) → gone ≡ cert.gone → FirstOf (IsBadGone live gone) (length gone) (slice_index gone) answer → Tells (WasLive live cert) (BreaksLive live cert) answer
 tells_live live cert gone None same first = was_live live cert gone same first
 tells_live live cert gone (Some v) same first = breaks_live live cert gone v same first
-
--- before the first certificate
-pub tells_first : (live : Live) (former : Option Cert) (cert : Cert) → Stands live None former → GoesFromTheTop (live_of live.entries) former cert
-tells_first live None cert stands = goes_first (live_of live.entries) cert stands.tree
-tells_first live (Some former) cert stands = absurd (none-some (last_of former) stands.numbers)
-
--- the former root isn't gone
-pub tells_root : (live : Live) (last : Last) (former : Option Cert) (cert : Cert) (gone : List ℕ) → gone ≡ cert.gone → Stands live (Some last) former → (Contains gone last.root → ⊥) → BreaksTop (live_of live.entries) former cert last.root
-tells_root live last None cert gone same stands not = absurd (none-some last (sym stands.numbers))
-tells_root live last (Some former) cert gone same stands not =
-    let root : last.root ≡ former.root = ap (λ (l : Last). l.root) (same_last last (last_of former) stands.numbers) in
-    inl (root, λ goes. not (subst (λ (x : ℕ). Contains gone x) (sym root) (subst (λ (xs : List ℕ). Contains xs former.root) (sym same) goes)))
-  where
-    same_last : (a b : Last) → Some a ≡ Some b → a ≡ b
-    same_last a b is = cc
 
 pub tells_top : (live : Live) (last : Last) (former : Option Cert) (cert : Cert) (gone : List ℕ) (answer : Option ℕ) → gone ≡ cert.gone → Stands live (Some last) former → WasLive (live_of live.entries) cert → Contains gone last.root
     → FirstOf (λ k. IsLed live.parents gone last.root (slice_index gone k) → ⊥) (length gone) (slice_index gone) answer

@@ -1,10 +1,8 @@
 -- What is kept, and what isn't.
-use Rattle.std.proofs.Common.{◌≡◌, inl, inr, ◌||◌, ◌==◌, ◌<◌, ◌+◌, if◌then◌else◌, Bool, true, false, ℕ, Option, None, Some, is_some, List, [], ◌∷◌, ◌++◌, ◌≤◌, length, get_or, take, refl, sym, ap, subst, ◌∙◌, arith}
+use Rattle.std.proofs.Common.{◌≡◌, inl, inr, ◌||◌, ◌==◌, ◌<◌, ◌+◌, if◌then◌else◌, Bool, true, false, ℕ, Option, None, Some, is_some, List, [], ◌∷◌, ◌++◌, ◌≤◌, length, get_or, refl, sym, ap, subst, ◌∙◌, arith}
 use Rattle.std.specs.Prelude.{option_map, slice_index, slice_get}
-use Rattle.std.specs.List.{list_any}
 use Rattle.std.proofs.lemmas.Bool.{false≢true, cases_eq, eq-eqb, ne_eqb}
 use Rattle.std.proofs.lemmas.Option.{none-some, same_Some, slice_get_within, slice_get_read}
-use Rattle.std.proofs.lemmas.List.Folds.{list_any_more}
 use Rattle.key_graph.specs.Trace.{TraceEntry, Has, entry_in}
 use Rattle.cert_checker.specs.declared.held.Held.{Held}
 use Rattle.cert_checker.specs.declared.held.Placed.{Placed}
@@ -52,15 +50,6 @@ or_false false = refl
 pub apart_key : (k q : ℕ) → (k ≡ q → ⊥) → is_at (nat_cmp k) q ≡ false
 apart_key k q ne = grind arith
 
-pub removed : (gone : List ℕ) (i q k : ℕ) (old live new : Option Held) → i < length gone → k ≡ get_or gone i 0
-    → live ≡ (if list_any (λ x. x == q) (take i gone) then None else old)
-    → (k ≡ q → new ≡ None) → ((k ≡ q → ⊥) → new ≡ live)
-    → new ≡ (if list_any (λ x. x == q) (take (i + 1) gone) then None else old)
-removed gone i q k old live new inside is before at apart = elim (cases_eq k q) [
-  | inl same ↦ rw (list_any_more (λ (x : ℕ). x == q) gone i 0 inside, eq-eqb (get_or gone i 0) q (sym is ∙ same), or_true (list_any (λ (x : ℕ). x == q) (take i gone))) (at same)
-  | inr other ↦ rw (list_any_more (λ (x : ℕ). x == q) gone i 0 inside, ne_eqb (get_or gone i 0) q (λ e. other (is ∙ e)), or_false (list_any (λ (x : ℕ). x == q) (take i gone))) (apart other ∙ before)
-]
-
 entry_more : (ys : List Placed) (item : Placed) (q : ℕ) → entry_in (traced_all (ys ++ item ∷ [])) q ≡ or_else (entry_in (traced_all ys) q) (if item.addr == q then Some (trace_of_held item.held) else None)
 entry_more [] item q = refl
 entry_more (y ∷ ys) item q = elim (cases_eq y.addr q) [
@@ -86,12 +75,6 @@ inserted xs ys item q old new is u =
     ∙ or_else_assoc (entry_in (traced_all ys) q) (if item.addr == q then Some (trace_of_held item.held) else None) (live_of old q)
     ∙ ap (λ (o : Option TraceEntry). or_else o (live_of old q)) (sym (entry_more ys item q))
     ∙ ap (λ (l : List Placed). or_else (entry_in (traced_all l) q) (live_of old q)) (sym is)
-
-pub taken_out : (gone : List ℕ) (i q : ℕ) (old : Option Held) (live new : BTreeMap ℕ Held) → i < length gone → get nat_cmp live q ≡ (if list_any (λ x. x == q) (take i gone) then None else old) → Updates nat_cmp live new (get_or gone i 0) None → get nat_cmp new q ≡ (if list_any (λ x. x == q) (take (i + 1) gone) then None else old)
-taken_out gone i q old live new inside before u =
-    removed gone i q (get_or gone i 0) old (get nat_cmp live q) (get nat_cmp new q) inside refl before
-    (λ same. subst (λ (x : ℕ). get nat_cmp new x ≡ None) same u.1)
-    (λ ne. u.2 q (apart_key (get_or gone i 0) q ne))
 
 -- ---- items at their places
 

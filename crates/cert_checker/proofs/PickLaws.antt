@@ -1,5 +1,5 @@
 -- Which certificates of a ledger are its chain, place by place.
-use Rattle.std.proofs.Common.{◌≡◌, inl, inr, if◌then◌else◌, ℕ, zero, suc, ◌+◌, ◌-◌, ◌<◌, ◌≤◌, eqb, not, Bool, true, false, List, [], ◌∷◌, ◌++◌, length, get_or, take, drop, refl, sym, ap, subst, ◌∙◌, arith, append-nil, append_assoc}
+use Rattle.std.proofs.Common.{◌≡◌, inl, inr, if◌then◌else◌, ℕ, zero, suc, ◌+◌, ◌-◌, ◌<◌, ◌≤◌, eqb, not, Bool, true, false, List, [], ◌∷◌, ◌++◌, length, get_or, take, drop, refl, sym, ap, subst, ◌∙◌, arith, append-nil}
 use Rattle.std.specs.Prelude.{None, Some, Result, Ok, Err, slice_get}
 use Rattle.std.proofs.lemmas.Bool.{cases_eq, eq-eqb, ne_eqb}
 use Rattle.std.proofs.lemmas.List.{take_more, drop_more, drop_at, drop-append-le, drop_all, length-take-le}
@@ -147,10 +147,3 @@ pub went_all : (run : Run) (done chain : List Cert) (certs : List Cert) (i n : �
 went_all run done chain certs i n most is same =
     subst (λ (cs : List Cert). IsAfter run cs)
     (sym (append-nil done) ∙ ap (λ (l : List Cert). done ++ l) (sym (picks_none n) ∙ ap (picks n) (sym (drop_all i certs most))) ∙ same) is
-
-pub went_next : (run : Run) (done before left chain : List Cert) → WentOn run done before left → done ++ before ≡ chain → (more : List Cert) × IsAfter run more × (more ++ left ≡ chain)
-went_next run done before left chain went same = (
-  done ++ went.more,
-  went.after,
-  append_assoc done went.more left ∙ ap (λ (l : List Cert). done ++ l) (sym went.rest) ∙ same,
-)

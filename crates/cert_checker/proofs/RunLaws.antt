@@ -16,7 +16,7 @@ use Rattle.cert_checker.specs.declared.verdict.CheckRefusal.{CheckRefusal}
 use Rattle.cert_checker.specs.declared.verdict.CheckRefusal.TheVariants.{Rule, Memory}
 use Rattle.cert_checker.specs.Rules.{after, Keeps}
 use Rattle.cert_checker.specs.Chain.{Accepted, EachKeeps, after_all, last_or, live_after, nothing}
-use Rattle.cert_checker.specs.First.{Breaks, First, FirstBroken, never_addrs}
+use Rattle.cert_checker.specs.First.{Breaks, FirstBroken, never_addrs}
 use Rattle.cert_checker.specs.Succession.{IsTreeOrNone, root_of}
 use Rattle.cert_checker.specs.Sound.{Stay, IsVerdict}
 use Rattle.cert_checker.specs.Held.{live_of, trace_of_held}
@@ -98,14 +98,6 @@ pub ends_at : (run : Run) (chain : List Cert) (root : Root) → IsAfter run chai
 ends_at run chain root is on =
     let at = ends (last_or None chain) root (subst (λ (o : Option Last). EndsOn o root) is.numbers on) in
     record { each = is.keeps; ends = record { last = at.0; is = at.1; number = at.2; top = at.3; end = at.4 } }
-
-pub ends_not : (run : Run) (chain : List Cert) (root : Root) (number value : ℕ) → IsAfter run chain → (EndsOn run.last root → ⊥) → number ≡ 10 → value ≡ root.commit → First chain root number value
-ends_not run chain root number value is not ten commit = inr (
-  is.keeps,
-  λ at. not (subst (λ (o : Option Last). EndsOn o root) (sym is.numbers) (ends_back (last_or None chain) root at.last at.is at.number at.top at.end)),
-  ten,
-  commit,
-)
 
 some_is : (o : Option Held) (t : TraceEntry) → option_map trace_of_held o ≡ Some t → is_some o ≡ true
 some_is None t is = absurd (none-some t is)

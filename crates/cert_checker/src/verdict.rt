@@ -3,6 +3,7 @@ ghost use Rattle.std.specs.Prelude.{◌≡◌};
 ghost use Rattle.cert_checker.specs.Refused.{refused_by};
 
 use sdbt_base::{Addrs, Memory};
+use thiserror::Error;
 
 /// What an accepted ledger says of the device.
 #[derive(Drop)]
@@ -16,9 +17,10 @@ pub struct Verdict {
 }
 
 /// Why a ledger isn't accepted.
-#[derive(Clone, Copy, Debug, PartialEq, Eq)]
+#[derive(Clone, Copy, Debug, PartialEq, Eq, Error)]
 pub enum CheckRefusal {
     /// The first rule that is broken, 1 to 10, and the number that shows it.
+    #[error("rule {number} is broken, as {value} shows")]
     Rule {
         /// The rule.
         number: u8,
@@ -27,6 +29,7 @@ pub enum CheckRefusal {
         value: u64,
     },
     /// No memory was given.
+    #[error("out of memory")]
     Memory,
 }
 
