@@ -1,0 +1,19 @@
+use Rattle.std.proofs.Common.{◌≡◌, arith, length}
+use Rattle.node_cache.specs.Kept.{cached}
+use Rattle.node_cache.proofs.SlotLaws.{filled_more, filled_tied, filled_kept}
+use Rattle.node_cache.proofs.cache.NodeCache.new.Goals as goal
+
+pub loop-number-preserved : goal.loop-number-preserved
+loop-number-preserved c =
+    let more = filled_more c.loop-number.slots.entries c.loop-number.addrs.items c.loop-number.number c.loop-number.slots.cap (omega (arith, c.loop-number-test.true, c.loop-number.invariant.1)) c.loop-number.invariant.0 in
+    rw (c.in_ok-put.ensures.entries, c.in_ok-push.ensures.items) (more, c.loop-number.invariant.1)
+
+pub invariant_of-result : goal.invariant_of-result
+invariant_of-result c = filled_tied c.loop-number.slots.entries c.loop-number.addrs.items c.loop-number.number c.loop-number.invariant.0
+
+pub returns : goal.returns
+returns c =
+    let filled = c.loop-number.invariant.0 in
+    let none = filled_kept c.loop-number.number c.loop-number.slots.entries filled.empty in
+    let size : length c.loop-number.addrs.items ≡ c.args.capacity = omega (arith, filled.as_many, c.loop-number-test.false, c.loop-number.auto.number-end) in
+    λ i. cached (size i) (none i)

@@ -1,0 +1,228 @@
+ghost use Rattle.std.specs.Prelude.{◌≡◌, ◌↔◌, ◌<◌, ◌≤◌, List, [], ◌∷◌, None, Some, IfOk, IfSome, IfNone, IsSome, IsTrue, length, map, nat_eq, slice_get, take};
+ghost use Rattle.std.specs.Borrow.{sem};
+ghost use Rattle.std.specs.Option.{option_copied};
+ghost use Rattle.std.specs.List.{IsDistinct};
+ghost use Rattle.std.specs.Map.{keys_of, lookup, lookup_entry, remove_entry};
+ghost use Rattle.lru.specs.LruCache.{lru_cache, promoted};
+ghost use Rattle.std.specs.NonZero.{non_zero_usize_get};
+ghost use Rattle.node_codec.specs.declared.body.NodeBody.{NodeBody};
+ghost use Rattle.node_cache.specs.declared.slots.Kept.{Kept};
+ghost use Rattle.node_cache.specs.Slots.{IsLeastUsed, IsSlotFor, IsUnlisted};
+
+use crate::slots::{Kept, Slot};
+use lru::LruCache;
+use node_codec::NodeBody;
+use sdbt_base::{Addrs, Key, Memory};
+use std::alloc::Global;
+use std::marker::Model;
+use std::num::NonZeroUsize;
+
+/// Whether a node was put into a cache.
+#[derive(Clone, Copy, Debug, PartialEq, Eq)]
+pub enum Put {
+    /// The node is kept.
+    Stored,
+    /// The cache keeps nothing.
+    Off,
+}
+
+/// The nodes that were used last, at most `capacity` of them.
+#[derive(Drop)]
+pub struct NodeCache {
+    slots: LruCache<usize, Slot>,
+    addrs: Vec<Option<u64>>,
+}
+
+impl Model for NodeCache {
+    ghost use Rattle.std.specs.Prelude.{length};
+    ghost use Rattle.node_cache.specs.Kept.{Cached};
+    ghost use Rattle.node_cache.specs.Slots.{kept_in, IsTied};
+
+    ghost Value = { Cached };
+
+    ghost view = { λ c. record { capacity = length c.addrs.items; kept = kept_in c.slots.entries } };
+
+    ghost invariant = { λ c. IsTied c.slots.entries c.addrs.items };
+}
+
+impl NodeCache {
+    ghost use Rattle.node_cache.specs.Kept.{kept_node, filled, without, IsKept, IsOnlyKept, Uses};
+    ghost use Rattle.node_cache.specs.Lends.{EndsUsed};
+
+    /// A cache of at most 4,096 nodes that keeps none yet. All memory that it ever takes is taken here. With
+    /// a capacity of 0 it keeps nothing.
+    pub fn new(alloc: Global, capacity: usize) -> Result<NodeCache, Memory>
+        requires { capacity ≤ 4096 }
+        ensures { IfOk result (λ cache. cache ≡ record { capacity = capacity; kept = [] }) }
+    {
+        let mut slots = LruCache::new(alloc, room_for(capacity))?;
+        let mut addrs = Vec::with_capacity(alloc, capacity)?;
+        for number in 0..capacity {
+            slots.put(number, Slot::Empty)?;
+            addrs.push(None)?;
+        }
+        Ok(NodeCache { slots, addrs })
+    }
+
+    /// Keeps a node for its address under its key, as the most recent one, in the place of one that was kept
+    /// for that address; else, where all places are taken, in that of the least recent one. `Off` comes
+    /// exactly where the capacity is 0.
+    pub fn put(&mut self, addr: u64, key: &Key, node: NodeBody) -> Put
+        ensures off { (result ≡ Put.Off) ↔ (self.old.capacity ≡ 0) }
+        ensures kept { self.new ≡ filled self.old (kept_node addr key.now node) }
+    {
+        if self.addrs.is_empty() {
+            return Put::Off;
+        }
+        let number = slot_for(&self.slots, &self.addrs, addr);
+        self.addrs[number] = Some(addr);
+        let key = *key;
+        fill(
+            &mut self.slots,
+            number,
+            Slot::Full(Kept { addr, key, node }),
+        );
+        Put::Stored
+    }
+
+    /// The node that is kept for an address under this key, which becomes the most recent one. `None` comes
+    /// exactly where none is, and changes nothing.
+    pub fn get(&mut self, addr: u64, key: &Key) -> Option<&NodeBody>
+        ensures* used { sem 𝓛 (EndsUsed self.entry addr key.now result) }
+        ensures found { IfSome result (λ node. IsOnlyKept self.old.kept addr key.now node.now) }
+        ensures none { IfNone result ((node : NodeBody) → ¬ (IsKept self.old.kept addr key.now node)) }
+    {
+        if self.use_again(addr, key) {
+            self.latest()
+        } else {
+            None
+        }
+    }
+
+    /// Whether a node is kept for an address under this key, which then becomes the most recent one.
+    fn use_again(&mut self, addr: u64, key: &Key) -> bool
+        ensures used { IsTrue result → (node : NodeBody) × Uses self.old addr key.now (Some node) self.new }
+        ensures none { ¬ (IsTrue result) → Uses self.old addr key.now None self.new }
+    {
+        let Some(number) = slot_of(&self.addrs, addr) else {
+            return false;
+        };
+        let is_kept = has_key(&self.slots, number, key);
+        if is_kept {
+            use_slot(&mut self.slots, number);
+        }
+        is_kept
+    }
+
+    /// The most recent node, if there is one.
+    fn latest(&self) -> Option<&NodeBody>
+        ensures { (first : Kept) (others : List Kept) → self.now.kept ≡ first ∷ others → option_copied result ≡ Some first.node }
+    {
+        let (_, slot) = self.slots.peek_mru()?;
+        match slot {
+            Slot::Full(kept) => Some(&kept.node),
+            Slot::Empty => None,
+        }
+    }
+
+    /// The addresses for which nodes are kept, the most recent first.
+    pub fn addresses(&self, alloc: Global) -> Result<Addrs, Memory>
+        ensures { IfOk result (λ addrs. addrs ≡ map (λ k. k.addr) self.now.kept) }
+    {
+        let mut addrs = Addrs::new(alloc);
+        for (_, slot) in self.slots.iter() {
+            if let Slot::Full(kept) = slot {
+                addrs.push(kept.addr)?;
+            }
+        }
+        Ok(addrs)
+    }
+
+    /// Forgets what is kept for an address. The other nodes and their order stay.
+    pub fn forget(&mut self, addr: u64)
+        ensures { self.new ≡ record {
+          capacity = self.old.capacity;
+          kept = without addr self.old.kept;
+        } }
+    {
+        if let Some(number) = slot_of(&self.addrs, addr) {
+            self.addrs[number] = None;
+            fill(&mut self.slots, number, Slot::Empty);
+            self.slots.demote(&number);
+        }
+    }
+}
+
+/// How many slots the map is to have room for: one at least, which stays unused at a capacity of 0.
+fn room_for(capacity: usize) -> NonZeroUsize
+    ensures { capacity ≤ non_zero_usize_get result }
+{
+    NonZeroUsize::new(capacity).unwrap_or(NonZeroUsize::MIN)
+}
+
+/// The number of the slot that a node of an address is to have: its own, or the one that was used least.
+fn slot_for(slots: &LruCache<usize, Slot>, addrs: &[Option<u64>], addr: u64) -> usize
+    requires { 0 < length slots.now.entries }
+    ensures { IsSlotFor slots.now.entries addrs.now addr result }
+{
+    match slot_of(addrs, addr) {
+        Some(number) => number,
+        None => least_used(slots),
+    }
+}
+
+/// The number of the slot in which the node of an address stands.
+fn slot_of(addrs: &[Option<u64>], addr: u64) -> Option<usize>
+    ensures found { IfSome result (λ number. slice_get addrs.now number ≡ Some (Some addr)) }
+    ensures none { IfNone result (IsUnlisted addrs.now addr) }
+{
+    addrs.iter().position(|kept| *kept == Some(addr))
+}
+
+/// The number of the slot that was used least recently.
+fn least_used(slots: &LruCache<usize, Slot>) -> usize
+    requires { 0 < length slots.now.entries }
+    ensures { IsLeastUsed slots.now.entries result }
+{
+    let count = slots.len();
+    prove!(count > 0);
+    match slots.peek_lru() {
+        Some((number, _)) => *number,
+        None => unreachable!(),
+    }
+}
+
+/// Writes a slot, which is then the one that was used last.
+fn fill(slots: &mut LruCache<usize, Slot>, number: usize, content: Slot)
+    requires { IsSome (lookup (nat_eq number) slots.old.entries) }
+    ensures written { slots.new ≡ lru_cache ((number, content) ∷ remove_entry (nat_eq number) slots.old.entries) slots.old.cap }
+    ensures distinct { IsDistinct nat_eq (keys_of slots.new.entries) }
+{
+    match slots.put(number, content) {
+        Ok(_) => {}
+        Err(_) => unreachable!(),
+    }
+    let count = slots.len();
+    prove!(count > 0);
+}
+
+/// Whether the node in a slot, if there is one, is kept under this key.
+fn has_key(slots: &LruCache<usize, Slot>, number: usize, key: &Key) -> bool
+    ensures { IsTrue result ↔ ((kept : Kept) × (lookup (nat_eq number) slots.now.entries ≡ Some (Slot.Full kept)) × (kept.key ≡ key.now)) }
+{
+    match slots.peek(&number) {
+        Some(Slot::Full(kept)) => kept.key == *key,
+        _ => false,
+    }
+}
+
+/// Makes a slot the one that was used last.
+fn use_slot(slots: &mut LruCache<usize, Slot>, number: usize)
+    requires { IsSome (lookup (nat_eq number) slots.old.entries) }
+    ensures used { slots.new ≡ lru_cache (promoted (nat_eq number) slots.old.entries) slots.old.cap }
+    ensures distinct { IsDistinct nat_eq (keys_of slots.new.entries) }
+{
+    slots.promote(&number);
+    let count = slots.len();
+    prove!(count > 0);
+}
