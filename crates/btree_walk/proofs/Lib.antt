@@ -1,0 +1,9 @@
+pub mod Elements
+pub mod FindLaws
+pub mod LookLaws
+pub mod MappedLaws
+pub mod OnLaws
+pub mod RecentLaws
+pub mod SightLaws
+pub mod TurnLaws
+pub mod WayLaws

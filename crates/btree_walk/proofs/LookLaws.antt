@@ -1,0 +1,51 @@
+-- What one look at a node says.
+use Rattle.std.proofs.Common.{◌≡◌, ℕ, ◌+◌, ◌-◌, ◌/◌, ◌<◌, ◌≤◌, List, sym, ap, subst, ◌∙◌, arith}
+use Rattle.node_codec.specs.declared.body.NodeBody.{NodeBody}
+use Rattle.node_codec.specs.declared.body.Entry.{Entry}
+use Rattle.node_codec.specs.Record.{NodeRecord, FitsNode}
+use Rattle.page_store.specs.declared.wants.Want.{Want}
+use Rattle.page_store.specs.Places.{FitsAt}
+use Rattle.node_cache.specs.declared.slots.Kept.{Kept}
+use Rattle.node_cache.specs.Kept.{IsOnlyKept}
+use Rattle.btree_walk.specs.Ways.{GoesBelow}
+use Rattle.btree_walk.specs.Sights.{NodeFits, KeptFits}
+use Rattle.btree_walk.specs.Finds.{AsksFor}
+use Rattle.btree_walk.proofs.WayLaws.{way_entry}
+
+-- a node that fits where another is kept is that one
+pub same_entries : (kept : List Kept) (want : Want) (key : List ℕ) (node : NodeBody) (entries : List Entry) → IsOnlyKept kept want.addr key node → KeptFits kept want key (NodeRecord want.level entries) → entries ≡ node.entries.items
+same_entries kept want key node entries only is =
+    let same : is.node ≡ node = only.only is.node is.here in
+    let value = is.is in
+    let mine : entries ≡ is.node.entries.items = cc in
+    mine ∙ ap (λ (n : NodeBody). n.entries.items) same
+
+-- the kept node fits, where some kept node does
+pub fits_too : (kept : List Kept) (want : Want) (key : List ℕ) (node : NodeBody) (entries : List Entry) → IsOnlyKept kept want.addr key node → KeptFits kept want key (NodeRecord want.level entries) → NodeFits want node
+fits_too kept want key node entries only is = subst (NodeFits want) (only.only is.node is.here) is.fits
+
+-- of a node of a page that fits
+pub page_fits : (pages : List (List ℕ)) (want : Want) (key : List ℕ) (node : NodeBody) → FitsAt pages want key (NodeRecord node.level node.entries.items) → FitsAt pages want key (NodeRecord want.level node.entries.items)
+page_fits pages want key node is = subst (λ (n : ℕ). FitsAt pages want key (NodeRecord n node.entries.items)) is.1.same_level is
+
+div_some : (n : ℕ) → 2 ≤ n → 1 ≤ n / 2
+div_some n two = omega arith
+
+-- where a look-up goes on, it can go on
+pub asks_next : (want next : Want) (key : List ℕ) (entries : List Entry) (block : ℕ) → AsksFor want block → FitsNode want.addr want.level entries → GoesBelow want entries block next key → AsksFor next block
+asks_next want next key entries block asks fits goes =
+    subst (λ (w : Want). AsksFor w block) (sym goes.next_is) record {
+      level = let inner = goes.inner in omega arith;
+      from = goes.way.from;
+      below = goes.way.below;
+      order = asks.order;
+      some = λ inner. div_some want.most asks.order;
+    }
+
+pub next_below : (want next : Want) (key : List ℕ) (entries : List Entry) (block : ℕ) → FitsNode want.addr want.level entries → GoesBelow want entries block next key → next.addr < want.addr
+next_below want next key entries block fits goes =
+    let less = way_entry (λ (e : Entry). e.addr < want.addr) entries want.high block goes.bound goes.entry fits.below goes.way in
+    subst (λ (w : Want). w.addr < want.addr) (sym goes.next_is) less
+
+pub next_less : (want next : Want) (key : List ℕ) (entries : List Entry) (block : ℕ) → GoesBelow want entries block next key → next.level + 1 ≡ want.level
+next_less want next key entries block goes = let inner = goes.inner in ap (λ (w : Want). w.level + 1) goes.next_is ∙ (let e : want.level - 1 + 1 ≡ want.level = omega arith in e)

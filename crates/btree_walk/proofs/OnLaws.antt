@@ -1,0 +1,122 @@
+-- A look at one node, and then a look-up below it.
+use Rattle.std.proofs.Common.{◌≡◌, ℕ, zero, suc, ◌-◌, ◌<◌, ◌≤◌, ◌^◌, List, [], ◌∷◌, ◌++◌, Option, None, Some, Result, Ok, Err, IfOk, IfSome, sym, ap, subst, ◌∙◌, arith, length-append}
+use Rattle.node_codec.specs.declared.body.Entry.{Entry}
+use Rattle.node_codec.specs.Record.{NodeRecord}
+use Rattle.page_store.specs.declared.wants.Want.{Want}
+use Rattle.page_store.specs.Places.{child_want}
+use Rattle.node_cache.specs.Kept.{Cached, kept_node}
+use Rattle.btree_walk.specs.declared.turns.Turn.TheVariants.{Found, Below}
+use Rattle.btree_walk.specs.Ways.{IsTurn}
+use Rattle.btree_walk.specs.Sights.{KeptFits, Sees, Misses, KeepsOnly, StillKeeps}
+use Rattle.btree_walk.specs.Finds.{Finds, Stops, SeesTurn, UsesPlace, IsFound}
+use Rattle.btree_walk.proofs.WayLaws.{way_is_one, entry_is_one}
+use Rattle.btree_walk.proofs.SightLaws.{in_range_of, sees_before, misses_before, sees_range}
+use Rattle.btree_walk.proofs.RecentLaws.{comes_leaf, comes_on}
+use Rattle.btree_walk.proofs.LookLaws.{next_below, next_less}
+use Rattle.btree_walk.proofs.FindLaws.{finds_map, stops_map, finds_leaf, finds_on, stops_on, first_fits, leaf_inverse, inner_inverse}
+
+module _ (pages : List (List ℕ)) (start : Want) (key : List ℕ) (block : ℕ) (c0 c1 : Cached) where
+  -- the node is a leaf
+  pub found_leaf : (found : Option Entry) → UsesPlace start.addr c0 c1 → SeesTurn c0.kept pages start key block (Found found) → IsFound pages start key block c0 c1 found
+  found_leaf found used seen = record {
+    path = start.addr ∷ [];
+    finds = finds_leaf (Sees c0.kept pages) block start key seen.entries seen.sees found seen.is.0 seen.is.1;
+    levels = sym seen.is.0;
+    recent = comes_leaf start.addr c0 c1 used;
+  }
+
+  module _ (next : Want) (next_key : List ℕ) (keeps : KeepsOnly pages c0 c1) (seen : SeesTurn c0.kept pages start key block (Below next next_key)) where
+    less : next.addr < start.addr
+    less = next_below start next next_key seen.entries block (sees_range c0.kept pages start key start.level seen.entries seen.sees) seen.is
+
+    -- it goes on below, and a block is found there
+    pub found_on : (c2 : Cached) (found : Option Entry) → UsesPlace start.addr c0 c1 → IsFound pages next next_key block c1 c2 found → IsFound pages start key block c0 c2 found
+    found_on c2 found used is =
+        let small : next.addr < start.addr = less in
+        let level = next_less start next next_key seen.entries block seen.is in
+        let levels = is.levels in
+        let size = length-append is.path (start.addr ∷ []) in
+        record {
+          path = is.path ++ start.addr ∷ [];
+          finds = finds_on (Sees c0.kept pages) block start key seen.entries seen.sees next next_key seen.is found is.path
+              (finds_map (Sees c1.kept pages) (Sees c0.kept pages) next.most block start.addr
+              (λ want k l es s. (sees_range c1.kept pages want k l es s).below)
+              (λ want k value below s. sees_before pages c0 c1 want k value keeps s)
+              found (next.level - 1) next next_key is.path small is.finds);
+          levels = omega arith;
+          recent = comes_on start.addr next.addr is.path c0 c1 c2 small used is.recent;
+        }
+
+    -- and where it stops there
+    pub stopped_on : (addr : ℕ) → start.addr < 2 ^ 64 → Stops (Sees c1.kept pages) next.most block (Misses c1.kept pages) addr (next.level - 1) next next_key → Stops (Sees c0.kept pages) start.most block (Misses c0.kept pages) addr (start.level - 1) start key
+    stopped_on addr limit is =
+        let small : next.addr < start.addr = less in
+        stops_on (Sees c0.kept pages) block start key seen.entries seen.sees next next_key seen.is (Misses c0.kept pages) addr
+        (stops_map (Sees c1.kept pages) (Sees c0.kept pages) next.most block start.addr
+        (λ want k l es s. (sees_range c1.kept pages want k l es s).below)
+        (λ want k value below s. sees_before pages c0 c1 want k value keeps s)
+        (Misses c1.kept pages) (Misses c0.kept pages) addr
+        (λ want k below m. misses_before pages c0 c1 want k (omega arith) keeps m)
+        (next.level - 1) next next_key small is)
+
+-- ---- where the cache keeps the way
+
+module _ (start : Want) (key : List ℕ) (block : ℕ) (c0 : Cached) (some : 1 ≤ start.level) where
+  -- the first node of a way that is kept is kept
+  pub first_kept : (found : Option Entry) (path : List ℕ) → Finds (KeptFits c0.kept) start.most block found (start.level - 1) start key path → (entries : List Entry) × KeptFits c0.kept start key (NodeRecord start.level entries)
+  first_kept found path is =
+      let first = first_fits (KeptFits c0.kept) start.most block found (start.level - 1) start key path is in
+      let level : suc (start.level - 1) ≡ start.level = omega arith in
+      (first.0, subst (λ (n : ℕ). KeptFits c0.kept start key (NodeRecord n first.0)) level first.1)
+
+  -- a leaf that is kept has one entry of the block
+  pub same_found : (found other : Option Entry) (path : List ℕ) → ((entries : List Entry) → KeptFits c0.kept start key (NodeRecord start.level entries) → IsTurn start entries block (Found found)) → Finds (KeptFits c0.kept) start.most block other (start.level - 1) start key path → found ≡ other
+  same_found found other path turned is =
+      let first = first_kept other path is in
+      let leaf : start.level ≡ 1 = (turned first.0 first.1).0 in
+      let none : start.level - 1 ≡ zero = omega arith in
+      let end = leaf_inverse (KeptFits c0.kept) start.most block other (start.level - 1) start key path none is in
+      let fits = subst (λ (n : ℕ). KeptFits c0.kept start key (NodeRecord n end.entries)) (sym leaf) end.fits in
+      entry_is_one end.entries block found other (in_range_of c0.kept start key start.level end.entries fits).ascend (turned end.entries fits).1 end.is
+
+  -- and what lies below one is kept still
+  pub kept_on : (next : Want) (next_key : List ℕ) (c1 : Cached) (found : Option Entry) (path : List ℕ) → StillKeeps start.addr c0 c1
+      → ((entries : List Entry) → KeptFits c0.kept start key (NodeRecord start.level entries) → IsTurn start entries block (Below next next_key))
+      → Finds (KeptFits c0.kept) start.most block found (start.level - 1) start key path
+      → (rest : List ℕ) × Finds (KeptFits c1.kept) next.most block found (next.level - 1) next next_key rest
+  kept_on next next_key c1 found path still turned is =
+      let first = first_kept found path is in
+      let inner : 2 ≤ start.level = (turned first.0 first.1).inner in
+      let one_less : start.level - 1 ≡ suc (start.level - 2) = omega arith in
+      let deep : start.level ≡ suc (suc (start.level - 2)) = omega arith in
+      let on = inner_inverse (KeptFits c0.kept) start.most block found (start.level - 1) (start.level - 2) start key path one_less is in
+      let fits = subst (λ (n : ℕ). KeptFits c0.kept start key (NodeRecord n on.entries)) (sym deep) on.fits in
+      let range = in_range_of c0.kept start key start.level on.entries fits in
+      let goes = turned on.entries fits in
+      let one = way_is_one on.entries start.high block goes.bound on.bound goes.entry on.entry range.ascend goes.way on.way in
+      let next_is : child_want start.most (suc (start.level - 2)) on.entry on.bound ≡ next =
+      sym (goes.next_is ∙ (λ i. child_want start.most (one_less i) (one.0 i) (one.1 i))) in
+      let key_is : on.entry.key ≡ next_key = sym (goes.key_is ∙ ap (λ (e : Entry). e.key) one.0) in
+      let level_is : start.level - 2 ≡ next.level - 1 = (let l = next_less start next next_key on.entries block goes in omega arith) in
+      let order_is : start.most ≡ next.most = ap (λ (w : Want). w.most) next_is in
+      let a = subst (λ (w : Want). Finds (KeptFits c0.kept) start.most block found (start.level - 2) w on.entry.key on.rest) next_is on.goes in
+      let b = subst (λ (k : List ℕ). Finds (KeptFits c0.kept) start.most block found (start.level - 2) next k on.rest) key_is a in
+      let c = subst (λ (n : ℕ). Finds (KeptFits c0.kept) start.most block found n next next_key on.rest) level_is b in
+      let d = subst (λ (n : ℕ). Finds (KeptFits c0.kept) n block found (next.level - 1) next next_key on.rest) order_is c in
+      let small : next.addr < start.addr = next_below start next next_key on.entries block range goes in (
+        on.rest,
+        finds_map (KeptFits c0.kept) (KeptFits c1.kept) next.most block start.addr
+            (λ want k l es s. (in_range_of c0.kept want k l es s).below)
+            (λ want k value below s. record { node = s.node; here = still (kept_node want.addr k s.node) (λ h. omega arith) s.here; fits = s.fits; is = s.is })
+            found (next.level - 1) next next_key on.rest small d,
+      )
+
+-- ---- in an answer
+
+pub IfOk_map : {T E : Type 0} (P Q : T → Type 0) (r : Result T E) → ((x : T) → P x → Q x) → IfOk r P → IfOk r Q
+IfOk_map P Q (Ok x) map is = map x is
+IfOk_map P Q (Err e) map is = tt
+
+pub entry_below : (block low high : ℕ) → low < high → (found : Option Entry) → IfSome found (λ e. (e.low ≡ block) × (e.addr < low)) → IfSome found (λ e. (e.low ≡ block) × (e.addr < high))
+entry_below block low high less None is = tt
+entry_below block low high less (Some e) is = (is.0, (let h = is.1 in omega arith))

@@ -1,0 +1,89 @@
+use Rattle.std.proofs.Common.{◌≡◌, ◌<◌, ◌+◌, ◌-◌, ◌^◌, ℕ, List, Ok, Err, ap, subst, ◌∙◌, arith, rules}
+use Rattle.std.proofs.lemmas.Result.{err_from_is_err_and}
+use Rattle.node_codec.specs.declared.body.Entry.{Entry}
+use Rattle.node_codec.specs.Record.{NodeRecord}
+use Rattle.page_store.specs.declared.refusals.FetchRefusal.TheVariants.{BadRecord}
+use Rattle.btree_walk.specs.declared.turns.Turn.{Turn}
+use Rattle.btree_walk.specs.Ways.{IsTurn}
+use Rattle.btree_walk.specs.Sights.{KeptFits, Sees, Misses}
+use Rattle.btree_walk.specs.Finds.{SeesTurn, FitsTurn, Stops, IsFound}
+use Rattle.btree_walk.proofs.FindLaws.{stops_first}
+use Rattle.btree_walk.proofs.LookLaws.{asks_next, next_below, next_less}
+use Rattle.btree_walk.proofs.OnLaws.{found_leaf, found_on, stopped_on, first_kept, same_found, kept_on, IfOk_map, entry_below}
+use Rattle.btree_walk.proofs.finding.+find.Goals as goal
+
+pub returns-in_err-found-clause-bad : goal.returns-in_err-found-clause-bad
+returns-in_err-found-clause-bad g t c =
+    let p = err_from_is_err_and c.from_residual.result c.from_residual.ensures.1 in
+    let kept = c.args.cache.now.kept in let start = c.args.start.now in let pages = (g.P.Platform.history c.args.platform.now).present.readable in
+    rw (p.1, p.2) (λ tells addr is.
+    let same : c.in_err-found.field-0.0 ≡ BadRecord addr = cc in
+    stops_first (Sees kept pages) start.most c.args.block (Misses kept pages) addr (start.level - 1) start c.args.key.now (c.in_err-found.ensures.bad tells addr (ap Err same)))
+
+pub returns-in_err-found-clause-kept : goal.returns-in_err-found-clause-kept
+returns-in_err-found-clause-kept g t c = λ found path is.
+    (let first = first_kept c.args.start.now c.args.key.now c.args.block c.args.cache.now c.requires.asks.level found path is in
+    absurd (c.in_err-found.ensures.kept first.0 first.1).1)
+
+pub find-requires : goal.find-requires
+find-requires g t c =
+    let start = c.args.start.now in let next = c.in-Below.next in let key = c.in-Below.next_key in
+    let told = subst (λ (turn : Turn). FitsTurn start c.args.block turn) c.in-Below.is c.in_ok-found.ensures.fits in
+    let asks = asks_next start next key told.entries c.args.block c.requires.asks told.in_range told.is in
+    let below = next_below start next key told.entries c.args.block told.in_range told.is in
+    let less : next.level + 1 ≡ start.level = next_less start next key told.entries c.args.block told.is in
+    let head = c.in_ok-found.ensures.looks.head in
+    λ κs lives. (first_of (omega arith, search rules), (lives, (omega (arith, below, head, c.requires.within), asks)))
+
+pub returns-in-Found-clause-found : goal.returns-in-Found-clause-found
+returns-in-Found-clause-found g t c = λ tells.
+    (let kept = c.args.cache.now.kept in let start = c.args.start.now in let pages = (g.P.Platform.history c.args.platform.now).present.readable in
+    let seen = subst (λ (turn : Turn). SeesTurn kept pages start c.args.key.now c.args.block turn) c.in-Found.is (c.in_ok-found.ensures.seen tells) in
+    found_leaf pages start c.args.key.now c.args.block c.args.cache.now c.look.new.cache c.in-Found.found c.in_ok-found.ensures.used seen)
+
+pub returns-in-Found-clause-kept : goal.returns-in-Found-clause-kept
+returns-in-Found-clause-kept g t c = λ found path is.
+    (let start = c.args.start.now in
+    let first = first_kept start c.args.key.now c.args.block c.args.cache.now c.requires.asks.level found path is in
+    let turned = λ (entries : List Entry) (fits : KeptFits c.args.cache.now.kept start c.args.key.now (NodeRecord start.level entries)). subst (λ (turn : Turn). IsTurn start entries c.args.block turn) c.in-Found.is (c.in_ok-found.ensures.kept entries fits).1 in
+    let same = same_found start c.args.key.now c.args.block c.args.cache.now c.requires.asks.level c.in-Found.found found path turned is in
+    ((c.in_ok-found.ensures.kept first.0 first.1).0, ap Ok same))
+
+pub returns-in-Below-clause-found : goal.returns-in-Below-clause-found
+returns-in-Below-clause-found g t c = λ tells.
+    (let kept = c.args.cache.now.kept in let start = c.args.start.now in let pages = (g.P.Platform.history c.args.platform.now).present.readable in
+    let next = c.in-Below.next in let key = c.in-Below.next_key in
+    let seen = subst (λ (turn : Turn). SeesTurn kept pages start c.args.key.now c.args.block turn) c.in-Below.is (c.in_ok-found.ensures.seen tells) in
+    let same : (g.P.Platform.history c.look.new.platform).present.readable ≡ pages = ap (λ i. i.readable) (c.in_ok-found.ensures.looks.image tells) in
+    IfOk_map (IsFound (g.P.Platform.history c.look.new.platform).present.readable next key c.args.block c.look.new.cache c.find.new.cache)
+    (IsFound pages start c.args.key.now c.args.block c.args.cache.now c.find.new.cache) c.find.result
+    (λ found is. found_on pages start c.args.key.now c.args.block c.args.cache.now c.look.new.cache next key (c.in_ok-found.ensures.keeps tells) seen c.find.new.cache found c.in_ok-found.ensures.used
+    (subst (λ (p : List (List ℕ)). IsFound p next key c.args.block c.look.new.cache c.find.new.cache found) same is))
+    (c.find.ensures.found tells))
+
+pub returns-in-Below-clause-bad : goal.returns-in-Below-clause-bad
+returns-in-Below-clause-bad g t c = λ tells addr is.
+    (let kept = c.args.cache.now.kept in let start = c.args.start.now in let pages = (g.P.Platform.history c.args.platform.now).present.readable in
+    let next = c.in-Below.next in let key = c.in-Below.next_key in
+    let seen = subst (λ (turn : Turn). SeesTurn kept pages start c.args.key.now c.args.block turn) c.in-Below.is (c.in_ok-found.ensures.seen tells) in
+    let same : (g.P.Platform.history c.look.new.platform).present.readable ≡ pages = ap (λ i. i.readable) (c.in_ok-found.ensures.looks.image tells) in
+    let small : start.addr < 2 ^ 64 = omega (arith, c.requires.within, g.met.P.Platform.has_room c.args.platform.now, g.met.P.Platform.is_limited c.args.platform.now) in
+    stopped_on pages start c.args.key.now c.args.block c.args.cache.now c.look.new.cache next key (c.in_ok-found.ensures.keeps tells) seen addr small
+    (subst (λ (p : List (List ℕ)). Stops (Sees c.look.new.cache.kept p) next.most c.args.block (Misses c.look.new.cache.kept p) addr (next.level - 1) next key) same (c.find.ensures.bad tells addr is)))
+
+pub returns-in-Below-clause-entry : goal.returns-in-Below-clause-entry
+returns-in-Below-clause-entry g t c =
+    let start = c.args.start.now in let next = c.in-Below.next in let key = c.in-Below.next_key in
+    let told = subst (λ (turn : Turn). FitsTurn start c.args.block turn) c.in-Below.is c.in_ok-found.ensures.fits in
+    let below = next_below start next key told.entries c.args.block told.in_range told.is in
+    IfOk_map _ _ c.find.result (entry_below c.args.block next.addr start.addr below) c.find.ensures.entry
+
+pub returns-in-Below-clause-kept : goal.returns-in-Below-clause-kept
+returns-in-Below-clause-kept g t c = λ found path is.
+    (let start = c.args.start.now in let next = c.in-Below.next in let key = c.in-Below.next_key in
+    let first = first_kept start c.args.key.now c.args.block c.args.cache.now c.requires.asks.level found path is in
+    let turned = λ (entries : List Entry) (fits : KeptFits c.args.cache.now.kept start c.args.key.now (NodeRecord start.level entries)). subst (λ (turn : Turn). IsTurn start entries c.args.block turn) c.in-Below.is (c.in_ok-found.ensures.kept entries fits).1 in
+    let still = c.in_ok-found.ensures.still first.1.node first.1.here in
+    let on = kept_on start c.args.key.now c.args.block c.args.cache.now c.requires.asks.level next key c.look.new.cache found path still turned is in
+    let rest = c.find.ensures.kept found on.0 on.1 in
+    (rest.0 ∙ (c.in_ok-found.ensures.kept first.0 first.1).0, rest.1))

@@ -1,0 +1,103 @@
+-- How a block is found below a place: through nodes that fit, to its leaf, or to the first place where nothing fits.
+use Rattle.std.specs.Prelude.{◌≡◌, ◌⊎◌, ◌<◌, ◌≤◌, ◌+◌, ◌-◌, ℕ, zero, suc, List, [], ◌∷◌, ◌++◌, Option, All, length, map, take}
+use Rattle.node_codec.specs.declared.body.Entry.{Entry}
+use Rattle.node_codec.specs.Record.{Record, NodeRecord, FitsNode}
+use Rattle.page_store.specs.declared.wants.Want.{Want}
+use Rattle.page_store.specs.Places.{child_want}
+use Rattle.node_cache.specs.declared.slots.Kept.{Kept}
+use Rattle.node_cache.specs.Kept.{Cached, touched, filled}
+use Rattle.btree_walk.specs.declared.turns.Turn.{Turn}
+use Rattle.btree_walk.specs.Ways.{IsWay, IsEntryOf, IsTurn}
+use Rattle.btree_walk.specs.Sights.{Sees}
+
+-- nothing that is wanted is at the place, which has this address
+pub record StopsHere (Misfits : Want → List ℕ → Type 0) (addr : ℕ) (want : Want) (key : List ℕ) : Type 0 where
+  pub here : addr ≡ want.addr
+  pub misfits : Misfits want key
+
+module _ (Fits : Want → List ℕ → Record → Type 0) (order block : ℕ) where
+  -- a leaf fits, and this is what it has of the block
+  pub record EndsInLeaf (found : Option Entry) (want : Want) (key : List ℕ) (path : List ℕ) : Type 0 where
+    pub entries : List Entry
+    pub fits : Fits want key (NodeRecord 1 entries)
+    pub is : IsEntryOf entries block found
+    pub path_is : path ≡ want.addr ∷ []
+
+  -- a node fits, and from the entry below which the block lies it goes on
+  pub record GoesOn (Goes : Want → List ℕ → List ℕ → Type 0) (level : ℕ) (want : Want) (key : List ℕ) (path : List ℕ) : Type 0 where
+    pub entries : List Entry
+    pub fits : Fits want key (NodeRecord (suc (suc level)) entries)
+    pub entry : Entry
+    pub bound : ℕ
+    pub way : IsWay entries want.high block entry bound
+    pub rest : List ℕ
+    pub goes : Goes (child_want order (suc level) entry bound) entry.key rest
+    pub path_is : path ≡ rest ++ want.addr ∷ []
+
+  -- from a node so many levels above the leaves on, each node on the way of the block fits; these are their addresses, the leaf's first,
+  -- and this is what the leaf has of the block
+  unfoldable pub Finds : Option Entry → ℕ → Want → List ℕ → List ℕ → Type 0
+  Finds found zero = EndsInLeaf found
+  Finds found (suc level) = GoesOn (Finds found level) level
+
+  module _ (Misfits : Want → List ℕ → Type 0) (addr : ℕ) where
+    -- a node fits, and from the entry below which the block lies it comes to such a place
+    pub record StopsBelow (Stops : Want → List ℕ → Type 0) (level : ℕ) (want : Want) (key : List ℕ) : Type 0 where
+      pub entries : List Entry
+      pub fits : Fits want key (NodeRecord (suc (suc level)) entries)
+      pub entry : Entry
+      pub bound : ℕ
+      pub way : IsWay entries want.high block entry bound
+      pub stops : Stops (child_want order (suc level) entry bound) entry.key
+
+    -- from a node so many levels above the leaves on, the way of the block goes through nodes that fit to a place at this address,
+    -- where nothing fits
+    unfoldable pub Stops : ℕ → Want → List ℕ → Type 0
+    Stops zero want key = StopsHere Misfits addr want key
+    Stops (suc level) want key = StopsHere Misfits addr want key ⊎ StopsBelow (Stops level) level want key
+
+-- the addresses for which a cache keeps nodes, the most recent first
+abbrev pub addresses_of : Cached → List ℕ
+addresses_of cache = map (λ k. k.addr) cache.kept
+
+-- these addresses come first
+abbrev pub BeginsWith : List ℕ → List ℕ → Type 0
+BeginsWith front addrs = take (length front) addrs ≡ front
+
+-- a path comes first, and what came first before and lies above it comes behind it, where there is room for both
+abbrev pub ComesFirst : ℕ → List ℕ → Cached → Cached → Type 0
+ComesFirst top path old new =
+    (front : List ℕ) → All (λ a. top < a) front → BeginsWith front (addresses_of old) → length path + length front ≤ old.capacity → BeginsWith (path ++ front) (addresses_of new)
+
+-- the cache has a node of the place as its most recent one
+pub record UsesPlace (addr : ℕ) (old new : Cached) : Type 0 where
+  pub kept : Kept
+  pub place : kept.addr ≡ addr
+  pub is : (new ≡ touched old kept) ⊎ (new ≡ filled old kept)
+
+-- the node that is seen at a place says this of a block
+pub record SeesTurn (kept : List Kept) (pages : List (List ℕ)) (want : Want) (key : List ℕ) (block : ℕ) (turn : Turn) : Type 0 where
+  pub entries : List Entry
+  pub sees : Sees kept pages want key (NodeRecord want.level entries)
+  pub is : IsTurn want entries block turn
+
+-- some node in range at a place says this of a block
+pub record FitsTurn (want : Want) (block : ℕ) (turn : Turn) : Type 0 where
+  pub entries : List Entry
+  pub in_range : FitsNode want.addr want.level entries
+  pub is : IsTurn want entries block turn
+
+-- what a look-up found below a place: where the cache and the pages lead, and that the path is what was used last
+pub record IsFound (pages : List (List ℕ)) (start : Want) (key : List ℕ) (block : ℕ) (old new : Cached) (found : Option Entry) : Type 0 where
+  pub path : List ℕ
+  pub finds : Finds (Sees old.kept pages) start.most block found (start.level - 1) start key path
+  pub levels : length path ≡ start.level
+  pub recent : ComesFirst start.addr path old new
+
+-- a block can be looked for below a place
+pub record AsksFor (start : Want) (block : ℕ) : Type 0 where
+  pub level : 1 ≤ start.level
+  pub from : start.low ≤ block
+  pub below : block < start.high
+  pub order : 2 ≤ start.most
+  pub some : 2 ≤ start.level → 1 ≤ start.least

@@ -1,0 +1,5 @@
+pub mod Ways
+pub mod Sights
+pub mod Finds
+pub mod Looks
+pub mod Mapped

@@ -1,0 +1,52 @@
+ghost use Rattle.std.specs.Prelude.{◌≡◌, ◌<◌, ◌-◌, ℕ, List, Option, Ok, IfOk, IfSome, IsErrOf};
+ghost use Rattle.sdbt_base.specs.Faults.{Rose};
+ghost use Rattle.node_codec.specs.declared.body.Entry.{Entry};
+ghost use Rattle.btree_walk.specs.Sights.{KeptFits, Sees, Misses, KeepsOnly};
+ghost use Rattle.btree_walk.specs.Finds.{AsksFor, Finds, Stops, IsFound};
+ghost use Rattle.btree_walk.specs.Looks.{Looks};
+
+use crate::looking::look;
+use crate::turns::Turn;
+use node_cache::NodeCache;
+use node_codec::Entry;
+use page_store::{Buffers, FetchRefusal, Want};
+use platform::Platform;
+use sdbt_base::Key;
+
+/// The entry of a block in the tree below a node, or `None` where the leaf on its way has none.
+///
+/// `start` says what is wanted of the node, and its greatest number of entries is the order of the tree. A node that the
+/// cache keeps for an address and key stands in the place of that page. There are at most `start.level` reads of pages,
+/// and none where the cache keeps each node of the way. `BadRecord` comes exactly where the way comes to a place
+/// that does not fit, with that address.
+pub fn find<P: Platform>(
+    platform: &mut P,
+    cache: &mut NodeCache,
+    start: &Want,
+    key: &Key,
+    block: u64,
+    buf: &mut Buffers,
+) -> Result<Option<Entry>, FetchRefusal>
+    requires within { start.now.addr < P.head platform.old }
+    requires asks { AsksFor start.now block }
+
+    ensures found { P.tells → IfOk result
+        (IsFound (P.history platform.old).present.readable start.now key.now block cache.old cache.new) }
+    ensures bad { P.tells → (addr : ℕ) → IsErrOf result (FetchRefusal.BadRecord addr) →
+        Stops (Sees cache.old.kept (P.history platform.old).present.readable) start.now.most block
+        (Misses cache.old.kept (P.history platform.old).present.readable) addr (start.now.level - 1) start.now key.now }
+    // What is answered is of this block, and stands below the node, whatever the platform tells.
+    ensures entry { IfOk result (λ found. IfSome found (λ e. (e.low ≡ block) × (e.addr < start.now.addr))) }
+    ensures kept { (found : Option Entry) (path : List ℕ) →
+        Finds (KeptFits cache.old.kept) start.now.most block found (start.now.level - 1) start.now key.now path →
+        (platform.new ≡ platform.old) × (result ≡ Ok found) }
+
+    ensures keeps { P.tells → KeepsOnly (P.history platform.old).present.readable cache.old cache.new }
+    ensures looks { Looks P.Platform start.now.level platform.old platform.new }
+    ensures cause { IsErrOf result FetchRefusal.PlatformFault → Rose (P.faults platform.old) (P.faults platform.new) }
+{
+    match look(platform, cache, start, key, block, buf)? {
+        Turn::Found(found) => Ok(found),
+        Turn::Below(next, next_key) => find(platform, cache, &next, &next_key, block, buf),
+    }
+}

@@ -1,0 +1,16 @@
+//! The tree on the medium: looking for a block, and listing what there is.
+//!
+//! A look-up goes down from a node to the leaf of a block, by one page a level at most, and by none where a cache keeps
+//! the node. A node that is kept still has to fit the place that is asked for.
+#![tactic(auto)]
+
+mod finding;
+mod laws;
+mod looking;
+mod turns;
+
+pub use finding::find;
+pub use laws::{found_is_mapped, sees_the_pages, stands_over_more_pages, stopped_is_wrong};
+
+#[cfg(test)]
+mod tests;
