@@ -1,4 +1,4 @@
-ghost use Rattle.std.specs.Prelude.{◌≡◌, ◌<◌, ◌≤◌, ◌^◌, ◌++◌, ℕ, suc, List, Option};
+ghost use Rattle.std.specs.Prelude.{◌<◌, ◌≤◌, ◌-◌, ◌*◌, ◌/◌, ◌^◌, ◌++◌, ℕ, suc, List, Option, length};
 ghost use Rattle.node_codec.specs.declared.body.Entry.{Entry};
 ghost use Rattle.root_codec.specs.declared.root.Root.{Root};
 ghost use Rattle.page_store.specs.declared.wants.Want.{Want};
@@ -34,4 +34,10 @@ pub fn sees_the_pages()
 /// A law: a tree over pages is one over these and more.
 pub fn stands_over_more_pages()
     ensures { (pages more : List (List ℕ)) (root : Root) (parts : Parts) → Tree pages root parts → Tree (pages ++ more) root parts }
+{}
+
+/// A law: a tree whose root is no leaf has at least two entries for each time that half the order goes into it, level by
+/// level; so its level grows with the logarithm of its entries alone.
+pub fn balance()
+    ensures { (pages : List (List ℕ)) (root : Root) (parts : Parts) → Tree pages root parts → 2 ≤ root.level → 2 * (root.order / 2) ^ (root.level - 1) ≤ length parts.mapped }
 {}

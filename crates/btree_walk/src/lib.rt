@@ -10,7 +10,9 @@ mod looking;
 mod turns;
 
 pub use finding::find;
-pub use laws::{found_is_mapped, sees_the_pages, stands_over_more_pages, stopped_is_wrong};
+pub use laws::{
+    balance, found_is_mapped, sees_the_pages, stands_over_more_pages, stopped_is_wrong,
+};
 
 #[cfg(test)]
 mod tests;
