@@ -1,5 +1,6 @@
 pub mod Image
 pub mod Failures
+pub mod Folder
 pub mod History
 pub mod Kept
 pub mod Log

@@ -1,11 +1,12 @@
 //! A platform in a folder.
-ghost use Rattle.std.specs.Prelude.{◌≡◌, ◌≢◌, ◌<◌, ◌≤◌, ◌+◌, ◌*◌, ◌^◌, ◌↔◌, length, All, Some, IsSome, IfSome, IfOk, IfErr, IsOk, IsErr, IsTrue, OnOk, OnErr, false};
+ghost use Rattle.std.specs.Prelude.{◌≡◌, ◌≢◌, ◌<◌, ◌≤◌, ◌+◌, ◌*◌, ◌^◌, ◌↔◌, length, All, Some, IsSome, IfSome, IfOk, IfErr, IsOk, IsErr, IsTrue, OnOk, false};
 ghost use Rattle.std.specs.Io.KnownBytes.{Appends, Consumes};
 ghost use Rattle.std.specs.Io.Seek.{MovesTo};
 ghost use Rattle.std.specs.Int.{div_ceil};
 ghost use Rattle.sdbt_base.specs.Faults.{Rose, next_count};
 ghost use Rattle.platform.specs.Places.{ReadsAt, WritesAt};
 ghost use Rattle.platform.specs.Refusals.{IsNotMemory};
+ghost use Rattle.platform.specs.Folder.{CountsFault, MarksTorn, TellsMissing, IsEmptyIfMissing};
 
 use crate::transfers::{read_whole, write_whole};
 use crate::{OpenRefusal, Platform};
@@ -51,6 +52,7 @@ impl<R: Files + Alloc + Clone + Drop> FilePlatform<R> {
     pub fn open(rt: R, folder: &str) -> Result<FilePlatform<R>, OpenRefusal>
         ensures faults { IfOk result (λ platform. ⟦<FilePlatform<R> as Platform>⟧.faults platform ≡ 0) }
         ensures believed { IfOk result (λ platform. platform.is_unsure ≡ false) }
+        ensures whole { IfOk result (λ platform. platform.is_torn ≡ false) }
         ensures memory { IfErr result IsNotMemory }
     {
         let root = format!(in rt.alloc(); "{folder}/root")?;
@@ -85,6 +87,8 @@ impl<R: Files + Alloc + Clone + Drop> FilePlatform<R> {
         ensures there { OnOk result (IfSome (R.File.stream_position self.old.media) (λ _.
             R.File.stream_position self.new.media ≡ Some (self.old.head * RECORD))) }
         ensures head { self.new.head ≡ self.old.head }
+        ensures torn { IsTrue self.new.is_torn → IsTrue self.old.is_torn }
+        ensures unsure { self.new.is_unsure ≡ self.old.is_unsure }
         ensures faults { self.new.faults ≡ self.old.faults }
     {
         if self.is_torn {
@@ -102,6 +106,7 @@ impl<R: Files + Alloc + Clone + Drop> FilePlatform<R> {
         ensures torn { IsTrue self.new.is_torn ↔ IsErr result }
         ensures written { OnOk result
             (Appends (R.File.contents self.old.media) (R.File.contents self.new.media) page.now) }
+        ensures unsure { self.new.is_unsure ≡ self.old.is_unsure }
         ensures faults { self.new.faults ≡ self.old.faults }
     {
         self.head += 1;
@@ -115,6 +120,7 @@ impl<R: Files + Alloc + Clone + Drop> FilePlatform<R> {
     fn sync_media(&mut self) -> io::Result<()>
         ensures believed { OnOk result (self.old.is_unsure ≡ false) }
         ensures unsure { IsTrue self.new.is_unsure ↔ IsErr result }
+        ensures torn { self.new.is_torn ≡ self.old.is_torn }
         ensures head { self.new.head ≡ self.old.head }
         ensures faults { self.new.faults ≡ self.old.faults }
     {
@@ -151,8 +157,9 @@ impl<R: Files + Alloc + Clone + Drop> FilePlatform<R> {
 
 impl<R: Files + Alloc + Clone + Drop> Platform for FilePlatform<R> {
     ghost use Rattle.std.specs.Prelude.{◌≡◌, ◌↔◌, ◌≤◌, ◌<◌, ◌+◌, ◌*◌, ◌^◌, ℕ, length, false, IsTrue, IsErr, IfOk, OnOk, OnErr};
-    ghost use Rattle.sdbt_base.specs.Faults.{Rose, next_count};
+    ghost use Rattle.sdbt_base.specs.Faults.{Rose};
     ghost use Rattle.platform.specs.Places.{ReadsAt, WritesAt};
+    ghost use Rattle.platform.specs.Folder.{CountsFault, MarksTorn};
     ghost use Rattle.std.proofs.Common.{rules};
     ghost use Rattle.platform.specs.Untold.{untold};
 
@@ -189,14 +196,14 @@ impl<R: Files + Alloc + Clone + Drop> Platform for FilePlatform<R> {
         ensures address { IfOk result (λ address. address ≡ self.old.head) }
         ensures written { OnOk result (WritesAt R.File.stream_position R.File.contents
             self.old.media self.new.media (self.old.head * RECORD) page.now) }
-        ensures whole { OnOk result (self.new.is_torn ≡ false) }
+        ensures torn { MarksTorn self.old.head self.new.head self.old.is_torn self.new.is_torn result }
         ensures head_ok { OnOk result (self.new.head ≡ self.old.head + 1) }
         ensures head_rises { self.old.head ≤ self.new.head }
         ensures head_by_one { self.new.head ≤ self.old.head + 1 }
         ensures faults { self.old.faults ≤ self.new.faults }
         ensures cause { OnErr result (Rose self.old.faults self.new.faults) }
-        ensures no_fault { OnOk result (self.new.faults ≡ self.old.faults) }
-        ensures one_fault { OnErr result (self.new.faults ≡ next_count self.old.faults) }
+        ensures counted { CountsFault self.old.faults self.new.faults result }
+        ensures unsure { self.new.is_unsure ≡ self.old.is_unsure }
     {
         let addr = self.head;
         if self.go_to_end().is_err() || self.hand_over(page).is_err() {
@@ -214,8 +221,9 @@ impl<R: Files + Alloc + Clone + Drop> Platform for FilePlatform<R> {
         ensures head { self.new.head ≡ self.old.head }
         ensures faults { self.old.faults ≤ self.new.faults }
         ensures cause { OnErr result (Rose self.old.faults self.new.faults) }
-        ensures no_fault { OnOk result (self.new.faults ≡ self.old.faults) }
-        ensures one_fault { OnErr result (self.new.faults ≡ next_count self.old.faults) }
+        ensures counted { CountsFault self.old.faults self.new.faults result }
+        ensures torn { self.new.is_torn ≡ self.old.is_torn }
+        ensures unsure { self.new.is_unsure ≡ self.old.is_unsure }
     {
         if read_page(&mut self.media, addr, into).is_err() {
             return fault(&mut self.faults);
@@ -229,8 +237,8 @@ impl<R: Files + Alloc + Clone + Drop> Platform for FilePlatform<R> {
         ensures head { self.new.head ≡ self.old.head }
         ensures faults { self.old.faults ≤ self.new.faults }
         ensures cause { OnErr result (Rose self.old.faults self.new.faults) }
-        ensures no_fault { OnOk result (self.new.faults ≡ self.old.faults) }
-        ensures one_fault { OnErr result (self.new.faults ≡ next_count self.old.faults) }
+        ensures counted { CountsFault self.old.faults self.new.faults result }
+        ensures torn { self.new.is_torn ≡ self.old.is_torn }
     {
         if self.sync_media().is_err() {
             return fault(&mut self.faults);
@@ -243,8 +251,9 @@ impl<R: Files + Alloc + Clone + Drop> Platform for FilePlatform<R> {
         ensures head { self.new.head ≡ self.old.head }
         ensures faults { self.old.faults ≤ self.new.faults }
         ensures cause { OnErr result (Rose self.old.faults self.new.faults) }
-        ensures no_fault { OnOk result (self.new.faults ≡ self.old.faults) }
-        ensures one_fault { OnErr result (self.new.faults ≡ next_count self.old.faults) }
+        ensures counted { CountsFault self.old.faults self.new.faults result }
+        ensures torn { self.new.is_torn ≡ self.old.is_torn }
+        ensures unsure { self.new.is_unsure ≡ self.old.is_unsure }
     {
         let Ok(full) = load(&self.rt, self.root.as_str(), into) else {
             return fault(&mut self.faults);
@@ -257,8 +266,9 @@ impl<R: Files + Alloc + Clone + Drop> Platform for FilePlatform<R> {
         ensures head { self.new.head ≡ self.old.head }
         ensures faults { self.old.faults ≤ self.new.faults }
         ensures cause { OnErr result (Rose self.old.faults self.new.faults) }
-        ensures no_fault { OnOk result (self.new.faults ≡ self.old.faults) }
-        ensures one_fault { OnErr result (self.new.faults ≡ next_count self.old.faults) }
+        ensures counted { CountsFault self.old.faults self.new.faults result }
+        ensures torn { self.new.is_torn ≡ self.old.is_torn }
+        ensures unsure { self.new.is_unsure ≡ self.old.is_unsure }
     {
         if self.replace_root(bytes).is_err() {
             let _ = forget(&self.rt, self.new_root.as_str());
@@ -271,8 +281,9 @@ impl<R: Files + Alloc + Clone + Drop> Platform for FilePlatform<R> {
         ensures head { self.new.head ≡ self.old.head }
         ensures faults { self.old.faults ≤ self.new.faults }
         ensures cause { OnErr result (Rose self.old.faults self.new.faults) }
-        ensures no_fault { OnOk result (self.new.faults ≡ self.old.faults) }
-        ensures one_fault { OnErr result (self.new.faults ≡ next_count self.old.faults) }
+        ensures counted { CountsFault self.old.faults self.new.faults result }
+        ensures torn { self.new.is_torn ≡ self.old.is_torn }
+        ensures unsure { self.new.is_unsure ≡ self.old.is_unsure }
     {
         if self.remove_root().is_err() {
             return fault(&mut self.faults);
@@ -281,12 +292,21 @@ impl<R: Files + Alloc + Clone + Drop> Platform for FilePlatform<R> {
     }
 }
 
+// What a call on a path answered: nothing where there is no such file, and every other failure stays one.
+fn unless_missing<T>(outcome: io::Result<T>) -> io::Result<Option<T>>
+    ensures { TellsMissing outcome result }
+{
+    match outcome {
+        Ok(value) => Ok(Some(value)),
+        Err(error) if error.kind() == ErrorKind::NotFound => Ok(None),
+        Err(error) => Err(error),
+    }
+}
+
 // Removes a file, if there is one of this name.
 fn forget(files: &impl Files, path: &str) -> io::Result<()> {
-    match fs::remove_file(files, path) {
-        Err(error) if error.kind() != ErrorKind::NotFound => Err(error),
-        _ => Ok(()),
-    }
+    unless_missing(fs::remove_file(files, path))?;
+    Ok(())
 }
 
 // The pages of a file of so many bytes, where no medium has more: a last one that is there in part is one.
@@ -340,10 +360,18 @@ fn read_page<F: Read + Seek>(media: &mut F, addr: u64, into: &mut [u8]) -> io::R
 
 // Whether there is a root record, which is then in the buffer.
 fn load(files: &impl Files, path: &str, into: &mut [u8]) -> io::Result<bool> {
-    let mut file = match fs::open(files, path) {
-        Ok(file) => file,
-        Err(error) if error.kind() == ErrorKind::NotFound => return Ok(false),
-        Err(error) => return Err(error),
+    load_opened(fs::open(files, path), into)
+}
+
+// Whether the file that was opened has a root record: none where it is missing, and that is told of no other failure.
+fn load_opened<F: Read + OpenFile + Drop>(
+    opened: io::Result<F>,
+    into: &mut [u8],
+) -> io::Result<bool>
+    ensures { IsEmptyIfMissing opened result }
+{
+    let Some(mut file) = unless_missing(opened)? else {
+        return Ok(false);
     };
     let len = file.metadata()?.len();
     load_from(&mut file, len, into)
