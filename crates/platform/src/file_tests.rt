@@ -9,7 +9,7 @@ use std::os::unix::fs::PermissionsExt;
 use std::rt::Files;
 use std::test::Fail;
 
-const FOLDER: &str = "file_platform_test";
+pub(crate) const FOLDER: &str = "file_platform_test";
 
 /// A write that begins with this byte takes half of its bytes, and fails.
 const TEARING: u8 = 0xEE;
@@ -151,7 +151,7 @@ impl Files for BadFiles {
 }
 
 // A new folder with these files in it.
-fn make_folder(rt: &HostRuntime, media: &[u8], root: &[u8]) -> io::Result<()> {
+pub(crate) fn make_folder(rt: &HostRuntime, media: &[u8], root: &[u8]) -> io::Result<()> {
     let _ = fs::remove_dir_all(rt, FOLDER);
     fs::create_dir(rt, FOLDER)?;
     fs::write(rt, "file_platform_test/media", media)?;

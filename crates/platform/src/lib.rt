@@ -16,6 +16,10 @@ pub use platforms::Platform;
 pub use refusals::OpenRefusal;
 
 #[cfg(test)]
+mod call_tests;
+#[cfg(test)]
 mod file_tests;
+#[cfg(test)]
+mod logged_files;
 #[cfg(test)]
 mod tests;
