@@ -6,7 +6,8 @@ use Rattle.std.specs.BTreeMap.{BTreeMap, get}
 use Rattle.std.proofs.lemmas.Bool.{cases_Bool, cases_eq, eq-eqb, ne_eqb, false≢true}
 use Rattle.std.proofs.lemmas.List.{map-append, take_more}
 use Rattle.std.proofs.lemmas.Option.{none-some, same_Some}
-use Rattle.key_graph.specs.Trace.{TraceEntry, DataOf, NodeOver, Traced, Entries, Has, IsChild, entry_in}
+use Rattle.key_graph.specs.Trace.{Entries, Has, IsChild, entry_in}
+use Rattle.sdbt_base.specs.Traces.{TraceEntry, DataOf, NodeOver, Traced}
 use Rattle.cert_maker.specs.Cert.{Cert}
 use Rattle.cert_checker.specs.declared.held.Held.{Held}
 use Rattle.cert_checker.specs.declared.held.Held.TheVariants.{Data, Node}

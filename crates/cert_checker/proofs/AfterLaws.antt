@@ -3,7 +3,8 @@ use Rattle.std.proofs.Common.{◌≡◌, ◌⊎◌, inl, inr, ℕ, zero, suc, �
 use Rattle.std.specs.Prelude.{Option, None, Some, Contains, ◌==◌}
 use Rattle.std.proofs.lemmas.Bool.{eq-eqb, eqb-true, or_cases, or_left, or_right, false≢true, cases_Bool, both_ways}
 use Rattle.std.proofs.lemmas.Option.{none-some}
-use Rattle.key_graph.specs.Trace.{TraceEntry, NodeOver, Entries, Has, IsChild}
+use Rattle.key_graph.specs.Trace.{Entries, Has, IsChild}
+use Rattle.sdbt_base.specs.Traces.{TraceEntry, NodeOver}
 use Rattle.cert_maker.specs.Cert.{Cert}
 use Rattle.cert_checker.specs.Rules.{is_listed, after, added_by}
 

@@ -6,7 +6,8 @@ use Rattle.std.proofs.lemmas.List.Elements.{All-map}
 use Rattle.std.proofs.lemmas.List.Kept.{AllPairs-cons}
 use Rattle.std.proofs.lemmas.Option.{same_Some, slice_get_within, get_or_from_slice_get}
 use Rattle.sdbt_base.specs.declared.lists.Unkept.{Unkept}
-use Rattle.key_graph.specs.Trace.{TraceEntry, NodeOver, Traced, Entries, Has, IsChild, entry_in}
+use Rattle.key_graph.specs.Trace.{Entries, Has, IsChild, entry_in}
+use Rattle.sdbt_base.specs.Traces.{TraceEntry, NodeOver, Traced}
 use Rattle.root_codec.specs.declared.root.Root.{Root}
 use Rattle.cert_maker.specs.Cert.{Cert}
 use Rattle.cert_checker.specs.Rules.{after, added_by, IsBetween, IsFresh, WasLive, GoesFromTheTop, TakesOver, TakesOnce, HangsTogether, LeavesNone, Keeps}

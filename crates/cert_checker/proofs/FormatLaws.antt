@@ -3,7 +3,8 @@ use Rattle.std.proofs.Common.{◌≡◌, inl, inr, ℕ, ◌+◌, List, [], ◌�
 use Rattle.std.specs.Prelude.{None, Some}
 use Rattle.std.proofs.lemmas.Bool.{cases_eq, eq-eqb, ne_eqb}
 use Rattle.std.proofs.lemmas.Option.{none-some, same_Some}
-use Rattle.key_graph.specs.Trace.{TraceEntry, NodeOver, IsChild, IsTraceTree}
+use Rattle.key_graph.specs.Trace.{IsChild, IsTraceTree}
+use Rattle.sdbt_base.specs.Traces.{TraceEntry, NodeOver}
 use Rattle.page_store.specs.Tree.{Place}
 use Rattle.root_codec.specs.declared.root.Root.{Root}
 use Rattle.cert_maker.specs.Cert.{Cert}

@@ -4,7 +4,8 @@ use Rattle.std.specs.Prelude.{Contains, slice_get, slice_index}
 use Rattle.std.proofs.lemmas.Bool.{cases_lt, false≢true}
 use Rattle.std.proofs.lemmas.List.Kept.{AllPairs-from_increasing}
 use Rattle.std.proofs.lemmas.Option.{slice_get-get_or, slice_get_within, get_or_from_slice_get}
-use Rattle.key_graph.specs.Trace.{Traced, Has}
+use Rattle.key_graph.specs.Trace.{Has}
+use Rattle.sdbt_base.specs.Traces.{Traced}
 use Rattle.sdbt_base.specs.declared.lists.Unkept.{Unkept}
 use Rattle.cert_maker.specs.Cert.{Cert}
 use Rattle.cert_checker.specs.Rules.{added_by, IsBetween, IsFresh}

@@ -8,7 +8,8 @@ use Rattle.std.proofs.lemmas.Bool.{cases_eq, cases_lt, cases_Bool, both_ways}
 use Rattle.std.proofs.lemmas.List.Elements.{All-from_get_or, All-contains}
 use Rattle.std.proofs.lemmas.List.Kept.{AllPairs-from_increasing}
 use Rattle.std.proofs.lemmas.Option.{none-some, same_Some, slice_get-get_or, slice_get_within, get_or_from_slice_get}
-use Rattle.key_graph.specs.Trace.{NodeOver, Entries, Has, IsChild, IsTraceTree}
+use Rattle.key_graph.specs.Trace.{Entries, Has, IsChild, IsTraceTree}
+use Rattle.sdbt_base.specs.Traces.{NodeOver}
 use Rattle.cert_maker.specs.Cert.{Cert}
 use Rattle.cert_checker.specs.declared.held.Held.{Held}
 use Rattle.cert_checker.specs.declared.held.Held.TheVariants.{Data, Node}

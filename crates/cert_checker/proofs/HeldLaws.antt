@@ -3,7 +3,8 @@ use Rattle.std.proofs.Common.{◌≡◌, inl, inr, ◌||◌, ◌==◌, ◌<◌, 
 use Rattle.std.specs.Prelude.{option_map, slice_index, slice_get}
 use Rattle.std.proofs.lemmas.Bool.{false≢true, cases_eq, eq-eqb, ne_eqb}
 use Rattle.std.proofs.lemmas.Option.{none-some, same_Some, slice_get_within, slice_get_read}
-use Rattle.key_graph.specs.Trace.{TraceEntry, Has, entry_in}
+use Rattle.key_graph.specs.Trace.{Has, entry_in}
+use Rattle.sdbt_base.specs.Traces.{TraceEntry}
 use Rattle.cert_checker.specs.declared.held.Held.{Held}
 use Rattle.cert_checker.specs.declared.held.Placed.{Placed}
 use Rattle.std.specs.Ordering.{nat_cmp}

@@ -4,7 +4,8 @@ use Rattle.std.specs.Prelude.{Contains, AllPairs, slice_get, slice_index}
 use Rattle.std.proofs.lemmas.Bool.{cases_eq, cases_lt, cases_Bool, eq-eqb, ne_eqb, both_ways}
 use Rattle.std.proofs.lemmas.List.{get_or-map}
 use Rattle.std.proofs.lemmas.Option.{none-some, same_Some, slice_get-get_or, slice_get_within, get_or_from_slice_get}
-use Rattle.key_graph.specs.Trace.{TraceEntry, DataOf, NodeOver, Traced, Has, entry_in}
+use Rattle.key_graph.specs.Trace.{Has, entry_in}
+use Rattle.sdbt_base.specs.Traces.{TraceEntry, DataOf, NodeOver, Traced}
 use Rattle.sdbt_base.specs.declared.lists.Unkept.{Unkept}
 use Rattle.cert_checker.specs.Rules.{is_listed}
 use Rattle.cert_checker.specs.First.{IsFirst, IsLeast, IsChildAt, IsFirstChild}

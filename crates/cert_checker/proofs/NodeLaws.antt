@@ -7,7 +7,8 @@ use Rattle.std.specs.BTreeSet.{BTreeSet, contains}
 use Rattle.std.proofs.lemmas.Bool.{cases_lt, cases_order, cases_Bool, both_ways, or_cases, or_left, or_right}
 use Rattle.std.proofs.lemmas.List.{take-map}
 use Rattle.std.proofs.lemmas.Option.{none-some, same_Some, slice_get-map, slice_get-get_or, slice_get_within, get_or_from_slice_get}
-use Rattle.key_graph.specs.Trace.{NodeOver, Traced, Entries, Has, IsChild, entry_in}
+use Rattle.key_graph.specs.Trace.{Entries, Has, IsChild, entry_in}
+use Rattle.sdbt_base.specs.Traces.{NodeOver, Traced}
 use Rattle.cert_maker.specs.Cert.{Cert}
 use Rattle.cert_checker.specs.declared.held.Held.{Held}
 use Rattle.cert_checker.specs.declared.held.Held.TheVariants.{Data, Node}

@@ -5,7 +5,8 @@ use Rattle.std.specs.Ordering.{nat_cmp}
 use Rattle.std.specs.BTreeMap.{get}
 use Rattle.std.proofs.lemmas.Option.{none-some}
 use Rattle.root_codec.specs.declared.root.Root.{Root}
-use Rattle.key_graph.specs.Trace.{TraceEntry, Entries, Has}
+use Rattle.key_graph.specs.Trace.{Entries, Has}
+use Rattle.sdbt_base.specs.Traces.{TraceEntry}
 use Rattle.cert_maker.specs.Cert.{Cert}
 use Rattle.cert_checker.specs.declared.change.Change.{Change}
 use Rattle.cert_checker.specs.declared.held.Held.{Held}

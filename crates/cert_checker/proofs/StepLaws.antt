@@ -3,7 +3,8 @@ use Rattle.std.proofs.Common.{◌≡◌, ◌≢◌, ◌⊎◌, inl, inr, ℕ, ze
 use Rattle.std.specs.Prelude.{Option, None, Some, IfSome, Contains, AllPairs}
 use Rattle.std.proofs.lemmas.Bool.{cases_eq}
 use Rattle.std.proofs.lemmas.Option.{none-some}
-use Rattle.key_graph.specs.Trace.{TraceEntry, NodeOver, Entries, Has, IsChild}
+use Rattle.key_graph.specs.Trace.{Entries, Has, IsChild}
+use Rattle.sdbt_base.specs.Traces.{TraceEntry, NodeOver}
 use Rattle.cert_maker.specs.Cert.{Cert}
 use Rattle.cert_checker.specs.Rules.{or_else, after, added_by, Keeps, Continues}
 use Rattle.cert_checker.specs.Sound.{trace_of, Deletes, Gone, Never, Deleted, FiveFacts, Stay}

@@ -4,7 +4,8 @@ use Rattle.std.specs.Prelude.{Option, None, Some, IfSome, Contains}
 use Rattle.std.proofs.lemmas.Bool.{cases_eq, cases_lt}
 use Rattle.std.proofs.lemmas.Option.{none-some}
 use Rattle.sdbt_base.specs.declared.lists.Unkept.{Unkept}
-use Rattle.key_graph.specs.Trace.{TraceEntry, NodeOver, Entries, Has, IsChild}
+use Rattle.key_graph.specs.Trace.{Entries, Has, IsChild}
+use Rattle.sdbt_base.specs.Traces.{TraceEntry, NodeOver}
 use Rattle.cert_maker.specs.Cert.{Cert}
 use Rattle.cert_maker.specs.CertOf.{CertOf}
 use Rattle.cert_checker.specs.Rules.{after, added_by, Keeps, Counts, IsHandedOver, IsTaken}

@@ -6,7 +6,8 @@ use Rattle.std.specs.BTreeSet.{BTreeSet, contains}
 use Rattle.std.proofs.lemmas.Bool.{or_cases, or_left, or_right, false≢true}
 use Rattle.std.proofs.lemmas.List.Folds.{list_any-append}
 use Rattle.std.proofs.lemmas.Option.{none-some}
-use Rattle.key_graph.specs.Trace.{Traced, entry_in}
+use Rattle.key_graph.specs.Trace.{entry_in}
+use Rattle.sdbt_base.specs.Traces.{Traced}
 use Rattle.cert_maker.specs.Cert.{Cert}
 use Rattle.cert_checker.specs.Rules.{is_listed, IsTaken}
 use Rattle.cert_checker.specs.Kept.{all_children, children_of}

@@ -6,7 +6,7 @@ use Rattle.std.specs.BTreeSet.{BTreeSet, contains}
 use Rattle.std.proofs.lemmas.Bool.{false≢true}
 use Rattle.std.proofs.lemmas.List.{map-append, take_more, append-nil}
 use Rattle.std.proofs.lemmas.List.Folds.{list_any-append}
-use Rattle.key_graph.specs.Trace.{Traced}
+use Rattle.sdbt_base.specs.Traces.{Traced}
 use Rattle.cert_checker.specs.declared.held.Held.{Held}
 use Rattle.cert_checker.specs.declared.held.Held.TheVariants.{Data, Node}
 use Rattle.cert_checker.specs.declared.held.Placed.{Placed}

@@ -1,7 +1,8 @@
 -- The first broken rule, and the value of its refusal.
 use Rattle.std.specs.Prelude.{◌≡◌, ◌<◌, ◌≤◌, ◌-◌, ◌⊎◌, ℕ, List, [], ◌∷◌, map, Option, None, Some, Contains, slice_get}
 use Rattle.root_codec.specs.declared.root.Root.{Root}
-use Rattle.key_graph.specs.Trace.{NodeOver, Entries, Has, IsChild}
+use Rattle.key_graph.specs.Trace.{Entries, Has, IsChild}
+use Rattle.sdbt_base.specs.Traces.{NodeOver}
 use Rattle.cert_maker.specs.Cert.{Cert}
 use Rattle.cert_checker.specs.Rules.{after, added_by, Counts, Continues, IsBetween, IsFresh, WasLive, GoesFromTheTop, IsHandedOver, TakesOver, TakesOnce, IsTaken, HangsTogether, LeavesNone, Keeps}
 use Rattle.cert_checker.specs.Chain.{EachKeeps, nothing, EndsAt}

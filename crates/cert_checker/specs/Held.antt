@@ -2,7 +2,8 @@
 use Rattle.std.specs.Prelude.{ℕ, List, [], map, Option, None, Some, option_map}
 use Rattle.std.specs.Ordering.{nat_cmp}
 use Rattle.std.specs.BTreeMap.{BTreeMap, get}
-use Rattle.key_graph.specs.Trace.{TraceEntry, DataOf, NodeOver, Traced, Entries}
+use Rattle.key_graph.specs.Trace.{Entries}
+use Rattle.sdbt_base.specs.Traces.{TraceEntry, DataOf, NodeOver, Traced}
 use Rattle.cert_checker.specs.declared.held.Held.{Held}
 use Rattle.cert_checker.specs.declared.held.Held.TheVariants.{Data, Node}
 use Rattle.cert_checker.specs.declared.held.Placed.{Placed}

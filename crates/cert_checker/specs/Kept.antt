@@ -2,7 +2,8 @@
 use Rattle.std.specs.Prelude.{◌≡◌, if◌then◌else◌, ℕ, List, [], ◌∷◌, ◌++◌, Option, None, Some}
 use Rattle.std.specs.Ordering.{nat_cmp}
 use Rattle.std.specs.BTreeMap.{BTreeMap, get}
-use Rattle.key_graph.specs.Trace.{TraceEntry, DataOf, NodeOver, Traced, Entries, IsChild}
+use Rattle.key_graph.specs.Trace.{Entries, IsChild}
+use Rattle.sdbt_base.specs.Traces.{TraceEntry, DataOf, NodeOver, Traced}
 use Rattle.cert_maker.specs.Cert.{Cert}
 use Rattle.cert_checker.specs.Rules.{is_listed}
 

@@ -4,7 +4,8 @@ use Rattle.std.specs.List.{list_any}
 use Rattle.std.specs.Ordering.{nat_cmp}
 use Rattle.std.specs.BTreeMap.{BTreeMap, get}
 use Rattle.std.specs.BTreeSet.{BTreeSet, contains}
-use Rattle.key_graph.specs.Trace.{Traced, Entries, Has}
+use Rattle.key_graph.specs.Trace.{Entries, Has}
+use Rattle.sdbt_base.specs.Traces.{Traced}
 use Rattle.cert_checker.specs.declared.held.Held.{Held}
 use Rattle.cert_checker.specs.declared.held.Placed.{Placed}
 use Rattle.cert_checker.specs.Rules.{is_listed}

@@ -2,7 +2,8 @@
 use Rattle.std.specs.Prelude.{◌≡◌, ◌≢◌, ◌<◌, ◌≤◌, ◌+◌, ◌⊎◌, ◌==◌, if◌then◌else◌, Bool, ℕ, List, Option, None, Some, IfSome, Contains, AllPairs}
 use Rattle.std.specs.List.{list_any}
 use Rattle.sdbt_base.specs.declared.lists.Unkept.{Unkept}
-use Rattle.key_graph.specs.Trace.{TraceEntry, NodeOver, Entries, Has, IsChild, entry_in}
+use Rattle.key_graph.specs.Trace.{Entries, Has, IsChild, entry_in}
+use Rattle.sdbt_base.specs.Traces.{TraceEntry, NodeOver}
 use Rattle.cert_maker.specs.Cert.{Cert}
 
 -- whether an address is listed

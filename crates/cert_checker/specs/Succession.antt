@@ -1,7 +1,8 @@
 -- A tree that comes after another one by a commit.
 use Rattle.std.specs.Prelude.{◌≡◌, ◌<◌, ◌≤◌, ◌+◌, ℕ, List, [], ◌∷◌, Option, None, Some, IfSome, Contains}
 use Rattle.sdbt_base.specs.declared.lists.Unkept.{Unkept}
-use Rattle.key_graph.specs.Trace.{TraceEntry, NodeOver, Entries, Has, IsTraceTree}
+use Rattle.key_graph.specs.Trace.{Entries, Has, IsTraceTree}
+use Rattle.sdbt_base.specs.Traces.{TraceEntry, NodeOver}
 use Rattle.cert_maker.specs.Cert.{Cert}
 
 -- the entries of a tree with this root, or of none

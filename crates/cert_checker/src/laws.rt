@@ -2,7 +2,8 @@
 ghost use Rattle.std.specs.Prelude.{◌≡◌, ◌+◌, ℕ, List, [], ◌++◌, ◌∷◌, Option, None, Some, IfSome};
 ghost use Rattle.sdbt_base.specs.declared.lists.Unkept.{Unkept};
 ghost use Rattle.cert_maker.specs.Cert.{Cert};
-ghost use Rattle.key_graph.specs.Trace.{NodeOver, Entries};
+ghost use Rattle.key_graph.specs.Trace.{Entries};
+ghost use Rattle.sdbt_base.specs.Traces.{NodeOver};
 ghost use Rattle.page_store.specs.Tree.{Place};
 ghost use Rattle.root_codec.specs.declared.root.Root.{Root};
 ghost use Rattle.cert_maker.specs.Trace.{entries_of};

@@ -6,7 +6,7 @@ use Rattle.serde_json.specs.Find.{as_array, as_number, as_u64}
 use Rattle.serde_json.specs.View.{view, items_of, items_view}
 use Rattle.serde_json.specs.declared.value.Value.{Value}
 use Rattle.sdbt_base.specs.declared.lists.Unkept.{Unkept}
-use Rattle.key_graph.specs.Trace.{TraceEntry, DataOf, NodeOver}
+use Rattle.sdbt_base.specs.Traces.{TraceEntry, DataOf, NodeOver}
 use Rattle.cert_maker.specs.declared.added.Added.{Added}
 use Rattle.cert_maker.specs.Added.{traced, trace_of}
 use Rattle.cert_codec.specs.Text.{whole, array_of, row, added_json, never_json}

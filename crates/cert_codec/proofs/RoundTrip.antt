@@ -20,7 +20,7 @@ use Rattle.serde_json.proofs.Numbers.{number_of-decimal}
 use Rattle.serde_json.proofs.OnLiterals.{serde_json_on_literals}
 use Rattle.serde_json.proofs.Texts.{print-outline}
 use Rattle.sdbt_base.specs.declared.lists.Unkept.{Unkept}
-use Rattle.key_graph.specs.Trace.{TraceEntry, Traced, DataOf, NodeOver}
+use Rattle.sdbt_base.specs.Traces.{TraceEntry, Traced, DataOf, NodeOver}
 use Rattle.cert_maker.specs.Cert.{Cert}
 use Rattle.cert_codec.specs.Text.{whole, array_of, numbers, row, added_json, never_json, cert_json, Spells, TraceFits, Fits}
 use Rattle.cert_codec.proofs.Arrays.{same_items}

@@ -6,7 +6,7 @@ use Rattle.serde_json.specs.View.{items_of}
 use Rattle.serde_json.specs.Read.{read}
 use Rattle.serde_json.specs.Written.{compact_text}
 use Rattle.sdbt_base.specs.declared.lists.Unkept.{Unkept}
-use Rattle.key_graph.specs.Trace.{TraceEntry, Traced, DataOf, NodeOver}
+use Rattle.sdbt_base.specs.Traces.{TraceEntry, Traced, DataOf, NodeOver}
 use Rattle.cert_maker.specs.Cert.{Cert}
 
 -- a whole number

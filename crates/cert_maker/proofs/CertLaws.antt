@@ -4,7 +4,8 @@ use Rattle.std.specs.Prelude.{AllPairs, Contains, Some}
 use Rattle.std.proofs.lemmas.Bool.{cases_eq, eq-eqb, ne_eqb}
 use Rattle.std.proofs.lemmas.Option.{none-some, same_Some}
 use Rattle.sdbt_base.specs.declared.lists.Unkept.{Unkept}
-use Rattle.key_graph.specs.Trace.{TraceEntry, Traced, Entries, entry_in}
+use Rattle.key_graph.specs.Trace.{Entries, entry_in}
+use Rattle.sdbt_base.specs.Traces.{TraceEntry, Traced}
 use Rattle.cert_maker.specs.Cert.{Cert}
 use Rattle.cert_maker.specs.CertOf.{CertOf}
 use Rattle.cert_maker.specs.Ordered.{IsOrderOf}

@@ -10,7 +10,8 @@ use Rattle.node_codec.specs.declared.body.Entry.{Entry}
 use Rattle.root_codec.specs.declared.root.Root.{Root}
 use Rattle.page_store.specs.declared.wants.Want.{Want}
 use Rattle.page_store.specs.Places.{root_want, child_want}
-use Rattle.key_graph.specs.Trace.{TraceEntry, DataOf, NodeOver, Has, IsChild, IsTraceTree}
+use Rattle.key_graph.specs.Trace.{Has, IsChild, IsTraceTree}
+use Rattle.sdbt_base.specs.Traces.{TraceEntry, DataOf, NodeOver}
 use Rattle.page_store.specs.Tree.{Place, Parts, joined, bound_of, EachChild, Subtree, Tree}
 use Rattle.cert_maker.specs.Trace.{entries_of}
 

@@ -1,6 +1,6 @@
 -- What an item of a list of added addresses says.
 use Rattle.std.specs.Prelude.{ℕ, List, Option, Some, None}
-use Rattle.key_graph.specs.Trace.{TraceEntry, Traced, DataOf, NodeOver}
+use Rattle.sdbt_base.specs.Traces.{TraceEntry, Traced, DataOf, NodeOver}
 use Rattle.cert_maker.specs.declared.added.Added.{Added}
 
 -- that it is the data record of its block, or, where it has none, a node over its children

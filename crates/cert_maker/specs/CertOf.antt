@@ -1,7 +1,8 @@
 -- The certificate of a commit, from the tree before it and the tree after it.
 use Rattle.std.specs.Prelude.{◌≡◌, ◌↔◌, ◌<◌, ℕ, List, None, Some, Contains, AllPairs}
 use Rattle.sdbt_base.specs.declared.lists.Unkept.{Unkept}
-use Rattle.key_graph.specs.Trace.{TraceEntry, Entries, Has, entry_in}
+use Rattle.key_graph.specs.Trace.{Entries, Has, entry_in}
+use Rattle.sdbt_base.specs.Traces.{TraceEntry}
 use Rattle.cert_maker.specs.Cert.{Cert}
 
 -- the certificate has these numbers; it adds the entries of the new tree whose addresses aren't in the old one, lets go the

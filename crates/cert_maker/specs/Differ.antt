@@ -1,7 +1,8 @@
 -- What two trees say for a certificate, as lists in any order.
 use Rattle.std.specs.Prelude.{◌≡◌, ◌↔◌, ℕ, List, None, Some, Contains}
 use Rattle.sdbt_base.specs.declared.lists.Unkept.{Unkept}
-use Rattle.key_graph.specs.Trace.{Traced, Entries, Has}
+use Rattle.key_graph.specs.Trace.{Entries, Has}
+use Rattle.sdbt_base.specs.Traces.{Traced}
 
 -- the lists have what is in the new tree alone, what is in the old tree alone, and the data pages in neither
 pub record Differ (old new : Entries) (pages : List Unkept) (added : List Traced) (gone : List ℕ) (never : List Unkept) : Type 0 where

@@ -27,7 +27,7 @@ pub struct AddedList {
 
 impl Model for AddedList {
     ghost use Rattle.std.specs.Prelude.{List, map};
-    ghost use Rattle.key_graph.specs.Trace.{Traced};
+    ghost use Rattle.sdbt_base.specs.Traces.{Traced};
     ghost use Rattle.cert_maker.specs.Added.{traced};
 
     ghost Value = { List Traced };

@@ -8,18 +8,18 @@ use Rattle.std.proofs.lemmas.List.Elements.{All-nil, All-cons}
 use Rattle.sdbt_base.specs.Told.{Gave, Got, IsAtEnd}
 use Rattle.script_lang.specs.Lines.{lines_of}
 use Rattle.script_lang.specs.Replies.{line_of}
-use Rattle.script_lang.specs.Arrays.{State, in_limits, needs_room, step}
+use Rattle.script_lang.specs.Arrays.{in_limits, needs_room, step}
+use Rattle.sdbt_base.specs.Arrays.{State, closed}
 use Rattle.script_lang.specs.Answers.{Answers, answer, is_unbuilt}
 use Rattle.script_lang.specs.declared.commands.Command.{Command}
 use Rattle.script_lang.specs.declared.commands.Command.TheVariants.{Format, Mount, Read, Write, Trim, Commit, Drop, Erase, Seize}
 use Rattle.script_lang.specs.declared.commands.Command.TheVariants as commands
-use Rattle.script_lang.specs.declared.devices.Device.{Device}
-use Rattle.script_lang.specs.declared.devices.Session.{Session as OpenSession}
+use Rattle.sdbt_base.specs.Arrays.{Device, Session as OpenSession}
 use Rattle.script_lang.specs.declared.replies.Reply.{Reply}
 use Rattle.script_lang.specs.declared.replies.Reply.TheVariants.{Full}
 use Rattle.device_core.specs.Leaf.{IsServedImage}
 use Rattle.device_cli.specs.World.{World}
-use Rattle.device_cli.specs.Represents.{StandsFor, closed}
+use Rattle.device_cli.specs.Represents.{StandsFor}
 use Rattle.device_cli.specs.Pages.{TurnIf, AnswersOn}
 use Rattle.std.proofs.Common.{Ok, Err}
 use Rattle.std.specs.Prelude.{IfErr}

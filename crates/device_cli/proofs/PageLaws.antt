@@ -1,7 +1,7 @@
 -- How the answers to some lines and to the next ones make those to all, with the pages that there are.
 use Rattle.std.proofs.Common.{◌≡◌, ℕ, ◌+◌, ◌≤◌, ◌==◌, List, [], ◌∷◌, ◌++◌, length, inl, inr, subst, arith}
 use Rattle.std.proofs.lemmas.Bool.{cases_Bool}
-use Rattle.script_lang.specs.Arrays.{State}
+use Rattle.sdbt_base.specs.Arrays.{State}
 use Rattle.script_lang.specs.Answers.{Turn, Answers}
 use Rattle.script_lang.specs.declared.replies.Reply.{Reply}
 use Rattle.std.specs.Prelude.{Bool}

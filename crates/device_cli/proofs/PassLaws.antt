@@ -6,10 +6,9 @@ use Rattle.platform.specs.History.{History, During, Turns}
 use Rattle.platform.specs.Runs.{Passes}
 use Rattle.platform.proofs.RunLaws.{Passes-start, Passes-during, Passes-turns, Passes-then, Passes-same}
 use Rattle.page_store.proofs.StandsLaws.{stands_leaves}
-use Rattle.script_lang.specs.Arrays.{State}
+use Rattle.sdbt_base.specs.Arrays.{State, Device}
 use Rattle.script_lang.specs.Answers.{Turn, Answers, IsMark}
 use Rattle.script_lang.proofs.AnswerLaws.{Answers-append, Answers-longer}
-use Rattle.script_lang.specs.declared.devices.Device.{Device}
 use Rattle.script_lang.specs.declared.replies.Reply.{Reply}
 use Rattle.device_cli.specs.Represents.{StandsFor, Leaves}
 use Rattle.device_cli.specs.Replied.{HasMark}

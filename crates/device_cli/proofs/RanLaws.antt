@@ -4,7 +4,7 @@ use Rattle.std.proofs.lemmas.Grind.{common_steps}
 use Rattle.sdbt_base.specs.Told.{Got, GotPart}
 use Rattle.sdbt_base.proofs.ToldLaws.{Gave-nothing, Got-nothing, Got-then}
 use Rattle.script_lang.specs.Lines.{whole_lines_of}
-use Rattle.script_lang.specs.Arrays.{State}
+use Rattle.sdbt_base.specs.Arrays.{State}
 use Rattle.script_lang.specs.declared.replies.Reply.TheVariants.{Full}
 use Rattle.std.proofs.lemmas.List.Elements.{All-nil}
 use Rattle.platform.specs.History.{During}

@@ -1,7 +1,7 @@
 -- How the parts of a run compose, and what follows of the whole.
 use Rattle.std.proofs.Common.{◌≡◌, ℕ, List, ◌++◌, Option, None, Some, Result, Ok, Err, length, refl, sym, ◌∙◌, subst}
 use Rattle.std.specs.Prelude.{OnOk}
-use Rattle.page_store.specs.Device.{Device as StoredDevice}
+use Rattle.sdbt_base.specs.Arrays.{Device as StoredDevice, Device, State}
 use Rattle.root_codec.specs.RootRecord.{root_bytes}
 use Rattle.platform.specs.Image.{Image, LeavesOnly}
 use Rattle.platform.specs.History.{History, Extends, During}
@@ -19,8 +19,6 @@ use Rattle.device_core.specs.Knowing.{HoldsListed}
 use Rattle.device_core.specs.Leaf.{IsServedImage}
 use Rattle.device_core.specs.declared.session.Session.{Session}
 use Rattle.device_core.proofs.KeyLaws.{listed_sound, listed_same, listed_grown}
-use Rattle.script_lang.specs.declared.devices.Device.{Device}
-use Rattle.script_lang.specs.Arrays.{State}
 use Rattle.script_lang.specs.declared.replies.Reply.{Reply}
 use Rattle.device_cli.specs.Replied.{HasMark}
 use Rattle.device_cli.specs.Represents.{StandsFor}

@@ -14,7 +14,7 @@ use Rattle.sdbt_base.proofs.ToldLaws.{Got-nothing, Got-then}
 use Rattle.script_lang.specs.Grammar.{Spells, IsBad}
 use Rattle.script_lang.specs.Replies.{line_of}
 use Rattle.script_lang.specs.declared.commands.Command.{Command}
-use Rattle.script_lang.specs.Arrays.{State}
+use Rattle.sdbt_base.specs.Arrays.{State}
 use Rattle.script_lang.specs.Answers.{Answers, Turn, IsMark, answer}
 use Rattle.script_lang.proofs.AnswerLaws.{Answers-longer}
 use Rattle.script_lang.specs.declared.replies.Reply.{Reply}

@@ -6,14 +6,13 @@ use Rattle.sdbt_base.specs.Told.{Got, IsAtEnd}
 use Rattle.sdbt_base.proofs.ToldLaws.{Gave-nothing, Got-nothing}
 use Rattle.script_lang.specs.Lines.{whole_lines_of, lines_of}
 use Rattle.script_lang.specs.Replies.{line_of}
-use Rattle.script_lang.specs.Arrays.{State}
-use Rattle.script_lang.specs.declared.devices.Device.{Device}
+use Rattle.sdbt_base.specs.Arrays.{State, Device, closed}
 use Rattle.script_lang.specs.declared.replies.Reply.{Reply}
 use Rattle.script_lang.specs.declared.replies.Reply.TheVariants.{Full}
 use Rattle.device_core.specs.declared.session.Session.{Session}
 use Rattle.platform.specs.History.{History}
 use Rattle.device_cli.specs.World.{World, world}
-use Rattle.device_cli.specs.Represents.{StandsFor, IsSessionOf, Represents, closed}
+use Rattle.device_cli.specs.Represents.{StandsFor, IsSessionOf, Represents}
 use Rattle.device_cli.specs.Replied.{Ending, IsBehind, AreMany, IsDamageAt, IfNext, AsksForBlock, IsWrongPage, IsFirstPart, IsAhead, EndsIn, Answered, damage_line}
 use Rattle.device_cli.specs.Added.{IsNear}
 use Rattle.device_cli.specs.Pages.{IsOneMore}

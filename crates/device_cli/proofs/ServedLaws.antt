@@ -10,7 +10,7 @@ use Rattle.platform.proofs.Moments.{Turns-not}
 use Rattle.page_store.specs.Leaf.{leaf_parts}
 use Rattle.page_store.proofs.LeafStandsLaws.{stands_by_leaf}
 use Rattle.page_store.proofs.StandsLaws.{stands_during}
-use Rattle.device_core.specs.Blocks.{Blocks, block_content}
+use Rattle.sdbt_base.specs.Arrays.{Blocks, content_of, closed}
 use Rattle.device_core.specs.Open.{is_touched}
 use Rattle.device_core.specs.Holds.{Holds}
 use Rattle.device_core.specs.declared.session.Session.{Session}
@@ -21,13 +21,12 @@ use Rattle.script_lang.specs.declared.commands.Command.TheVariants as commands
 use Rattle.script_lang.specs.declared.replies.Reply.{Reply}
 use Rattle.script_lang.specs.declared.replies.Reply.TheVariants.{Formatted, Mounted, Content, Done, Committed, Dropped, Erased, Unmounted, AlreadyMounted, NotEmpty, NoDevice, Range, Full, Unbuilt}
 use Rattle.script_lang.specs.declared.replies.Reply.TheVariants as replies
-use Rattle.script_lang.specs.declared.devices.Device.{Device}
-use Rattle.script_lang.specs.declared.devices.Session.{Session as OpenSession}
-use Rattle.script_lang.specs.Arrays.{State, zeros, content_reply, in_limits, new_device, session_on, committed, written, unmapped}
+use Rattle.sdbt_base.specs.Arrays.{Device, Session as OpenSession, State, new_device, session_on, committed, written, unmapped}
+use Rattle.script_lang.specs.Arrays.{content_reply, in_limits}
 use Rattle.script_lang.specs.Answers.{answer}
 use Rattle.device_cli.specs.World.{World, is_full}
 use Rattle.device_cli.specs.Replied.{Serves, Halts, IsSound}
-use Rattle.device_cli.specs.Represents.{stored, StandsFor, Leaves, IsSessionOf, Represents, closed}
+use Rattle.device_cli.specs.Represents.{StandsFor, Leaves, IsSessionOf, Represents}
 use Rattle.device_cli.specs.declared.stop.DeviceStop.{DeviceStop}
 use Rattle.device_cli.specs.declared.stop.DeviceStop.TheVariants as device
 
@@ -37,18 +36,18 @@ at device session = record { device = Some device; session = Some session }
 
 by_cases : (s : Option Session) (image : Image) (device : Option Device) (there : Option OpenSession) (session : Session) → s ≡ Some session
     → IsSessionOf s image device there → (Goal : State → Type 0)
-    → ((d : Device) (t : OpenSession) → Holds session image (stored d) t.contents → is_touched session ≡ t.touched → Goal (at d t))
+    → ((d : Device) (t : OpenSession) → Holds session image d t.contents → is_touched session ≡ t.touched → Goal (at d t))
     → Goal (record { device = device; session = there })
 by_cases None image device there session e h Goal k = absurd cc
 by_cases (Some s) image device None session e h Goal k = absurd h
 by_cases (Some s) image None (Some t) session e h Goal k = absurd h
 by_cases (Some s) image (Some d) (Some t) session e h Goal k =
     let same : s ≡ session = cc in
-    k d t (subst (λ (x : Session). Holds x image (stored d) t.contents) same h.0) (subst (λ (x : Session). is_touched x ≡ t.touched) same h.1)
+    k d t (subst (λ (x : Session). Holds x image d t.contents) same h.0) (subst (λ (x : Session). is_touched x ≡ t.touched) same h.1)
 
 -- what a world with a session stands for
 pub with_session : (w : World) (session : Session) (state : State) → w.session ≡ Some session → Represents w state → (Goal : State → Type 0)
-    → ((d : Device) (t : OpenSession) → Holds session w.history.present (stored d) t.contents → is_touched session ≡ t.touched → Goal (at d t)) → Goal state
+    → ((d : Device) (t : OpenSession) → Holds session w.history.present d t.contents → is_touched session ≡ t.touched → Goal (at d t)) → Goal state
 with_session w session state e rep Goal k = by_cases w.session w.history.present state.device state.session session e rep.session Goal k
 
 none_there : (s : Option Session) (image : Image) (device : Option Device) (there : Option OpenSession) → s ≡ None → IsSessionOf s image device there → there ≡ None
@@ -62,12 +61,12 @@ without_session w state e rep Goal k =
     subst (λ (there : Option OpenSession). Goal (record { device = state.device; session = there })) (sym (none_there w.session w.history.present state.device state.session e rep.session)) (k rep.device)
 
 -- below a session the image stands for its device
-pub holds_stands : (session : Session) (image : Image) (d : Device) (contents : Blocks) → Holds session image (stored d) contents → StandsFor image (Some d)
+pub holds_stands : (session : Session) (image : Image) (d : Device) (contents : Blocks) → Holds session image d contents → StandsFor image (Some d)
 holds_stands session image d contents holds =
-    (session.root, leaf_parts session.root.addr session.root.key holds.leaf holds.leaf_texts, stands_by_leaf image (stored d) session.root holds.leaf holds.leaf_texts holds.stands)
+    (session.root, leaf_parts session.root.addr session.root.key holds.leaf holds.leaf_texts, stands_by_leaf image d session.root holds.leaf holds.leaf_texts holds.stands)
 
 pub has_session : (w : World) (session : Session) (d : Device) (t : OpenSession) → w.session ≡ Some session
-    → Holds session w.history.present (stored d) t.contents → is_touched session ≡ t.touched → Represents w (at d t)
+    → Holds session w.history.present d t.contents → is_touched session ≡ t.touched → Represents w (at d t)
 has_session w session d t e holds touched = record {
   device = holds_stands session w.history.present d t.contents holds;
   session = subst (λ (s : Option Session). IsSessionOf s w.history.present (Some d) (Some t)) (sym e) (holds, touched);
@@ -81,10 +80,10 @@ has_none w device e stands = record {
 
 -- nothing changed
 pub unchanged : (old new : World) (session now : Session) (d : Device) (t : OpenSession) → new.session ≡ Some now → now ≡ session → new.history.present ≡ old.history.present
-    → Holds session old.history.present (stored d) t.contents → is_touched session ≡ t.touched → Represents new (at d t)
+    → Holds session old.history.present d t.contents → is_touched session ≡ t.touched → Represents new (at d t)
 unchanged old new session now d t e same still holds touched =
     has_session new now d t e
-    (subst (λ (s : Session). Holds s new.history.present (stored d) t.contents) (sym same) (subst (λ (i : Image). Holds session i (stored d) t.contents) (sym still) holds))
+    (subst (λ (s : Session). Holds s new.history.present d t.contents) (sym same) (subst (λ (i : Image). Holds session i d t.contents) (sym still) holds))
     (subst (λ (s : Session). is_touched s ≡ t.touched) (sym same) touched)
 
 -- time in which the cell stays leaves the device
@@ -151,7 +150,7 @@ above : (block blocks : ℕ) → blocks ≤ block → nat_lt block blocks ≡ fa
 above block blocks h = grind (arith, common_steps)
 
 -- and with one
-pub gives_content : (full : Bool) (d : Device) (t : OpenSession) (block : ℕ) (content : List ℕ) → block < d.blocks → content ≡ block_content t.contents block
+pub gives_content : (full : Bool) (d : Device) (t : OpenSession) (block : ℕ) (content : List ℕ) → block < d.blocks → content ≡ content_of t.contents block
     → (content_reply content, at d t) ≡ answer full (at d t) (Read block)
 unfolding zeros
 gives_content full d t block content within is = rw (below block d.blocks within) (ap (λ (c : List ℕ). (content_reply c, at d t)) is)

@@ -20,13 +20,11 @@ use Rattle.script_lang.specs.declared.commands.Command.TheVariants as commands
 use Rattle.script_lang.specs.declared.replies.Reply.{Reply}
 use Rattle.script_lang.specs.declared.replies.Reply.TheVariants.{Formatted, Mounted, Done, Committed, Dropped, Erased, Unmounted, AlreadyMounted, NotEmpty, NoDevice, Range, Full, Unbuilt}
 use Rattle.script_lang.specs.declared.replies.Reply.TheVariants as replies
-use Rattle.script_lang.specs.declared.devices.Device.{Device}
-use Rattle.script_lang.specs.declared.devices.Session.{Session as OpenSession}
-use Rattle.script_lang.specs.Arrays.{State, new_device, session_on, committed}
+use Rattle.sdbt_base.specs.Arrays.{Device, Session as OpenSession, State, new_device, session_on, committed, closed}
 use Rattle.script_lang.specs.Answers.{answer}
 use Rattle.device_cli.specs.World.{World, is_full, world}
 use Rattle.device_cli.specs.Replied.{Serves, Halts}
-use Rattle.device_cli.specs.Represents.{stored, StandsFor, Leaves, IsSessionOf, Represents, closed}
+use Rattle.device_cli.specs.Represents.{StandsFor, Leaves, IsSessionOf, Represents}
 use Rattle.device_cli.specs.declared.stop.DeviceStop.TheVariants as device
 use Rattle.device_cli.proofs.ServedLaws.{at, on, with_session, without_session, holds_stands, has_session, has_none, serves_still, halts_still, is_full_true, is_full_false, gives_raised, gives_idle, gives_commit_full, gives_stat, gives_formatted, gives_format_full}
 
@@ -69,7 +67,7 @@ serves_drop s now h head capacity entry session some none rep =
     (has_none (world now h head capacity) (Some d) none (holds_stands session h.present d t.contents holds)))
 
 pub serves_stat : (s : Option Session) (h : History) (head capacity : ℕ) (entry : State) (session : Session) (mapped number : ℕ) → s ≡ Some session
-    → ((d : Device) (t : OpenSession) → Holds session h.present (stored d) t.contents → (mapped ≡ map.len t.contents) × (number ≡ d.number))
+    → ((d : Device) (t : OpenSession) → Holds session h.present d t.contents → (mapped ≡ map.len t.contents) × (number ≡ d.number))
     → Represents (world s h head capacity) entry → Serves (world s h head capacity) (world s h head capacity) entry commands.Stat (Ok (replies.Stat mapped number))
 serves_stat s h head capacity entry session mapped number some tells rep =
     let old = world s h head capacity in
@@ -89,7 +87,7 @@ serves_already s h head capacity entry session some rep =
 -- a session on what is there
 serves_mounted_at : (old new : World) (there : Option Device) (session : Session) (number : ℕ) → old.session ≡ None → StandsFor old.history.present there
     → old.history.present.cell ≢ None → new.session ≡ Some session → is_touched session ≡ false
-    → ((d : Device) → StandsFor old.history.present (Some d) → Holds session new.history.present (stored d) d.contents × (number ≡ d.number))
+    → ((d : Device) → StandsFor old.history.present (Some d) → Holds session new.history.present d d.contents × (number ≡ d.number))
     → KeepsCell old new → Serves old new (closed there) Mount (Ok (Mounted number))
 serves_mounted_at old new None session number none stands full some fresh holds keeps = absurd (full stands)
 serves_mounted_at old new (Some d) session number none stands full some fresh holds keeps =
@@ -99,7 +97,7 @@ serves_mounted_at old new (Some d) session number none stands full some fresh ho
 
 pub serves_mounted : (old new : World) (entry : State) (session : Session) (number : ℕ) → old.session ≡ None → old.history.present.cell ≢ None
     → new.session ≡ Some session → is_touched session ≡ false
-    → ((d : Device) → StandsFor old.history.present (Some d) → Holds session new.history.present (stored d) d.contents × (number ≡ d.number))
+    → ((d : Device) → StandsFor old.history.present (Some d) → Holds session new.history.present d d.contents × (number ≡ d.number))
     → KeepsCell old new → Represents old entry → Serves old new entry Mount (Ok (Mounted number))
 serves_mounted old new entry session number none full some fresh holds keeps rep =
     without_session old entry none rep (λ state. Serves old new state Mount (Ok (Mounted number)))
@@ -244,15 +242,15 @@ pub serves_committed : (old new : World) (entry : State) (session now : Session)
     → (is_touched session ≡ false → (reply ≡ commits.Committed (number_of session)) × (now ≡ session) × (new.history.present ≡ old.history.present) × KeepsCell old new)
     → (is_touched session ≡ true → old.head ≡ old.capacity → reply ≡ commits.Full 1 0)
     → (is_touched session ≡ true → (old.head ≡ old.capacity → ⊥) → (reply ≡ commits.Committed (number_of session + 1)) × (is_touched now ≡ false))
-    → ((d : Device) (t : OpenSession) → Holds session old.history.present (stored d) t.contents
-    → Holds now new.history.present (device_after reply (stored d) t.contents) t.contents
+    → ((d : Device) (t : OpenSession) → Holds session old.history.present d t.contents
+    → Holds now new.history.present (device_after reply d t.contents) t.contents
     × Turns old.history new.history (Leaves (Some d)) (Leaves (Some (committed d t))))
     → Represents old entry → Serves old new entry Commit (Ok (Committed number))
 serves_committed old new entry session now number reply some some_now is idle full raised after rep =
     with_session old session entry some rep (λ state. Serves old new state Commit (Ok (Committed number)))
     (λ d t holds touched. cases d t holds (is_touched session) refl touched)
   where
-    cases : (d : Device) (t : OpenSession) → Holds session old.history.present (stored d) t.contents → (b : Bool) → is_touched session ≡ b → is_touched session ≡ t.touched
+    cases : (d : Device) (t : OpenSession) → Holds session old.history.present d t.contents → (b : Bool) → is_touched session ≡ b → is_touched session ≡ t.touched
         → Serves old new (at d t) Commit (Ok (Committed number))
     cases d t holds false b same =
         let i = idle b in
@@ -260,7 +258,7 @@ serves_committed old new entry session now number reply some some_now is idle fu
         subst (λ (n : ℕ). Serves old new (at d t) Commit (Ok (Committed n))) (sym e)
         (serves_still old new (at d t) (at d t) Commit (Committed d.number) (has_session old session d t some holds same) (gives_idle (is_full old) d t (sym same ∙ b))
         (has_session new now d t some_now
-        (subst (λ (s : Session). Holds s new.history.present (stored d) t.contents) (sym i.1) (subst (λ (image : Image). Holds session image (stored d) t.contents) (sym i.2) holds))
+        (subst (λ (s : Session). Holds s new.history.present d t.contents) (sym i.1) (subst (λ (image : Image). Holds session image d t.contents) (sym i.2) holds))
         (subst (λ (s : Session). is_touched s ≡ t.touched) (sym i.1) same)) i.3)
     cases d t holds true b same = elim (eqb_tells old.head old.capacity) [
       | inl equal ↦ absurd (let f = full b equal.1 in cc)
@@ -270,8 +268,8 @@ serves_committed old new entry session now number reply some some_now is idle fu
           let a = after d t holds in
           let e : number ≡ d.number + 1 = (let x : commits.Committed number ≡ commits.Committed (number_of session + 1) = sym is ∙ both.0 in let n : number ≡ number_of session + 1 = cc in n)
           ∙ ap (λ (k : ℕ). k + 1) holds.stands.number in
-          let has = subst (λ (r : CommitReply). Holds now new.history.present (device_after r (stored d) t.contents) t.contents) is a.0 in
-          let has_now = subst (λ (k : ℕ). Holds now new.history.present (record (stored d) { number = k; contents = t.contents }) t.contents) e has in
+          let has = subst (λ (r : CommitReply). Holds now new.history.present (device_after r d t.contents) t.contents) is a.0 in
+          let has_now = subst (λ (k : ℕ). Holds now new.history.present (record d { number = k; contents = t.contents }) t.contents) e has in
           subst (λ (n : ℕ). Serves old new (at d t) Commit (Ok (Committed n))) (sym e) (
             at (committed d t) (session_on (committed d t)),
             gives_raised (is_full old) d t room (sym same ∙ b),
@@ -290,7 +288,7 @@ serves_commit_full old new entry session now needed free reply some some_now is 
     with_session old session entry some rep (λ state. Serves old new state Commit (Ok Full))
     (λ d t holds touched. cases d t holds (is_touched session) refl touched)
   where
-    cases : (d : Device) (t : OpenSession) → Holds session old.history.present (stored d) t.contents → (b : Bool) → is_touched session ≡ b → is_touched session ≡ t.touched
+    cases : (d : Device) (t : OpenSession) → Holds session old.history.present d t.contents → (b : Bool) → is_touched session ≡ b → is_touched session ≡ t.touched
         → Serves old new (at d t) Commit (Ok Full)
     cases d t holds false b same = absurd (let i = idle b in cc)
     cases d t holds true b same = elim (eqb_tells old.head old.capacity) [
@@ -298,7 +296,7 @@ serves_commit_full old new entry session now needed free reply some some_now is 
           let f = full b equal.1 in
           serves_still old new (at d t) (at d t) Commit Full (has_session old session d t some holds same) (gives_commit_full (is_full old) d t (is_full_true old equal.1) (sym same ∙ b))
           (has_session new now d t some_now
-          (subst (λ (s : Session). Holds s new.history.present (stored d) t.contents) (sym f.0) (subst (λ (image : Image). Holds session image (stored d) t.contents) (sym f.1) holds))
+          (subst (λ (s : Session). Holds s new.history.present d t.contents) (sym f.0) (subst (λ (image : Image). Holds session image d t.contents) (sym f.1) holds))
           (subst (λ (s : Session). is_touched s ≡ t.touched) (sym f.0) same)) f.2
       | inr differ ↦ absurd (let r = raised b differ.1 in cc)
     ]
@@ -306,7 +304,7 @@ serves_commit_full old new entry session now needed free reply some some_now is 
 -- a commit at which the platform failed
 pub halts_commit : (old new : World) (entry : State) (session : Session) → old.session ≡ Some session → (is_touched session ≡ false → ⊥)
     → (is_touched session ≡ true → old.head ≡ old.capacity → ⊥)
-    → ((d : Device) (t : OpenSession) → Holds session old.history.present (stored d) t.contents → Turns old.history new.history (Leaves (Some d)) (Leaves (Some (committed d t))))
+    → ((d : Device) (t : OpenSession) → Holds session old.history.present d t.contents → Turns old.history new.history (Leaves (Some d)) (Leaves (Some (committed d t))))
     → Represents old entry → Halts old new entry Commit device.Platform
 halts_commit old new entry session some busy room turns rep =
     with_session old session entry some rep (λ state. Halts old new state Commit device.Platform)

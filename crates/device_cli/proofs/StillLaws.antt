@@ -4,7 +4,7 @@ use Rattle.platform.specs.Image.{Image}
 use Rattle.platform.specs.History.{Steps, During}
 use Rattle.platform.proofs.Moments.{During-step}
 use Rattle.page_store.proofs.StandsLaws.{stands_during}
-use Rattle.script_lang.specs.Arrays.{State}
+use Rattle.sdbt_base.specs.Arrays.{State}
 use Rattle.device_core.specs.Leaf.{IsServedImage}
 use Rattle.device_core.specs.declared.session.Session.{Session}
 use Rattle.device_cli.specs.World.{World}

@@ -1,6 +1,17 @@
 -- What a run may rely on between lines.
-use Rattle.std.specs.Prelude.{◌≡◌, ℕ, Some, IfSome}
+use Rattle.std.specs.Prelude.{◌≡◌, ◌≤◌, ◌+◌, ℕ, Some, Result, IfSome, IfOk, IfErr, OnOk, IsErrOf}
 use Rattle.platform.specs.Image.{Image}
+use Rattle.platform.specs.declared.platforms.Platform.{Ghosts}
+use Rattle.device_core.specs.Leaf.{IsServedImage}
+use Rattle.script_lang.specs.Replies.{CanWrite}
+use Rattle.script_lang.specs.declared.replies.Reply.{Reply}
+use Rattle.script_lang.specs.declared.replies.Reply.TheVariants as replies
+use Rattle.device_cli.specs.Added.{HasAdded}
+use Rattle.device_cli.specs.Run.{IsOfLine}
+use Rattle.device_cli.specs.declared.stop.Stop.{Stop}
+use Rattle.device_cli.specs.declared.stop.Stop.TheVariants as lines
+use Rattle.device_cli.specs.declared.stop.DeviceStop.{DeviceStop}
+use Rattle.device_cli.specs.declared.stop.DeviceStop.TheVariants as stops
 use Rattle.root_codec.specs.RootRecord.{root_bytes}
 use Rattle.device_core.specs.Open.{IsOpen, root_of}
 use Rattle.device_core.specs.Holds.{Follows}
@@ -15,3 +26,29 @@ IsReady desk head = IfSome desk.session (λ session. IsOpen session head)
 pub record IsMounted (image : Image) (session : Session) : Type 0 where
   pub cell : image.cell ≡ Some (root_bytes (root_of session))
   pub follows : Follows session image
+
+-- what each command may rely on: the session is open and on the root record in the cell, which can be served
+pub record Before {S : Type 0} (P : Ghosts S) (desk : Desk) (platform : S) : Type 0 where
+  pub ready : IsReady desk (P.head platform)
+  pub cell : P.tells → IsServedImage (P.history platform).present
+  pub mounted : P.tells → IfSome desk.session (IsMounted (P.history platform).present)
+
+-- what each command leaves for the next one. Its reply can be put; one page at most was added, and none at a stop that isn't the platform's or the
+-- ledger's; and a reply that no page was free is true
+pub record After {S : Type 0} (P : Ghosts S) (desk : Desk) (old new : S) (result : Result Reply DeviceStop) : Type 0 where
+  pub ready : OnOk result (IsReady desk (P.head new))
+  pub mounted : P.tells → OnOk result (IfSome desk.session (IsMounted (P.history new).present))
+  pub reply : IfOk result CanWrite
+  pub bad_root : P.tells → IsErrOf result stops.BadRoot → ⊥
+  pub capacity : P.capacity new ≡ P.capacity old
+  pub rises : P.head old ≤ P.head new
+  pub by_one : P.head new ≤ P.head old + 1
+  pub added : IfErr result (λ stop. HasAdded stop (P.head old) (P.head new))
+  pub full : IfOk result (λ reply. reply ≡ replies.Full → P.head new ≡ P.capacity new)
+
+-- what each line leaves for the next one; it stops neither for the input nor for a root record that can't be served
+pub record AfterLine {S : Type 0} (P : Ghosts S) (desk : Desk) (platform : S) (result : Result (Unit {0}) Stop) : Type 0 where
+  pub ready : OnOk result (IsReady desk (P.head platform))
+  pub mounted : P.tells → OnOk result (IfSome desk.session (IsMounted (P.history platform).present))
+  pub bad_root : P.tells → IsErrOf result (lines.Device stops.BadRoot) → ⊥
+  pub stops : IfErr result IsOfLine

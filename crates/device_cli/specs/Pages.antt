@@ -1,7 +1,8 @@
 -- Which replies belong to the lines of a script, on a medium of so many pages.
 use Rattle.std.specs.Prelude.{◌≡◌, ℕ, ◌+◌, ◌≤◌, Bool, true, false, ◌&&◌, ◌==◌, if◌then◌else◌, List, [], ◌∷◌, ◌⊎◌}
 use Rattle.script_lang.specs.Grammar.{Spells, IsBad}
-use Rattle.script_lang.specs.Arrays.{State, on_session}
+use Rattle.script_lang.specs.Arrays.{on_session}
+use Rattle.sdbt_base.specs.Arrays.{State}
 use Rattle.script_lang.specs.Answers.{answer}
 use Rattle.script_lang.specs.declared.commands.Command.{Command}
 use Rattle.script_lang.specs.declared.commands.Command.TheVariants.{Format, Mount, Read, Write, Trim, Commit, Drop, Erase, Stat, Seize}

@@ -10,9 +10,8 @@ use Rattle.device_core.specs.Damage.{IsDamaged}
 use Rattle.sdbt_base.specs.Told.{Got, GotPart}
 use Rattle.script_lang.specs.Grammar.{Spells}
 use Rattle.script_lang.specs.Replies.{line_of}
-use Rattle.script_lang.specs.Arrays.{State}
+use Rattle.sdbt_base.specs.Arrays.{State, Device}
 use Rattle.script_lang.specs.Answers.{IsMark, answer}
-use Rattle.script_lang.specs.declared.devices.Device.{Device}
 use Rattle.script_lang.specs.declared.commands.Command.{Command}
 use Rattle.script_lang.specs.declared.commands.Command.TheVariants as commands
 use Rattle.script_lang.specs.declared.replies.Reply.{Reply}

@@ -1,9 +1,10 @@
 -- How a run ends, what it took from its input, and what its stops are due to.
-use Rattle.std.specs.Prelude.{◌≡◌, ℕ, ◌^◌, ◌<◌, ◌≤◌, ◌⊎◌, List, [], Option, Result, OnOk, IsErrOf, length}
+use Rattle.std.specs.Prelude.{◌≡◌, ℕ, ◌^◌, ◌<◌, ◌≤◌, ◌⊎◌, List, [], Option, Result, OnOk, IfErr, IsErrOf, length}
 use Rattle.sdbt_base.specs.Faults.{Rose}
 use Rattle.sdbt_base.specs.Told.{IsAtEnd}
 use Rattle.device_cli.specs.declared.stop.Stop.{Stop}
 use Rattle.device_cli.specs.declared.stop.Stop.TheVariants as stops
+use Rattle.device_cli.specs.declared.stop.DeviceStop.{DeviceStop}
 use Rattle.device_cli.specs.declared.stop.DeviceStop.TheVariants as device
 
 -- the counts of faults of what a run is handed
@@ -44,6 +45,16 @@ HasCause before now (stops.Device device.BadRoot) = Unit {0}
 HasCause before now (stops.Device (device.BadRecord addr)) = Unit {0}
 HasCause before now (stops.Device device.Memory) = Unit {0}
 HasCause before now stops.Limit = Unit {0}
+
+-- no count fell, and a command that stopped at a fault did so where the count of that object rose
+pub record IsBlamed {T : Type 0} (before now : Counts) (result : Result T DeviceStop) : Type 0 where
+  pub fell : NoneFell before now
+  pub cause : IfErr result (λ stop. HasCause before now (stops.Device stop))
+
+-- the same of a run, or a part of one
+pub record IsBlamedOn {T : Type 0} (before now : Counts) (result : Result T Stop) : Type 0 where
+  pub fell : NoneFell before now
+  pub cause : IfErr result (HasCause before now)
 
 -- the exit status of each stop
 abbrev pub status_of : Stop → ℕ

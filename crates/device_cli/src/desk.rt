@@ -3,14 +3,15 @@ ghost use Rattle.std.specs.Prelude.{◌≡◌, ◌≢◌, ◌<◌, ◌≤◌, �
 ghost use Rattle.arrayvec.specs.ArrayVec.{ArrayVec as Bytes};
 ghost use Rattle.sdbt_base.specs.Faults.{Rose};
 ghost use Rattle.script_lang.specs.Replies.{CanWrite};
-ghost use Rattle.script_lang.specs.Arrays.{State, in_limits};
+ghost use Rattle.script_lang.specs.Arrays.{in_limits};
+ghost use Rattle.sdbt_base.specs.Arrays.{State};
 ghost use Rattle.device_core.specs.Leaf.{IsServedImage};
-ghost use Rattle.device_cli.specs.Run.{counts, NoneFell, HasCause};
+ghost use Rattle.device_cli.specs.Run.{counts, IsBlamed};
 ghost use Rattle.platform.specs.History.{During};
 ghost use Rattle.device_cli.specs.Replied.{IsOfBlock, IsWrongPage, Serves};
 
 use crate::entry::MOST_BLOCKS;
-use crate::stop::{DeviceStop, Stop};
+use crate::stop::DeviceStop;
 use device_core::{
     CommitFault, CommitReply, EraseRefusal, FormatRefusal, MountRefusal, ReadRefusal, Session,
     TrimRefusal, WriteRefusal,
@@ -28,10 +29,9 @@ pub(crate) struct Desk {
 }
 
 impl Desk {
-    ghost use Rattle.device_cli.specs.Desk.{IsReady, IsMounted};
+    ghost use Rattle.device_cli.specs.Desk.{IsReady, Before, After};
     ghost use Rattle.device_cli.specs.World.{world};
     ghost use Rattle.device_cli.specs.Pages.{pages_after};
-    ghost use Rattle.device_cli.specs.Added.{HasAdded};
     ghost use Rattle.device_cli.specs.Represents.{Represents};
     ghost use Rattle.device_cli.specs.Reaching.{IsListed, KeepsOn};
 
@@ -54,24 +54,12 @@ impl Desk {
         ledger: &mut L,
         command: &Command,
     ) -> Result<Reply, DeviceStop>
-        requires ready { IsReady self.old (P.head platform.old) }
-        requires cell { P.tells → IsServedImage (P.history platform.old).present }
-        requires mounted { P.tells → IfSome self.old.session (IsMounted (P.history platform.old).present) }
-        ensures ready { OnOk result (IsReady self.new (P.head platform.new)) }
+        requires { Before P.Platform self.old platform.old }
+        ensures after { After P.Platform self.new platform.old platform.new result }
         ensures cell { P.tells → During (P.history platform.old) (P.history platform.new) IsServedImage }
-        ensures mounted { P.tells → OnOk result (IfSome self.new.session (IsMounted (P.history platform.new).present)) }
-        ensures reply { IfOk result CanWrite }
-        ensures bad_root { P.tells → IsErrOf result DeviceStop.BadRoot → ⊥ }
-        ensures counts { NoneFell (counts (P.faults platform.old) (T.faults tape.old) 0 0 (L.faults ledger.old))
-            (counts (P.faults platform.new) (T.faults tape.new) 0 0 (L.faults ledger.new)) }
-        ensures cause { IfErr result (λ stop. HasCause (counts (P.faults platform.old) (T.faults tape.old) 0 0 (L.faults ledger.old))
-            (counts (P.faults platform.new) (T.faults tape.new) 0 0 (L.faults ledger.new)) (Stop.Device stop)) }
+        ensures blame { IsBlamed (counts (P.faults platform.old) (T.faults tape.old) 0 0 (L.faults ledger.old))
+            (counts (P.faults platform.new) (T.faults tape.new) 0 0 (L.faults ledger.new)) result }
         ensures unput { L.written ledger.new ≡ L.written ledger.old }
-        ensures capacity { P.capacity platform.new ≡ P.capacity platform.old }
-        ensures head_rises { P.head platform.old ≤ P.head platform.new }
-        ensures head_by_one { P.head platform.new ≤ P.head platform.old + 1 }
-        ensures added { IfErr result (λ stop. HasAdded stop (P.head platform.old) (P.head platform.new)) }
-        ensures full { IfOk result (λ reply. reply ≡ Reply.Full → P.head platform.new ≡ P.capacity platform.new) }
         ensures of_block { (addr : ℕ) → IsErrOf result (DeviceStop.BadRecord addr) → IsOfBlock command.now }
         ensures damage { P.tells → (addr : ℕ) → IsErrOf result (DeviceStop.BadRecord addr)
             → IsWrongPage (P.history platform.new).present addr }
@@ -112,24 +100,12 @@ impl Desk {
         blocks: u64,
         order: u64,
     ) -> Result<Reply, DeviceStop>
-        requires ready { IsReady self.old (P.head platform.old) }
-        requires cell { P.tells → IsServedImage (P.history platform.old).present }
-        requires mounted { P.tells → IfSome self.old.session (IsMounted (P.history platform.old).present) }
-        ensures ready { OnOk result (IsReady self.new (P.head platform.new)) }
+        requires { Before P.Platform self.old platform.old }
+        ensures after { After P.Platform self.new platform.old platform.new result }
         ensures cell { P.tells → During (P.history platform.old) (P.history platform.new) IsServedImage }
-        ensures mounted { P.tells → OnOk result (IfSome self.new.session (IsMounted (P.history platform.new).present)) }
-        ensures reply { IfOk result CanWrite }
-        ensures bad_root { P.tells → IsErrOf result DeviceStop.BadRoot → ⊥ }
-        ensures counts { NoneFell (counts (P.faults platform.old) (T.faults tape.old) 0 0 (L.faults ledger.old))
-            (counts (P.faults platform.new) (T.faults tape.new) 0 0 (L.faults ledger.new)) }
-        ensures cause { IfErr result (λ stop. HasCause (counts (P.faults platform.old) (T.faults tape.old) 0 0 (L.faults ledger.old))
-            (counts (P.faults platform.new) (T.faults tape.new) 0 0 (L.faults ledger.new)) (Stop.Device stop)) }
+        ensures blame { IsBlamed (counts (P.faults platform.old) (T.faults tape.old) 0 0 (L.faults ledger.old))
+            (counts (P.faults platform.new) (T.faults tape.new) 0 0 (L.faults ledger.new)) result }
         ensures unput { L.written ledger.new ≡ L.written ledger.old }
-        ensures capacity { P.capacity platform.new ≡ P.capacity platform.old }
-        ensures head_rises { P.head platform.old ≤ P.head platform.new }
-        ensures head_by_one { P.head platform.new ≤ P.head platform.old + 1 }
-        ensures added { IfErr result (λ stop. HasAdded stop (P.head platform.old) (P.head platform.new)) }
-        ensures full { IfOk result (λ reply. reply ≡ Reply.Full → P.head platform.new ≡ P.capacity platform.new) }
         ensures damage { (addr : ℕ) → IsErrOf result (DeviceStop.BadRecord addr) → ⊥ }
         ensures pages { P.tells → (entry : State)
             → Represents (world self.old.session (P.history platform.old) (P.head platform.old) (P.capacity platform.old)) entry
@@ -159,23 +135,10 @@ impl Desk {
     }
 
     fn mount<P: Platform>(&mut self, platform: &mut P) -> Result<Reply, DeviceStop>
-        requires ready { IsReady self.old (P.head platform.old) }
-        requires cell { P.tells → IsServedImage (P.history platform.old).present }
-        requires mounted { P.tells → IfSome self.old.session (IsMounted (P.history platform.old).present) }
-        ensures ready { OnOk result (IsReady self.new (P.head platform.new)) }
+        requires { Before P.Platform self.old platform.old }
+        ensures after { After P.Platform self.new platform.old platform.new result }
         ensures cell { P.tells → During (P.history platform.old) (P.history platform.new) IsServedImage }
-        ensures mounted { P.tells → OnOk result (IfSome self.new.session (IsMounted (P.history platform.new).present)) }
-        ensures reply { IfOk result CanWrite }
-        ensures bad_root { P.tells → IsErrOf result DeviceStop.BadRoot → ⊥ }
-        ensures counts { NoneFell (counts (P.faults platform.old) 0 0 0 0)
-            (counts (P.faults platform.new) 0 0 0 0) }
-        ensures cause { IfErr result (λ stop. HasCause (counts (P.faults platform.old) 0 0 0 0)
-            (counts (P.faults platform.new) 0 0 0 0) (Stop.Device stop)) }
-        ensures capacity { P.capacity platform.new ≡ P.capacity platform.old }
-        ensures head_rises { P.head platform.old ≤ P.head platform.new }
-        ensures head_by_one { P.head platform.new ≤ P.head platform.old + 1 }
-        ensures added { IfErr result (λ stop. HasAdded stop (P.head platform.old) (P.head platform.new)) }
-        ensures full { IfOk result (λ reply. reply ≡ Reply.Full → P.head platform.new ≡ P.capacity platform.new) }
+        ensures blame { IsBlamed (counts (P.faults platform.old) 0 0 0 0) (counts (P.faults platform.new) 0 0 0 0) result }
         ensures damage { (addr : ℕ) → IsErrOf result (DeviceStop.BadRecord addr) → ⊥ }
         ensures pages { P.tells → (entry : State)
             → Represents (world self.old.session (P.history platform.old) (P.head platform.old) (P.capacity platform.old)) entry
@@ -206,23 +169,10 @@ impl Desk {
     }
 
     fn read<P: Platform>(&mut self, platform: &mut P, block: u64) -> Result<Reply, DeviceStop>
-        requires ready { IsReady self.old (P.head platform.old) }
-        requires cell { P.tells → IsServedImage (P.history platform.old).present }
-        requires mounted { P.tells → IfSome self.old.session (IsMounted (P.history platform.old).present) }
-        ensures ready { OnOk result (IsReady self.new (P.head platform.new)) }
+        requires { Before P.Platform self.old platform.old }
+        ensures after { After P.Platform self.new platform.old platform.new result }
         ensures cell { P.tells → During (P.history platform.old) (P.history platform.new) IsServedImage }
-        ensures mounted { P.tells → OnOk result (IfSome self.new.session (IsMounted (P.history platform.new).present)) }
-        ensures reply { IfOk result CanWrite }
-        ensures bad_root { P.tells → IsErrOf result DeviceStop.BadRoot → ⊥ }
-        ensures counts { NoneFell (counts (P.faults platform.old) 0 0 0 0)
-            (counts (P.faults platform.new) 0 0 0 0) }
-        ensures cause { IfErr result (λ stop. HasCause (counts (P.faults platform.old) 0 0 0 0)
-            (counts (P.faults platform.new) 0 0 0 0) (Stop.Device stop)) }
-        ensures capacity { P.capacity platform.new ≡ P.capacity platform.old }
-        ensures head_rises { P.head platform.old ≤ P.head platform.new }
-        ensures head_by_one { P.head platform.new ≤ P.head platform.old + 1 }
-        ensures added { IfErr result (λ stop. HasAdded stop (P.head platform.old) (P.head platform.new)) }
-        ensures full { IfOk result (λ reply. reply ≡ Reply.Full → P.head platform.new ≡ P.capacity platform.new) }
+        ensures blame { IsBlamed (counts (P.faults platform.old) 0 0 0 0) (counts (P.faults platform.new) 0 0 0 0) result }
         ensures damage { P.tells → (addr : ℕ) → IsErrOf result (DeviceStop.BadRecord addr)
             → IsWrongPage (P.history platform.new).present addr }
         ensures pages { P.tells → (entry : State)
@@ -258,23 +208,11 @@ impl Desk {
         content: &[u8],
     ) -> Result<Reply, DeviceStop>
         requires size { length content.now ≤ 4096 }
-        requires ready { IsReady self.old (P.head platform.old) }
-        requires cell { P.tells → IsServedImage (P.history platform.old).present }
-        requires mounted { P.tells → IfSome self.old.session (IsMounted (P.history platform.old).present) }
-        ensures ready { OnOk result (IsReady self.new (P.head platform.new)) }
+        requires before { Before P.Platform self.old platform.old }
+        ensures after { After P.Platform self.new platform.old platform.new result }
         ensures cell { P.tells → During (P.history platform.old) (P.history platform.new) IsServedImage }
-        ensures mounted { P.tells → OnOk result (IfSome self.new.session (IsMounted (P.history platform.new).present)) }
-        ensures reply { IfOk result CanWrite }
-        ensures bad_root { P.tells → IsErrOf result DeviceStop.BadRoot → ⊥ }
-        ensures counts { NoneFell (counts (P.faults platform.old) (T.faults tape.old) 0 0 0)
-            (counts (P.faults platform.new) (T.faults tape.new) 0 0 0) }
-        ensures cause { IfErr result (λ stop. HasCause (counts (P.faults platform.old) (T.faults tape.old) 0 0 0)
-            (counts (P.faults platform.new) (T.faults tape.new) 0 0 0) (Stop.Device stop)) }
-        ensures capacity { P.capacity platform.new ≡ P.capacity platform.old }
-        ensures head_rises { P.head platform.old ≤ P.head platform.new }
-        ensures head_by_one { P.head platform.new ≤ P.head platform.old + 1 }
-        ensures added { IfErr result (λ stop. HasAdded stop (P.head platform.old) (P.head platform.new)) }
-        ensures full { IfOk result (λ reply. reply ≡ Reply.Full → P.head platform.new ≡ P.capacity platform.new) }
+        ensures blame { IsBlamed (counts (P.faults platform.old) (T.faults tape.old) 0 0 0)
+            (counts (P.faults platform.new) (T.faults tape.new) 0 0 0) result }
         ensures damage { P.tells → (addr : ℕ) → IsErrOf result (DeviceStop.BadRecord addr)
             → IsWrongPage (P.history platform.new).present addr }
         ensures pages { P.tells → (entry : State)
@@ -307,23 +245,10 @@ impl Desk {
     }
 
     fn trim<P: Platform>(&mut self, platform: &mut P, block: u64) -> Result<Reply, DeviceStop>
-        requires ready { IsReady self.old (P.head platform.old) }
-        requires cell { P.tells → IsServedImage (P.history platform.old).present }
-        requires mounted { P.tells → IfSome self.old.session (IsMounted (P.history platform.old).present) }
-        ensures ready { OnOk result (IsReady self.new (P.head platform.new)) }
+        requires { Before P.Platform self.old platform.old }
+        ensures after { After P.Platform self.new platform.old platform.new result }
         ensures cell { P.tells → During (P.history platform.old) (P.history platform.new) IsServedImage }
-        ensures mounted { P.tells → OnOk result (IfSome self.new.session (IsMounted (P.history platform.new).present)) }
-        ensures reply { IfOk result CanWrite }
-        ensures bad_root { P.tells → IsErrOf result DeviceStop.BadRoot → ⊥ }
-        ensures counts { NoneFell (counts (P.faults platform.old) 0 0 0 0)
-            (counts (P.faults platform.new) 0 0 0 0) }
-        ensures cause { IfErr result (λ stop. HasCause (counts (P.faults platform.old) 0 0 0 0)
-            (counts (P.faults platform.new) 0 0 0 0) (Stop.Device stop)) }
-        ensures capacity { P.capacity platform.new ≡ P.capacity platform.old }
-        ensures head_rises { P.head platform.old ≤ P.head platform.new }
-        ensures head_by_one { P.head platform.new ≤ P.head platform.old + 1 }
-        ensures added { IfErr result (λ stop. HasAdded stop (P.head platform.old) (P.head platform.new)) }
-        ensures full { IfOk result (λ reply. reply ≡ Reply.Full → P.head platform.new ≡ P.capacity platform.new) }
+        ensures blame { IsBlamed (counts (P.faults platform.old) 0 0 0 0) (counts (P.faults platform.new) 0 0 0 0) result }
         ensures damage { P.tells → (addr : ℕ) → IsErrOf result (DeviceStop.BadRecord addr)
             → IsWrongPage (P.history platform.new).present addr }
         ensures pages { P.tells → (entry : State)
@@ -357,24 +282,12 @@ impl Desk {
         tape: &mut T,
         ledger: &mut L,
     ) -> Result<Reply, DeviceStop>
-        requires ready { IsReady self.old (P.head platform.old) }
-        requires cell { P.tells → IsServedImage (P.history platform.old).present }
-        requires mounted { P.tells → IfSome self.old.session (IsMounted (P.history platform.old).present) }
-        ensures ready { OnOk result (IsReady self.new (P.head platform.new)) }
+        requires { Before P.Platform self.old platform.old }
+        ensures after { After P.Platform self.new platform.old platform.new result }
         ensures cell { P.tells → During (P.history platform.old) (P.history platform.new) IsServedImage }
-        ensures mounted { P.tells → OnOk result (IfSome self.new.session (IsMounted (P.history platform.new).present)) }
-        ensures reply { IfOk result CanWrite }
-        ensures bad_root { P.tells → IsErrOf result DeviceStop.BadRoot → ⊥ }
-        ensures counts { NoneFell (counts (P.faults platform.old) (T.faults tape.old) 0 0 (L.faults ledger.old))
-            (counts (P.faults platform.new) (T.faults tape.new) 0 0 (L.faults ledger.new)) }
-        ensures cause { IfErr result (λ stop. HasCause (counts (P.faults platform.old) (T.faults tape.old) 0 0 (L.faults ledger.old))
-            (counts (P.faults platform.new) (T.faults tape.new) 0 0 (L.faults ledger.new)) (Stop.Device stop)) }
+        ensures blame { IsBlamed (counts (P.faults platform.old) (T.faults tape.old) 0 0 (L.faults ledger.old))
+            (counts (P.faults platform.new) (T.faults tape.new) 0 0 (L.faults ledger.new)) result }
         ensures unput { L.written ledger.new ≡ L.written ledger.old }
-        ensures capacity { P.capacity platform.new ≡ P.capacity platform.old }
-        ensures head_rises { P.head platform.old ≤ P.head platform.new }
-        ensures head_by_one { P.head platform.new ≤ P.head platform.old + 1 }
-        ensures added { IfErr result (λ stop. HasAdded stop (P.head platform.old) (P.head platform.new)) }
-        ensures full { IfOk result (λ reply. reply ≡ Reply.Full → P.head platform.new ≡ P.capacity platform.new) }
         ensures damage { (addr : ℕ) → IsErrOf result (DeviceStop.BadRecord addr) → ⊥ }
         ensures pages { P.tells → (entry : State)
             → Represents (world self.old.session (P.history platform.old) (P.head platform.old) (P.capacity platform.old)) entry
@@ -425,23 +338,10 @@ impl Desk {
     }
 
     fn erase<P: Platform>(&mut self, platform: &mut P) -> Result<Reply, DeviceStop>
-        requires ready { IsReady self.old (P.head platform.old) }
-        requires cell { P.tells → IsServedImage (P.history platform.old).present }
-        requires mounted { P.tells → IfSome self.old.session (IsMounted (P.history platform.old).present) }
-        ensures ready { OnOk result (IsReady self.new (P.head platform.new)) }
+        requires { Before P.Platform self.old platform.old }
+        ensures after { After P.Platform self.new platform.old platform.new result }
         ensures cell { P.tells → During (P.history platform.old) (P.history platform.new) IsServedImage }
-        ensures mounted { P.tells → OnOk result (IfSome self.new.session (IsMounted (P.history platform.new).present)) }
-        ensures reply { IfOk result CanWrite }
-        ensures bad_root { P.tells → IsErrOf result DeviceStop.BadRoot → ⊥ }
-        ensures counts { NoneFell (counts (P.faults platform.old) 0 0 0 0)
-            (counts (P.faults platform.new) 0 0 0 0) }
-        ensures cause { IfErr result (λ stop. HasCause (counts (P.faults platform.old) 0 0 0 0)
-            (counts (P.faults platform.new) 0 0 0 0) (Stop.Device stop)) }
-        ensures capacity { P.capacity platform.new ≡ P.capacity platform.old }
-        ensures head_rises { P.head platform.old ≤ P.head platform.new }
-        ensures head_by_one { P.head platform.new ≤ P.head platform.old + 1 }
-        ensures added { IfErr result (λ stop. HasAdded stop (P.head platform.old) (P.head platform.new)) }
-        ensures full { IfOk result (λ reply. reply ≡ Reply.Full → P.head platform.new ≡ P.capacity platform.new) }
+        ensures blame { IsBlamed (counts (P.faults platform.old) 0 0 0 0) (counts (P.faults platform.new) 0 0 0 0) result }
         ensures damage { (addr : ℕ) → IsErrOf result (DeviceStop.BadRecord addr) → ⊥ }
         ensures pages { P.tells → (entry : State)
             → Represents (world self.old.session (P.history platform.old) (P.head platform.old) (P.capacity platform.old)) entry

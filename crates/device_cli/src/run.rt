@@ -9,9 +9,9 @@ ghost use Rattle.script_lang.specs.Replies.{CanWrite, line_of};
 ghost use Rattle.platform.specs.History.{During};
 ghost use Rattle.device_core.specs.Leaf.{IsServedImage};
 ghost use Rattle.device_core.specs.declared.session.Session.{Session};
-ghost use Rattle.device_cli.specs.Desk.{IsReady, IsMounted};
+ghost use Rattle.device_cli.specs.Desk.{Before, AfterLine};
 ghost use Rattle.device_cli.specs.World.{world};
-ghost use Rattle.device_cli.specs.Run.{counts, NoneFell, HasCause, IsOfLine, IsRefusal, status_of};
+ghost use Rattle.device_cli.specs.Run.{counts, IsBlamedOn, IsRefusal, status_of};
 ghost use Rattle.device_cli.specs.Kept.{IsKept, IsPending};
 ghost use Rattle.device_cli.specs.Replied.{Handled, HasPut, IsSound, no_line, damage_line};
 ghost use Rattle.device_cli.specs.Ran.{Ran};
@@ -47,12 +47,9 @@ pub(crate) fn run<P: Platform, T: Tape, I: Source, O: Sink, L: Sink>(
         → IsUnserved tape.old tape.new input.old input.new ledger.old ledger.new (P.head platform.old) (P.head platform.new)
         (O.written output.old) (O.written output.new) (P.history platform.old) (P.history platform.new)) }
     ensures keeps { KeepsOn P.tells (T.drawn tape.old) (T.drawn tape.new) None (P.history platform.old) (P.history platform.new) (λ keys. ⊤) }
-    ensures counts { NoneFell
+    ensures blame { IsBlamedOn
         (counts (P.faults platform.old) (T.faults tape.old) (I.faults input.old) (O.faults output.old) (L.faults ledger.old))
-        (counts (P.faults platform.new) (T.faults tape.new) (I.faults input.new) (O.faults output.new) (L.faults ledger.new)) }
-    ensures cause { IfErr result (HasCause
-        (counts (P.faults platform.old) (T.faults tape.old) (I.faults input.old) (O.faults output.old) (L.faults ledger.old))
-        (counts (P.faults platform.new) (T.faults tape.new) (I.faults input.new) (O.faults output.new) (L.faults ledger.new))) }
+        (counts (P.faults platform.new) (T.faults tape.new) (I.faults input.new) (O.faults output.new) (L.faults ledger.new)) result }
     ensures cell { P.tells → IsServedImage (P.history platform.old).present
         → During (P.history platform.old) (P.history platform.new) IsServedImage }
     ensures unput { L.written ledger.new ≡ L.written ledger.old }
@@ -84,18 +81,13 @@ fn serve_input<P: Platform, T: Tape, I: Source, O: Sink, L: Sink>(
     output: &mut O,
     ledger: &mut L,
 ) -> Result<(), Stop>
-    requires ready { IsReady desk.old (P.head platform.old) }
-    requires cell { P.tells → IsServedImage (P.history platform.old).present }
-    requires mounted { P.tells → IfSome desk.old.session (IsMounted (P.history platform.old).present) }
+    requires { Before P.Platform desk.old platform.old }
     ensures bad_root { P.tells → IsErrOf result (Stop.Device DeviceStop.BadRoot) → ⊥ }
     ensures keeps { KeepsOn P.tells (T.drawn tape.old) (T.drawn tape.new) desk.old.session (P.history platform.old) (P.history platform.new)
         (λ keys. OnOk result (IsListed desk.new.session (P.history platform.new).present keys)) }
-    ensures counts { NoneFell
+    ensures blame { IsBlamedOn
         (counts (P.faults platform.old) (T.faults tape.old) (I.faults input.old) (O.faults output.old) (L.faults ledger.old))
-        (counts (P.faults platform.new) (T.faults tape.new) (I.faults input.new) (O.faults output.new) (L.faults ledger.new)) }
-    ensures cause { IfErr result (HasCause
-        (counts (P.faults platform.old) (T.faults tape.old) (I.faults input.old) (O.faults output.old) (L.faults ledger.old))
-        (counts (P.faults platform.new) (T.faults tape.new) (I.faults input.new) (O.faults output.new) (L.faults ledger.new))) }
+        (counts (P.faults platform.new) (T.faults tape.new) (I.faults input.new) (O.faults output.new) (L.faults ledger.new)) result }
     ensures cell { P.tells → During (P.history platform.old) (P.history platform.new) IsServedImage }
     ensures unput { L.written ledger.new ≡ L.written ledger.old }
     ensures ran { Ran P.tells (world desk.old.session (P.history platform.old) (P.head platform.old) (P.capacity platform.old))
@@ -140,22 +132,14 @@ fn serve_piece<P: Platform, T: Tape, O: Sink, L: Sink>(
     ledger: &mut L,
     piece: &[u8],
 ) -> Result<(), Stop>
-    requires ready { IsReady desk.old (P.head platform.old) }
-    requires cell { P.tells → IsServedImage (P.history platform.old).present }
-    requires mounted { P.tells → IfSome desk.old.session (IsMounted (P.history platform.old).present) }
-    ensures ready { OnOk result (IsReady desk.new (P.head platform.new)) }
+    requires { Before P.Platform desk.old platform.old }
+    ensures after { AfterLine P.Platform desk.new platform.new result }
     ensures cell { P.tells → During (P.history platform.old) (P.history platform.new) IsServedImage }
-    ensures mounted { P.tells → OnOk result (IfSome desk.new.session (IsMounted (P.history platform.new).present)) }
     ensures unput { L.written ledger.new ≡ L.written ledger.old }
-    ensures bad_root { P.tells → IsErrOf result (Stop.Device DeviceStop.BadRoot) → ⊥ }
     ensures keeps { KeepsOn P.tells (T.drawn tape.old) (T.drawn tape.new) desk.old.session (P.history platform.old) (P.history platform.new)
         (λ keys. OnOk result (IsListed desk.new.session (P.history platform.new).present keys)) }
-    ensures counts { NoneFell (counts (P.faults platform.old) (T.faults tape.old) 0 (O.faults output.old) (L.faults ledger.old))
-        (counts (P.faults platform.new) (T.faults tape.new) 0 (O.faults output.new) (L.faults ledger.new)) }
-    ensures cause { IfErr result (HasCause
-        (counts (P.faults platform.old) (T.faults tape.old) 0 (O.faults output.old) (L.faults ledger.old))
-        (counts (P.faults platform.new) (T.faults tape.new) 0 (O.faults output.new) (L.faults ledger.new))) }
-    ensures stops { IfErr result IsOfLine }
+    ensures blame { IsBlamedOn (counts (P.faults platform.old) (T.faults tape.old) 0 (O.faults output.old) (L.faults ledger.old))
+        (counts (P.faults platform.new) (T.faults tape.new) 0 (O.faults output.new) (L.faults ledger.new)) result }
     ensures pending { (rest : List ℕ) → IsPending pending.old rest → OnOk result (IsPending pending.new (rest_of (rest ++ piece.now))) }
     ensures handled { (rest : List ℕ) → IsPending pending.old rest
         → Handled P.tells (world desk.old.session (P.history platform.old) (P.head platform.old) (P.capacity platform.old))
@@ -194,22 +178,14 @@ fn serve_end<P: Platform, T: Tape, O: Sink, L: Sink>(
     output: &mut O,
     ledger: &mut L,
 ) -> Result<(), Stop>
-    requires ready { IsReady desk.old (P.head platform.old) }
-    requires cell { P.tells → IsServedImage (P.history platform.old).present }
-    requires mounted { P.tells → IfSome desk.old.session (IsMounted (P.history platform.old).present) }
-    ensures ready { OnOk result (IsReady desk.new (P.head platform.new)) }
+    requires { Before P.Platform desk.old platform.old }
+    ensures after { AfterLine P.Platform desk.new platform.new result }
     ensures cell { P.tells → During (P.history platform.old) (P.history platform.new) IsServedImage }
-    ensures mounted { P.tells → OnOk result (IfSome desk.new.session (IsMounted (P.history platform.new).present)) }
     ensures unput { L.written ledger.new ≡ L.written ledger.old }
-    ensures bad_root { P.tells → IsErrOf result (Stop.Device DeviceStop.BadRoot) → ⊥ }
     ensures keeps { KeepsOn P.tells (T.drawn tape.old) (T.drawn tape.new) desk.old.session (P.history platform.old) (P.history platform.new)
         (λ keys. OnOk result (IsListed desk.new.session (P.history platform.new).present keys)) }
-    ensures counts { NoneFell (counts (P.faults platform.old) (T.faults tape.old) 0 (O.faults output.old) (L.faults ledger.old))
-        (counts (P.faults platform.new) (T.faults tape.new) 0 (O.faults output.new) (L.faults ledger.new)) }
-    ensures cause { IfErr result (HasCause
-        (counts (P.faults platform.old) (T.faults tape.old) 0 (O.faults output.old) (L.faults ledger.old))
-        (counts (P.faults platform.new) (T.faults tape.new) 0 (O.faults output.new) (L.faults ledger.new))) }
-    ensures stops { IfErr result IsOfLine }
+    ensures blame { IsBlamedOn (counts (P.faults platform.old) (T.faults tape.old) 0 (O.faults output.old) (L.faults ledger.old))
+        (counts (P.faults platform.new) (T.faults tape.new) 0 (O.faults output.new) (L.faults ledger.new)) result }
     ensures handled { (rest : List ℕ) → IsPending pending.now rest
         → Handled P.tells (world desk.old.session (P.history platform.old) (P.head platform.old) (P.capacity platform.old))
         (world desk.new.session (P.history platform.new) (P.head platform.new) (P.capacity platform.new))
@@ -230,22 +206,14 @@ fn answer<P: Platform, T: Tape, O: Sink, L: Sink>(
     output: &mut O,
     ledger: &mut L,
 ) -> Result<(), Stop>
-    requires ready { IsReady desk.old (P.head platform.old) }
-    requires cell { P.tells → IsServedImage (P.history platform.old).present }
-    requires mounted { P.tells → IfSome desk.old.session (IsMounted (P.history platform.old).present) }
-    ensures ready { OnOk result (IsReady desk.new (P.head platform.new)) }
+    requires { Before P.Platform desk.old platform.old }
+    ensures after { AfterLine P.Platform desk.new platform.new result }
     ensures cell { P.tells → During (P.history platform.old) (P.history platform.new) IsServedImage }
-    ensures mounted { P.tells → OnOk result (IfSome desk.new.session (IsMounted (P.history platform.new).present)) }
     ensures unput { L.written ledger.new ≡ L.written ledger.old }
-    ensures bad_root { P.tells → IsErrOf result (Stop.Device DeviceStop.BadRoot) → ⊥ }
     ensures keeps { KeepsOn P.tells (T.drawn tape.old) (T.drawn tape.new) desk.old.session (P.history platform.old) (P.history platform.new)
         (λ keys. OnOk result (IsListed desk.new.session (P.history platform.new).present keys)) }
-    ensures counts { NoneFell (counts (P.faults platform.old) (T.faults tape.old) 0 (O.faults output.old) (L.faults ledger.old))
-        (counts (P.faults platform.new) (T.faults tape.new) 0 (O.faults output.new) (L.faults ledger.new)) }
-    ensures cause { IfErr result (HasCause
-        (counts (P.faults platform.old) (T.faults tape.old) 0 (O.faults output.old) (L.faults ledger.old))
-        (counts (P.faults platform.new) (T.faults tape.new) 0 (O.faults output.new) (L.faults ledger.new))) }
-    ensures stops { IfErr result IsOfLine }
+    ensures blame { IsBlamedOn (counts (P.faults platform.old) (T.faults tape.old) 0 (O.faults output.old) (L.faults ledger.old))
+        (counts (P.faults platform.new) (T.faults tape.new) 0 (O.faults output.new) (L.faults ledger.new)) result }
     ensures handled { (text : List ℕ) → IsKept (option_copied line.entry) text
         → Handled P.tells (world desk.old.session (P.history platform.old) (P.head platform.old) (P.capacity platform.old))
         (world desk.new.session (P.history platform.new) (P.head platform.new) (P.capacity platform.new))

@@ -10,8 +10,7 @@ use Rattle.std.specs.FinMap as maps
 use Rattle.std.proofs.lemmas.List.Elements.{All-nil}
 use Rattle.platform.specs.Image.{Image}
 use Rattle.node_codec.specs.declared.body.Entry.{Entry}
-use Rattle.page_store.specs.Device.{Device}
-use Rattle.device_core.specs.Blocks.{Blocks}
+use Rattle.sdbt_base.specs.Arrays.{Device, Blocks}
 use Rattle.device_core.specs.Leaf.{IsPlace}
 use Rattle.device_core.specs.Holding.{blocks_of_entries}
 use Rattle.device_core.specs.Holds.{Holds}

@@ -21,8 +21,7 @@ use Rattle.node_codec.specs.Record.{Record, DataRecord, NodeRecord, FitsNode, Fi
 use Rattle.root_codec.specs.declared.root.Root.{Root}
 use Rattle.root_codec.specs.RootRecord.{FitsRoot, root_bytes}
 use Rattle.root_codec.specs.Laws.{one_root}
-use Rattle.page_store.specs.Buffer.{padded}
-use Rattle.page_store.specs.Device.{Device}
+use Rattle.sdbt_base.specs.Arrays.{padded, Device, Blocks, content_of, new_device, committed_with}
 use Rattle.page_store.specs.Places.{IsRecordAt, FitsAt, NothingFits, root_want, block_want}
 use Rattle.page_store.specs.Leaf.{StandsByLeaf, leaf_parts}
 use Rattle.page_store.specs.Stands.{Stands, StandsBy}
@@ -30,9 +29,7 @@ use Rattle.page_store.proofs.RecordLaws.{one_record, record_appended, slice_get-
 use Rattle.page_store.proofs.StandsLaws.{stands_later, stands_leaves, stands_during}
 use Rattle.page_store.proofs.LeafStandsLaws.{stands_by_leaf, leaf_of_stands, leaf_found, leaf_wanted, leaf_appended}
 use Rattle.device_core.specs.Leaf.{IsOneLeaf, IsServed, IsRefusedCell, AreEntries, IsPlace, placed}
-use Rattle.device_core.specs.Blocks.{Blocks, block_content, new_device}
 use Rattle.device_core.proofs.MomentLaws.{one_call, one_look, call_more, then_published}
-use Rattle.device_core.specs.Replies.{committed_device}
 use Rattle.device_core.specs.Holding.{AreMapped, blocks_of_entries, HoldsBy}
 use Rattle.page_store.specs.Roots.{IsRootWithin, IsBadCell}
 use Rattle.device_core.specs.Open.{IsOpenBy}
@@ -201,7 +198,7 @@ block_fits root count loaded touched known image device contents at block entry 
     nothing (DataRecord block here.0) (subst (λ (n : ℕ). IsRecordAt image.readable entry.addr entry.key (DataRecord n here.0)) low at_entry, (refl, refl))
 
 -- what is read at an entry is what the array has
-pub content_read : (root : Root) (count : ℕ) (loaded touched : Bool) (known : List Entry) (image : Image) (device : Device) (contents : Blocks) (at block pages : ℕ) (entry : Entry) (value : Record) (content : List ℕ) → loaded ≡ true → HoldsBy root count loaded touched known image device contents → IsPlace known block (Ok at) → entry ≡ get_or known at entry → entry.addr < pages → pages ≤ 2 ^ 32 → FitsAt image.readable (block_want entry.addr block) entry.key value → ((n : ℕ) (c : List ℕ) → value ≡ DataRecord n c → content ≡ c) → content ≡ block_content contents block
+pub content_read : (root : Root) (count : ℕ) (loaded touched : Bool) (known : List Entry) (image : Image) (device : Device) (contents : Blocks) (at block pages : ℕ) (entry : Entry) (value : Record) (content : List ℕ) → loaded ≡ true → HoldsBy root count loaded touched known image device contents → IsPlace known block (Ok at) → entry ≡ get_or known at entry → entry.addr < pages → pages ≤ 2 ^ 32 → FitsAt image.readable (block_want entry.addr block) entry.key value → ((n : ℕ) (c : List ℕ) → value ≡ DataRecord n c → content ≡ c) → content ≡ content_of contents block
 content_read root count loaded touched known image device contents at block pages entry value content ready h place is small most fits content_is =
     let same = h.read ready in
     let there = subst (λ (es : List Entry). IsPlace es block (Ok at)) same place in
@@ -497,42 +494,42 @@ pub next_leaf : (old new : Root) (count pages : ℕ) → IsNext old new count pa
 next_leaf old new count pages next one = record { order = next.order ∙ one.order; level = next.level ∙ one.level; blocks = omega (arith, next.blocks, one.blocks) }
 
 -- the image after a commit stands for the device with the session's array
-pub raised_leaf : (old new : Root) (count pages : ℕ) (loaded touched : Bool) (known : List Entry) (image : Image) (device : Device) (contents : Blocks) → loaded ≡ true → (h : HoldsBy old count loaded touched known image device contents) → IsNext old new count pages → IsServed old pages → count ≤ old.blocks → pages < 2 ^ 32 → IsBytes 32 new.key → IsWhole image → pages ≡ length image.recorded → AreEntries known old.blocks pages → StandsByLeaf (with_leaf image new known) (committed_device device contents) new known h.texts
+pub raised_leaf : (old new : Root) (count pages : ℕ) (loaded touched : Bool) (known : List Entry) (image : Image) (device : Device) (contents : Blocks) → loaded ≡ true → (h : HoldsBy old count loaded touched known image device contents) → IsNext old new count pages → IsServed old pages → count ≤ old.blocks → pages < 2 ^ 32 → IsBytes 32 new.key → IsWhole image → pages ≡ length image.recorded → AreEntries known old.blocks pages → StandsByLeaf (with_leaf image new known) (committed_with device contents) new known h.texts
 raised_leaf old new count pages loaded touched known image device contents ready h next served most room key whole at are =
     let same = h.read ready in
-    committed image new (committed_device device contents) known h.texts whole (next_fits old new count pages next served most room) key (next_leaf old new count pages next served.leaf)
+    committed image new (committed_with device contents) known h.texts whole (next_fits old new count pages next served most room) key (next_leaf old new count pages next served.leaf)
     (next.addr ∙ at) (omega (arith, next.addr, next.head)) (ap length same ∙ sym h.count ∙ sym next.mapped)
     (subst (λ (n : ℕ). AreEntries known n new.addr) (sym next.blocks) (subst (λ (n : ℕ). AreEntries known old.blocks n) (sym next.addr) are))
     (subst (λ (es : List Entry). AreMapped image es h.texts) (sym same) h.mapped_there)
     (next.order ∙ h.stands.order) (next.blocks ∙ h.stands.blocks) (next.commit ∙ ap (λ (n : ℕ). n + 1) h.stands.number)
     (h.contents_are ∙ ap (λ (es : List Entry). blocks_of_entries es h.texts) (sym same))
 
-pub raised_stands : (old new : Root) (count pages : ℕ) (loaded touched : Bool) (known : List Entry) (image : Image) (device : Device) (contents : Blocks) → loaded ≡ true → HoldsBy old count loaded touched known image device contents → IsNext old new count pages → IsServed old pages → count ≤ old.blocks → pages < 2 ^ 32 → IsBytes 32 new.key → IsWhole image → pages ≡ length image.recorded → AreEntries known old.blocks pages → Stands (with_leaf image new known) (Some (committed_device device contents))
+pub raised_stands : (old new : Root) (count pages : ℕ) (loaded touched : Bool) (known : List Entry) (image : Image) (device : Device) (contents : Blocks) → loaded ≡ true → HoldsBy old count loaded touched known image device contents → IsNext old new count pages → IsServed old pages → count ≤ old.blocks → pages < 2 ^ 32 → IsBytes 32 new.key → IsWhole image → pages ≡ length image.recorded → AreEntries known old.blocks pages → Stands (with_leaf image new known) (Some (committed_with device contents))
 raised_stands old new count pages loaded touched known image device contents ready h next served most room key whole at are = (
   new,
   leaf_parts new.addr new.key known h.texts,
-  stands_by_leaf (with_leaf image new known) (committed_device device contents) new known h.texts
+  stands_by_leaf (with_leaf image new known) (committed_with device contents) new known h.texts
       (raised_leaf old new count pages loaded touched known image device contents ready h next served most room key whole at are),
 )
 
-pub raised_held : (old new : Root) (count pages : ℕ) (loaded touched : Bool) (known : List Entry) (image later : Image) (device : Device) (contents : Blocks) → loaded ≡ true → HoldsBy old count loaded touched known image device contents → IsNext old new count pages → IsServed old pages → count ≤ old.blocks → pages < 2 ^ 32 → IsBytes 32 new.key → IsWhole image → pages ≡ length image.recorded → AreEntries known old.blocks pages → later ≡ with_leaf image new known → HoldsBy new count loaded false known later (committed_device device contents) contents
+pub raised_held : (old new : Root) (count pages : ℕ) (loaded touched : Bool) (known : List Entry) (image later : Image) (device : Device) (contents : Blocks) → loaded ≡ true → HoldsBy old count loaded touched known image device contents → IsNext old new count pages → IsServed old pages → count ≤ old.blocks → pages < 2 ^ 32 → IsBytes 32 new.key → IsWhole image → pages ≡ length image.recorded → AreEntries known old.blocks pages → later ≡ with_leaf image new known → HoldsBy new count loaded false known later (committed_with device contents) contents
 raised_held old new count pages loaded touched known image later device contents ready h next served most room key whole at are later_is =
     let leaf = raised_leaf old new count pages loaded touched known image device contents ready h next served most room key whole at are in
-    let held = leaf_held (with_leaf image new known) (committed_device device contents) new loaded known h.texts known (λ yes. refl) leaf in
-    subst (λ (n : ℕ). HoldsBy new n loaded false known later (committed_device device contents) contents) next.mapped
-    (subst (λ (i : Image). HoldsBy new new.mapped loaded false known i (committed_device device contents) contents) (sym later_is) held)
+    let held = leaf_held (with_leaf image new known) (committed_with device contents) new loaded known h.texts known (λ yes. refl) leaf in
+    subst (λ (n : ℕ). HoldsBy new n loaded false known later (committed_with device contents) contents) next.mapped
+    (subst (λ (i : Image). HoldsBy new new.mapped loaded false known i (committed_with device contents) contents) (sym later_is) held)
 
 -- the leaf is appended, the medium synced, and the root record replaced
-pub raise_turns : (old mid new : History) (first next : Root) (count pages : ℕ) (loaded touched : Bool) (known : List Entry) (device : Device) (contents : Blocks) → loaded ≡ true → HoldsBy first count loaded touched known old.present device contents → IsNext first next count pages → IsServed first pages → count ≤ first.blocks → pages < 2 ^ 32 → IsBytes 32 next.key → pages ≡ length old.present.recorded → AreEntries known first.blocks pages → Steps old mid → mid.present.cell ≡ old.present.cell → mid.present ≡ with_page old.present (leaf_page next known) (leaf_page next known) → Turns mid new (λ image. image.cell ≡ mid.present.cell) (λ image. image ≡ with_cell (all_synced mid.present) (Some (root_bytes next))) → Turns old new (LeavesOnly (λ left. Stands left (Some device))) (LeavesOnly (λ left. Stands left (Some (committed_device device contents))))
+pub raise_turns : (old mid new : History) (first next : Root) (count pages : ℕ) (loaded touched : Bool) (known : List Entry) (device : Device) (contents : Blocks) → loaded ≡ true → HoldsBy first count loaded touched known old.present device contents → IsNext first next count pages → IsServed first pages → count ≤ first.blocks → pages < 2 ^ 32 → IsBytes 32 next.key → pages ≡ length old.present.recorded → AreEntries known first.blocks pages → Steps old mid → mid.present.cell ≡ old.present.cell → mid.present ≡ with_page old.present (leaf_page next known) (leaf_page next known) → Turns mid new (λ image. image.cell ≡ mid.present.cell) (λ image. image ≡ with_cell (all_synced mid.present) (Some (root_bytes next))) → Turns old new (LeavesOnly (λ left. Stands left (Some device))) (LeavesOnly (λ left. Stands left (Some (committed_with device contents))))
 raise_turns old mid new first next count pages loaded touched known device contents ready h follows served most room key at are steps cell appended published =
     let X = with_leaf old.present next known in
     let same : with_cell (all_synced mid.present) (Some (root_bytes next)) ≡ X = ap (λ (i : Image). with_cell (all_synced i) (Some (root_bytes next))) appended in
     let turns = subst (λ (x : Image). Turns mid new (λ image. image.cell ≡ mid.present.cell) (λ image. image ≡ x)) same published in
-    turns_stands old new X (Some device) (Some (committed_device device contents)) (held_stands first count loaded touched known old.present device contents h)
+    turns_stands old new X (Some device) (Some (committed_with device contents)) (held_stands first count loaded touched known old.present device contents h)
     (raised_stands first next count pages loaded touched known old.present device contents ready h follows served most room key (whole-now old) at are)
     (then_published old mid new X (one_call old mid steps cell) turns)
 
-pub raise_held : (old mid new : History) (first next : Root) (count pages : ℕ) (loaded touched : Bool) (known : List Entry) (device : Device) (contents : Blocks) → loaded ≡ true → HoldsBy first count loaded touched known old.present device contents → IsNext first next count pages → IsServed first pages → count ≤ first.blocks → pages < 2 ^ 32 → IsBytes 32 next.key → pages ≡ length old.present.recorded → AreEntries known first.blocks pages → mid.present ≡ with_page old.present (leaf_page next known) (leaf_page next known) → new.present ≡ with_cell (all_synced mid.present) (Some (root_bytes next)) → HoldsBy next count loaded false known new.present (committed_device device contents) contents
+pub raise_held : (old mid new : History) (first next : Root) (count pages : ℕ) (loaded touched : Bool) (known : List Entry) (device : Device) (contents : Blocks) → loaded ≡ true → HoldsBy first count loaded touched known old.present device contents → IsNext first next count pages → IsServed first pages → count ≤ first.blocks → pages < 2 ^ 32 → IsBytes 32 next.key → pages ≡ length old.present.recorded → AreEntries known first.blocks pages → mid.present ≡ with_page old.present (leaf_page next known) (leaf_page next known) → new.present ≡ with_cell (all_synced mid.present) (Some (root_bytes next)) → HoldsBy next count loaded false known new.present (committed_with device contents) contents
 raise_held old mid new first next count pages loaded touched known device contents ready h follows served most room key at are appended published =
     raised_held first next count pages loaded touched known old.present new.present device contents ready h follows served most room key (whole-now old) at are
     (published ∙ ap (λ (i : Image). with_cell (all_synced i) (Some (root_bytes next))) appended)

@@ -9,16 +9,14 @@ use Rattle.platform.specs.Image.{IsEither}
 use Rattle.device_core.proofs.MomentLaws.{one_look, one_call, then_published}
 use Rattle.page_store.proofs.KeptLaws.{kept_cleared, same_during}
 use Rattle.sdbt_base.specs.Bytes.{IsBytes}
-use Rattle.device_core.specs.Blocks.{new_device}
+use Rattle.sdbt_base.specs.Arrays.{new_device, committed_with, Device, Blocks}
 use Rattle.device_core.proofs.EntryLaws.{AreEntries-none, All-remove}
 use Rattle.node_codec.specs.declared.body.Entry.{Entry}
 use Rattle.node_codec.specs.Record.{Record, DataRecord, NodeRecord, FitsNode, FitsRecord, record_bytes}
-use Rattle.device_core.specs.Replies.{committed_device}
 use Rattle.device_core.specs.Leaf.{IsServed, AreEntries}
 use Rattle.root_codec.specs.declared.root.Root.{Root}
 use Rattle.root_codec.specs.RootRecord.{root_bytes}
-use Rattle.page_store.specs.Device.{Device}
-use Rattle.key_graph.specs.Trace.{TraceEntry, DataOf, NodeOver}
+use Rattle.sdbt_base.specs.Traces.{TraceEntry, DataOf, NodeOver}
 use Rattle.page_store.specs.Tree.{Place}
 use Rattle.page_store.specs.Leaf.{leaf_parts, StandsByLeaf}
 use Rattle.page_store.specs.Stands.{Stands, IsSound}
@@ -28,7 +26,6 @@ use Rattle.page_store.specs.Places.{FitsAt, root_want}
 use Rattle.page_store.specs.Floors.{IsInTree, HasPlace, Succeeds, low_of, Forgets}
 use Rattle.key_graph.proofs.ChainLaws.{contains_map, map_contains}
 use Rattle.page_store.proofs.FloorLaws.{low_few, low_of_stands, place_later, place_at, place_of_stands, succeeds_none, succeeds_tree, forgets_published}
-use Rattle.device_core.specs.Blocks.{Blocks}
 use Rattle.device_core.specs.Leaf.{placed}
 use Rattle.device_core.specs.Holding.{HoldsBy}
 use Rattle.device_core.specs.Drawing.{data_place, KeepsTree}
@@ -388,7 +385,7 @@ raise_publishes tells drawn drawn_now old mid new first next count pages loaded 
       device = Some mids.1.device;
       stands = subst (λ (i : Image). Stands i (Some mids.1.device)) (sym (appended told))
           (stands_with_page old.present (leaf_page next known) (leaf_page next known) (Some mids.1.device) (held_stands first count loaded touched known old.present mids.1.device mids.1.contents mids.1.holds));
-      next = committed_device mids.1.device mids.1.contents;
+      next = committed_with mids.1.device mids.1.contents;
       texts = mids.1.holds.texts;
       leaf = raised_leaf first next count pages loaded touched known old.present mids.1.device mids.1.contents ready mids.1.holds follows served most room sized (whole-now old) (at told) are;
       own = mids.0;
@@ -403,9 +400,9 @@ pub raise_listed : (old mid new : History) (first next : Root) (count pages : �
     → HoldsListedBy next count loaded false known new.present keys
 raise_listed old mid new first next count pages loaded touched known keys h appended published ready follows served most room sized at are =
     let target : new.present ≡ with_leaf old.present next known = published ∙ ap (λ (i : Image). with_cell (all_synced i) (Some (root_bytes next))) appended in
-    let leaf = subst (λ (i : Image). StandsByLeaf i (committed_device h.device h.contents) next known h.holds.texts) (sym target)
+    let leaf = subst (λ (i : Image). StandsByLeaf i (committed_with h.device h.contents) next known h.holds.texts) (sym target)
     (raised_leaf first next count pages loaded touched known old.present h.device h.contents ready h.holds follows served most room sized (whole-now old) at are) in
-    listed_committed next count loaded false known new.present (committed_device h.device h.contents) h.contents h.holds.texts keys
+    listed_committed next count loaded false known new.present (committed_with h.device h.contents) h.contents h.holds.texts keys
     (raise_held old mid new first next count pages loaded touched known h.device h.contents ready h.holds follows served most room sized at are appended published) ready refl h.listed leaf
 
 -- and no key that isn't of the new tree
@@ -415,7 +412,7 @@ pub raise_knows : (old mid new : History) (first next : Root) (count pages : ℕ
     → KeepsTree next known new.present
 raise_knows old mid new first next count pages loaded touched known device contents h appended published ready follows served most room sized at are =
     let target : new.present ≡ with_leaf old.present next known = published ∙ ap (λ (i : Image). with_cell (all_synced i) (Some (root_bytes next))) appended in
-    let later = committed_device device contents in
+    let later = committed_with device contents in
     let leaf = subst (λ (i : Image). StandsByLeaf i later next known h.texts) (sym target)
     (raised_leaf first next count pages loaded touched known old.present device contents ready h follows served most room sized (whole-now old) at are) in
     record {
@@ -432,11 +429,11 @@ pub raise_forgets : (old mid new : History) (first next : Root) (count pages : �
 raise_forgets old mid new first next count pages loaded touched known keys h steps cell appended turns ready follows served most room sized at are =
     let X = with_cell (all_synced mid.present) (Some (root_bytes next)) in
     let target : X ≡ with_leaf old.present next known = ap (λ (i : Image). with_cell (all_synced i) (Some (root_bytes next))) appended in
-    let leaf = subst (λ (i : Image). StandsByLeaf i (committed_device h.device h.contents) next known h.holds.texts) (sym target)
+    let leaf = subst (λ (i : Image). StandsByLeaf i (committed_with h.device h.contents) next known h.holds.texts) (sym target)
     (raised_leaf first next count pages loaded touched known old.present h.device h.contents ready h.holds follows served most room sized (whole-now old) at are) in
     let low : low_of old.present ≡ first.head = low_of_stands old.present h.device first _ (stands_by_leaf old.present h.device first h.holds.leaf h.holds.leaf_texts h.holds.stands) in
     let longer : next.head ≡ length X.recorded = omega (arith, follows.head, at, simp length-append at (ap (λ (i : Image). length i.recorded) target)) in
-    forgets_leaf old new X h.device (committed_device h.device h.contents) first next h.holds.leaf known h.holds.leaf_texts h.holds.texts h.holds.stands
+    forgets_leaf old new X h.device (committed_with h.device h.contents) first next h.holds.leaf known h.holds.leaf_texts h.holds.texts h.holds.stands
     (then_published old mid new X (one_call old mid steps cell) turns) leaf (omega (arith, low, follows.addr, served.within)) (omega (arith, follows.addr, follows.head)) longer
     (subst (λ (n : ℕ). AreNewer old.present n known) (sym low) h.newer)
 

@@ -59,6 +59,10 @@ once old new X turns = elim (Turns-cases old new (HasCell old.present.cell) (λ 
       (λ image same. same) (λ image same. ap (λ (i : Image). i.cell) same ∙ ap (λ (i : Image). i.cell) (sym is)) turns
 ]
 
+-- one that stays changes not even once
+pub stays_once : (old new : History) → During old new (λ image. image.cell ≡ old.present.cell) → Turns old new (λ image. image.cell ≡ old.present.cell) (λ image. image.cell ≡ new.present.cell)
+stays_once old new stays = Turns-not old new (HasCell old.present.cell) (HasCell new.present.cell) stays
+
 -- the image before is earlier than the one after
 pub earlier : (old new : History) (P : Image → Type 0) → During old new P → IsEarlier old.present new.present
 earlier old new P during = Extends-earlier old new during.extends

@@ -4,7 +4,7 @@ use Rattle.sdbt_base.specs.Told.{Drew}
 use Rattle.platform.specs.Image.{Image}
 use Rattle.node_codec.specs.declared.body.Entry.{Entry}
 use Rattle.root_codec.specs.declared.root.Root.{Root}
-use Rattle.key_graph.specs.Trace.{DataOf}
+use Rattle.sdbt_base.specs.Traces.{DataOf}
 use Rattle.page_store.specs.Tree.{Place}
 use Rattle.page_store.specs.Kept.{IsRootOf}
 use Rattle.page_store.specs.Keeping.{DrewAll}

@@ -7,10 +7,9 @@ use Rattle.platform.specs.Image.{Image}
 use Rattle.node_codec.specs.declared.body.Entry.{Entry}
 use Rattle.node_codec.specs.Record.{DataRecord, NodeRecord}
 use Rattle.root_codec.specs.declared.root.Root.{Root}
-use Rattle.page_store.specs.Device.{Device}
+use Rattle.sdbt_base.specs.Arrays.{Device, Blocks}
 use Rattle.page_store.specs.Places.{IsRecordAt, FitsAt, root_want}
 use Rattle.page_store.specs.Leaf.{StandsByLeaf}
-use Rattle.device_core.specs.Blocks.{Blocks}
 
 -- the data records of these entries are there with these contents, each at a page of its own that reads as it was recorded
 pub record AreMapped (image : Image) (entries : List Entry) (texts : List (List ℕ)) : Type 0 where

@@ -1,7 +1,6 @@
 -- What a session is over an image.
 use Rattle.platform.specs.Image.{Image}
-use Rattle.page_store.specs.Device.{Device}
-use Rattle.device_core.specs.Blocks.{Blocks}
+use Rattle.sdbt_base.specs.Arrays.{Device, Blocks}
 use Rattle.device_core.specs.Holding.{HoldsBy, FollowsBy}
 use Rattle.device_core.specs.declared.session.Session.{Session}
 

@@ -3,9 +3,8 @@ use Rattle.std.specs.Prelude.{◌≤◌, ◌⊎◌, List, ℕ, Bool, All, Contai
 use Rattle.platform.specs.Image.{Image}
 use Rattle.node_codec.specs.declared.body.Entry.{Entry}
 use Rattle.root_codec.specs.declared.root.Root.{Root}
-use Rattle.page_store.specs.Device.{Device}
+use Rattle.sdbt_base.specs.Arrays.{Device, Blocks}
 use Rattle.page_store.specs.Floors.{HasPlace}
-use Rattle.device_core.specs.Blocks.{Blocks}
 use Rattle.device_core.specs.Drawing.{data_place}
 use Rattle.device_core.specs.Holding.{HoldsBy}
 use Rattle.device_core.specs.declared.session.Session.{Session}

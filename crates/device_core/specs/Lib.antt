@@ -1,10 +1,12 @@
 pub mod Leaf
-pub mod Blocks
 pub mod Holding
 pub mod Damage
 pub mod Open
 pub mod Holds
+pub mod Causes
 pub mod Replies
 pub mod Drawing
 pub mod Reading
 pub mod Knowing
+pub mod Changes
+pub mod Publishing

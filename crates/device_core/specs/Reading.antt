@@ -1,9 +1,12 @@
 -- What a session reads, on any pages, forged ones too.
-use Rattle.std.specs.Prelude.{◌≡◌, ◌≢◌, ◌⊎◌, ℕ, Bool, true, false, List, All, Contains, replicate}
+use Rattle.std.specs.Prelude.{◌≡◌, ◌≢◌, ◌⊎◌, ℕ, Bool, true, false, List, All, Contains, replicate, Result, Ok, Err}
+use Rattle.sdbt_base.specs.Arrays.{Blocks, content_of}
 use Rattle.node_codec.specs.declared.body.Entry.{Entry}
 use Rattle.node_codec.specs.Record.{DataRecord, NodeRecord}
 use Rattle.root_codec.specs.declared.root.Root.{Root}
 use Rattle.page_store.specs.Places.{FitsAt, NothingFits, root_want, block_want}
+use Rattle.device_core.specs.declared.refusals.ReadRefusal.{ReadRefusal}
+use Rattle.device_core.specs.declared.refusals.ReadRefusal.TheVariants as refusals
 use Rattle.device_core.specs.declared.session.Session.{Session}
 
 -- these are the entries of a leaf: those that the session has, or, where it has read none yet, those of the leaf that its root record names
@@ -33,3 +36,10 @@ IsFirstMisfit session pages block addr =
     ((session.is_loaded ≡ false) × (addr ≡ session.root.addr) × NothingFits pages (root_want session.root) session.root.key)
     ⊎ ((leaf : List Entry) × (entry : Entry) × IsLeafOf session pages leaf × IsEntryOf leaf block entry
     × (addr ≡ entry.addr) × NothingFits pages (block_want entry.addr block) entry.key)
+
+-- what was read of an array: the content of the block; a record that doesn't fit is never met
+abbrev pub ReadsArray : Blocks → ℕ → List ℕ → Result (Unit {0}) ReadRefusal → Type 0
+ReadsArray contents block content (Ok done) = content ≡ content_of contents block
+ReadsArray contents block content (Err (refusals.BadRecord addr)) = ⊥
+ReadsArray contents block content (Err refusals.Range) = Unit {0}
+ReadsArray contents block content (Err refusals.PlatformFault) = Unit {0}

@@ -1,13 +1,14 @@
-ghost use Rattle.std.specs.Prelude.{◌≡◌, ◌≢◌, ◌≤◌, ◌⊎◌, ℕ, List, Option, None, OnOk, IsOk, IsErrOf};
+ghost use Rattle.std.specs.Prelude.{◌≡◌, ◌≤◌, ℕ, List, Option, None};
 ghost use Rattle.sdbt_base.specs.Faults.{Rose};
 ghost use Rattle.platform.specs.Image.{LeavesOnly};
-ghost use Rattle.platform.specs.History.{During, Turns};
-ghost use Rattle.page_store.specs.Device.{Device};
+ghost use Rattle.platform.specs.History.{During, Turns, CellTurns};
+ghost use Rattle.sdbt_base.specs.Arrays.{Device};
 ghost use Rattle.page_store.specs.Stands.{Stands};
 ghost use Rattle.page_store.specs.Kept.{Kept};
 ghost use Rattle.page_store.specs.Stands.{IsSound};
 ghost use Rattle.page_store.specs.Floors.{Forgets};
 ghost use Rattle.device_core.specs.Leaf.{IsServedImage};
+ghost use Rattle.device_core.specs.Publishing.{IsEraseCause};
 
 use crate::refusals::EraseRefusal;
 use platform::Platform;
@@ -17,34 +18,24 @@ use sdbt_base::ROOT;
 ///
 /// `NoDevice` comes exactly where the cell is empty.
 pub fn erase<P: Platform>(platform: &mut P) -> Result<(), EraseRefusal>
-    ensures erased { P.tells → OnOk result (Stands (P.history platform.new).present None) }
-    ensures device { P.tells → OnOk result ((P.history platform.old).present.cell ≢ None) }
-    ensures no_device { P.tells → IsErrOf result EraseRefusal.NoDevice → (P.history platform.old).present.cell ≡ None }
-    ensures same { P.tells → IsErrOf result EraseRefusal.NoDevice → (P.history platform.new).present ≡ (P.history platform.old).present }
+    ensures cause { IsEraseCause P.Platform platform.old platform.new (Rose (P.faults platform.old) (P.faults platform.new)) result }
     // At each moment a loss of power leaves the device, until one from which on it leaves none.
     ensures time { P.tells → (device : Option Device) → Stands (P.history platform.old).present device
         → Turns (P.history platform.old) (P.history platform.new)
         (LeavesOnly (λ left. Stands left device)) (LeavesOnly (λ left. Stands left None)) }
+    ensures turns { P.tells → CellTurns (P.history platform.old) (P.history platform.new) }
 
     // Each moment keeps the keys that the image kept before, and what was deleted before stays deleted.
     ensures keeps { P.tells → (keys : List (List ℕ)) → Kept keys (P.history platform.old).present
         → During (P.history platform.old) (P.history platform.new) (Kept keys) }
     ensures forgets { P.tells → IsSound (P.history platform.old).present → Forgets (P.history platform.old) (P.history platform.new) }
-
-    ensures once { P.tells → Turns (P.history platform.old) (P.history platform.new)
-        (λ image. image.cell ≡ (P.history platform.old).present.cell) (λ image. image.cell ≡ (P.history platform.new).present.cell) }
-
-    ensures still { P.tells → IsOk result ⊎ (IsErrOf result EraseRefusal.PlatformFault
-        ⊎ During (P.history platform.old) (P.history platform.new) (λ image. image.cell ≡ (P.history platform.old).present.cell)) }
     // A cell that can be served is one at each moment.
     ensures serves { P.tells → IsServedImage (P.history platform.old).present
         → During (P.history platform.old) (P.history platform.new) IsServedImage }
 
-    ensures head { P.head platform.new ≡ P.head platform.old }
-    ensures capacity { P.capacity platform.new ≡ P.capacity platform.old }
+    ensures pages { (P.head platform.new ≡ P.head platform.old) × (P.capacity platform.new ≡ P.capacity platform.old)
+        × (P.faults platform.old ≤ P.faults platform.new) }
     ensures reads { P.tells → P.reads platform.new ≡ P.reads platform.old }
-    ensures faults { P.faults platform.old ≤ P.faults platform.new }
-    ensures cause { IsErrOf result EraseRefusal.PlatformFault → Rose (P.faults platform.old) (P.faults platform.new) }
 {
     let mut cell = [0; ROOT];
     match platform.load_root(&mut cell) {

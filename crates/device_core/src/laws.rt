@@ -2,9 +2,8 @@
 ghost use Rattle.std.specs.Prelude.{◌≡◌, ℕ, Some, false};
 ghost use Rattle.std.specs.FinMap as map;
 ghost use Rattle.platform.specs.Image.{Image};
-ghost use Rattle.page_store.specs.Device.{Device};
+ghost use Rattle.sdbt_base.specs.Arrays.{Device, Blocks};
 ghost use Rattle.page_store.specs.Stands.{Stands};
-ghost use Rattle.device_core.specs.Blocks.{Blocks};
 ghost use Rattle.device_core.specs.Open.{IsOpen, blocks_of, number_of, mapped_of, is_touched};
 ghost use Rattle.device_core.specs.Holds.{Holds};
 ghost use Rattle.device_core.specs.declared.session.Session.{Session};

@@ -1,14 +1,13 @@
-ghost use Rattle.std.specs.Prelude.{◌≡◌, ◌<◌, ◌≤◌, ◌+◌, ℕ, List, None, Some, true, false, IfOk, OnOk, IsErrOf};
+ghost use Rattle.std.specs.Prelude.{◌≡◌, ◌<◌, ◌≤◌, ◌+◌, ℕ, List, Some, true, false, IfOk, IfErr, OnOk, IsErrOf};
 ghost use Rattle.sdbt_base.specs.Faults.{Rose};
-ghost use Rattle.platform.specs.History.{During};
+ghost use Rattle.platform.specs.Calls.{Looks};
 ghost use Rattle.root_codec.specs.RootRecord.{root_bytes};
-ghost use Rattle.page_store.specs.Device.{Device};
+ghost use Rattle.sdbt_base.specs.Arrays.{Device, Blocks};
 ghost use Rattle.page_store.specs.Kept.{Kept};
 ghost use Rattle.page_store.specs.Stands.{Stands};
 ghost use Rattle.page_store.specs.Tree.{Wrong};
 ghost use Rattle.page_store.specs.Places.{NothingFits, root_want};
-ghost use Rattle.device_core.specs.Leaf.{IsRefusedCell};
-ghost use Rattle.device_core.specs.Blocks.{Blocks};
+ghost use Rattle.device_core.specs.Causes.{IsMountCause};
 
 use crate::leaves::is_one_leaf;
 use crate::refusals::MountRefusal;
@@ -47,6 +46,7 @@ impl Session {
     /// `cache` is how many nodes are kept; it is 0, since there is no cache yet. `NoDevice` comes exactly
     /// where the cell is empty, `BadRoot` exactly where it is full and holds no root record that can be
     /// served, or one that speaks of more pages than there are.
+    #[tactic(auto, using(platform::proofs::CallLaws::looks_start, platform::proofs::CallLaws::looks_call, platform::proofs::CallLaws::looks_then))]
     pub fn mount<P: Platform>(
         alloc: Global,
         platform: &mut P,
@@ -62,17 +62,10 @@ impl Session {
             → (keys : List (List ℕ)) → IfOk result (λ session. HoldsListed session (P.history platform.new).present keys) }
         ensures follows { P.tells → IfOk result (λ session. Follows session (P.history platform.new).present) }
         ensures found { P.tells → IfOk result (λ session. (P.history platform.old).present.cell ≡ Some (root_bytes session.root)) }
-        ensures no_device { P.tells → IsErrOf result MountRefusal.NoDevice → (P.history platform.old).present.cell ≡ None }
-        ensures bad_root { P.tells → IsErrOf result MountRefusal.BadRoot
-            → IsRefusedCell (P.history platform.old).present.cell (P.head platform.old) }
+        ensures refused { P.tells → IfErr result (λ refusal. IsMountCause (P.history platform.old).present.cell (P.head platform.old) refusal) }
 
-        ensures image { P.tells → (P.history platform.new).present ≡ (P.history platform.old).present }
-        ensures time { P.tells
-            → During (P.history platform.old) (P.history platform.new) (λ image. image.cell ≡ (P.history platform.old).present.cell) }
-        ensures head { P.head platform.new ≡ P.head platform.old }
-        ensures capacity { P.capacity platform.new ≡ P.capacity platform.old }
+        ensures looks { Looks P.Platform platform.old platform.new }
         ensures reads { P.tells → P.reads platform.new ≡ P.reads platform.old }
-        ensures faults { P.faults platform.old ≤ P.faults platform.new }
         ensures cause { IsErrOf result MountRefusal.PlatformFault → Rose (P.faults platform.old) (P.faults platform.new) }
     {
         let found = match current(platform) {
@@ -122,35 +115,30 @@ impl Session {
     }
 
     /// Reads the leaf, where it was not read yet.
+    #[tactic(auto, using(platform::proofs::CallLaws::looks_start, platform::proofs::CallLaws::looks_call, platform::proofs::CallLaws::looks_then))]
     pub(crate) fn load<P: Platform>(&mut self, platform: &mut P) -> Result<(), FetchRefusal>
         requires { IsOpen self.old (P.head platform.old) }
 
         ensures open { IsOpen self.new (P.head platform.new) }
-        ensures loaded { OnOk result (self.new.is_loaded ≡ true) }
         ensures same { (self.new.root ≡ self.old.root) × (self.new.mapped ≡ self.old.mapped) × (self.new.is_touched ≡ self.old.is_touched) }
         ensures holds { P.tells → (device : Device) (contents : Blocks) → Holds self.old (P.history platform.old).present device contents
             → Holds self.new (P.history platform.new).present device contents }
+        ensures sound { P.tells → (device : Device) (contents : Blocks) → Holds self.old (P.history platform.old).present device contents
+            → (addr : ℕ) → IsErrOf result (FetchRefusal.BadRecord addr) → ⊥ }
         // Where the image keeps the keys, those of the session's data records are listed still.
         ensures listed { P.tells → (keys : List (List ℕ)) → Kept keys (P.history platform.old).present
             → HoldsListed self.old (P.history platform.old).present keys → HoldsListed self.new (P.history platform.new).present keys }
-        ensures follows { P.tells → Follows self.old (P.history platform.old).present → Follows self.new (P.history platform.new).present }
-        ensures wrong { P.tells → (addr : ℕ) → IsErrOf result (FetchRefusal.BadRecord addr)
-            → Wrong (P.history platform.old).present.readable self.old.root addr }
-        ensures bad { P.tells → (device : Device) (contents : Blocks) → Holds self.old (P.history platform.old).present device contents
-            → (addr : ℕ) → IsErrOf result (FetchRefusal.BadRecord addr) → ⊥ }
         // On any pages: the entries are the leaf's, and what is named is a leaf that was still to be read, and doesn't fit.
-        ensures leaf { P.tells → OnOk result (IsLeafOf self.old (P.history platform.old).present.readable (entries_of self.new)) }
+        ensures follows { P.tells → Follows self.old (P.history platform.old).present → Follows self.new (P.history platform.new).present }
+        ensures leaf { OnOk result ((self.new.is_loaded ≡ true)
+            × (P.tells → IsLeafOf self.old (P.history platform.old).present.readable (entries_of self.new))) }
         ensures misfit { P.tells → (addr : ℕ) → IsErrOf result (FetchRefusal.BadRecord addr)
             → (self.old.is_loaded ≡ false) × (addr ≡ self.old.root.addr)
-            × NothingFits (P.history platform.old).present.readable (root_want self.old.root) self.old.root.key }
+            × NothingFits (P.history platform.old).present.readable (root_want self.old.root) self.old.root.key
+            × Wrong (P.history platform.old).present.readable self.old.root addr }
 
-        ensures image { P.tells → (P.history platform.new).present ≡ (P.history platform.old).present }
-        ensures time { P.tells
-            → During (P.history platform.old) (P.history platform.new) (λ image. image.cell ≡ (P.history platform.old).present.cell) }
-        ensures head { P.head platform.new ≡ P.head platform.old }
-        ensures capacity { P.capacity platform.new ≡ P.capacity platform.old }
+        ensures looks { Looks P.Platform platform.old platform.new }
         ensures reads { P.tells → P.reads platform.new ≤ P.reads platform.old + 1 }
-        ensures faults { P.faults platform.old ≤ P.faults platform.new }
         ensures cause { IsErrOf result FetchRefusal.PlatformFault → Rose (P.faults platform.old) (P.faults platform.new) }
     {
         if self.is_loaded {

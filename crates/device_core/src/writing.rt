@@ -1,16 +1,15 @@
-ghost use Rattle.std.specs.Prelude.{◌≡◌, ◌≢◌, ◌↔◌, ◌<◌, ◌≤◌, ◌+◌, ◌⊎◌, ◌||◌, ℕ, List, true, All, OnOk, OnErr, IsOk, IsErrOf, length};
-ghost use Rattle.std.specs.FinMap as map;
+ghost use Rattle.std.specs.Prelude.{◌≡◌, ◌≢◌, ◌<◌, ◌≤◌, ◌⊎◌, ℕ, List, true, All, OnOk, OnErr, IsOk, IsErrOf, length};
 ghost use Rattle.sdbt_base.specs.Faults.{Rose};
-ghost use Rattle.platform.specs.History.{During};
-ghost use Rattle.page_store.specs.Buffer.{padded};
-ghost use Rattle.page_store.specs.Device.{Device};
+ghost use Rattle.platform.specs.Calls.{Looks, Grows};
+ghost use Rattle.platform.specs.History.{CellStays};
+ghost use Rattle.sdbt_base.specs.Arrays.{padded, Device, Blocks};
 ghost use Rattle.page_store.specs.Kept.{Kept};
 ghost use Rattle.page_store.specs.Keeping.{KeepsKeys};
 ghost use Rattle.page_store.specs.Tree.{Wrong};
 ghost use Rattle.node_codec.specs.declared.body.Entry.{Entry};
-ghost use Rattle.device_core.specs.Blocks.{Blocks};
 ghost use Rattle.device_core.specs.Damage.{IsDamaged};
-ghost use Rattle.device_core.specs.Drawing.{NamesPage};
+ghost use Rattle.device_core.specs.Causes.{IsWriteCause, IsTrimCause};
+ghost use Rattle.device_core.specs.Changes.{WritesArray, TrimsArray, WriteAdds};
 
 use crate::leaves::{mapped_with, place_of, put_entry};
 use crate::refusals::{TrimRefusal, WriteRefusal};
@@ -41,59 +40,32 @@ impl Session {
         requires size { length content.now ≤ 4096 }
         requires open { IsOpen self.old (P.head platform.old) }
 
-        ensures written { P.tells → (device : Device) (contents : Blocks) → Holds self.old (P.history platform.old).present device contents
-            → OnOk result (Holds self.new (P.history platform.new).present device (map.insert contents block (padded content.now))) }
-        ensures touched { OnOk result (is_touched self.new ≡ true) }
-        ensures refused { P.tells → (device : Device) (contents : Blocks) → Holds self.old (P.history platform.old).present device contents
-            → OnErr result (Holds self.new (P.history platform.new).present device contents) }
-        ensures untouched { OnErr result (is_touched self.new ≡ is_touched self.old) }
-        ensures sound { P.tells → (device : Device) (contents : Blocks) → Holds self.old (P.history platform.old).present device contents
-            → (addr : ℕ) → IsErrOf result (WriteRefusal.BadRecord addr) → ⊥ }
+        ensures array { P.tells → (device : Device) (contents : Blocks) → Holds self.old (P.history platform.old).present device contents
+            → WritesArray self.new (P.history platform.new).present device contents block (padded content.now) result }
+        ensures open { IsOpen self.new (P.head platform.new) }
+        ensures same { (self.new.root ≡ self.old.root) × OnOk result (is_touched self.new ≡ true)
+            × OnErr result (is_touched self.new ≡ is_touched self.old) }
         // Each moment keeps the keys that the image kept before, with the one that was drawn.
         ensures keeps { KeepsKeys P.tells (T.drawn tape.old) (T.drawn tape.new) (P.history platform.old) (P.history platform.new)
             (HoldsListed self.old (P.history platform.old).present) (HoldsListed self.new (P.history platform.new).present) }
-        // The new entry names the page and the key of this call. A refusal draws no key, if not for a fault of the platform.
-        ensures entered { OnOk result (NamesPage (T.drawn tape.old) (T.drawn tape.new) (entries_of self.new) block (P.head platform.old)) }
-        ensures undrawn { OnErr result (IsErrOf result WriteRefusal.PlatformFault ⊎ (T.drawn tape.new ≡ T.drawn tape.old)) }
+        ensures adds { WriteAdds P.Platform T.Tape platform.old platform.new tape.old tape.new (entries_of self.new) block result }
         // On any pages: what is named is a place of the root's tree that doesn't fit, or the root node, where
         // the block has no entry and as many blocks are mapped as there are.
         ensures follows { P.tells → Follows self.old (P.history platform.old).present → Follows self.new (P.history platform.new).present }
-        ensures wrong { P.tells → (addr : ℕ) → IsErrOf result (WriteRefusal.BadRecord addr)
-            → Wrong (P.history platform.old).present.readable (root_of self.old) addr
-            ⊎ ((addr ≡ root_node self.old) × (mapped_of self.old ≡ blocks_of self.old) × IsUnmapped self.new block) }
-        ensures damaged { P.tells → Follows self.old (P.history platform.old).present → (addr : ℕ)
-            → IsErrOf result (WriteRefusal.BadRecord addr)
-            → IsDamaged (P.history platform.new).present.readable (root_of self.old) addr }
-        ensures bad_still { P.tells → (addr : ℕ) → IsErrOf result (WriteRefusal.BadRecord addr)
-            → (P.history platform.new).present ≡ (P.history platform.old).present }
-        ensures refused_still { P.tells
-            → (IsErrOf result WriteRefusal.Range ⊎ (IsErrOf result WriteRefusal.Full ⊎ IsErrOf result WriteRefusal.TapeFault))
-            → (P.history platform.new).present ≡ (P.history platform.old).present }
+        ensures damaged { P.tells → (addr : ℕ) → IsErrOf result (WriteRefusal.BadRecord addr)
+            → (Wrong (P.history platform.old).present.readable (root_of self.old) addr
+            ⊎ ((addr ≡ root_node self.old) × (mapped_of self.old ≡ blocks_of self.old) × IsUnmapped self.new block))
+            × (Follows self.old (P.history platform.old).present → IsDamaged (P.history platform.new).present.readable (root_of self.old) addr) }
         // Where as many blocks are mapped as there are, none is written that had no entry.
         ensures counter { P.tells → (leaf : List Entry) → IsLeafOf self.old (P.history platform.old).present.readable leaf
             → All (λ e. e.low ≢ block) leaf → mapped_of self.old ≡ blocks_of self.old
             → (IsOk result ⊎ IsErrOf result WriteRefusal.TapeFault) → ⊥ }
-        ensures range { IsErrOf result WriteRefusal.Range ↔ (blocks_of self.old ≤ block) }
-        ensures no_memory { IsErrOf result WriteRefusal.Memory → ⊥ }
-        ensures full { IsErrOf result WriteRefusal.Full ↔ ((block < blocks_of self.old) × (P.head platform.old ≡ P.capacity platform.old)) }
-        ensures open { IsOpen self.new (P.head platform.new) }
-        ensures same { self.new.root ≡ self.old.root }
 
-        ensures cell { P.tells → (P.history platform.new).present.cell ≡ (P.history platform.old).present.cell }
-        ensures time { P.tells
-            → During (P.history platform.old) (P.history platform.new) (λ image. image.cell ≡ (P.history platform.old).present.cell) }
-        ensures head_ok { OnOk result (P.head platform.new ≡ P.head platform.old + 1) }
-        ensures head_refused { (IsErrOf result WriteRefusal.Range
-            ⊎ (IsErrOf result WriteRefusal.Full ⊎ IsErrOf result WriteRefusal.TapeFault))
-            → P.head platform.new ≡ P.head platform.old }
-        ensures head_bad { (addr : ℕ) → IsErrOf result (WriteRefusal.BadRecord addr) → P.head platform.new ≡ P.head platform.old }
-        ensures head_rises { P.head platform.old ≤ P.head platform.new }
-        ensures head_by_one { P.head platform.new ≤ P.head platform.old + 1 }
-        ensures capacity { P.capacity platform.new ≡ P.capacity platform.old }
-        ensures platform_faults { P.faults platform.old ≤ P.faults platform.new }
-        ensures platform_cause { IsErrOf result WriteRefusal.PlatformFault → Rose (P.faults platform.old) (P.faults platform.new) }
+        ensures cause { IsWriteCause block (blocks_of self.old) (P.head platform.old) (P.capacity platform.old)
+            (Rose (P.faults platform.old) (P.faults platform.new)) (Rose (T.faults tape.old) (T.faults tape.new)) result }
+        ensures time { P.tells → CellStays (P.history platform.old) (P.history platform.new) }
+        ensures grows { Grows P.Platform platform.old platform.new }
         ensures tape_faults { T.faults tape.old ≤ T.faults tape.new }
-        ensures tape_cause { IsErrOf result WriteRefusal.TapeFault → Rose (T.faults tape.old) (T.faults tape.new) }
     {
         if block >= self.root.blocks {
             return Err(WriteRefusal::Range);
@@ -136,45 +108,30 @@ impl Session {
     /// `Range` comes exactly where the device has no such block. `BadRecord` never comes on a sound device;
     /// on a forged one it names a page that is not the record that belongs there, or the root node where
     /// the root record says that no block is mapped.
+    #[tactic(auto, using(platform::proofs::CallLaws::looks_start, platform::proofs::CallLaws::looks_call, platform::proofs::CallLaws::looks_then))]
     pub fn trim<P: Platform>(&mut self, platform: &mut P, block: u64) -> Result<(), TrimRefusal>
         requires { IsOpen self.old (P.head platform.old) }
 
-        ensures trimmed { P.tells → (device : Device) (contents : Blocks) → Holds self.old (P.history platform.old).present device contents
-            → OnOk result (Holds self.new (P.history platform.new).present device (map.remove contents block)) }
-        ensures touched { P.tells → (device : Device) (contents : Blocks) → Holds self.old (P.history platform.old).present device contents
-            → OnOk result (is_touched self.new ≡ (is_touched self.old || map.contains_key contents block)) }
-        ensures refused { P.tells → (device : Device) (contents : Blocks) → Holds self.old (P.history platform.old).present device contents
-            → OnErr result (Holds self.new (P.history platform.new).present device contents) }
-        ensures untouched { OnErr result (is_touched self.new ≡ is_touched self.old) }
-        ensures sound { P.tells → (device : Device) (contents : Blocks) → Holds self.old (P.history platform.old).present device contents
-            → (addr : ℕ) → IsErrOf result (TrimRefusal.BadRecord addr) → ⊥ }
+        ensures array { P.tells → (device : Device) (contents : Blocks) → Holds self.old (P.history platform.old).present device contents
+            → TrimsArray self.new (P.history platform.new).present device contents block (is_touched self.old) result }
+        ensures open { IsOpen self.new (P.head platform.new) }
+        ensures same { (self.new.root ≡ self.old.root) × OnErr result (is_touched self.new ≡ is_touched self.old) }
         // Where the image keeps the keys, those of the session's data records are listed still.
         ensures listed { P.tells → (keys : List (List ℕ)) → Kept keys (P.history platform.old).present
             → HoldsListed self.old (P.history platform.old).present keys → HoldsListed self.new (P.history platform.new).present keys }
         // On any pages: what is named is a place of the root's tree that doesn't fit, or the root node, where
         // the block has an entry and no block is mapped.
         ensures follows { P.tells → Follows self.old (P.history platform.old).present → Follows self.new (P.history platform.new).present }
-        ensures wrong { P.tells → (addr : ℕ) → IsErrOf result (TrimRefusal.BadRecord addr)
-            → Wrong (P.history platform.old).present.readable (root_of self.old) addr
-            ⊎ ((addr ≡ root_node self.old) × (mapped_of self.old ≡ 0) × IsMapped self.new block) }
-        ensures damaged { P.tells → Follows self.old (P.history platform.old).present → (addr : ℕ)
-            → IsErrOf result (TrimRefusal.BadRecord addr)
-            → IsDamaged (P.history platform.new).present.readable (root_of self.old) addr }
+        ensures damaged { P.tells → (addr : ℕ) → IsErrOf result (TrimRefusal.BadRecord addr)
+            → (Wrong (P.history platform.old).present.readable (root_of self.old) addr
+            ⊎ ((addr ≡ root_node self.old) × (mapped_of self.old ≡ 0) × IsMapped self.new block))
+            × (Follows self.old (P.history platform.old).present → IsDamaged (P.history platform.new).present.readable (root_of self.old) addr) }
         // Where no block is mapped, none is trimmed that had an entry.
         ensures counter { P.tells → (leaf : List Entry) (entry : Entry) → IsLeafOf self.old (P.history platform.old).present.readable leaf
             → IsEntryOf leaf block entry → mapped_of self.old ≡ 0 → IsOk result → ⊥ }
-        ensures no_memory { IsErrOf result TrimRefusal.Memory → ⊥ }
-        ensures range { IsErrOf result TrimRefusal.Range ↔ (blocks_of self.old ≤ block) }
-        ensures open { IsOpen self.new (P.head platform.new) }
-        ensures same { self.new.root ≡ self.old.root }
 
-        ensures image { P.tells → (P.history platform.new).present ≡ (P.history platform.old).present }
-        ensures time { P.tells
-            → During (P.history platform.old) (P.history platform.new) (λ image. image.cell ≡ (P.history platform.old).present.cell) }
-        ensures head { P.head platform.new ≡ P.head platform.old }
-        ensures capacity { P.capacity platform.new ≡ P.capacity platform.old }
-        ensures faults { P.faults platform.old ≤ P.faults platform.new }
-        ensures cause { IsErrOf result TrimRefusal.PlatformFault → Rose (P.faults platform.old) (P.faults platform.new) }
+        ensures cause { IsTrimCause block (blocks_of self.old) (Rose (P.faults platform.old) (P.faults platform.new)) result }
+        ensures looks { Looks P.Platform platform.old platform.new }
     {
         if block >= self.root.blocks {
             return Err(TrimRefusal::Range);

@@ -5,7 +5,7 @@ use Rattle.platform.specs.History.{History, Extends, During, Turns}
 use Rattle.platform.specs.Runs.{Passes}
 use Rattle.platform.proofs.Moments.{During-now, During-turns, LeavesOnly-now, Turns-not}
 use Rattle.platform.proofs.RunLaws.{Passes-start, Passes-during, Passes-turns, Turns-cases}
-use Rattle.page_store.specs.Device.{Device}
+use Rattle.sdbt_base.specs.Arrays.{Device, Blocks, committed_with}
 use Rattle.page_store.specs.Stands.{Stands, IsSound}
 use Rattle.page_store.specs.Kept.{Kept}
 use Rattle.page_store.specs.Keeping.{KeepsKeys}
@@ -14,14 +14,13 @@ use Rattle.page_store.proofs.StandsLaws.{one_device, stands_during, stands_leave
 use Rattle.page_store.proofs.KeptLaws.{same_during}
 use Rattle.page_store.proofs.KeepingLaws.{keeps_idle, keeps_still, keeps_from}
 use Rattle.page_store.proofs.FloorLaws.{deleted_call, forgets_still}
-use Rattle.device_core.specs.Blocks.{Blocks}
 use Rattle.device_core.specs.Holds.{Holds}
 use Rattle.device_core.specs.Open.{is_touched, number_of}
 use Rattle.std.proofs.lemmas.Bool.Decides.{eqb_tells}
 use Rattle.device_core.specs.declared.refusals.CommitReply.TheVariants.{Committed, Full}
 use Rattle.device_core.specs.Knowing.{HoldsListed}
 use Rattle.device_core.specs.Leaf.{IsServedImage}
-use Rattle.device_core.specs.Replies.{device_after, committed_device}
+use Rattle.device_core.specs.Replies.{device_after}
 use Rattle.device_core.specs.declared.refusals.CommitReply.{CommitReply}
 use Rattle.device_core.specs.declared.session.Session.{Session}
 use Rattle.device_core.proofs.ServedLaws.{serves_still}
@@ -175,7 +174,7 @@ pub record Commits (tells : Type 0) (old new : Outside) (session : Session) (dev
   pub told : tells
   pub at : IsAt old.history.present (Some session) (Open device array touched)
   pub later : IsLater old new
-  pub time : Turns old.history new.history (Leaves (Some device)) (Leaves (Some (committed_device device array)))
+  pub time : Turns old.history new.history (Leaves (Some device)) (Leaves (Some (committed_with device array)))
   pub keeps : KeepsKeys tells old.drawn new.drawn old.history new.history (HoldsListed session old.history.present) Then
   pub forgets : tells → (keys : List (List ℕ)) → HoldsListed session old.history.present keys → Forgets old.history new.history
   pub serves : tells → IsServedImage old.history.present → During old.history new.history IsServedImage
@@ -196,7 +195,7 @@ pub commit_course : (tells : Type 0) (old new : Outside) (session now : Session)
     → ((keys : List (List ℕ)) → Then keys → HoldsListed now new.history.present keys) → Holds now new.history.present (device_after reply device array) array → is_touched now ≡ false
     → Course old new (Some session) (Some now) (Open device array touched) (Some (device_after reply device array) ∷ []) (Open (device_after reply device array) array false)
 commit_course tells old new session now device array touched reply Then c done holds is =
-    makes tells old new (Some session) (Some now) (Open device array touched) (Open (device_after reply device array) array false) (Some (committed_device device array))
+    makes tells old new (Some session) (Some now) (Open device array touched) (Open (device_after reply device array) array false) (Some (committed_with device array))
     (commit_calls tells old new session (Some now) device array touched Then c done) c.time (holds, is)
 
 -- which number it has
@@ -237,7 +236,7 @@ commit_full tells old new session now device array touched Then c done holds is 
     let there = stands_at new.history.present (Some now) (Open device array touched) (holds, is) in
     stays tells old new (Some session) (Some now) (Open device array touched) (Open device array touched)
     (commit_calls tells old new session (Some now) device array touched Then c done)
-    (stayed old.history new.history (Some device) (Some (committed_device device array)) c.time there) refl (holds, is)
+    (stayed old.history new.history (Some device) (Some (committed_with device array)) c.time there) refl (holds, is)
 
 -- the session is then as it was
 same_session : (session now : Session) (touched : Bool) (reply : CommitReply) (needed free head capacity : ℕ) → is_touched session ≡ touched → reply ≡ Full needed free
@@ -264,9 +263,9 @@ commit_refused tells old new session now device array touched reply needed free 
 
 -- a commit that failed, with which the session ends
 pub commit_stop : (tells : Type 0) (old new : Outside) (session : Session) (device : Device) (array : Blocks) (touched : Bool) (Then : List (List ℕ) → Type 0) → Commits tells old new session device array touched Then
-    → Stopped old new (Some session) None (Open device array touched) (Some (committed_device device array)) (Closed (Some device)) (Closed (Some (committed_device device array)))
+    → Stopped old new (Some session) None (Open device array touched) (Some (committed_with device array)) (Closed (Some device)) (Closed (Some (committed_with device array)))
 commit_stop tells old new session device array touched Then c =
-    stops tells old new (Some session) (Open device array touched) (Some (committed_device device array))
+    stops tells old new (Some session) (Open device array touched) (Some (committed_with device array))
     (λ left stands. commit_calls tells old new session None device array touched Then c (λ keys then'. (left, stands))) c.time
 
 -- a format or an erasure

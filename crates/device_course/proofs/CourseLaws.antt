@@ -5,7 +5,7 @@ use Rattle.platform.specs.History.{During}
 use Rattle.platform.specs.Runs.{Passes}
 use Rattle.platform.proofs.Moments.{During-start, During-now, During-then}
 use Rattle.platform.proofs.RunLaws.{Passes-start, Passes-then}
-use Rattle.page_store.specs.Device.{Device}
+use Rattle.sdbt_base.specs.Arrays.{Device, Blocks}
 use Rattle.page_store.specs.Stands.{Stands, IsSound}
 use Rattle.page_store.specs.Kept.{Kept}
 use Rattle.page_store.specs.Disclosing.{DisclosesBy}
@@ -14,7 +14,6 @@ use Rattle.page_store.proofs.StandsLaws.{stands_leaves}
 use Rattle.page_store.proofs.DisclosingLaws.{discloses as run_discloses}
 use Rattle.page_store.proofs.KeepingLaws.{keeps_idle, keeps_then}
 use Rattle.page_store.proofs.FloorLaws.{deleted_start, deleted_then}
-use Rattle.device_core.specs.Blocks.{Blocks}
 use Rattle.device_core.specs.Leaf.{IsServedImage}
 use Rattle.device_core.specs.declared.session.Session.{Session}
 use Rattle.device_core.proofs.HoldLaws.{held_stands}

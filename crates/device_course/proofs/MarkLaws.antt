@@ -1,6 +1,6 @@
 -- The marks of two parts of a run are one list.
 use Rattle.std.proofs.Common.{◌≡◌, ℕ, zero, suc, ◌+◌, ◌≤◌, List, [], ◌∷◌, ◌++◌, Option, length, refl, arith}
-use Rattle.page_store.specs.Device.{Device}
+use Rattle.sdbt_base.specs.Arrays.{Device}
 use Rattle.device_course.specs.Marks.{mark_at, last_mark}
 
 pub mark_at-last : (first : Option Device) (marks : List (Option Device)) → mark_at first marks (length marks) ≡ last_mark first marks

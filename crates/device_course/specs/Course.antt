@@ -2,34 +2,28 @@
 use Rattle.std.specs.Prelude.{◌≡◌, ℕ, List, ◌⊎◌, [], ◌∷◌, Option, length}
 use Rattle.platform.specs.History.{During}
 use Rattle.platform.specs.Runs.{Passes}
-use Rattle.page_store.specs.Device.{Device}
+use Rattle.sdbt_base.specs.Arrays.{Device, State}
 use Rattle.page_store.specs.Stands.{Stands}
 use Rattle.page_store.specs.Kept.{Kept}
-use Rattle.page_store.specs.Keeping.{DrewAll, HandedOver, Keeps}
-use Rattle.page_store.specs.Floors.{KeepsDeleted}
+use Rattle.page_store.specs.Keeping.{DrewAll, HandedOver}
 use Rattle.page_store.specs.Disclosing.{DisclosesBy}
 use Rattle.device_core.specs.Leaf.{IsServedImage}
 use Rattle.device_core.specs.declared.session.Session.{Session}
 use Rattle.device_course.specs.Marks.{HasMark, last_mark}
-use Rattle.device_course.specs.States.{Outside, State, IsAt, IsListed, IsLater, device_of}
+use Rattle.device_course.specs.Keys.{KeepsOn}
+use Rattle.device_course.specs.States.{Outside, IsAt, IsListed, IsLater}
 
 -- a part of a run that began with this session in the state `entry`, and ended with that one in the state `exit`: it made these devices
 pub record Course (old new : Outside) (before after : Option Session) (entry : State) (marks : List (Option Device)) (exit : State) : Type 0 where
   -- at each moment a loss of power leaves the device at the start or one that was made, in their order, and at the end the last
-  pub passes : Passes old.history new.history (HasMark (device_of entry) marks) (length marks)
-  pub last : device_of exit ≡ last_mark (device_of entry) marks
+  pub passes : Passes old.history new.history (HasMark entry.device marks) (length marks)
+  pub last : exit.device ≡ last_mark entry.device marks
   pub exits : IsAt new.history.present after exit
   -- a cell that can be served is there at each moment, and pages are only added
   pub serves : During old.history new.history IsServedImage
   pub later : IsLater old new
-  -- each page that was handed over is a record sealed under a key that was drawn; each moment keeps what the image from before kept, with
-  -- those keys; and what was deleted stays so
-  pub grew : List (List ℕ)
-  pub drew : DrewAll old.drawn grew new.drawn
-  pub handed : HandedOver grew old.history.present new.history.present
-  pub keeps : (keys : List (List ℕ)) → Kept keys old.history.present → IsListed before old.history.present keys
-      → Keeps keys grew old.history new.history (IsListed after new.history.present)
-  pub deleted : (keys : List (List ℕ)) → Kept keys old.history.present → IsListed before old.history.present keys → KeepsDeleted old.history new.history
+  -- each moment keeps what the image from before kept, with the keys that were drawn; and what was deleted stays so
+  pub on : KeepsOn (Unit {0}) old.drawn new.drawn before old.history new.history (IsListed after new.history.present)
 
 -- a call that stopped: nothing of it came to be, or the device that it was to make
 abbrev pub Stopped : Outside → Outside → Option Session → Option Session → State → Option Device → State → State → Type 0

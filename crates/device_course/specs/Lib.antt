@@ -1,3 +1,4 @@
 pub mod Marks
 pub mod States
+pub mod Keys
 pub mod Course

@@ -1,7 +1,7 @@
 -- The devices that a run makes, in their order.
 use Rattle.std.specs.Prelude.{ℕ, suc, zero, List, [], ◌∷◌, Option}
 use Rattle.platform.specs.Image.{Image, LeavesOnly}
-use Rattle.page_store.specs.Device.{Device}
+use Rattle.sdbt_base.specs.Arrays.{Device}
 use Rattle.page_store.specs.Stands.{Stands}
 
 -- whatever a loss of power leaves of the image stands for the device

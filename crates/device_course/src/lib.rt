@@ -3,7 +3,7 @@
 #![tactic(auto)]
 
 ghost use Rattle.std.specs.Prelude.{◌≤◌, ◌++◌, List, ℕ, [], None, Option};
-ghost use Rattle.page_store.specs.Device.{Device};
+ghost use Rattle.sdbt_base.specs.Arrays.{Device};
 ghost use Rattle.page_store.specs.Kept.{Kept};
 ghost use Rattle.device_core.specs.declared.session.Session.{Session};
 ghost use Rattle.device_course.specs.States.{Outside, State, Closed, IsAt, IsListed, device_of};

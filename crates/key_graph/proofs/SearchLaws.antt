@@ -16,7 +16,8 @@ use Rattle.std.proofs.lemmas.List.Elements.{All-nil, All-cons, All-weaker, All-a
 use Rattle.std.proofs.lemmas.Map.Keys.{IsStrictlyIncreasing-from_sorted}
 use Rattle.std.proofs.lemmas.Map.Lookups.{exact_unsigned}
 use Rattle.std.proofs.lemmas.Map.Views.{btree_set_contains_iff, list_any-from_Contains, Contains-from_any, exact_unsigned_eq}
-use Rattle.key_graph.specs.Trace.{TraceEntry, DataOf, NodeOver, Entries, IsChild, Leads, TraceReached}
+use Rattle.key_graph.specs.Trace.{Entries, IsChild, Leads, TraceReached}
+use Rattle.sdbt_base.specs.Traces.{TraceEntry, DataOf, NodeOver}
 use Rattle.key_graph.specs.Search.{children_of, IsSetOf, Gains}
 use Rattle.key_graph.proofs.TraceLaws.{apart_key}
 

@@ -8,7 +8,8 @@ use Rattle.std.proofs.lemmas.Bool.{cases_eq, eq-eqb, ne_eqb}
 use Rattle.key_graph.specs.declared.traces.Said.{Said}
 use Rattle.std.proofs.lemmas.Option.{none-some}
 use Rattle.key_graph.specs.declared.traces.Said.TheVariants.{Data, Over}
-use Rattle.key_graph.specs.Trace.{TraceEntry, DataOf, NodeOver, entry_in}
+use Rattle.key_graph.specs.Trace.{entry_in}
+use Rattle.sdbt_base.specs.Traces.{TraceEntry, DataOf, NodeOver}
 use Rattle.key_graph.specs.Said.{trace_of, traced_of}
 
 pub same_key : (k q : ℕ) → k ≡ q → is_at (nat_cmp q) k ≡ true

@@ -4,8 +4,8 @@ use Rattle.key_graph.specs.declared.traces.TraceEntry.{TraceEntry}
 use Rattle.key_graph.specs.declared.traces.TraceEntry.TheVariants.{Block, Node, Lost}
 use Rattle.key_graph.specs.declared.traces.Said.{Said}
 use Rattle.key_graph.specs.declared.traces.Said.TheVariants.{Data, Over}
-use Rattle.key_graph.specs.Trace as trace
-use Rattle.key_graph.specs.Trace.{Traced, DataOf, NodeOver}
+use Rattle.sdbt_base.specs.Traces as trace
+use Rattle.sdbt_base.specs.Traces.{Traced, DataOf, NodeOver}
 
 -- that it is a data record of a block, or a node over its children, or nothing
 abbrev pub said_of : TraceEntry → Option trace.TraceEntry

@@ -3,7 +3,7 @@ use Rattle.std.specs.Prelude.{◌≡◌, ◌==◌, ◌++◌, ℕ, List, [], Opti
 use Rattle.std.specs.List.{list_any}
 use Rattle.std.specs.Ordering.{nat_cmp}
 use Rattle.std.specs.BTreeSet.{BTreeSet, contains}
-use Rattle.key_graph.specs.Trace.{TraceEntry, DataOf, NodeOver}
+use Rattle.sdbt_base.specs.Traces.{TraceEntry, DataOf, NodeOver}
 
 -- the children of an address, if it is a node
 abbrev pub children_of : Option TraceEntry → List ℕ

@@ -1,15 +1,6 @@
 -- Traces: what is said of each address, and which addresses are reached from a root.
 use Rattle.std.specs.Prelude.{◌≡◌, ◌≢◌, ◌≤◌, ◌<◌, ◌==◌, if◌then◌else◌, ℕ, List, [], ◌∷◌, Option, None, Some, Contains, AllPairs}
-
--- what a trace says of an address: a data record of a block, or a node with the addresses of its children
-pub data TraceEntry : Type 0 where
-  DataOf : (block : ℕ) → TraceEntry
-  NodeOver : (children : List ℕ) → TraceEntry
-
--- an address, and what a trace says of it
-pub record Traced : Type 0 where
-  pub addr : ℕ
-  pub trace : TraceEntry
+use Rattle.sdbt_base.specs.Traces.{TraceEntry, NodeOver, Traced}
 
 -- what is said of each address; of most of them nothing
 abbrev pub Entries : Type 0

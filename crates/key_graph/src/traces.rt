@@ -1,6 +1,7 @@
 //! A trace: what is said of each address, without the pages and without a key.
 ghost use Rattle.std.specs.Prelude.{◌≡◌, ◌≢◌, ◌==◌, ℕ, List, [], Some, if◌then◌else◌, MatchOption, OnOk, OnErr};
-ghost use Rattle.key_graph.specs.Trace.{NodeOver, entry_in};
+ghost use Rattle.key_graph.specs.Trace.{entry_in};
+ghost use Rattle.sdbt_base.specs.Traces.{NodeOver};
 ghost use Rattle.key_graph.specs.Said.{said_of};
 
 use sdbt_base::{Addrs, Memory};
@@ -40,7 +41,7 @@ pub struct Trace {
 
 impl Model for Trace {
     ghost use Rattle.std.specs.Prelude.{List, map};
-    ghost use Rattle.key_graph.specs.Trace.{Traced};
+    ghost use Rattle.sdbt_base.specs.Traces.{Traced};
 
     ghost Value = { List Traced };
 

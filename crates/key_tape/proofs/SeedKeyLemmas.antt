@@ -4,8 +4,8 @@ use Rattle.std.proofs.lemmas.List.{take_all}
 use Rattle.rand_core.specs.Steps.{fill_via_u32}
 use Rattle.rand_chacha.specs.ChaCha.{ChaCha, next_word, key_of}
 use Rattle.sdbt_base.specs.Bytes.{IsBytes}
-use Rattle.seal_record.specs.Keystream.{words}
-use Rattle.seal_record.proofs.KeystreamLemmas.{length-words, All-words, word_bytes-words}
+use Rattle.chacha_words.specs.Words.{words}
+use Rattle.chacha_words.proofs.WordLaws.{length-words, All-words, word_bytes-words}
 use Rattle.key_tape.specs.SeedKeys.{seed_bytes, key_at, first_keys}
 
 -- 32 bytes of a generator are its next eight words

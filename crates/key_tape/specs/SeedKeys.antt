@@ -2,7 +2,7 @@
 use Rattle.std.specs.Prelude.{ℕ, zero, suc, ◌*◌, List, [], ◌∷◌, ◌++◌, replicate}
 use Rattle.std.specs.Int.{w64, to_be_bytes}
 use Rattle.rand_chacha.specs.ChaCha.{key_of}
-use Rattle.seal_record.specs.Keystream.{words}
+use Rattle.chacha_words.specs.Words.{words}
 
 -- what contracts see of a seeded tape: its seed, how many keys it drew, and how often it failed
 pub record SeedTapeState : Type 0 where

@@ -2,7 +2,7 @@
 ghost use Rattle.std.specs.Prelude.{◌≡◌, ◌+◌, ◌*◌, ◌^◌, ◌<◌, ◌≤◌, ◌↔◌, Some, IfOk, OnErr, IsOk, is_ok, length, if◌then◌else◌};
 ghost use Rattle.sdbt_base.specs.Faults.{Rose, next_count};
 ghost use Rattle.sdbt_base.specs.Told.{Drew};
-ghost use Rattle.seal_record.specs.Keystream.{words};
+ghost use Rattle.chacha_words.specs.Words.{words};
 ghost use Rattle.key_tape.specs.SeedKeys.{SeedTapeState, seed_bytes, key_at, first_keys};
 
 use rand_chacha::ChaCha20Rng;

@@ -12,7 +12,7 @@ use Rattle.key_graph.specs.Chains.{Reached, KeyPremises, link}
 use Rattle.key_graph.specs.Maps.{AreFirst}
 use Rattle.key_graph.proofs.ChainLaws.{opens_later, reached_later}
 use Rattle.key_graph.proofs.LaterLaws.{no_more}
-use Rattle.page_store.specs.Device.{Device}
+use Rattle.sdbt_base.specs.Arrays.{Device}
 use Rattle.page_store.specs.Stands.{Stands}
 use Rattle.page_store.specs.Kept.{IsRootOf, Kept}
 use Rattle.page_store.specs.Keeping.{HandedOver}

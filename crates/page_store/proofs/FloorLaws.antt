@@ -19,7 +19,7 @@ use Rattle.key_graph.specs.OwnKeys.{HaveOwnKeys}
 use Rattle.key_graph.specs.Maps.{addresses_of, AreListed, AreFirst, ReachesExactly}
 use Rattle.key_graph.proofs.ChainLaws.{earlier_map, contains_map, map_contains}
 use Rattle.std.proofs.lemmas.List.Elements.{All-map, All-contains}
-use Rattle.page_store.specs.Device.{Device}
+use Rattle.sdbt_base.specs.Arrays.{Device}
 use Rattle.page_store.specs.Tree.{Place, Parts, Tree}
 use Rattle.page_store.specs.Stands.{StandsBy, Stands, IsSound}
 use Rattle.page_store.specs.Kept.{links_of, IsRootOf, Kept, ReachesTree}

@@ -15,7 +15,7 @@ use Rattle.node_codec.specs.declared.body.Entry.{Entry}
 use Rattle.node_codec.specs.Record.{Record, DataRecord, NodeRecord, FitsRecord, record_bytes}
 use Rattle.key_graph.specs.Opening.{Yields}
 use Rattle.root_codec.specs.declared.root.Root.{Root}
-use Rattle.page_store.specs.Device.{Device}
+use Rattle.sdbt_base.specs.Arrays.{Device}
 use Rattle.page_store.specs.Tree.{Parts}
 use Rattle.page_store.specs.Stands.{StandsBy, Stands}
 use Rattle.key_graph.specs.OwnKeys.{HaveOwnKeys}

@@ -12,8 +12,8 @@ use Rattle.seal_record.specs.Sealing.{Opens}
 use Rattle.root_codec.specs.declared.root.Root.{Root}
 use Rattle.root_codec.specs.RootRecord.{FitsRoot, root_bytes}
 use Rattle.root_codec.specs.Laws.{one_root}
-use Rattle.page_store.specs.Device.{Device}
-use Rattle.key_graph.specs.Trace.{DataOf, NodeOver}
+use Rattle.sdbt_base.specs.Arrays.{Device}
+use Rattle.sdbt_base.specs.Traces.{DataOf, NodeOver}
 use Rattle.page_store.specs.Tree.{Place, Parts, Tree}
 use Rattle.page_store.specs.Stands.{StandsBy, Stands}
 use Rattle.page_store.specs.Leaf.{leaf_parts, StandsByLeaf}

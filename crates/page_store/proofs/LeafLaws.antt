@@ -5,7 +5,7 @@ use Rattle.node_codec.specs.declared.body.Entry.{Entry}
 use Rattle.node_codec.specs.Record.{DataRecord}
 use Rattle.root_codec.specs.declared.root.Root.{Root}
 use Rattle.page_store.specs.Places.{IsRecordAt, root_want}
-use Rattle.key_graph.specs.Trace.{DataOf}
+use Rattle.sdbt_base.specs.Traces.{DataOf}
 use Rattle.page_store.specs.Tree.{Parts, joined, data_parts, node_parts, EachChild, Subtree, Tree}
 use Rattle.page_store.specs.Leaf.{mapped_by, data_places, leaf_parts, IsLeaf}
 use Rattle.page_store.proofs.RecordLaws.{record_stays}

@@ -12,9 +12,9 @@ use Rattle.node_codec.specs.declared.body.Entry.{Entry}
 use Rattle.node_codec.specs.Record.{DataRecord, NodeRecord, FitsRecord, record_bytes}
 use Rattle.root_codec.specs.declared.root.Root.{Root}
 use Rattle.root_codec.specs.RootRecord.{FitsRoot}
-use Rattle.page_store.specs.Device.{Device}
+use Rattle.sdbt_base.specs.Arrays.{Device}
 use Rattle.page_store.specs.Places.{IsRecordAt, IsNodeWanted, FitsAt, root_want}
-use Rattle.key_graph.specs.Trace.{DataOf, NodeOver}
+use Rattle.sdbt_base.specs.Traces.{DataOf, NodeOver}
 use Rattle.page_store.specs.Tree.{Place, Parts}
 use Rattle.page_store.specs.Stands.{pairs_of, StandsBy}
 use Rattle.page_store.specs.Leaf.{leaf_parts, IsLeaf, StandsByLeaf}

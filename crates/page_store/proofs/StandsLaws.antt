@@ -8,7 +8,7 @@ use Rattle.platform.specs.History.{History, image_at, During}
 use Rattle.platform.proofs.Moments.{synced-stays, Extends-since}
 use Rattle.root_codec.specs.declared.root.Root.{Root}
 use Rattle.root_codec.specs.Laws.{one_root}
-use Rattle.page_store.specs.Device.{Device}
+use Rattle.sdbt_base.specs.Arrays.{Device}
 use Rattle.page_store.specs.Tree.{Place, Parts, Tree}
 use Rattle.page_store.specs.Stands.{pairs_of, StandsBy, Stands}
 use Rattle.page_store.proofs.RecordLaws.{slice_get-front}

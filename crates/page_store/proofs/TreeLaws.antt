@@ -8,7 +8,7 @@ use Rattle.root_codec.specs.declared.root.Root.{Root}
 use Rattle.root_codec.specs.RootRecord.{FitsRoot}
 use Rattle.page_store.specs.declared.wants.Want.{Want}
 use Rattle.page_store.specs.Places.{FitsAt, root_want, child_want}
-use Rattle.key_graph.specs.Trace.{DataOf, NodeOver}
+use Rattle.sdbt_base.specs.Traces.{DataOf, NodeOver}
 use Rattle.page_store.specs.Tree.{Place, Parts, joined, data_parts, node_parts, bound_of, EachChild, SomeChild, Subtree, Tree, WrongBelow, Wrong}
 use Rattle.page_store.proofs.RecordLaws.{one_record, record_kept, slice_get-front}
 

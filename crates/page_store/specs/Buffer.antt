@@ -1,5 +1,5 @@
 -- What two buffers of a record's size hold.
-use Rattle.std.specs.Prelude.{◌≡◌, ℕ, ◌-◌, List, ◌++◌, All, drop, length, replicate}
+use Rattle.std.specs.Prelude.{◌≡◌, ℕ, List, All, drop}
 
 -- the bytes of the last page and of the last body
 pub record Held : Type 0 where
@@ -14,7 +14,3 @@ content_of held = drop 32 held.body
 pub record IsBlank (held : Held) : Type 0 where
   pub page : All (λ b. b ≡ 0) held.page
   pub body : All (λ b. b ≡ 0) held.body
-
--- a block's content, with zeros behind what is given
-abbrev pub padded : List ℕ → List ℕ
-padded content = content ++ replicate (4096 - length content) 0

@@ -5,7 +5,7 @@ use Rattle.platform.specs.Image.{Image}
 use Rattle.platform.specs.History.{History, Extends, During}
 use Rattle.seal_record.specs.Sealing.{masked}
 use Rattle.node_codec.specs.Record.{Record, DataRecord, NodeRecord, FitsRecord, record_bytes}
-use Rattle.page_store.specs.Device.{Device}
+use Rattle.sdbt_base.specs.Arrays.{Device}
 use Rattle.page_store.specs.Stands.{Stands}
 use Rattle.page_store.specs.Kept.{Kept}
 

@@ -8,9 +8,9 @@ use Rattle.node_codec.specs.declared.body.Entry.{Entry}
 use Rattle.node_codec.specs.Record.{DataRecord, NodeRecord}
 use Rattle.root_codec.specs.declared.root.Root.{Root}
 use Rattle.root_codec.specs.RootRecord.{FitsRoot, root_bytes}
-use Rattle.page_store.specs.Device.{Device}
+use Rattle.sdbt_base.specs.Arrays.{Device}
 use Rattle.page_store.specs.Places.{IsRecordAt, FitsAt, root_want}
-use Rattle.key_graph.specs.Trace.{DataOf}
+use Rattle.sdbt_base.specs.Traces.{DataOf}
 use Rattle.page_store.specs.Tree.{Place, Mapped, Parts, node_parts}
 
 -- the entries of a leaf, each with the content of its data record

@@ -3,7 +3,7 @@ use Rattle.std.specs.Prelude.{◌≡◌, ◌⊎◌, ℕ, zero, suc, List, [], �
 use Rattle.node_codec.specs.declared.body.Entry.{Entry}
 use Rattle.node_codec.specs.Record.{DataRecord, NodeRecord}
 use Rattle.root_codec.specs.declared.root.Root.{Root}
-use Rattle.key_graph.specs.Trace.{TraceEntry, DataOf, NodeOver}
+use Rattle.sdbt_base.specs.Traces.{TraceEntry, DataOf, NodeOver}
 use Rattle.page_store.specs.declared.wants.Want.{Want}
 use Rattle.page_store.specs.Places.{FitsAt, NothingFits, root_want, child_want}
 

@@ -3,7 +3,8 @@ ghost use Rattle.sdbt_base.specs.Faults.{Rose};
 ghost use Rattle.platform.specs.History.{Steps};
 ghost use Rattle.seal_record.specs.Sealing.{masked};
 ghost use Rattle.node_codec.specs.Record.{DataRecord, NodeRecord, FitsNode, record_bytes};
-ghost use Rattle.page_store.specs.Buffer.{Held, content_of, padded, IsBlank};
+ghost use Rattle.page_store.specs.Buffer.{Held, content_of, IsBlank};
+ghost use Rattle.sdbt_base.specs.Arrays.{padded};
 
 use node_codec::{Entry, encode_block, encode_node};
 use platform::Platform;

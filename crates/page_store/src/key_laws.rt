@@ -5,7 +5,7 @@ ghost use Rattle.platform.specs.History.{History, During};
 ghost use Rattle.seal_record.specs.Sealing.{Opens};
 ghost use Rattle.root_codec.specs.declared.root.Root.{Root};
 ghost use Rattle.root_codec.specs.RootRecord.{root_bytes};
-ghost use Rattle.page_store.specs.Device.{Device};
+ghost use Rattle.sdbt_base.specs.Arrays.{Device};
 ghost use Rattle.page_store.specs.Tree.{Parts, Tree};
 ghost use Rattle.page_store.specs.Stands.{StandsBy, Stands};
 ghost use Rattle.key_graph.specs.Opening.{Yields};

@@ -5,7 +5,7 @@ ghost use Rattle.platform.specs.History.{History, During};
 ghost use Rattle.node_codec.specs.declared.body.Entry.{Entry};
 ghost use Rattle.root_codec.specs.declared.root.Root.{Root};
 ghost use Rattle.root_codec.specs.RootRecord.{FitsRoot};
-ghost use Rattle.page_store.specs.Device.{Device};
+ghost use Rattle.sdbt_base.specs.Arrays.{Device};
 ghost use Rattle.page_store.specs.Tree.{Parts, Tree, Wrong};
 ghost use Rattle.page_store.specs.Stands.{StandsBy, Stands};
 ghost use Rattle.page_store.specs.Leaf.{leaf_parts, StandsByLeaf};

@@ -2,3 +2,4 @@ pub mod Cuts
 pub mod LogSteps
 pub mod Moments
 pub mod RunLaws
+pub mod CallLaws

@@ -5,7 +5,7 @@ use Rattle.std.proofs.lemmas.Bool.{cases_lt}
 use Rattle.std.proofs.lemmas.Bool.Decides.{nat_tests}
 use Rattle.platform.specs.Image.{Image}
 use Rattle.platform.specs.History.{History, Extends, During, Turns, image_at, moment}
-use Rattle.platform.specs.Runs.{Passes, StaysDeleted, Looks}
+use Rattle.platform.specs.Runs.{Passes, StaysDeleted, Sightings}
 use Rattle.platform.proofs.Moments.{Extends-refl, Extends-trans, image_at-now}
 
 -- one function below n, and another from n on
@@ -162,8 +162,8 @@ StaysDeleted-then first second third floor Reached InTree meets one two =
     }
 
 -- no look yet
-pub Looks-none : (history : History) (Seen : ℕ → Image → Type 0) → Looks history history Seen 0
-Looks-none history Seen = record {
+pub Sightings-none : (history : History) (Seen : ℕ → Image → Type 0) → Sightings history history Seen 0
+Sightings-none history Seen = record {
   extends = Extends-refl history;
   at = λ k. moment history;
   ascends = λ j k order. omega arith;
@@ -173,8 +173,8 @@ Looks-none history Seen = record {
 }
 
 -- one look more, at the present image, after some calls
-pub Looks-more : (start old new : History) (Seen : ℕ → Image → Type 0) (count : ℕ) → Looks start old Seen count → Extends old new → Seen count new.present → Looks start new Seen (count + 1)
-Looks-more start old new Seen count looks extends here =
+pub Sightings-more : (start old new : History) (Seen : ℕ → Image → Type 0) (count : ℕ) → Sightings start old Seen count → Extends old new → Seen count new.present → Sightings start new Seen (count + 1)
+Sightings-more start old new Seen count looks extends here =
     let now : ℕ → ℕ = λ k. moment new in
     let earlier : (i : ℕ) → looks.at i ≤ moment new = λ i. let to = looks.to i in omega (arith, extends.later) in
     record {

@@ -41,3 +41,11 @@ pub record Turns (old new : History) (P Q : Image → Type 0) : Type 0 where
 -- one step: the image from before it, and then the one from after it
 abbrev pub Steps : History → History → Type 0
 Steps old new = Turns old new (λ image. image ≡ old.present) (λ image. image ≡ new.present)
+
+-- at each moment the cell is the one from before
+abbrev pub CellStays : History → History → Type 0
+CellStays old new = During old new (λ image. image.cell ≡ old.present.cell)
+
+-- the cell changes at most once
+abbrev pub CellTurns : History → History → Type 0
+CellTurns old new = Turns old new (λ image. image.cell ≡ old.present.cell) (λ image. image.cell ≡ new.present.cell)

@@ -1,4 +1,5 @@
 pub mod Image
+pub mod Calls
 pub mod Failures
 pub mod Folder
 pub mod History

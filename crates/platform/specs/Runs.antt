@@ -29,7 +29,7 @@ pub record StaysDeleted (old new : History) (floor : ℕ → ℕ) (Reached InTre
   pub kept : (i j : ℕ) → moment old ≤ i → i ≤ j → j ≤ moment new → (addr : ℕ) → Reached (image_at new j) addr → addr < floor i → InTree (image_at new i) addr
 
 -- so many looks at present images of a run, in order of time; the k-th one saw an image with Seen k
-pub record Looks (old new : History) (Seen : ℕ → Image → Type 0) (count : ℕ) : Type 0 where
+pub record Sightings (old new : History) (Seen : ℕ → Image → Type 0) (count : ℕ) : Type 0 where
   pub extends : Extends old new
   pub at : ℕ → ℕ
   pub ascends : (j k : ℕ) → j ≤ k → at j ≤ at k

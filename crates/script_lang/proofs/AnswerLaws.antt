@@ -1,7 +1,7 @@
 -- How the answers to some lines and the answers to the next ones make those to all.
 use Rattle.std.proofs.Common.{◌≡◌, ℕ, Bool, List, [], ◌∷◌, ◌++◌, length, inl, inr, refl, subst, arith}
 use Rattle.script_lang.specs.Grammar.{Spells, IsBad}
-use Rattle.script_lang.specs.Arrays.{State}
+use Rattle.sdbt_base.specs.Arrays.{State}
 use Rattle.script_lang.specs.Answers.{Turn, Answers, answer}
 use Rattle.script_lang.specs.declared.commands.Command.{Command}
 use Rattle.script_lang.specs.declared.replies.Reply.{Reply}

@@ -1,13 +1,12 @@
 -- Each reply of the array machine can be written.
 use Rattle.std.proofs.Common.{◌≡◌, Bool, true, false, cond, ◌&&◌, ◌+◌, nat_lt, Option, Some, None, sym, ap, subst}
-use Rattle.script_lang.specs.Arrays.{State, content_of, content_reply, in_limits, new_device, with_session, written, unmapped, committed, session_on, step, step_if}
+use Rattle.script_lang.specs.Arrays.{content_reply, in_limits, with_session, step, step_if}
+use Rattle.sdbt_base.specs.Arrays.{State, content_of, new_device, written, unmapped, committed, session_on, Device, Session}
 use Rattle.script_lang.specs.Replies.{CanWrite}
 use Rattle.script_lang.specs.declared.commands.Command.{Command}
 use Rattle.script_lang.specs.declared.commands.Command.TheVariants.{Format, Mount, Read, Write, Trim, Commit, Drop, Erase, Stat, Seize}
 use Rattle.script_lang.specs.declared.replies.Reply.{Reply}
 use Rattle.script_lang.specs.declared.replies.Reply.TheVariants.{Formatted, Done, Committed, Range, Full}
-use Rattle.script_lang.specs.declared.devices.Device.{Device}
-use Rattle.script_lang.specs.declared.devices.Session.{Session}
 use Rattle.script_lang.proofs.Trims.{trimmed_is_trimmed}
 
 either : (b : Bool) (x y : Reply × State) → CanWrite x.0 → CanWrite y.0 → CanWrite (cond b x y).0

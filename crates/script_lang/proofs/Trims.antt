@@ -1,8 +1,8 @@
 -- Bytes without their trailing zeros.
-use Rattle.std.proofs.Common.{◌≡◌, ◌≢◌, ℕ, zero, suc, false, ◌==◌, inl, inr, List, [], ◌∷◌, ◌++◌, refl, length, take, get_or, ◌+◌, ◌-◌, ◌<◌, ◌≤◌, sym, ap, ◌∙◌, arith}
+use Rattle.std.proofs.Common.{◌≡◌, ◌≢◌, ℕ, zero, suc, false, ◌==◌, inl, inr, List, [], ◌∷◌, ◌++◌, refl, length, replicate, take, get_or, ◌+◌, ◌-◌, ◌<◌, ◌≤◌, sym, ap, ◌∙◌, arith}
 use Rattle.std.proofs.lemmas.Bool.{cases_Bool, eqb-true}
 use Rattle.std.proofs.lemmas.List.{take_more}
-use Rattle.script_lang.specs.Arrays.{before_trimmed, trimmed, zeros}
+use Rattle.script_lang.specs.Arrays.{before_trimmed, trimmed}
 use Rattle.script_lang.specs.Replies.{IsTrimmed}
 use Rattle.script_lang.proofs.Fronts.{nothing_is_trimmed}
 
@@ -23,8 +23,8 @@ trimmed-other (first ∷ []) byte other = rw (trimmed-other [] byte other) refl
 trimmed-other (first ∷ second ∷ front) byte other = rw (trimmed-other (second ∷ front) byte other) refl
 
 -- nothing is left of zeros
-pub trimmed-zeros : (n : ℕ) → trimmed (zeros n) ≡ []
-unfolding trimmed zeros
+pub trimmed-zeros : (n : ℕ) → trimmed (replicate n 0) ≡ []
+unfolding trimmed
 trimmed-zeros zero = refl
 trimmed-zeros (suc n) = rw (trimmed-zeros n) refl
 

@@ -4,9 +4,9 @@ use Rattle.script_lang.specs.declared.commands.Command.{Command}
 use Rattle.script_lang.specs.declared.commands.Command.TheVariants.{Format, Mount, Read, Write, Trim, Commit, Drop, Erase, Stat, Seize}
 use Rattle.script_lang.specs.declared.replies.Reply.{Reply}
 use Rattle.script_lang.specs.declared.replies.Reply.TheVariants.{Bad, Unbuilt}
-use Rattle.script_lang.specs.declared.devices.Device.{Device}
+use Rattle.sdbt_base.specs.Arrays.{Device, State}
 use Rattle.script_lang.specs.Grammar.{Spells, IsBad}
-use Rattle.script_lang.specs.Arrays.{State, needs_room, step_if}
+use Rattle.script_lang.specs.Arrays.{needs_room, step_if}
 
 -- whether the command isn't served yet: a seizure, and a format that the array accepts, but whose tree
 -- would need more than one leaf of order 64

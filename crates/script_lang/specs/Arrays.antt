@@ -1,36 +1,12 @@
--- The array machine: which reply belongs to a command, and which state follows. A device is an array of
--- blocks that commits change; a session is a device's blocks with changes that aren't committed yet.
-use Rattle.std.specs.Prelude.{ℕ, ◌+◌, ◌-◌, ◌%◌, Bool, true, false, ◌&&◌, ◌||◌, ◌==◌, nat_lt, nat_le, if◌then◌else◌, List, [], ◌∷◌, ◌++◌, length, replicate, Option, Some, None, unwrap_or}
-use Rattle.std.specs.Ordering.{nat_cmp}
+-- The array machine: which reply belongs to a command, and which state follows.
+use Rattle.std.specs.Prelude.{ℕ, ◌+◌, ◌-◌, ◌%◌, Bool, false, ◌&&◌, ◌==◌, nat_lt, nat_le, if◌then◌else◌, List, [], ◌∷◌, Option, Some, None}
 use Rattle.std.specs.FinMap as map
 use Rattle.script_lang.specs.declared.commands.Command.{Command}
 use Rattle.script_lang.specs.declared.commands.Command.TheVariants.{Format, Mount, Read, Write, Trim, Commit, Drop, Erase, Stat, Seize}
 use Rattle.script_lang.specs.declared.replies.Reply.{Reply}
 use Rattle.script_lang.specs.declared.replies.Reply.TheVariants.{Formatted, Mounted, Content, Done, Committed, Dropped, Erased, Unmounted, AlreadyMounted, NotEmpty, NoDevice, Range, Full, Unbuilt}
 use Rattle.script_lang.specs.declared.replies.Reply.TheVariants as replies
-use Rattle.script_lang.specs.declared.devices.Device.{Device}
-use Rattle.script_lang.specs.declared.devices.Session.{Session}
-
--- what blocks hold: 4,096 bytes for each mapped block
-abbrev pub Blocks : Type 0
-Blocks = map.FinMap nat_cmp (List ℕ)
-
--- the machine's state: the device, and the session that is open on it
-pub record State : Type 0 where
-  pub device : Option Device
-  pub session : Option Session
-
--- so many zeros
-unfoldable pub zeros : ℕ → List ℕ
-zeros n = replicate n 0
-
--- a block that isn't mapped holds zeros
-abbrev pub content_of : Blocks → ℕ → List ℕ
-content_of blocks block = unwrap_or (map.get blocks block) (zeros 4096)
-
--- bytes with zeros up to the end of the block
-abbrev pub padded : List ℕ → List ℕ
-padded bytes = bytes ++ zeros (4096 - length bytes)
+use Rattle.sdbt_base.specs.Arrays.{Device, Session, State, content_of, new_device, session_on, committed, written, unmapped}
 
 -- a byte before bytes that have no trailing zeros: a zero before nothing is a trailing one
 abbrev pub before_trimmed : ℕ → List ℕ → List ℕ
@@ -69,24 +45,6 @@ in_session (Some device) (Some session) unmounted mounted = mounted device sessi
 -- the state with another session
 abbrev pub with_session : State → Session → State
 with_session state session = record state { session = Some session }
-
-abbrev pub new_device : ℕ → ℕ → Device
-new_device blocks order = record { blocks = blocks; order = order; number = 0; contents = map.empty }
-
--- no change yet
-abbrev pub session_on : Device → Session
-session_on device = record { contents = device.contents; touched = false }
-
--- the session's blocks become the device's
-abbrev pub committed : Device → Session → Device
-committed device session = record device { number = device.number + 1; contents = session.contents }
-
--- the session after a write, and after a trim
-abbrev pub written : Session → ℕ → List ℕ → Session
-written session block bytes = record { contents = map.insert session.contents block (padded bytes); touched = true }
-
-abbrev pub unmapped : Session → ℕ → Session
-unmapped session block = record { contents = map.remove session.contents block; touched = session.touched || map.contains_key session.contents block }
 
 -- one step: the reply, and the state that follows
 abbrev pub step : State → Command → Reply × State

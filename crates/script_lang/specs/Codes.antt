@@ -2,9 +2,7 @@
 use Rattle.std.specs.Prelude.{ℕ, Bool, Option, refl}
 use Rattle.std.specs.Coded.{Coded, code_by, coded×, coded_ℕ, coded_list, coded_option, coded_bool}
 use Rattle.std.specs.FinMap as map
-use Rattle.script_lang.specs.declared.devices.Device.{Device}
-use Rattle.script_lang.specs.declared.devices.Session.{Session}
-use Rattle.script_lang.specs.Arrays.{Blocks, State}
+use Rattle.sdbt_base.specs.Arrays.{Device, Session, Blocks, State}
 
 abbrev pub blocks_code : Coded Blocks
 blocks_code = map.code coded_ℕ (coded_list coded_ℕ)

@@ -91,6 +91,17 @@ pub struct Device {
     pub contents: Contents,
 }
 
+impl Model for Device {
+    ghost use Rattle.sdbt_base.specs.Arrays.{Device as Array};
+    ghost use Rattle.script_lang.specs.Codes.{device_code};
+
+    ghost Value = { Array };
+
+    ghost coded = { device_code };
+
+    ghost view = { λ d. record { blocks = d.blocks; order = d.order; number = d.number; contents = d.contents } };
+}
+
 /// A session: a device's blocks, with changes that are not committed.
 #[derive(Drop)]
 pub struct Session {
@@ -98,4 +109,15 @@ pub struct Session {
     pub contents: Contents,
     /// Whether anything was changed since the mount or the last commit.
     pub touched: bool,
+}
+
+impl Model for Session {
+    ghost use Rattle.sdbt_base.specs.Arrays.{Session as Array};
+    ghost use Rattle.script_lang.specs.Codes.{session_code};
+
+    ghost Value = { Array };
+
+    ghost coded = { session_code };
+
+    ghost view = { λ s. record { contents = s.contents; touched = s.touched } };
 }

@@ -1,7 +1,8 @@
 //! The array machine as plain code.
 
 ghost use Rattle.std.specs.Prelude.{◌≡◌, ◌≢◌, ◌-◌, ◌^◌, ◌<◌, ◌≤◌, [], length, None, IfOk, OnErr, IsTrue, ◌↔◌, nat_lt, if◌then◌else◌};
-ghost use Rattle.script_lang.specs.Arrays.{State, in_limits, number_of, step, step_if, written, unmapped, padded, trimmed, content_of, content_reply};
+ghost use Rattle.script_lang.specs.Arrays.{in_limits, number_of, step, step_if, trimmed, content_reply};
+ghost use Rattle.sdbt_base.specs.Arrays.{State, written, unmapped, padded, content_of};
 ghost use Rattle.std.specs.Prelude.{take};
 ghost use Rattle.script_lang.specs.Replies.{CanWrite};
 
@@ -22,7 +23,7 @@ pub struct Machine {
 }
 
 impl Model for Machine {
-    ghost use Rattle.script_lang.specs.Arrays.{State};
+    ghost use Rattle.sdbt_base.specs.Arrays.{State};
     ghost use Rattle.script_lang.specs.Codes.{state_code};
 
     ghost Value = { State };

@@ -90,7 +90,9 @@ impl Sink for MemSink {
           faults = (if is_err result then next_count self.old.faults else self.old.faults);
           starved = self.new.starved;
         } }
-        ensures starved { (self.new.starved ≡ self.old.starved) ⊎ ((self.new.starved ≡ next_count self.old.starved) × (self.new.written ≡ self.old.written)) }
+        ensures starved { (self.new.starved ≡ self.old.starved) ⊎ (self.new.starved ≡ next_count self.old.starved) }
+        // A put that was given no memory writes nothing.
+        ensures unwritten { Rose self.old.starved self.new.starved → self.new.written ≡ self.old.written }
     {
         self.puts = self.puts.saturating_add(1);
         let cut = cut_of(&self.fail, self.puts);

@@ -1,54 +1,14 @@
--- The length of a keystream, its parts, and that the generator of `rand_chacha` writes it.
-use Rattle.std.proofs.Common.{◌≡◌, ℕ, zero, suc, ◌+◌, ◌*◌, ◌/◌, ◌%◌, ◌^◌, ◌<◌, ◌≤◌, ◌-◌, List, ◌++◌, length, take, refl, sym, ap, ◌∙◌, add-zero, add-suc, add_assoc, append_assoc, append-nil, length-append, arith, rules}
+-- What `fill_bytes` writes is the keystream.
+use Rattle.std.proofs.Common.{◌≡◌, ℕ, ◌+◌, ◌*◌, ◌/◌, ◌≤◌, ◌-◌, List, length, take, sym, ap, ◌∙◌, arith}
 use Rattle.std.specs.Int.{w32, to_le_bytes}
-use Rattle.std.specs.List.{All}
 use Rattle.std.proofs.lemmas.List.{take-append-le}
-use Rattle.std.proofs.lemmas.List.Elements.{All-append}
 use Rattle.rand_core.specs.Stream.{Stream, fill_bytes}
 use Rattle.rand_core.specs.Steps.{stream_of, steps_u32, word_bytes}
 use Rattle.rand_core.proofs.StepsLemmas.{fill_bytes-value}
-use Rattle.rand_chacha.specs.ChaCha.{ChaCha, word_at, next_word, key_of, of_seed}
-use Rattle.seal_record.specs.Keystream.{words, stream}
-
-pub length-words : (key : List ℕ) (number place n : ℕ) → length (words key number place n) ≡ 4 * n
-unfolding words
-length-words key number place zero = refl
-length-words key number place (suc n) =
-    omega (arith, length-append (words key number place n) (to_le_bytes w32 (word_at 10 key number (place + n))), length-words key number place n)
-
--- the words of a longer stream begin with those of a shorter one
-pub words-append : (key : List ℕ) (number place n more : ℕ)
-    → words key number place (n + more) ≡ words key number place n ++ words key number (place + n) more
-unfolding words
-words-append key number place n zero = rw (add-zero, append-nil) refl
-words-append key number place n (suc more) =
-    let word : ℕ → List ℕ = λ at. to_le_bytes w32 (word_at 10 key number at) in
-    ap (λ (k : ℕ). words key number place k) (add-suc n more)
-    ∙ ap (λ (front : List ℕ). front ++ word (place + (n + more))) (words-append key number place n more)
-    ∙ ap (λ (at : ℕ). (words key number place n ++ words key number (place + n) more) ++ word at) (sym (add_assoc place n more))
-    ∙ append_assoc (words key number place n) (words key number (place + n) more) (word (place + n + more))
-
--- the four bytes of a word
-All-word : (n : ℕ) → All (λ b. b < 256) (to_le_bytes w32 n)
-All-word n = search rules
-
--- each is a byte
-pub All-words : (key : List ℕ) (number place n : ℕ) → All (λ b. b < 256) (words key number place n)
-unfolding words
-All-words key number place zero = λ k d h. absurd (omega arith)
-All-words key number place (suc n) = All-append (λ b. b < 256) _ _ (All-words key number place n) (All-word (word_at 10 key number (place + n)))
-
--- a generator of 20 rounds gives these words, and stands behind them
-pub word_bytes-words : (g : ChaCha) (n : ℕ) → g.word_pos + n < 2 ^ 68
-    → word_bytes (to_le_bytes w32) (next_word 10) n g
-    ≡ (words g.key g.stream g.word_pos n, record g { word_pos = g.word_pos + n })
-unfolding words word_bytes
-word_bytes-words g zero below = rw add-zero refl
-word_bytes-words g (suc n) below =
-    let place : (g.word_pos + n + 1) % 2 ^ 68 ≡ g.word_pos + suc n = omega arith in
-    ap (λ (before : List ℕ × ChaCha). (before.0 ++ to_le_bytes w32 (next_word 10 before.1).0, (next_word 10 before.1).1))
-    (word_bytes-words g n (omega arith))
-    ∙ ap (λ (p : ℕ). (words g.key g.stream g.word_pos (suc n), record g { word_pos = p })) place
+use Rattle.rand_chacha.specs.ChaCha.{ChaCha, next_word, key_of, of_seed}
+use Rattle.chacha_words.specs.Words.{words}
+use Rattle.chacha_words.proofs.WordLaws.{length-words, words-append, word_bytes-words}
+use Rattle.seal_record.specs.Keystream.{stream}
 
 -- what `fill_bytes` writes from the start of stream 0 is the front of the keystream
 pub filled_front : (key : List ℕ) (len : ℕ) (out : List ℕ) (rng : ChaCha) (after : Stream)

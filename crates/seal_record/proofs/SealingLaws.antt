@@ -10,7 +10,7 @@ use Rattle.rand_chacha.specs.ChaCha.{key_of}
 use Rattle.sdbt_base.specs.Bytes.{IsBytes}
 use Rattle.seal_record.specs.Keystream.{stream}
 use Rattle.seal_record.specs.Sealing.{masked, stamp_of, Opens}
-use Rattle.seal_record.proofs.KeystreamLemmas.{length-words, All-words}
+use Rattle.chacha_words.proofs.WordLaws.{length-words, All-words}
 use Rattle.seal_record.proofs.XorLemmas.{take-zip2, xor_twice, All-xor}
 
 -- the keystream is as long as a record

@@ -1,12 +1,7 @@
--- The keystream of a key: the words of ChaCha20, each written least byte first.
-use Rattle.std.specs.Prelude.{ℕ, zero, suc, ◌+◌, List, [], ◌++◌}
-use Rattle.std.specs.Int.{w32, to_le_bytes}
-use Rattle.rand_chacha.specs.ChaCha.{word_at, key_of}
-
--- the bytes of n words of a stream from a place on, under a key of eight words
-unfoldable pub words : List ℕ → ℕ → ℕ → ℕ → List ℕ
-words key number place zero = []
-words key number place (suc n) = words key number place n ++ to_le_bytes w32 (word_at 10 key number (place + n))
+-- The keystream of a key.
+use Rattle.std.specs.Prelude.{ℕ, List}
+use Rattle.rand_chacha.specs.ChaCha.{key_of}
+use Rattle.chacha_words.specs.Words.{words}
 
 -- the bytes that seal one record: 1,032 words of stream 0 from its start, under the 32 bytes of a key
 unfoldable pub stream : List ℕ → List ℕ

@@ -14,12 +14,11 @@ use Rattle.page_store.proofs.KeptLaws.{kept_left}
 use Rattle.page_store.proofs.DisclosingLaws.{discloses_on}
 use Rattle.page_store.proofs.StandsLaws.{stands_left}
 use Rattle.device_core.specs.Leaf.{IsServedCell, IsServedImage}
-use Rattle.script_lang.specs.Arrays.{State}
+use Rattle.sdbt_base.specs.Arrays.{State, Device, closed}
 use Rattle.script_lang.specs.Answers.{IsMark}
-use Rattle.script_lang.specs.declared.devices.Device.{Device}
 use Rattle.script_lang.specs.declared.replies.Reply.{Reply}
 use Rattle.device_cli.specs.World.{World}
-use Rattle.device_cli.specs.Represents.{StandsFor, closed}
+use Rattle.device_cli.specs.Represents.{StandsFor}
 use Rattle.device_cli.specs.Ran.{AnswersScript}
 use Rattle.device_cli.specs.Reaching.{DisclosesTree}
 use Rattle.two_runs.specs.TwoRuns.{Tore, GoesOnFrom, GoesOn, GoesOnAnywhere, DisclosesTwice}

@@ -7,15 +7,14 @@ use Rattle.key_graph.specs.Chains.{KeyPremises}
 use Rattle.page_store.specs.Kept.{Kept}
 use Rattle.page_store.specs.Keeping.{DrewAll, HandedOver}
 use Rattle.page_store.specs.Disclosing.{DisclosesOn}
-use Rattle.script_lang.specs.Arrays.{State}
+use Rattle.sdbt_base.specs.Arrays.{State, Device, closed}
 use Rattle.script_lang.specs.Answers.{IsMark}
-use Rattle.script_lang.specs.declared.devices.Device.{Device}
 use Rattle.script_lang.specs.declared.replies.Reply.{Reply}
 use Rattle.device_core.specs.Leaf.{IsServedImage}
 use Rattle.sdbt_base.specs.Faults.{Rose}
 use Rattle.device_cli.specs.Run.{Counts, NoneFell}
 use Rattle.device_cli.specs.World.{World}
-use Rattle.device_cli.specs.Represents.{StandsFor, closed}
+use Rattle.device_cli.specs.Represents.{StandsFor}
 use Rattle.device_cli.specs.Ran.{AnswersScript, AnswersFrom}
 
 -- a loss of power leaves this of an image: each page of the list that it may tear reads as zero bytes, and all else is as it was

@@ -1,10 +1,10 @@
 use Rattle.std.proofs.Common.{◌≡◌, ◌⊎◌, Ok, Err, None, ℕ, refl, sym, subst}
+use Rattle.sdbt_base.specs.Arrays.{closed}
 use Rattle.device_cli.specs.World.{World, world}
 use Rattle.device_cli.specs.Ran.{AnswersScript}
 use Rattle.device_cli.proofs.ScriptLaws.{answers_script, answers_nothing}
 use Rattle.device_cli.specs.Ran.{IsComplete}
 use Rattle.device_cli.specs.Run.{counts}
-use Rattle.device_cli.specs.Represents.{closed}
 use Rattle.device_cli.proofs.CompleteLaws.{complete_ending}
 use Rattle.device_cli.proofs.ReachingLaws.{on_start, discloses, passed_stands}
 use Rattle.device_cli.proofs.run_main.Goals as goal
@@ -65,7 +65,7 @@ returns-in-Err-clause-complete g c told there stands served words text ample qui
     (left c.args.input.now) (left c.run.new.input) (written c.args.output.now) (written c.run.new.output) text there told stands served
     (subst (λ (status : ℕ). AnswersScript P.tells old new status (left c.args.input.now) (left c.run.new.input) (written c.args.output.now) (written c.run.new.output))
     c.status.ensures (returns-in-Err-clause-answers g c))
-    ran.taken ran.gave ran.took c.in-Err.ensures.cause quiet ample)
+    ran.taken ran.gave ran.took c.in-Err.ensures.blame.cause quiet ample)
 
 pub returns-then-not-are_run_words-clause-discloses : goal.returns-then-not-are_run_words-clause-discloses
 returns-then-not-are_run_words-clause-discloses g c =

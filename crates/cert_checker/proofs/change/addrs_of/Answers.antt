@@ -1,4 +1,4 @@
-use Rattle.key_graph.specs.Trace.{Traced}
+use Rattle.sdbt_base.specs.Traces.{Traced}
 use Rattle.cert_maker.specs.Added.{traced}
 use Rattle.cert_checker.proofs.CopyLaws.{copies_map}
 use Rattle.cert_checker.proofs.change.addrs_of.Goals as goal

@@ -1,5 +1,5 @@
 use Rattle.std.proofs.Common.{◌≡◌, map, take}
-use Rattle.key_graph.specs.Trace.{Traced}
+use Rattle.sdbt_base.specs.Traces.{Traced}
 use Rattle.cert_checker.proofs.change.addrs_of.Given as goal
 
 abbrev pub invariant-loop-i : goal.invariant-loop-i

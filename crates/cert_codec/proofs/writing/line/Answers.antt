@@ -2,7 +2,7 @@ use Rattle.std.proofs.Common.{◌++◌, ◌<◌, ◌^◌, ℕ, List, decimal, ap
 use Rattle.std.specs.List.{AllByRecursion}
 use Rattle.serde_json.specs.Written.{compact_text}
 use Rattle.sdbt_base.specs.declared.lists.Unkept.{Unkept}
-use Rattle.key_graph.specs.Trace.{Traced}
+use Rattle.sdbt_base.specs.Traces.{Traced}
 use Rattle.cert_codec.specs.Text.{numbers, array_of, added_json, never_json, PageFits, TracedFits}
 use Rattle.cert_codec.proofs.Writes.{entry_pieces}
 use Rattle.cert_codec.proofs.writing.line.Goals as goal

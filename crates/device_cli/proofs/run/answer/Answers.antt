@@ -23,9 +23,9 @@ returns-in-Ok-clause-handled g c text kept =
     let written = g.O.Sink.written in
     let old : World = world c.args.desk.now.session (P.history c.args.platform.now) (P.head c.args.platform.now) (P.capacity c.args.platform.now) in
     let new : World = world c.serve.new.self.session (P.history c.serve.new.platform) (P.head c.serve.new.platform) (P.capacity c.serve.new.platform) in
-    let later : IsLater old new = record { capacity = c.serve.ensures.capacity; rises = c.serve.ensures.head_rises; within = g.met.P.Platform.has_room c.serve.new.platform } in
+    let later : IsLater old new = record { capacity = c.serve.ensures.after.capacity; rises = c.serve.ensures.after.rises; within = g.met.P.Platform.has_room c.serve.new.platform } in
     Handled-line P.tells old new no_line text c.in-Ok.reply c.put_reply-in-Ok.result (written c.args.output.now) (written c.put_reply-in-Ok.new.output)
-    later c.in-Ok.ensures.full
+    later c.in-Ok.ensures.after.full
     (λ told entry rep. turned_command old new entry text c.in-Some.command c.in-Ok.reply (c.in-Some.ensures.found text kept)
     (During-now (P.history c.args.platform.now) (P.history c.serve.new.platform) IsServedImage (c.serve.ensures.cell told)) (c.in-Ok.ensures.pages told entry rep.there) (c.in-Ok.ensures.answered told entry rep.there))
     c.put_reply-in-Ok.ensures.put
@@ -35,8 +35,8 @@ returns-in-Err-clause-handled g c text kept =
     let P = g.P.Platform in
     let old : World = world c.args.desk.now.session (P.history c.args.platform.now) (P.head c.args.platform.now) (P.capacity c.args.platform.now) in
     let new : World = world c.serve.new.self.session (P.history c.serve.new.platform) (P.head c.serve.new.platform) (P.capacity c.serve.new.platform) in
-    let later : IsLater old new = record { capacity = c.serve.ensures.capacity; rises = c.serve.ensures.head_rises; within = g.met.P.Platform.has_room c.serve.new.platform } in
-    Handled-stop P.tells old new text c.in-Some.command c.in-Err.stop (g.O.Sink.written c.args.output.now) (c.in-Some.ensures.found text kept) later c.in-Err.ensures.added
+    let later : IsLater old new = record { capacity = c.serve.ensures.after.capacity; rises = c.serve.ensures.after.rises; within = g.met.P.Platform.has_room c.serve.new.platform } in
+    Handled-stop P.tells old new text c.in-Some.command c.in-Err.stop (g.O.Sink.written c.args.output.now) (c.in-Some.ensures.found text kept) later c.in-Err.ensures.after.added
     (λ addr e. (c.in-Err.ensures.of_block addr (cc), λ told. c.in-Err.ensures.damage told addr (cc)))
     (λ told entry rep. c.in-Err.ensures.answered told entry rep.there)
 

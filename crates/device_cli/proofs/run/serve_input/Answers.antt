@@ -65,7 +65,7 @@ returns-then-count-eq0-clause-ran g c =
     same c.loop-left.invariant.reading in
     let end = subst (λ (l : Option (List ℕ)). IsAtEnd l) same (nothing_left (left c.loop-left.input) c.in-Ok.count c.if-count-eq0.true c.in-Ok.ensures.end) in
     IsReading-end P.tells old mid new c.serve_end.result (left c.args.input.now) (left c.take.new.self) (written c.args.output.now) (written c.loop-left.output) (written c.serve_end.new.output)
-    c.loop-left.pending c.loop-left.left reading c.loop-left-test.true end c.serve_end.ensures.stops
+    c.loop-left.pending c.loop-left.left reading c.loop-left-test.true end c.serve_end.ensures.after.stops
     (c.serve_end.ensures.handled (rest_of reading.taken) reading.pending)
 
 pub returns-in-Err-clause-ran : goal.returns-in-Err-clause-ran
@@ -87,7 +87,7 @@ returns-in-Err-clause-ran g c =
     let size : length into ≤ 4096 = grind (arith, common_steps, c.take.auto.into, c.min-room.ensures) in
     let few : length piece ≤ 4096 = omega (arith, length-take c.in-Ok.count (into ++ behind), length-append into behind) in
     IsReading-stop P.tells old mid new (left c.args.input.now) (left c.loop-left.input) (left c.take.new.self) (written c.args.output.now) (written c.loop-left.output) (written c.serve_piece.new.output)
-    c.loop-left.pending c.loop-left.left piece c.in-Err.stop reading gave short few c.in-Err.ensures.stops
+    c.loop-left.pending c.loop-left.left piece c.in-Err.stop reading gave short few c.in-Err.ensures.after.stops
     (c.in-Err.ensures.handled (rest_of reading.taken) reading.pending)
 
 pub loop-left-preserved : goal.loop-left-preserved
@@ -107,12 +107,12 @@ loop-left-preserved g c =
     let gave = subst (λ (bytes : List ℕ). Gave (left c.loop-left.input) bytes (left c.take.new.self)) (front into behind c.in-Ok.count bound) c.in-Ok.ensures.taken in
     let less : c.loop-left.left ≡ length piece + (c.loop-left.left - c.in-Ok.count) = omega (arith, length-take c.in-Ok.count (into ++ behind), length-append into behind) in
     record {
-      ready = c.in-Ok-serve_piece.ensures.ready;
+      ready = c.in-Ok-serve_piece.ensures.after.ready;
       cell = λ told. serves_then _ _ _ (c.loop-left.invariant.cell told) (c.in-Ok-serve_piece.ensures.cell told);
-      mounted = c.in-Ok-serve_piece.ensures.mounted;
+      mounted = c.in-Ok-serve_piece.ensures.after.mounted;
       keeps = on_then _ _ _ _ c.args.desk.now.session c.loop-left.desk.session _ _ _ _ c.loop-left.invariant.keeps c.in-Ok-serve_piece.ensures.keeps;
       unput = c.serve_piece.ensures.unput ∙ c.loop-left.invariant.unput;
-      counts = grind (arith, c.loop-left.invariant.counts, c.serve_piece.ensures.counts, c.take.ensures.count);
+      counts = grind (arith, c.loop-left.invariant.counts, c.serve_piece.ensures.blame.fell, c.take.ensures.count);
       reading = IsReading-more P.tells old mid new (left c.args.input.now) (left c.loop-left.input) (left c.take.new.self) (written c.args.output.now) (written c.loop-left.output) (written c.serve_piece.new.output)
           c.loop-left.pending c.serve_piece.new.pending c.loop-left.left (c.loop-left.left - c.in-Ok.count) piece reading gave less
           (c.in-Ok-serve_piece.ensures.pending (rest_of reading.taken) reading.pending) (c.in-Ok-serve_piece.ensures.handled (rest_of reading.taken) reading.pending);
@@ -132,11 +132,19 @@ returns-in-Err-clause-cell g c = λ told. serves_then _ _ _ (c.loop-left.invaria
 pub returns-then-count-eq0-clause-cell : goal.returns-then-count-eq0-clause-cell
 returns-then-count-eq0-clause-cell g c = λ told. serves_then _ _ _ (c.loop-left.invariant.cell told) (c.serve_end.ensures.cell told)
 
-pub serve_end-requires-clause-cell : goal.serve_end-requires-clause-cell
-serve_end-requires-clause-cell g c = λ told. served_at _ _ (c.loop-left.invariant.cell told)
+pub serve_end-requires : goal.serve_end-requires
+serve_end-requires g c = record {
+  ready = c.loop-left.invariant.ready;
+  cell = λ told. served_at _ _ (c.loop-left.invariant.cell told);
+  mounted = c.loop-left.invariant.mounted;
+}
 
-pub serve_piece-requires-clause-cell : goal.serve_piece-requires-clause-cell
-serve_piece-requires-clause-cell g c = λ told. served_at _ _ (c.loop-left.invariant.cell told)
+pub serve_piece-requires : goal.serve_piece-requires
+serve_piece-requires g c = record {
+  ready = c.loop-left.invariant.ready;
+  cell = λ told. served_at _ _ (c.loop-left.invariant.cell told);
+  mounted = c.loop-left.invariant.mounted;
+}
 
 pub returns-in_default-clause-keeps : goal.returns-in_default-clause-keeps
 returns-in_default-clause-keeps g c = on_done _ _ _ c.args.desk.now.session _ _ _ _ c.loop-left.invariant.keeps (λ keys h. tt)

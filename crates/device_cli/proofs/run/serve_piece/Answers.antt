@@ -31,12 +31,12 @@ loop-front-preserved g c =
     let mid : World = world c.loop-front.desk.session (P.history c.loop-front.platform) (P.head c.loop-front.platform) (P.capacity c.loop-front.platform) in
     let new : World = world c.answer.new.desk.session (P.history c.answer.new.platform) (P.head c.answer.new.platform) (P.capacity c.answer.new.platform) in
     record {
-      ready = c.in_default-answer.ensures.ready;
+      ready = c.in_default-answer.ensures.after.ready;
       cell = λ told. serves_then _ _ _ (c.loop-front.invariant.cell told) (c.in_default-answer.ensures.cell told);
-      mounted = c.in_default-answer.ensures.mounted;
+      mounted = c.in_default-answer.ensures.after.mounted;
       keeps = on_then _ _ _ _ c.args.desk.now.session c.loop-front.desk.session _ _ _ _ c.loop-front.invariant.keeps c.in_default-answer.ensures.keeps;
       unput = c.in_default-answer.ensures.unput ∙ c.loop-front.invariant.unput;
-      counts = grind (arith, c.loop-front.invariant.counts, c.answer.ensures.counts);
+      counts = grind (arith, c.loop-front.invariant.counts, c.answer.ensures.blame.fell);
       serving = λ rest pending.
           let so_far = c.loop-front.invariant.serving rest pending in
           let line : List ℕ = so_far.line ++ c.in-Some.front.now in
@@ -58,7 +58,7 @@ returns-in-Err-clause-handled g c rest pending =
     let kept = subst (λ (k : Option (List ℕ)). IsKept k line) (sym c.line.ensures) (c.push.ensures so_far.line so_far.pending.is_kept) in
     IsServing-stop P.tells old mid new (written c.args.output.now) (written c.loop-front.output) (written c.answer.new.output) (rest ++ c.args.piece.now)
     c.loop-front.pending c.loop-front.rest.now c.in-Some.front.now c.in-Some.behind.now c.in-Err.stop
-    so_far c.in-Some.ensures.found.0 c.in-Some.ensures.found.1 c.in-Err.ensures.stops (c.in-Err.ensures.handled line kept)
+    so_far c.in-Some.ensures.found.0 c.in-Some.ensures.found.1 c.in-Err.ensures.after.stops (c.in-Err.ensures.handled line kept)
 
 pub returns-clause-pending : goal.returns-clause-pending
 returns-clause-pending g c rest pending =
@@ -80,8 +80,12 @@ returns-clause-handled g c rest pending =
 pub returns-in-Err-clause-cell : goal.returns-in-Err-clause-cell
 returns-in-Err-clause-cell g c = λ told. serves_then _ _ _ (c.loop-front.invariant.cell told) (c.answer.ensures.cell told)
 
-pub answer-requires-clause-cell : goal.answer-requires-clause-cell
-answer-requires-clause-cell g c = λ told. served_at _ _ (c.loop-front.invariant.cell told)
+pub answer-requires : goal.answer-requires
+answer-requires g c = record {
+  ready = c.loop-front.invariant.ready;
+  cell = λ told. served_at _ _ (c.loop-front.invariant.cell told);
+  mounted = c.loop-front.invariant.mounted;
+}
 
 pub returns-in-Err-clause-keeps : goal.returns-in-Err-clause-keeps
 returns-in-Err-clause-keeps g c = on_then _ _ _ _ c.args.desk.now.session c.loop-front.desk.session _ _ _ _ c.loop-front.invariant.keeps (on_done _ _ _ c.loop-front.desk.session _ _ _ _ c.answer.ensures.keeps (λ keys h. tt))

@@ -1,5 +1,5 @@
 use Rattle.std.proofs.Common.{inr, None}
-use Rattle.device_core.proofs.MomentLaws.{one_look, once}
+use Rattle.device_core.proofs.MomentLaws.{one_look, once, stays_once}
 use Rattle.device_core.proofs.ServedLaws.{serves_still, serves_cleared}
 use Rattle.device_core.proofs.HoldLaws.{during_stands, erased}
 use Rattle.device_core.proofs.KeyLaws.{kept_look, kept_erased, turns_erased, forgets_erased}
@@ -21,9 +21,6 @@ returns-in-Ok-clause-time g c = λ told device stands.
 pub returns-in-Err-clear_root-clause-time : goal.returns-in-Err-clear_root-clause-time
 returns-in-Err-clear_root-clause-time g c = λ told device stands.
     erased _ _ _ device (c.load_root.ensures.time told) (c.load_root.ensures.image told) (c.clear_root.ensures.time told) (c.clear_root.ensures.either told) stands
-
-pub returns-in-Ok-false-clause-still : goal.returns-in-Ok-false-clause-still
-returns-in-Ok-false-clause-still g c = λ told. inr (inr (one_look _ _ (c.load_root.ensures.time told) (c.load_root.ensures.image told)))
 
 pub returns-in-Ok-false-clause-serves : goal.returns-in-Ok-false-clause-serves
 returns-in-Ok-false-clause-serves g c = λ told. serves_still _ _ (one_look _ _ (c.load_root.ensures.time told) (c.load_root.ensures.image told))
@@ -63,8 +60,14 @@ returns-in-Err-clear_root-clause-keeps g c = λ told keys kept. kept_erased keys
 pub returns-in-Err-clear_root-clause-forgets : goal.returns-in-Err-clear_root-clause-forgets
 returns-in-Err-clear_root-clause-forgets g c = λ told sound. forgets_erased _ _ _ (c.load_root.ensures.time told) (c.load_root.ensures.image told) (c.clear_root.ensures.time told) (c.clear_root.ensures.either told) sound
 
-pub returns-in-Ok-clause-once : goal.returns-in-Ok-clause-once
-returns-in-Ok-clause-once g c = λ told. once _ _ _ (turns_erased _ _ _ (c.load_root.ensures.time told) (c.load_root.ensures.image told) (c.clear_root.ensures.time told) (c.clear_root.ensures.either told))
+pub returns-in-Ok-clause-turns : goal.returns-in-Ok-clause-turns
+returns-in-Ok-clause-turns g c = λ told. once _ _ _ (turns_erased _ _ _ (c.load_root.ensures.time told) (c.load_root.ensures.image told) (c.clear_root.ensures.time told) (c.clear_root.ensures.either told))
 
-pub returns-in-Err-clear_root-clause-once : goal.returns-in-Err-clear_root-clause-once
-returns-in-Err-clear_root-clause-once g c = λ told. once _ _ _ (turns_erased _ _ _ (c.load_root.ensures.time told) (c.load_root.ensures.image told) (c.clear_root.ensures.time told) (c.clear_root.ensures.either told))
+pub returns-in-Err-clear_root-clause-turns : goal.returns-in-Err-clear_root-clause-turns
+returns-in-Err-clear_root-clause-turns g c = λ told. once _ _ _ (turns_erased _ _ _ (c.load_root.ensures.time told) (c.load_root.ensures.image told) (c.clear_root.ensures.time told) (c.clear_root.ensures.either told))
+
+pub returns-in-Ok-false-clause-turns : goal.returns-in-Ok-false-clause-turns
+returns-in-Ok-false-clause-turns g c = λ told. stays_once _ _ (one_look _ _ (c.load_root.ensures.time told) (c.load_root.ensures.image told))
+
+pub returns-in-Err-clause-turns : goal.returns-in-Err-clause-turns
+returns-in-Err-clause-turns g c = λ told. stays_once _ _ (one_look _ _ (c.load_root.ensures.time told) (c.load_root.ensures.image told))

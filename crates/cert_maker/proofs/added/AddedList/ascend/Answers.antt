@@ -2,7 +2,7 @@ use Rattle.std.proofs.Common.{◌≡◌, ◌==◌, List, map, rules, sym, ap, su
 use Rattle.std.specs.List.{dedup}
 use Rattle.std.proofs.lemmas.Fn.{dedup_same}
 use Rattle.std.proofs.lemmas.List.Sorted.{IsNonDecreasingBy-from_sort_by_key, IsPermutation-map}
-use Rattle.key_graph.specs.Trace.{Traced}
+use Rattle.sdbt_base.specs.Traces.{Traced}
 use Rattle.cert_maker.specs.declared.added.Added.{Added}
 use Rattle.cert_maker.specs.Added.{traced}
 use Rattle.cert_maker.specs.Ordered.{AreOneEach, IsOrderOf}

@@ -2,11 +2,9 @@ use Rattle.std.proofs.Common.{◌≡◌, None, Some, refl, ap, arith}
 use Rattle.std.proofs.lemmas.Grind.{common_steps}
 use Rattle.device_cli.specs.declared.stop.DeviceStop.TheVariants as device
 use Rattle.device_cli.specs.World.{World, world}
-use Rattle.device_cli.specs.Represents.{stored}
 use Rattle.script_lang.specs.declared.commands.Command.TheVariants.{Commit}
 use Rattle.device_cli.proofs.ServedLaws.{halts_still, gives_unmounted_commit}
 use Rattle.device_cli.proofs.ServingLaws.{serves_unmounted, serves_committed, serves_commit_full, halts_commit, keeps_same}
-use Rattle.device_cli.proofs.Choices.{not_these}
 use Rattle.device_cli.proofs.CellLaws.{serves_now}
 use Rattle.device_cli.proofs.ReachingLaws.{on_start, on_call, on_done, listed_some, listed_none}
 use Rattle.device_cli.proofs.desk.Desk.commit.Goals as goal
@@ -27,8 +25,8 @@ returns-in-Committed-clause-answered g c told entry rep =
     serves_committed old new entry c.in-Some.session c.in-Ok.answer.0 c.in-Committed.number c.in-Ok.answer.1 taken refl c.in-Committed.is
     (λ e. let idle = c.in-Ok.ensures.idle e in (idle.3.1, idle.3.0, ap (λ p. (P.history p).present) idle.0, keeps_same old new (ap (λ p. P.history p) idle.0)))
     (λ e f. (c.in-Ok.ensures.full e f).3.1)
-    (λ e f. let raised = c.in-Ok.ensures.raised e f in (raised.0, raised.2))
-    (λ d t holds. (c.in-Ok.ensures.holds told (stored d) t.contents holds, c.commit.ensures.time told (stored d) t.contents holds))
+    (λ e f. let raised = c.in-Ok.ensures.raised e f in (raised.reply, raised.untouched))
+    (λ d t holds. (c.in-Ok.ensures.array told d t.contents holds, c.commit.ensures.time told d t.contents holds))
     rep
 
 pub returns-in-Full-clause-answered : goal.returns-in-Full-clause-answered
@@ -40,7 +38,7 @@ returns-in-Full-clause-answered g c told entry rep =
     serves_commit_full old new entry c.in-Some.session c.in-Ok.answer.0 c.in-Full.needed c.in-Full.free c.in-Ok.answer.1 taken refl c.in-Full.is
     (λ e. (c.in-Ok.ensures.idle e).3.1)
     (λ e f. let full = c.in-Ok.ensures.full e f in (full.3.0, ap (λ p. (P.history p).present) full.0, keeps_same old new (ap (λ p. P.history p) full.0)))
-    (λ e f. (c.in-Ok.ensures.raised e f).0)
+    (λ e f. (c.in-Ok.ensures.raised e f).reply)
     rep
 
 pub returns-in-Err-Memory-clause-answered : goal.returns-in-Err-Memory-clause-answered
@@ -48,24 +46,21 @@ returns-in-Err-Memory-clause-answered g c told entry rep =
     let P = g.P.Platform in
     let old : World = world c.args.self.now.session (P.history c.args.platform.now) (P.head c.args.platform.now) (P.capacity c.args.platform.now) in
     let new : World = world c.take.new.self (P.history c.commit.new.platform) (P.head c.commit.new.platform) (P.capacity c.commit.new.platform) in
-    let keeps = not_these (λ ok. grind (arith, common_steps, ok)) (λ e. grind (arith, common_steps, e)) (c.commit.ensures.still told) in
-    halts_still old new entry Commit device.Memory tt rep keeps
+    halts_still old new entry Commit device.Memory tt rep (absurd c.in-Err-Memory.ensures.cause)
 
 pub returns-in-Err-TapeFault-clause-answered : goal.returns-in-Err-TapeFault-clause-answered
 returns-in-Err-TapeFault-clause-answered g c told entry rep =
     let P = g.P.Platform in
     let old : World = world c.args.self.now.session (P.history c.args.platform.now) (P.head c.args.platform.now) (P.capacity c.args.platform.now) in
     let new : World = world c.take.new.self (P.history c.commit.new.platform) (P.head c.commit.new.platform) (P.capacity c.commit.new.platform) in
-    let keeps = not_these (λ ok. grind (arith, common_steps, ok)) (λ e. grind (arith, common_steps, e)) (c.commit.ensures.still told) in
-    halts_still old new entry Commit device.Tape tt rep keeps
+    halts_still old new entry Commit device.Tape tt rep (c.in-Err-TapeFault.ensures.cause.2 told)
 
 pub returns-in-Err-LedgerFault-clause-answered : goal.returns-in-Err-LedgerFault-clause-answered
 returns-in-Err-LedgerFault-clause-answered g c told entry rep =
     let P = g.P.Platform in
     let old : World = world c.args.self.now.session (P.history c.args.platform.now) (P.head c.args.platform.now) (P.capacity c.args.platform.now) in
     let new : World = world c.take.new.self (P.history c.commit.new.platform) (P.head c.commit.new.platform) (P.capacity c.commit.new.platform) in
-    let keeps = not_these (λ ok. grind (arith, common_steps, ok)) (λ e. grind (arith, common_steps, e)) (c.commit.ensures.still told) in
-    halts_still old new entry Commit device.Ledger tt rep keeps
+    halts_still old new entry Commit device.Ledger tt rep (c.in-Err-LedgerFault.ensures.cause.1 told)
 
 pub returns-in-Err-PlatformFault-clause-answered : goal.returns-in-Err-PlatformFault-clause-answered
 returns-in-Err-PlatformFault-clause-answered g c told entry rep =
@@ -74,9 +69,9 @@ returns-in-Err-PlatformFault-clause-answered g c told entry rep =
     let new : World = world c.take.new.self (P.history c.commit.new.platform) (P.head c.commit.new.platform) (P.capacity c.commit.new.platform) in
     let taken : c.args.self.now.session ≡ Some c.in-Some.session = cc (c.take.ensures.value, c.in-Some.is) in
     halts_commit old new entry c.in-Some.session taken
-    (λ e. let ok = c.commit.ensures.idle_ok e in grind (arith, common_steps, ok))
-    (λ e f. let ok = c.commit.ensures.full_ok e f in grind (arith, common_steps, ok))
-    (λ d t holds. c.commit.ensures.time told (stored d) t.contents holds) rep
+    (λ e. let ok = (c.commit.ensures.idle e).4 in grind (arith, common_steps, ok))
+    (λ e f. let ok = (c.commit.ensures.full e f).4 in grind (arith, common_steps, ok))
+    (λ d t holds. c.commit.ensures.time told d t.contents holds) rep
 
 pub returns-in_default-clause-cell : goal.returns-in_default-clause-cell
 returns-in_default-clause-cell g c = λ told. serves_now _ (c.requires.cell told)
@@ -87,29 +82,29 @@ returns-in_default-clause-keeps g c = on_done _ _ _ c.args.self.now.session _ _ 
 pub returns-in-Committed-clause-keeps : goal.returns-in-Committed-clause-keeps
 returns-in-Committed-clause-keeps g c =
     let taken : c.args.self.now.session ≡ Some c.in-Some.session = cc (c.take.ensures.value, c.in-Some.is) in
-    on_call _ _ _ c.args.self.now.session _ _ _ _ _ c.in-Ok.ensures.keeps (λ told keys h. listed_some _ c.in-Some.session _ keys taken h) (λ told keys h. c.commit.ensures.forgets told keys (listed_some _ c.in-Some.session _ keys taken h)) (λ told keys more h done. done)
+    on_call _ _ _ c.args.self.now.session _ _ _ _ _ c.in-Ok.ensures.discloses.keys (λ told keys h. listed_some _ c.in-Some.session _ keys taken h) (λ told keys h. c.commit.ensures.discloses.forgets told keys (listed_some _ c.in-Some.session _ keys taken h)) (λ told keys more h done. done)
 
 pub returns-in-Full-clause-keeps : goal.returns-in-Full-clause-keeps
 returns-in-Full-clause-keeps g c =
     let taken : c.args.self.now.session ≡ Some c.in-Some.session = cc (c.take.ensures.value, c.in-Some.is) in
-    on_call _ _ _ c.args.self.now.session _ _ _ _ _ c.in-Ok.ensures.keeps (λ told keys h. listed_some _ c.in-Some.session _ keys taken h) (λ told keys h. c.commit.ensures.forgets told keys (listed_some _ c.in-Some.session _ keys taken h)) (λ told keys more h done. done)
+    on_call _ _ _ c.args.self.now.session _ _ _ _ _ c.in-Ok.ensures.discloses.keys (λ told keys h. listed_some _ c.in-Some.session _ keys taken h) (λ told keys h. c.commit.ensures.discloses.forgets told keys (listed_some _ c.in-Some.session _ keys taken h)) (λ told keys more h done. done)
 
 pub returns-in-Err-Memory-clause-keeps : goal.returns-in-Err-Memory-clause-keeps
 returns-in-Err-Memory-clause-keeps g c =
     let taken : c.args.self.now.session ≡ Some c.in-Some.session = cc (c.take.ensures.value, c.in-Some.is) in
-    on_call _ _ _ c.args.self.now.session _ _ _ _ _ c.commit.ensures.keeps (λ told keys h. listed_some _ c.in-Some.session _ keys taken h) (λ told keys h. c.commit.ensures.forgets told keys (listed_some _ c.in-Some.session _ keys taken h)) (λ told keys more h done. tt)
+    on_call _ _ _ c.args.self.now.session _ _ _ _ _ c.commit.ensures.discloses.keys (λ told keys h. listed_some _ c.in-Some.session _ keys taken h) (λ told keys h. c.commit.ensures.discloses.forgets told keys (listed_some _ c.in-Some.session _ keys taken h)) (λ told keys more h done. tt)
 
 pub returns-in-Err-TapeFault-clause-keeps : goal.returns-in-Err-TapeFault-clause-keeps
 returns-in-Err-TapeFault-clause-keeps g c =
     let taken : c.args.self.now.session ≡ Some c.in-Some.session = cc (c.take.ensures.value, c.in-Some.is) in
-    on_call _ _ _ c.args.self.now.session _ _ _ _ _ c.commit.ensures.keeps (λ told keys h. listed_some _ c.in-Some.session _ keys taken h) (λ told keys h. c.commit.ensures.forgets told keys (listed_some _ c.in-Some.session _ keys taken h)) (λ told keys more h done. tt)
+    on_call _ _ _ c.args.self.now.session _ _ _ _ _ c.commit.ensures.discloses.keys (λ told keys h. listed_some _ c.in-Some.session _ keys taken h) (λ told keys h. c.commit.ensures.discloses.forgets told keys (listed_some _ c.in-Some.session _ keys taken h)) (λ told keys more h done. tt)
 
 pub returns-in-Err-LedgerFault-clause-keeps : goal.returns-in-Err-LedgerFault-clause-keeps
 returns-in-Err-LedgerFault-clause-keeps g c =
     let taken : c.args.self.now.session ≡ Some c.in-Some.session = cc (c.take.ensures.value, c.in-Some.is) in
-    on_call _ _ _ c.args.self.now.session _ _ _ _ _ c.commit.ensures.keeps (λ told keys h. listed_some _ c.in-Some.session _ keys taken h) (λ told keys h. c.commit.ensures.forgets told keys (listed_some _ c.in-Some.session _ keys taken h)) (λ told keys more h done. tt)
+    on_call _ _ _ c.args.self.now.session _ _ _ _ _ c.commit.ensures.discloses.keys (λ told keys h. listed_some _ c.in-Some.session _ keys taken h) (λ told keys h. c.commit.ensures.discloses.forgets told keys (listed_some _ c.in-Some.session _ keys taken h)) (λ told keys more h done. tt)
 
 pub returns-in-Err-PlatformFault-clause-keeps : goal.returns-in-Err-PlatformFault-clause-keeps
 returns-in-Err-PlatformFault-clause-keeps g c =
     let taken : c.args.self.now.session ≡ Some c.in-Some.session = cc (c.take.ensures.value, c.in-Some.is) in
-    on_call _ _ _ c.args.self.now.session _ _ _ _ _ c.commit.ensures.keeps (λ told keys h. listed_some _ c.in-Some.session _ keys taken h) (λ told keys h. c.commit.ensures.forgets told keys (listed_some _ c.in-Some.session _ keys taken h)) (λ told keys more h done. tt)
+    on_call _ _ _ c.args.self.now.session _ _ _ _ _ c.commit.ensures.discloses.keys (λ told keys h. listed_some _ c.in-Some.session _ keys taken h) (λ told keys h. c.commit.ensures.discloses.forgets told keys (listed_some _ c.in-Some.session _ keys taken h)) (λ told keys more h done. tt)

@@ -2,22 +2,21 @@ use Rattle.std.proofs.Common.{◌≡◌, ◌≢◌, ◌<◌, ◌≤◌, ℕ, Boo
 use Rattle.std.specs.Prelude.{Result, IfOk, IfErr, ◌⊎◌}
 use Rattle.sdbt_base.specs.Faults.{Rose}
 use Rattle.std.proofs.lemmas.Grind.{common_steps}
-use Rattle.script_lang.specs.Arrays.{State}
+use Rattle.sdbt_base.specs.Arrays.{State}
 use Rattle.script_lang.specs.declared.replies.Reply.{Reply}
 use Rattle.device_cli.specs.declared.stop.DeviceStop.{DeviceStop}
 use Rattle.device_cli.specs.declared.stop.DeviceStop.TheVariants as device
 use Rattle.device_cli.specs.World.{World, world}
 use Rattle.script_lang.specs.declared.replies.Reply.TheVariants as replies
 use Rattle.device_cli.specs.Replied.{Serves, Halts}
-use Rattle.device_cli.specs.Represents.{stored, Represents}
+use Rattle.device_cli.specs.Represents.{Represents}
 use Rattle.script_lang.specs.Arrays.{in_limits}
 use Rattle.script_lang.specs.declared.commands.Command.TheVariants.{Format}
 use Rattle.std.specs.Option.{option_map}
 use Rattle.script_lang.specs.Answers.{answer}
-use Rattle.script_lang.specs.declared.devices.Session.{Session as OpenSession}
+use Rattle.sdbt_base.specs.Arrays.{Session as OpenSession}
 use Rattle.device_cli.proofs.ServedLaws.{on, halts_still, gives_format_range, gives_format_unbuilt}
 use Rattle.device_cli.proofs.ServingLaws.{KeepsCell, serves_formatted, serves_format_full, serves_not_empty, serves_refused, halts_format}
-use Rattle.device_cli.proofs.Choices.{not_these, none_of}
 use Rattle.device_core.proofs.ServedLaws.{serves_still as serves_while_cell}
 use Rattle.device_cli.proofs.ReachingLaws.{on_look, on_call, on_ok, sound_of, listed_image, listed_keys, format_listed}
 use Rattle.device_cli.proofs.desk.Desk.format.Goals as goal
@@ -53,17 +52,16 @@ returns-in-Ok-clause-answered g c told entry rep =
     let least : 1 ≤ c.args.blocks = size.0 in
     let most : c.args.blocks ≤ 64 = size.1 in
     let is : c.args.order ≡ 64 = size.2 in
-    serves_formatted old new entry c.args.blocks c.args.order (c.in-Ok.ensures.empty told) refl is least most
-    (λ e. none_of (λ x. grind (arith, common_steps, x)) (λ y. grind (arith, common_steps, y)) (λ z. grind (arith, common_steps, z)) (c.format.ensures.no_room e)) (c.in-Ok.ensures.made told)
-    (λ there stands. c.format.ensures.time told (option_map stored there) stands) rep
+    serves_formatted old new entry c.args.blocks c.args.order (c.in-Ok.ensures.cause.0 told) refl is least most
+    c.in-Ok.ensures.cause.1 (c.in-Ok.ensures.made told).0
+    (λ there stands. c.format.ensures.time told there stands) rep
 
 pub returns-in-Err-NotEmpty-clause-answered : goal.returns-in-Err-NotEmpty-clause-answered
 returns-in-Err-NotEmpty-clause-answered g c told entry rep =
     let P = g.P.Platform in
     let old : World = world c.args.self.now.session (P.history c.args.platform.now) (P.head c.args.platform.now) (P.capacity c.args.platform.now) in
     let new : World = world c.args.self.now.session (P.history c.format.new.platform) (P.head c.format.new.platform) (P.capacity c.format.new.platform) in
-    let keeps = not_these (λ ok. grind (arith, common_steps, ok)) (λ e. grind (arith, common_steps, e)) (c.format.ensures.still told) in
-    serves_not_empty old new entry c.args.blocks c.args.order (c.format.ensures.not_empty told (cc)) refl (c.format.ensures.same told (inl (cc))) keeps rep
+    serves_not_empty old new entry c.args.blocks c.args.order (c.in-Err-NotEmpty.ensures.cause.0 told) refl (c.in-Err-NotEmpty.ensures.cause.1.0.image told) (c.in-Err-NotEmpty.ensures.cause.1.1 told) rep
 
 pub returns-in-Err-Full-clause-answered : goal.returns-in-Err-Full-clause-answered
 returns-in-Err-Full-clause-answered g c told entry rep =
@@ -74,32 +72,28 @@ returns-in-Err-Full-clause-answered g c told entry rep =
     let least : 1 ≤ c.args.blocks = size.0 in
     let most : c.args.blocks ≤ 64 = size.1 in
     let is : c.args.order ≡ 64 = size.2 in
-    let keeps = not_these (λ ok. grind (arith, common_steps, ok)) (λ e. grind (arith, common_steps, e)) (c.format.ensures.still told) in
-    serves_format_full old new entry c.args.blocks c.args.order (c.format.ensures.full told (cc)) refl (c.format.ensures.same told (inr (cc))) is least most (c.format.ensures.no_page (cc)) keeps rep
+    serves_format_full old new entry c.args.blocks c.args.order (c.in-Err-Full.ensures.cause.0 told) refl (c.in-Err-Full.ensures.cause.2.0.image told) is least most c.in-Err-Full.ensures.cause.1 (c.in-Err-Full.ensures.cause.2.1 told) rep
 
 pub returns-in-Err-Memory-clause-answered : goal.returns-in-Err-Memory-clause-answered
 returns-in-Err-Memory-clause-answered g c told entry rep =
     let P = g.P.Platform in
     let old : World = world c.args.self.now.session (P.history c.args.platform.now) (P.head c.args.platform.now) (P.capacity c.args.platform.now) in
     let new : World = world c.args.self.now.session (P.history c.format.new.platform) (P.head c.format.new.platform) (P.capacity c.format.new.platform) in
-    let keeps = not_these (λ ok. grind (arith, common_steps, ok)) (λ e. grind (arith, common_steps, e)) (c.format.ensures.still told) in
-    halts_still old new entry (Format c.args.blocks c.args.order) device.Memory tt rep keeps
+    halts_still old new entry (Format c.args.blocks c.args.order) device.Memory tt rep (c.in-Err-Memory.ensures.cause.1.1 told)
 
 pub returns-in-Err-TapeFault-clause-answered : goal.returns-in-Err-TapeFault-clause-answered
 returns-in-Err-TapeFault-clause-answered g c told entry rep =
     let P = g.P.Platform in
     let old : World = world c.args.self.now.session (P.history c.args.platform.now) (P.head c.args.platform.now) (P.capacity c.args.platform.now) in
     let new : World = world c.args.self.now.session (P.history c.format.new.platform) (P.head c.format.new.platform) (P.capacity c.format.new.platform) in
-    let keeps = not_these (λ ok. grind (arith, common_steps, ok)) (λ e. grind (arith, common_steps, e)) (c.format.ensures.still told) in
-    halts_still old new entry (Format c.args.blocks c.args.order) device.Tape tt rep keeps
+    halts_still old new entry (Format c.args.blocks c.args.order) device.Tape tt rep (c.in-Err-TapeFault.ensures.cause.2.1 told)
 
 pub returns-in-Err-LedgerFault-clause-answered : goal.returns-in-Err-LedgerFault-clause-answered
 returns-in-Err-LedgerFault-clause-answered g c told entry rep =
     let P = g.P.Platform in
     let old : World = world c.args.self.now.session (P.history c.args.platform.now) (P.head c.args.platform.now) (P.capacity c.args.platform.now) in
     let new : World = world c.args.self.now.session (P.history c.format.new.platform) (P.head c.format.new.platform) (P.capacity c.format.new.platform) in
-    let keeps = not_these (λ ok. grind (arith, common_steps, ok)) (λ e. grind (arith, common_steps, e)) (c.format.ensures.still told) in
-    halts_still old new entry (Format c.args.blocks c.args.order) device.Ledger tt rep keeps
+    halts_still old new entry (Format c.args.blocks c.args.order) device.Ledger tt rep (c.in-Err-LedgerFault.ensures.cause.2 told)
 
 pub returns-in-Err-PlatformFault-clause-answered : goal.returns-in-Err-PlatformFault-clause-answered
 returns-in-Err-PlatformFault-clause-answered g c told entry rep =
@@ -110,8 +104,8 @@ returns-in-Err-PlatformFault-clause-answered g c told entry rep =
     let least : 1 ≤ c.args.blocks = size.0 in
     let most : c.args.blocks ≤ 64 = size.1 in
     let is : c.args.order ≡ 64 = size.2 in
-    halts_format old new entry c.args.blocks c.args.order is least most (c.format.ensures.kept told)
-    (λ there stands. c.format.ensures.time told (option_map stored there) stands) rep
+    halts_format old new entry c.args.blocks c.args.order is least most (λ before. (c.format.ensures.kept told before).1)
+    (λ there stands. c.format.ensures.time told there stands) rep
 
 pub returns-in-Some-clause-answered : goal.returns-in-Some-clause-answered
 returns-in-Some-clause-answered g c told entry rep =
@@ -128,25 +122,25 @@ pub returns-in-Some-clause-cell : goal.returns-in-Some-clause-cell
 returns-in-Some-clause-cell g c = λ told. serves_while_cell _ _ (c.refuse_format.ensures.time told) (c.requires.cell told)
 
 pub returns-in-Ok-clause-keeps : goal.returns-in-Ok-clause-keeps
-returns-in-Ok-clause-keeps g c = on_call _ _ _ c.args.self.now.session _ _ _ _ _ c.format.ensures.keeps (λ told keys h. sound_of _ _ keys h) (λ told keys h. c.format.ensures.forgets told (sound_of _ _ keys h)) (λ told keys more h done. format_listed _ _ _ keys _ _ (c.in-Ok.ensures.empty told) (c.in-Ok.ensures.made told) h)
+returns-in-Ok-clause-keeps g c = on_call _ _ _ c.args.self.now.session _ _ _ _ _ c.format.ensures.discloses.keys (λ told keys h. sound_of _ _ keys h) (λ told keys h. c.format.ensures.discloses.forgets told keys (sound_of _ _ keys h)) (λ told keys more h done. format_listed _ _ _ keys _ _ (c.in-Ok.ensures.cause.0 told) (c.in-Ok.ensures.made told).0 h)
 
 pub returns-in-Err-NotEmpty-clause-keeps : goal.returns-in-Err-NotEmpty-clause-keeps
-returns-in-Err-NotEmpty-clause-keeps g c = on_call _ _ _ c.args.self.now.session _ _ _ _ _ c.format.ensures.keeps (λ told keys h. sound_of _ _ keys h) (λ told keys h. c.format.ensures.forgets told (sound_of _ _ keys h)) (λ told keys more h done. listed_keys _ _ _ keys more (c.format.ensures.same told (inl (cc))) h)
+returns-in-Err-NotEmpty-clause-keeps g c = on_call _ _ _ c.args.self.now.session _ _ _ _ _ c.format.ensures.discloses.keys (λ told keys h. sound_of _ _ keys h) (λ told keys h. c.format.ensures.discloses.forgets told keys (sound_of _ _ keys h)) (λ told keys more h done. listed_keys _ _ _ keys more (c.in-Err-NotEmpty.ensures.cause.1.0.image told) h)
 
 pub returns-in-Err-Full-clause-keeps : goal.returns-in-Err-Full-clause-keeps
-returns-in-Err-Full-clause-keeps g c = on_call _ _ _ c.args.self.now.session _ _ _ _ _ c.format.ensures.keeps (λ told keys h. sound_of _ _ keys h) (λ told keys h. c.format.ensures.forgets told (sound_of _ _ keys h)) (λ told keys more h done. listed_keys _ _ _ keys more (c.format.ensures.same told (inr (cc))) h)
+returns-in-Err-Full-clause-keeps g c = on_call _ _ _ c.args.self.now.session _ _ _ _ _ c.format.ensures.discloses.keys (λ told keys h. sound_of _ _ keys h) (λ told keys h. c.format.ensures.discloses.forgets told keys (sound_of _ _ keys h)) (λ told keys more h done. listed_keys _ _ _ keys more (c.in-Err-Full.ensures.cause.2.0.image told) h)
 
 pub returns-in-Err-Memory-clause-keeps : goal.returns-in-Err-Memory-clause-keeps
-returns-in-Err-Memory-clause-keeps g c = on_call _ _ _ c.args.self.now.session _ _ _ _ _ c.format.ensures.keeps (λ told keys h. sound_of _ _ keys h) (λ told keys h. c.format.ensures.forgets told (sound_of _ _ keys h)) (λ told keys more h done. tt)
+returns-in-Err-Memory-clause-keeps g c = on_call _ _ _ c.args.self.now.session _ _ _ _ _ c.format.ensures.discloses.keys (λ told keys h. sound_of _ _ keys h) (λ told keys h. c.format.ensures.discloses.forgets told keys (sound_of _ _ keys h)) (λ told keys more h done. tt)
 
 pub returns-in-Err-TapeFault-clause-keeps : goal.returns-in-Err-TapeFault-clause-keeps
-returns-in-Err-TapeFault-clause-keeps g c = on_call _ _ _ c.args.self.now.session _ _ _ _ _ c.format.ensures.keeps (λ told keys h. sound_of _ _ keys h) (λ told keys h. c.format.ensures.forgets told (sound_of _ _ keys h)) (λ told keys more h done. tt)
+returns-in-Err-TapeFault-clause-keeps g c = on_call _ _ _ c.args.self.now.session _ _ _ _ _ c.format.ensures.discloses.keys (λ told keys h. sound_of _ _ keys h) (λ told keys h. c.format.ensures.discloses.forgets told keys (sound_of _ _ keys h)) (λ told keys more h done. tt)
 
 pub returns-in-Err-LedgerFault-clause-keeps : goal.returns-in-Err-LedgerFault-clause-keeps
-returns-in-Err-LedgerFault-clause-keeps g c = on_call _ _ _ c.args.self.now.session _ _ _ _ _ c.format.ensures.keeps (λ told keys h. sound_of _ _ keys h) (λ told keys h. c.format.ensures.forgets told (sound_of _ _ keys h)) (λ told keys more h done. tt)
+returns-in-Err-LedgerFault-clause-keeps g c = on_call _ _ _ c.args.self.now.session _ _ _ _ _ c.format.ensures.discloses.keys (λ told keys h. sound_of _ _ keys h) (λ told keys h. c.format.ensures.discloses.forgets told keys (sound_of _ _ keys h)) (λ told keys more h done. tt)
 
 pub returns-in-Err-PlatformFault-clause-keeps : goal.returns-in-Err-PlatformFault-clause-keeps
-returns-in-Err-PlatformFault-clause-keeps g c = on_call _ _ _ c.args.self.now.session _ _ _ _ _ c.format.ensures.keeps (λ told keys h. sound_of _ _ keys h) (λ told keys h. c.format.ensures.forgets told (sound_of _ _ keys h)) (λ told keys more h done. tt)
+returns-in-Err-PlatformFault-clause-keeps g c = on_call _ _ _ c.args.self.now.session _ _ _ _ _ c.format.ensures.discloses.keys (λ told keys h. sound_of _ _ keys h) (λ told keys h. c.format.ensures.discloses.forgets told keys (sound_of _ _ keys h)) (λ told keys more h done. tt)
 
 pub returns-in-Some-clause-keeps : goal.returns-in-Some-clause-keeps
 returns-in-Some-clause-keeps g c = on_look _ _ c.args.self.now.session _ _ _ c.refuse_format.ensures.image c.refuse_format.ensures.time (λ told keys kept h. on_ok c.refuse_format.result _ (listed_image _ _ _ keys (c.refuse_format.ensures.image told) h))

@@ -4,7 +4,6 @@ use Rattle.device_cli.specs.declared.stop.DeviceStop.TheVariants as device
 use Rattle.device_cli.specs.World.{World, world}
 use Rattle.script_lang.specs.declared.replies.Reply.TheVariants as replies
 use Rattle.device_cli.specs.Replied.{Serves}
-use Rattle.device_cli.specs.Represents.{stored}
 use Rattle.script_lang.specs.declared.commands.Command.TheVariants as commands
 use Rattle.device_core.specs.declared.session.Session.{Session}
 use Rattle.std.specs.Prelude.{List}
@@ -40,8 +39,8 @@ returns-in-Ok-clause-answered g c told entry rep =
     let none : c.args.self.now.session ≡ None = grind (arith, common_steps, c.is_some.ensures, c.if-is_some.false) in
     let found = c.in-Ok.ensures.found told in
     serves_mounted old new entry c.in-Ok.session c.number-number.result none (λ e. cc) refl c.in-Ok.ensures.untouched
-    (λ d stands. let holds = c.in-Ok.ensures.holds told (stored d) stands in (holds, c.number-number.ensures ∙ holds.stands.number))
-    (c.mount.ensures.time told) rep
+    (λ d stands. let holds = c.in-Ok.ensures.holds told d stands in (holds, c.number-number.ensures ∙ holds.stands.number))
+    (c.mount.ensures.looks.time told) rep
 
 pub returns-in-Err-NoDevice-clause-answered : goal.returns-in-Err-NoDevice-clause-answered
 returns-in-Err-NoDevice-clause-answered g c told entry rep =
@@ -49,63 +48,63 @@ returns-in-Err-NoDevice-clause-answered g c told entry rep =
     let old : World = world c.args.self.now.session (P.history c.args.platform.now) (P.head c.args.platform.now) (P.capacity c.args.platform.now) in
     let new : World = world c.args.self.now.session (P.history c.mount.new.platform) (P.head c.mount.new.platform) (P.capacity c.mount.new.platform) in
     let none : c.args.self.now.session ≡ None = grind (arith, common_steps, c.is_some.ensures, c.if-is_some.false) in
-    serves_no_device old new entry none (c.mount.ensures.no_device told (cc)) none (c.mount.ensures.image told) (c.mount.ensures.time told) rep
+    serves_no_device old new entry none (c.in-Err-NoDevice.ensures.refused told) none (c.mount.ensures.looks.image told) (c.mount.ensures.looks.time told) rep
 
 pub returns-in-Err-PlatformFault-clause-answered : goal.returns-in-Err-PlatformFault-clause-answered
 returns-in-Err-PlatformFault-clause-answered g c told entry rep =
     let P = g.P.Platform in
     let old : World = world c.args.self.now.session (P.history c.args.platform.now) (P.head c.args.platform.now) (P.capacity c.args.platform.now) in
     let new : World = world c.args.self.now.session (P.history c.mount.new.platform) (P.head c.mount.new.platform) (P.capacity c.mount.new.platform) in
-    halts_still old new entry commands.Mount device.Platform tt rep (c.mount.ensures.time told)
+    halts_still old new entry commands.Mount device.Platform tt rep (c.mount.ensures.looks.time told)
 
 pub returns-in-Err-Memory-clause-answered : goal.returns-in-Err-Memory-clause-answered
 returns-in-Err-Memory-clause-answered g c told entry rep =
     let P = g.P.Platform in
     let old : World = world c.args.self.now.session (P.history c.args.platform.now) (P.head c.args.platform.now) (P.capacity c.args.platform.now) in
     let new : World = world c.args.self.now.session (P.history c.mount.new.platform) (P.head c.mount.new.platform) (P.capacity c.mount.new.platform) in
-    halts_still old new entry commands.Mount device.Memory tt rep (c.mount.ensures.time told)
+    halts_still old new entry commands.Mount device.Memory tt rep (c.mount.ensures.looks.time told)
 
 pub returns-in-Err-BadRoot-clause-answered : goal.returns-in-Err-BadRoot-clause-answered
 returns-in-Err-BadRoot-clause-answered g c told entry rep =
     let P = g.P.Platform in
     let old : World = world c.args.self.now.session (P.history c.args.platform.now) (P.head c.args.platform.now) (P.capacity c.args.platform.now) in
     let new : World = world c.args.self.now.session (P.history c.mount.new.platform) (P.head c.mount.new.platform) (P.capacity c.mount.new.platform) in
-    absurd {A = Serves old new entry commands.Mount (Err device.BadRoot)} (refused_served old.history.present.cell old.head (subst (λ (n : ℕ). IsServedCell old.history.present.cell n) (g.met.P.Platform.counts_pages told c.args.platform.now) (c.requires.cell told)) (c.mount.ensures.bad_root told (cc)))
+    absurd {A = Serves old new entry commands.Mount (Err device.BadRoot)} (refused_served old.history.present.cell old.head (subst (λ (n : ℕ). IsServedCell old.history.present.cell n) (g.met.P.Platform.counts_pages told c.args.platform.now) (c.requires.cell told)) (c.in-Err-BadRoot.ensures.refused told))
 
 pub returns-then-is_some-clause-cell : goal.returns-then-is_some-clause-cell
 returns-then-is_some-clause-cell g c = λ told. serves_now _ (c.requires.cell told)
 
 pub returns-in-Ok-clause-cell : goal.returns-in-Ok-clause-cell
-returns-in-Ok-clause-cell g c = λ told. serves_while_cell _ _ (c.mount.ensures.time told) (c.requires.cell told)
+returns-in-Ok-clause-cell g c = λ told. serves_while_cell _ _ (c.mount.ensures.looks.time told) (c.requires.cell told)
 
 pub returns-in-Err-NoDevice-clause-cell : goal.returns-in-Err-NoDevice-clause-cell
-returns-in-Err-NoDevice-clause-cell g c = λ told. serves_while_cell _ _ (c.mount.ensures.time told) (c.requires.cell told)
+returns-in-Err-NoDevice-clause-cell g c = λ told. serves_while_cell _ _ (c.mount.ensures.looks.time told) (c.requires.cell told)
 
 pub returns-in-Err-PlatformFault-clause-cell : goal.returns-in-Err-PlatformFault-clause-cell
-returns-in-Err-PlatformFault-clause-cell g c = λ told. serves_while_cell _ _ (c.mount.ensures.time told) (c.requires.cell told)
+returns-in-Err-PlatformFault-clause-cell g c = λ told. serves_while_cell _ _ (c.mount.ensures.looks.time told) (c.requires.cell told)
 
 pub returns-in-Err-Memory-clause-cell : goal.returns-in-Err-Memory-clause-cell
-returns-in-Err-Memory-clause-cell g c = λ told. serves_while_cell _ _ (c.mount.ensures.time told) (c.requires.cell told)
+returns-in-Err-Memory-clause-cell g c = λ told. serves_while_cell _ _ (c.mount.ensures.looks.time told) (c.requires.cell told)
 
 pub returns-in-Err-BadRoot-clause-cell : goal.returns-in-Err-BadRoot-clause-cell
-returns-in-Err-BadRoot-clause-cell g c = λ told. serves_while_cell _ _ (c.mount.ensures.time told) (c.requires.cell told)
+returns-in-Err-BadRoot-clause-cell g c = λ told. serves_while_cell _ _ (c.mount.ensures.looks.time told) (c.requires.cell told)
 
 pub returns-then-is_some-clause-keeps : goal.returns-then-is_some-clause-keeps
 returns-then-is_some-clause-keeps g c = λ drawn. on_start _ drawn c.args.self.now.session _
 
 pub returns-in-Ok-clause-keeps : goal.returns-in-Ok-clause-keeps
-returns-in-Ok-clause-keeps g c = λ drawn. on_look _ drawn c.args.self.now.session _ _ _ c.mount.ensures.image c.mount.ensures.time (λ told keys kept h.
+returns-in-Ok-clause-keeps g c = λ drawn. on_look _ drawn c.args.self.now.session _ _ _ c.mount.ensures.looks.image c.mount.ensures.looks.time (λ told keys kept h.
     let none : c.args.self.now.session ≡ None = grind (arith, common_steps, c.is_some.ensures, c.if-is_some.false) in
     mount_listed c.args.self.now.session (g.P.Platform.history c.args.platform.now).present keys keys _ _ none (c.in-Ok.ensures.found told) h (λ device stands. c.in-Ok.ensures.listed told device stands keys))
 
 pub returns-in-Err-NoDevice-clause-keeps : goal.returns-in-Err-NoDevice-clause-keeps
-returns-in-Err-NoDevice-clause-keeps g c = λ drawn. on_look _ drawn c.args.self.now.session _ _ _ c.mount.ensures.image c.mount.ensures.time (λ told keys kept h. listed_image _ _ _ keys (c.mount.ensures.image told) h)
+returns-in-Err-NoDevice-clause-keeps g c = λ drawn. on_look _ drawn c.args.self.now.session _ _ _ c.mount.ensures.looks.image c.mount.ensures.looks.time (λ told keys kept h. listed_image _ _ _ keys (c.mount.ensures.looks.image told) h)
 
 pub returns-in-Err-BadRoot-clause-keeps : goal.returns-in-Err-BadRoot-clause-keeps
-returns-in-Err-BadRoot-clause-keeps g c = λ drawn. on_look _ drawn c.args.self.now.session _ _ _ c.mount.ensures.image c.mount.ensures.time (λ told keys kept h. tt)
+returns-in-Err-BadRoot-clause-keeps g c = λ drawn. on_look _ drawn c.args.self.now.session _ _ _ c.mount.ensures.looks.image c.mount.ensures.looks.time (λ told keys kept h. tt)
 
 pub returns-in-Err-PlatformFault-clause-keeps : goal.returns-in-Err-PlatformFault-clause-keeps
-returns-in-Err-PlatformFault-clause-keeps g c = λ drawn. on_look _ drawn c.args.self.now.session _ _ _ c.mount.ensures.image c.mount.ensures.time (λ told keys kept h. tt)
+returns-in-Err-PlatformFault-clause-keeps g c = λ drawn. on_look _ drawn c.args.self.now.session _ _ _ c.mount.ensures.looks.image c.mount.ensures.looks.time (λ told keys kept h. tt)
 
 pub returns-in-Err-Memory-clause-keeps : goal.returns-in-Err-Memory-clause-keeps
-returns-in-Err-Memory-clause-keeps g c = λ drawn. on_look _ drawn c.args.self.now.session _ _ _ c.mount.ensures.image c.mount.ensures.time (λ told keys kept h. tt)
+returns-in-Err-Memory-clause-keeps g c = λ drawn. on_look _ drawn c.args.self.now.session _ _ _ c.mount.ensures.looks.image c.mount.ensures.looks.time (λ told keys kept h. tt)

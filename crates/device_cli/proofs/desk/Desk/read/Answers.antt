@@ -6,7 +6,6 @@ use Rattle.device_cli.specs.declared.stop.DeviceStop.TheVariants as device
 use Rattle.device_cli.specs.World.{World, is_full, world}
 use Rattle.script_lang.specs.declared.replies.Reply.TheVariants as replies
 use Rattle.device_cli.specs.Replied.{Serves}
-use Rattle.device_cli.specs.Represents.{stored}
 use Rattle.script_lang.specs.declared.commands.Command.TheVariants.{Read}
 use Rattle.device_cli.proofs.ServedLaws.{at, with_session, has_session, serves_still, halts_still, gives_unmounted_read, gives_content, gives_read_range}
 use Rattle.device_cli.proofs.ServingLaws.{serves_unmounted}
@@ -31,11 +30,11 @@ returns-in-Ok-clause-answered g c told entry rep =
     let taken : c.args.self.now.session ≡ Some c.in-Some.session = c.in-Some.is in
     with_session old c.in-Some.session entry taken rep (λ state. Serves old new state (Read c.args.block) (Ok c.reply_with_content.result))
     (λ d t holds touched.
-    let within : c.args.block < d.blocks = inside c.args.block d.blocks (λ past. not_both c.read.result _ _ c.in-Ok.is (c.read.ensures.range.1 (subst (λ (n : ℕ). n ≤ c.args.block) (sym holds.stands.blocks) past))) in
-    let after = has_session new c.read.new.self d t refl (c.in-Ok.ensures.holds told (stored d) t.contents holds) (c.in-Ok.ensures.same.2 ∙ touched) in
+    let within : c.args.block < d.blocks = subst (λ (n : ℕ). c.args.block < n) holds.stands.blocks c.in-Ok.ensures.cause in
+    let after = has_session new c.read.new.self d t refl (c.in-Ok.ensures.array told d t.contents holds).0 (c.in-Ok.ensures.same.2 ∙ touched) in
     subst (λ (r : Reply). Serves old new (at d t) (Read c.args.block) (Ok r)) (sym c.reply_with_content.ensures.value)
     (serves_still old new (at d t) (at d t) (Read c.args.block) (content_reply c.read.new.out) (has_session old c.in-Some.session d t taken holds touched)
-    (gives_content (is_full old) d t c.args.block c.read.new.out within (c.in-Ok.ensures.content told (stored d) t.contents holds)) after (c.read.ensures.time told)))
+    (gives_content (is_full old) d t c.args.block c.read.new.out within (c.in-Ok.ensures.array told d t.contents holds).1) after (c.read.ensures.looks.time told)))
 
 pub returns-in-Err-Range-clause-answered : goal.returns-in-Err-Range-clause-answered
 returns-in-Err-Range-clause-answered g c told entry rep =
@@ -45,10 +44,10 @@ returns-in-Err-Range-clause-answered g c told entry rep =
     let taken : c.args.self.now.session ≡ Some c.in-Some.session = c.in-Some.is in
     with_session old c.in-Some.session entry taken rep (λ state. Serves old new state (Read c.args.block) (Ok replies.Range))
     (λ d t holds touched.
-    let past : d.blocks ≤ c.args.block = subst (λ (n : ℕ). n ≤ c.args.block) holds.stands.blocks (c.read.ensures.range.0 (cc)) in
-    let after = has_session new c.read.new.self d t refl (c.read.ensures.holds told (stored d) t.contents holds) (c.read.ensures.same.2 ∙ touched) in
+    let past : d.blocks ≤ c.args.block = subst (λ (n : ℕ). n ≤ c.args.block) holds.stands.blocks c.in-Err-Range.ensures.cause in
+    let after = has_session new c.read.new.self d t refl (c.read.ensures.array told d t.contents holds).0 (c.read.ensures.same.2 ∙ touched) in
     serves_still old new (at d t) (at d t) (Read c.args.block) replies.Range (has_session old c.in-Some.session d t taken holds touched)
-    (gives_read_range (is_full old) d t c.args.block past) after (c.read.ensures.time told))
+    (gives_read_range (is_full old) d t c.args.block past) after (c.read.ensures.looks.time told))
 
 pub returns-in-Err-BadRecord-clause-answered : goal.returns-in-Err-BadRecord-clause-answered
 returns-in-Err-BadRecord-clause-answered g c told entry rep =
@@ -57,41 +56,41 @@ returns-in-Err-BadRecord-clause-answered g c told entry rep =
     let new : World = world (Some c.read.new.self) (P.history c.read.new.platform) (P.head c.read.new.platform) (P.capacity c.read.new.platform) in
     let taken : c.args.self.now.session ≡ Some c.in-Some.session = c.in-Some.is in
     with_session old c.in-Some.session entry taken rep (λ state. Serves old new state (Read c.args.block) (Err (device.BadRecord c.in-Err-BadRecord.addr)))
-    (λ d t holds touched. absurd (c.read.ensures.sound told (stored d) t.contents holds c.in-Err-BadRecord.addr (cc)))
+    (λ d t holds touched. absurd (c.in-Err-BadRecord.ensures.array told d t.contents holds).1)
 
 pub returns-in-Err-PlatformFault-clause-answered : goal.returns-in-Err-PlatformFault-clause-answered
 returns-in-Err-PlatformFault-clause-answered g c told entry rep =
     let P = g.P.Platform in
     let old : World = world c.args.self.now.session (P.history c.args.platform.now) (P.head c.args.platform.now) (P.capacity c.args.platform.now) in
     let new : World = world (Some c.read.new.self) (P.history c.read.new.platform) (P.head c.read.new.platform) (P.capacity c.read.new.platform) in
-    halts_still old new entry (Read c.args.block) device.Platform tt rep (c.read.ensures.time told)
+    halts_still old new entry (Read c.args.block) device.Platform tt rep (c.read.ensures.looks.time told)
 
 pub returns-in_default-clause-cell : goal.returns-in_default-clause-cell
 returns-in_default-clause-cell g c = λ told. serves_now _ (c.requires.cell told)
 
 pub returns-in-Ok-clause-cell : goal.returns-in-Ok-clause-cell
-returns-in-Ok-clause-cell g c = λ told. serves_while_cell _ _ (c.read.ensures.time told) (c.requires.cell told)
+returns-in-Ok-clause-cell g c = λ told. serves_while_cell _ _ (c.read.ensures.looks.time told) (c.requires.cell told)
 
 pub returns-in-Err-Range-clause-cell : goal.returns-in-Err-Range-clause-cell
-returns-in-Err-Range-clause-cell g c = λ told. serves_while_cell _ _ (c.read.ensures.time told) (c.requires.cell told)
+returns-in-Err-Range-clause-cell g c = λ told. serves_while_cell _ _ (c.read.ensures.looks.time told) (c.requires.cell told)
 
 pub returns-in-Err-BadRecord-clause-cell : goal.returns-in-Err-BadRecord-clause-cell
-returns-in-Err-BadRecord-clause-cell g c = λ told. serves_while_cell _ _ (c.read.ensures.time told) (c.requires.cell told)
+returns-in-Err-BadRecord-clause-cell g c = λ told. serves_while_cell _ _ (c.read.ensures.looks.time told) (c.requires.cell told)
 
 pub returns-in-Err-PlatformFault-clause-cell : goal.returns-in-Err-PlatformFault-clause-cell
-returns-in-Err-PlatformFault-clause-cell g c = λ told. serves_while_cell _ _ (c.read.ensures.time told) (c.requires.cell told)
+returns-in-Err-PlatformFault-clause-cell g c = λ told. serves_while_cell _ _ (c.read.ensures.looks.time told) (c.requires.cell told)
 
 pub returns-in_default-clause-keeps : goal.returns-in_default-clause-keeps
 returns-in_default-clause-keeps g c = λ drawn. on_start _ drawn c.args.self.now.session _
 
 pub returns-in-Ok-clause-keeps : goal.returns-in-Ok-clause-keeps
-returns-in-Ok-clause-keeps g c = λ drawn. on_look _ drawn c.args.self.now.session _ _ _ c.read.ensures.image c.read.ensures.time (λ told keys kept h. c.read.ensures.listed told keys kept (listed_some _ c.in-Some.session _ keys c.in-Some.is h))
+returns-in-Ok-clause-keeps g c = λ drawn. on_look _ drawn c.args.self.now.session _ _ _ c.read.ensures.looks.image c.read.ensures.looks.time (λ told keys kept h. c.read.ensures.listed told keys kept (listed_some _ c.in-Some.session _ keys c.in-Some.is h))
 
 pub returns-in-Err-Range-clause-keeps : goal.returns-in-Err-Range-clause-keeps
-returns-in-Err-Range-clause-keeps g c = λ drawn. on_look _ drawn c.args.self.now.session _ _ _ c.read.ensures.image c.read.ensures.time (λ told keys kept h. c.read.ensures.listed told keys kept (listed_some _ c.in-Some.session _ keys c.in-Some.is h))
+returns-in-Err-Range-clause-keeps g c = λ drawn. on_look _ drawn c.args.self.now.session _ _ _ c.read.ensures.looks.image c.read.ensures.looks.time (λ told keys kept h. c.read.ensures.listed told keys kept (listed_some _ c.in-Some.session _ keys c.in-Some.is h))
 
 pub returns-in-Err-BadRecord-clause-keeps : goal.returns-in-Err-BadRecord-clause-keeps
-returns-in-Err-BadRecord-clause-keeps g c = λ drawn. on_look _ drawn c.args.self.now.session _ _ _ c.read.ensures.image c.read.ensures.time (λ told keys kept h. tt)
+returns-in-Err-BadRecord-clause-keeps g c = λ drawn. on_look _ drawn c.args.self.now.session _ _ _ c.read.ensures.looks.image c.read.ensures.looks.time (λ told keys kept h. tt)
 
 pub returns-in-Err-PlatformFault-clause-keeps : goal.returns-in-Err-PlatformFault-clause-keeps
-returns-in-Err-PlatformFault-clause-keeps g c = λ drawn. on_look _ drawn c.args.self.now.session _ _ _ c.read.ensures.image c.read.ensures.time (λ told keys kept h. tt)
+returns-in-Err-PlatformFault-clause-keeps g c = λ drawn. on_look _ drawn c.args.self.now.session _ _ _ c.read.ensures.looks.image c.read.ensures.looks.time (λ told keys kept h. tt)

@@ -1,5 +1,4 @@
 use Rattle.std.proofs.Common.{Option, ◌∙◌, subst}
-use Rattle.device_cli.specs.Represents.{stored}
 use Rattle.std.specs.Prelude.{IfSome}
 use Rattle.device_core.specs.Open.{IsOpen}
 use Rattle.device_core.specs.declared.session.Session.{Session}
@@ -15,7 +14,7 @@ returns-in-Some-clause-answered g c told entry rep =
     let head = P.head c.args.platform.now in
     let opened = subst (λ (s : Option Session). IfSome s (λ session. IsOpen session head)) c.in-Some.is c.requires.ready in
     serves_stat c.args.self.now.session (P.history c.args.platform.now) head (P.capacity c.args.platform.now) entry c.in-Some.session c.mapped.result c.number.result c.in-Some.is
-    (λ d t holds. (c.mapped.ensures ∙ mapped_len c.in-Some.session (P.history c.args.platform.now).present (stored d) t.contents head opened holds, c.number.ensures ∙ holds.stands.number)) rep
+    (λ d t holds. (c.mapped.ensures ∙ mapped_len c.in-Some.session (P.history c.args.platform.now).present d t.contents head opened holds, c.number.ensures ∙ holds.stands.number)) rep
 
 pub returns-in-None-clause-answered : goal.returns-in-None-clause-answered
 returns-in-None-clause-answered g c told entry rep =

@@ -5,10 +5,9 @@ use Rattle.device_cli.specs.declared.stop.DeviceStop.TheVariants as device
 use Rattle.device_cli.specs.World.{World, is_full, world}
 use Rattle.script_lang.specs.declared.replies.Reply.TheVariants as replies
 use Rattle.device_cli.specs.Replied.{Serves}
-use Rattle.device_cli.specs.Represents.{stored}
 use Rattle.std.specs.FinMap.{contains_key}
 use Rattle.device_core.specs.declared.refusals.TrimRefusal.TheVariants as refusals
-use Rattle.script_lang.specs.Arrays.{unmapped}
+use Rattle.sdbt_base.specs.Arrays.{unmapped}
 use Rattle.script_lang.specs.declared.commands.Command.TheVariants.{Trim}
 use Rattle.device_cli.proofs.ServedLaws.{at, with_session, has_session, serves_still, halts_still, gives_unmounted_trim, gives_trimmed, gives_trim_range}
 use Rattle.device_cli.proofs.ServingLaws.{serves_unmounted}
@@ -33,11 +32,11 @@ returns-in-Ok-clause-answered g c told entry rep =
     let taken : c.args.self.now.session ≡ Some c.in-Some.session = c.in-Some.is in
     with_session old c.in-Some.session entry taken rep (λ state. Serves old new state (Trim c.args.block) (Ok replies.Done))
     (λ d t holds touched.
-    let within : c.args.block < d.blocks = inside c.args.block d.blocks (λ past. not_both c.trim.result _ _ c.in-Ok.is (c.trim.ensures.range.1 (subst (λ (n : ℕ). n ≤ c.args.block) (sym holds.stands.blocks) past))) in
-    let after = has_session new c.trim.new.self d (unmapped t c.args.block) refl (c.in-Ok.ensures.trimmed told (stored d) t.contents holds)
-    (c.in-Ok.ensures.touched told (stored d) t.contents holds ∙ ap (λ (b : Bool). b || contains_key t.contents c.args.block) touched) in
+    let within : c.args.block < d.blocks = subst (λ (n : ℕ). c.args.block < n) holds.stands.blocks c.in-Ok.ensures.cause in
+    let after = has_session new c.trim.new.self d (unmapped t c.args.block) refl (c.in-Ok.ensures.array told d t.contents holds).0
+    ((c.in-Ok.ensures.array told d t.contents holds).1 ∙ ap (λ (b : Bool). b || contains_key t.contents c.args.block) touched) in
     serves_still old new (at d t) (at d (unmapped t c.args.block)) (Trim c.args.block) replies.Done (has_session old c.in-Some.session d t taken holds touched)
-    (gives_trimmed (is_full old) d t c.args.block within) after (c.trim.ensures.time told))
+    (gives_trimmed (is_full old) d t c.args.block within) after (c.trim.ensures.looks.time told))
 
 pub returns-in-Err-Range-clause-answered : goal.returns-in-Err-Range-clause-answered
 returns-in-Err-Range-clause-answered g c told entry rep =
@@ -47,13 +46,10 @@ returns-in-Err-Range-clause-answered g c told entry rep =
     let taken : c.args.self.now.session ≡ Some c.in-Some.session = c.in-Some.is in
     with_session old c.in-Some.session entry taken rep (λ state. Serves old new state (Trim c.args.block) (Ok replies.Range))
     (λ d t holds touched.
-    let past : d.blocks ≤ c.args.block = subst (λ (n : ℕ). n ≤ c.args.block) holds.stands.blocks (c.trim.ensures.range.0 (cc)) in
-    let refused = c.trim.ensures.refused told (stored d) t.contents holds in
-    let untouched = c.trim.ensures.untouched in
-    let e : c.trim.result ≡ Err refusals.Range = cc in
-    let after = has_session new c.trim.new.self d t refl (rw e at refused) ((rw e at untouched) ∙ touched) in
+    let past : d.blocks ≤ c.args.block = subst (λ (n : ℕ). n ≤ c.args.block) holds.stands.blocks c.in-Err-Range.ensures.cause in
+    let after = has_session new c.trim.new.self d t refl (c.in-Err-Range.ensures.array told d t.contents holds) (c.in-Err-Range.ensures.same.1 ∙ touched) in
     serves_still old new (at d t) (at d t) (Trim c.args.block) replies.Range (has_session old c.in-Some.session d t taken holds touched)
-    (gives_trim_range (is_full old) d t c.args.block past) after (c.trim.ensures.time told))
+    (gives_trim_range (is_full old) d t c.args.block past) after (c.trim.ensures.looks.time told))
 
 pub returns-in-Err-BadRecord-clause-answered : goal.returns-in-Err-BadRecord-clause-answered
 returns-in-Err-BadRecord-clause-answered g c told entry rep =
@@ -62,54 +58,54 @@ returns-in-Err-BadRecord-clause-answered g c told entry rep =
     let new : World = world (Some c.trim.new.self) (P.history c.trim.new.platform) (P.head c.trim.new.platform) (P.capacity c.trim.new.platform) in
     let taken : c.args.self.now.session ≡ Some c.in-Some.session = c.in-Some.is in
     with_session old c.in-Some.session entry taken rep (λ state. Serves old new state (Trim c.args.block) (Err (device.BadRecord c.in-Err-BadRecord.addr)))
-    (λ d t holds touched. absurd (c.trim.ensures.sound told (stored d) t.contents holds c.in-Err-BadRecord.addr (cc)))
+    (λ d t holds touched. absurd (c.in-Err-BadRecord.ensures.array told d t.contents holds))
 
 pub returns-in-Err-PlatformFault-clause-answered : goal.returns-in-Err-PlatformFault-clause-answered
 returns-in-Err-PlatformFault-clause-answered g c told entry rep =
     let P = g.P.Platform in
     let old : World = world c.args.self.now.session (P.history c.args.platform.now) (P.head c.args.platform.now) (P.capacity c.args.platform.now) in
     let new : World = world (Some c.trim.new.self) (P.history c.trim.new.platform) (P.head c.trim.new.platform) (P.capacity c.trim.new.platform) in
-    halts_still old new entry (Trim c.args.block) device.Platform tt rep (c.trim.ensures.time told)
+    halts_still old new entry (Trim c.args.block) device.Platform tt rep (c.trim.ensures.looks.time told)
 
 pub returns-in-Err-Memory-clause-answered : goal.returns-in-Err-Memory-clause-answered
 returns-in-Err-Memory-clause-answered g c told entry rep =
     let P = g.P.Platform in
     let old : World = world c.args.self.now.session (P.history c.args.platform.now) (P.head c.args.platform.now) (P.capacity c.args.platform.now) in
     let new : World = world (Some c.trim.new.self) (P.history c.trim.new.platform) (P.head c.trim.new.platform) (P.capacity c.trim.new.platform) in
-    halts_still old new entry (Trim c.args.block) device.Memory tt rep (c.trim.ensures.time told)
+    halts_still old new entry (Trim c.args.block) device.Memory tt rep (c.trim.ensures.looks.time told)
 
 pub returns-in_default-clause-cell : goal.returns-in_default-clause-cell
 returns-in_default-clause-cell g c = λ told. serves_now _ (c.requires.cell told)
 
 pub returns-in-Ok-clause-cell : goal.returns-in-Ok-clause-cell
-returns-in-Ok-clause-cell g c = λ told. serves_while_cell _ _ (c.trim.ensures.time told) (c.requires.cell told)
+returns-in-Ok-clause-cell g c = λ told. serves_while_cell _ _ (c.trim.ensures.looks.time told) (c.requires.cell told)
 
 pub returns-in-Err-Range-clause-cell : goal.returns-in-Err-Range-clause-cell
-returns-in-Err-Range-clause-cell g c = λ told. serves_while_cell _ _ (c.trim.ensures.time told) (c.requires.cell told)
+returns-in-Err-Range-clause-cell g c = λ told. serves_while_cell _ _ (c.trim.ensures.looks.time told) (c.requires.cell told)
 
 pub returns-in-Err-BadRecord-clause-cell : goal.returns-in-Err-BadRecord-clause-cell
-returns-in-Err-BadRecord-clause-cell g c = λ told. serves_while_cell _ _ (c.trim.ensures.time told) (c.requires.cell told)
+returns-in-Err-BadRecord-clause-cell g c = λ told. serves_while_cell _ _ (c.trim.ensures.looks.time told) (c.requires.cell told)
 
 pub returns-in-Err-PlatformFault-clause-cell : goal.returns-in-Err-PlatformFault-clause-cell
-returns-in-Err-PlatformFault-clause-cell g c = λ told. serves_while_cell _ _ (c.trim.ensures.time told) (c.requires.cell told)
+returns-in-Err-PlatformFault-clause-cell g c = λ told. serves_while_cell _ _ (c.trim.ensures.looks.time told) (c.requires.cell told)
 
 pub returns-in-Err-Memory-clause-cell : goal.returns-in-Err-Memory-clause-cell
-returns-in-Err-Memory-clause-cell g c = λ told. serves_while_cell _ _ (c.trim.ensures.time told) (c.requires.cell told)
+returns-in-Err-Memory-clause-cell g c = λ told. serves_while_cell _ _ (c.trim.ensures.looks.time told) (c.requires.cell told)
 
 pub returns-in_default-clause-keeps : goal.returns-in_default-clause-keeps
 returns-in_default-clause-keeps g c = λ drawn. on_start _ drawn c.args.self.now.session _
 
 pub returns-in-Ok-clause-keeps : goal.returns-in-Ok-clause-keeps
-returns-in-Ok-clause-keeps g c = λ drawn. on_look _ drawn c.args.self.now.session _ _ _ c.trim.ensures.image c.trim.ensures.time (λ told keys kept h. c.trim.ensures.listed told keys kept (listed_some _ c.in-Some.session _ keys c.in-Some.is h))
+returns-in-Ok-clause-keeps g c = λ drawn. on_look _ drawn c.args.self.now.session _ _ _ c.trim.ensures.looks.image c.trim.ensures.looks.time (λ told keys kept h. c.trim.ensures.listed told keys kept (listed_some _ c.in-Some.session _ keys c.in-Some.is h))
 
 pub returns-in-Err-Range-clause-keeps : goal.returns-in-Err-Range-clause-keeps
-returns-in-Err-Range-clause-keeps g c = λ drawn. on_look _ drawn c.args.self.now.session _ _ _ c.trim.ensures.image c.trim.ensures.time (λ told keys kept h. c.trim.ensures.listed told keys kept (listed_some _ c.in-Some.session _ keys c.in-Some.is h))
+returns-in-Err-Range-clause-keeps g c = λ drawn. on_look _ drawn c.args.self.now.session _ _ _ c.trim.ensures.looks.image c.trim.ensures.looks.time (λ told keys kept h. c.trim.ensures.listed told keys kept (listed_some _ c.in-Some.session _ keys c.in-Some.is h))
 
 pub returns-in-Err-Memory-clause-keeps : goal.returns-in-Err-Memory-clause-keeps
-returns-in-Err-Memory-clause-keeps g c = λ drawn. on_look _ drawn c.args.self.now.session _ _ _ c.trim.ensures.image c.trim.ensures.time (λ told keys kept h. tt)
+returns-in-Err-Memory-clause-keeps g c = λ drawn. on_look _ drawn c.args.self.now.session _ _ _ c.trim.ensures.looks.image c.trim.ensures.looks.time (λ told keys kept h. tt)
 
 pub returns-in-Err-BadRecord-clause-keeps : goal.returns-in-Err-BadRecord-clause-keeps
-returns-in-Err-BadRecord-clause-keeps g c = λ drawn. on_look _ drawn c.args.self.now.session _ _ _ c.trim.ensures.image c.trim.ensures.time (λ told keys kept h. tt)
+returns-in-Err-BadRecord-clause-keeps g c = λ drawn. on_look _ drawn c.args.self.now.session _ _ _ c.trim.ensures.looks.image c.trim.ensures.looks.time (λ told keys kept h. tt)
 
 pub returns-in-Err-PlatformFault-clause-keeps : goal.returns-in-Err-PlatformFault-clause-keeps
-returns-in-Err-PlatformFault-clause-keeps g c = λ drawn. on_look _ drawn c.args.self.now.session _ _ _ c.trim.ensures.image c.trim.ensures.time (λ told keys kept h. tt)
+returns-in-Err-PlatformFault-clause-keeps g c = λ drawn. on_look _ drawn c.args.self.now.session _ _ _ c.trim.ensures.looks.image c.trim.ensures.looks.time (λ told keys kept h. tt)

@@ -4,13 +4,13 @@ use Rattle.device_cli.specs.declared.stop.DeviceStop.TheVariants as device
 use Rattle.device_cli.specs.World.{World, is_full, world}
 use Rattle.script_lang.specs.declared.replies.Reply.TheVariants as replies
 use Rattle.device_cli.specs.Replied.{Serves}
-use Rattle.device_cli.specs.Represents.{stored}
 use Rattle.std.specs.Prelude.{List}
 use Rattle.std.specs.FinMap.{insert}
-use Rattle.page_store.specs.Buffer.{padded}
+use Rattle.sdbt_base.specs.Arrays.{padded}
 use Rattle.device_core.specs.Holds.{Holds}
 use Rattle.device_core.specs.declared.refusals.WriteRefusal.TheVariants as refusals
-use Rattle.script_lang.specs.Arrays.{written, zeros}
+use Rattle.script_lang.specs.Arrays.{zeros}
+use Rattle.sdbt_base.specs.Arrays.{written}
 use Rattle.script_lang.specs.declared.commands.Command.TheVariants.{Write}
 use Rattle.device_cli.proofs.ServedLaws.{at, with_session, has_session, serves_still, halts_still, is_full_true, is_full_false, gives_unmounted_write, gives_written, gives_write_range, gives_write_full}
 use Rattle.device_cli.proofs.ServingLaws.{serves_unmounted}
@@ -37,10 +37,10 @@ returns-in-Ok-clause-answered g c told entry rep bytes same =
     let taken : c.args.self.now.session ≡ Some c.in-Some.session = c.in-Some.is in
     with_session old c.in-Some.session entry taken rep (λ state. Serves old new state (Write c.args.block bytes) (Ok replies.Done))
     (λ d t holds touched.
-    let within : c.args.block < d.blocks = inside c.args.block d.blocks (λ past. not_both c.write.result _ _ c.in-Ok.is (c.write.ensures.range.1 (subst (λ (n : ℕ). n ≤ c.args.block) (sym holds.stands.blocks) past))) in
-    let room = is_full_false old (λ e. not_both c.write.result _ _ c.in-Ok.is (c.write.ensures.full.1 (subst (λ (n : ℕ). c.args.block < n) (sym holds.stands.blocks) within, e))) in
-    let holds_now = subst (λ (content : List ℕ). Holds c.write.new.self (P.history c.write.new.platform).present (stored d) (insert t.contents c.args.block (padded content))) (sym same) (c.in-Ok.ensures.written told (stored d) t.contents holds) in
-    let after = has_session new c.write.new.self d (written t c.args.block bytes.items) refl holds_now c.in-Ok.ensures.touched in
+    let within : c.args.block < d.blocks = subst (λ (n : ℕ). c.args.block < n) holds.stands.blocks c.in-Ok.ensures.cause.0 in
+    let room = is_full_false old c.in-Ok.ensures.cause.1 in
+    let holds_now = subst (λ (content : List ℕ). Holds c.write.new.self (P.history c.write.new.platform).present d (insert t.contents c.args.block (padded content))) (sym same) (c.in-Ok.ensures.array told d t.contents holds) in
+    let after = has_session new c.write.new.self d (written t c.args.block bytes.items) refl holds_now c.in-Ok.ensures.same.1 in
     serves_still old new (at d t) (at d (written t c.args.block bytes.items)) (Write c.args.block bytes) replies.Done (has_session old c.in-Some.session d t taken holds touched)
     (gives_written (is_full old) d t c.args.block bytes room within) after (c.write.ensures.time told))
 
@@ -52,11 +52,8 @@ returns-in-Err-Range-clause-answered g c told entry rep bytes same =
     let taken : c.args.self.now.session ≡ Some c.in-Some.session = c.in-Some.is in
     with_session old c.in-Some.session entry taken rep (λ state. Serves old new state (Write c.args.block bytes) (Ok replies.Range))
     (λ d t holds touched.
-    let past : d.blocks ≤ c.args.block = subst (λ (n : ℕ). n ≤ c.args.block) holds.stands.blocks (c.write.ensures.range.0 (cc)) in
-    let refused = c.write.ensures.refused told (stored d) t.contents holds in
-    let untouched = c.write.ensures.untouched in
-    let e : c.write.result ≡ Err refusals.Range = cc in
-    let after = has_session new c.write.new.self d t refl (rw e at refused) ((rw e at untouched) ∙ touched) in
+    let past : d.blocks ≤ c.args.block = subst (λ (n : ℕ). n ≤ c.args.block) holds.stands.blocks c.in-Err-Range.ensures.cause in
+    let after = has_session new c.write.new.self d t refl (c.in-Err-Range.ensures.array told d t.contents holds) (c.in-Err-Range.ensures.same.2 ∙ touched) in
     serves_still old new (at d t) (at d t) (Write c.args.block bytes) replies.Range (has_session old c.in-Some.session d t taken holds touched)
     (gives_write_range (is_full old) d t c.args.block bytes past) after (c.write.ensures.time told))
 
@@ -68,12 +65,9 @@ returns-in-Err-Full-clause-answered g c told entry rep bytes same =
     let taken : c.args.self.now.session ≡ Some c.in-Some.session = c.in-Some.is in
     with_session old c.in-Some.session entry taken rep (λ state. Serves old new state (Write c.args.block bytes) (Ok replies.Full))
     (λ d t holds touched.
-    let refused = c.write.ensures.refused told (stored d) t.contents holds in
-    let untouched = c.write.ensures.untouched in
-    let e : c.write.result ≡ Err refusals.Full = cc in
-    let both = c.write.ensures.full.0 e in
+    let both = c.in-Err-Full.ensures.cause in
     let within : c.args.block < d.blocks = subst (λ (n : ℕ). c.args.block < n) holds.stands.blocks both.0 in
-    let after = has_session new c.write.new.self d t refl (rw e at refused) ((rw e at untouched) ∙ touched) in
+    let after = has_session new c.write.new.self d t refl (c.in-Err-Full.ensures.array told d t.contents holds) (c.in-Err-Full.ensures.same.2 ∙ touched) in
     serves_still old new (at d t) (at d t) (Write c.args.block bytes) replies.Full (has_session old c.in-Some.session d t taken holds touched)
     (gives_write_full (is_full old) d t c.args.block bytes (is_full_true old both.1) within) after (c.write.ensures.time told))
 
@@ -84,7 +78,7 @@ returns-in-Err-BadRecord-clause-answered g c told entry rep bytes same =
     let new : World = world (Some c.write.new.self) (P.history c.write.new.platform) (P.head c.write.new.platform) (P.capacity c.write.new.platform) in
     let taken : c.args.self.now.session ≡ Some c.in-Some.session = c.in-Some.is in
     with_session old c.in-Some.session entry taken rep (λ state. Serves old new state (Write c.args.block bytes) (Err (device.BadRecord c.in-Err-BadRecord.addr)))
-    (λ d t holds touched. absurd (c.write.ensures.sound told (stored d) t.contents holds c.in-Err-BadRecord.addr (cc)))
+    (λ d t holds touched. absurd (c.in-Err-BadRecord.ensures.array told d t.contents holds))
 
 pub returns-in-Err-Memory-clause-answered : goal.returns-in-Err-Memory-clause-answered
 returns-in-Err-Memory-clause-answered g c told entry rep bytes same =
@@ -108,28 +102,28 @@ returns-in-Err-PlatformFault-clause-answered g c told entry rep bytes same =
     halts_still old new entry (Write c.args.block bytes) device.Platform tt rep (c.write.ensures.time told)
 
 pub returns-in_default-clause-cell : goal.returns-in_default-clause-cell
-returns-in_default-clause-cell g c = λ told. serves_now _ (c.requires.cell told)
+returns-in_default-clause-cell g c = λ told. serves_now _ (c.requires.before.cell told)
 
 pub returns-in-Ok-clause-cell : goal.returns-in-Ok-clause-cell
-returns-in-Ok-clause-cell g c = λ told. serves_while_cell _ _ (c.write.ensures.time told) (c.requires.cell told)
+returns-in-Ok-clause-cell g c = λ told. serves_while_cell _ _ (c.write.ensures.time told) (c.requires.before.cell told)
 
 pub returns-in-Err-Range-clause-cell : goal.returns-in-Err-Range-clause-cell
-returns-in-Err-Range-clause-cell g c = λ told. serves_while_cell _ _ (c.write.ensures.time told) (c.requires.cell told)
+returns-in-Err-Range-clause-cell g c = λ told. serves_while_cell _ _ (c.write.ensures.time told) (c.requires.before.cell told)
 
 pub returns-in-Err-Full-clause-cell : goal.returns-in-Err-Full-clause-cell
-returns-in-Err-Full-clause-cell g c = λ told. serves_while_cell _ _ (c.write.ensures.time told) (c.requires.cell told)
+returns-in-Err-Full-clause-cell g c = λ told. serves_while_cell _ _ (c.write.ensures.time told) (c.requires.before.cell told)
 
 pub returns-in-Err-BadRecord-clause-cell : goal.returns-in-Err-BadRecord-clause-cell
-returns-in-Err-BadRecord-clause-cell g c = λ told. serves_while_cell _ _ (c.write.ensures.time told) (c.requires.cell told)
+returns-in-Err-BadRecord-clause-cell g c = λ told. serves_while_cell _ _ (c.write.ensures.time told) (c.requires.before.cell told)
 
 pub returns-in-Err-Memory-clause-cell : goal.returns-in-Err-Memory-clause-cell
-returns-in-Err-Memory-clause-cell g c = λ told. serves_while_cell _ _ (c.write.ensures.time told) (c.requires.cell told)
+returns-in-Err-Memory-clause-cell g c = λ told. serves_while_cell _ _ (c.write.ensures.time told) (c.requires.before.cell told)
 
 pub returns-in-Err-TapeFault-clause-cell : goal.returns-in-Err-TapeFault-clause-cell
-returns-in-Err-TapeFault-clause-cell g c = λ told. serves_while_cell _ _ (c.write.ensures.time told) (c.requires.cell told)
+returns-in-Err-TapeFault-clause-cell g c = λ told. serves_while_cell _ _ (c.write.ensures.time told) (c.requires.before.cell told)
 
 pub returns-in-Err-PlatformFault-clause-cell : goal.returns-in-Err-PlatformFault-clause-cell
-returns-in-Err-PlatformFault-clause-cell g c = λ told. serves_while_cell _ _ (c.write.ensures.time told) (c.requires.cell told)
+returns-in-Err-PlatformFault-clause-cell g c = λ told. serves_while_cell _ _ (c.write.ensures.time told) (c.requires.before.cell told)
 
 pub returns-in_default-clause-keeps : goal.returns-in_default-clause-keeps
 returns-in_default-clause-keeps g c = on_start _ _ c.args.self.now.session _

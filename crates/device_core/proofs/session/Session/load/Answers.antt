@@ -8,7 +8,6 @@ use Rattle.platform.specs.Image.{Image}
 use Rattle.page_store.specs.Tree.{Wrong}
 use Rattle.device_core.specs.Leaf.{AreEntries}
 use Rattle.device_core.specs.Holding.{HoldsBy}
-use Rattle.device_core.proofs.MomentLaws.{still, one_look}
 use Rattle.device_core.proofs.EntryLaws.{AreEntries-read}
 use Rattle.device_core.proofs.HoldLaws.{holds_same, loaded, leaf_fits}
 use Rattle.page_store.proofs.WrongLaws.{wrong_root}
@@ -32,22 +31,16 @@ no_block want root block content body want_is one is =
     let of_root = subst (λ (w : Want). IsWantedRecord w body (DataRecord block content)) want_is is in
     omega (arith, of_root.wanted.0, one)
 
-pub returns-then-self-clause-time : goal.returns-then-self-clause-time
-returns-then-self-clause-time g c = λ told. still _
-
 pub fetch-requires : goal.fetch-requires
 fetch-requires g c = let addr = ap (λ (w : Want). w.addr) c.of_root-want.ensures in omega (arith, addr, c.requires.served.fits.addr, c.requires.served.within)
 
 pub returns-in-Err-clause-holds : goal.returns-in-Err-clause-holds
 returns-in-Err-clause-holds g c = λ told device contents h. holds_same _ _ _ _ _ _ _ _ _ (c.fetch.ensures.image told) h
 
-pub returns-in-Err-clause-bad : goal.returns-in-Err-clause-bad
-returns-in-Err-clause-bad g c = λ told device contents h addr is.
+pub returns-in-Err-clause-sound : goal.returns-in-Err-clause-sound
+returns-in-Err-clause-sound g c = λ told device contents h addr is.
     leaf_fits _ _ _ _ _ _ device contents h
     (subst (λ (w : Want). NothingFits (g.P.Platform.history c.args.platform.now).present.readable w c.args.self.now.root.key) c.of_root-want.ensures (c.in-Err.ensures.nothing_fits told addr (cc)))
-
-pub returns-in-Err-clause-time : goal.returns-in-Err-clause-time
-returns-in-Err-clause-time g c = λ told. one_look _ _ (c.fetch.ensures.time told) (c.fetch.ensures.image told)
 
 pub returns-in-Node-clause-open : goal.returns-in-Node-clause-open
 returns-in-Node-clause-open g c =
@@ -76,30 +69,16 @@ returns-in-Node-clause-holds g c = λ told device contents h.
     holds_same _ _ _ _ _ (history c.args.platform.now).present _ _ _ (c.fetch.ensures.image told)
     (loaded self.root self.mapped self.is_touched self.entries.items c.in-Node.node.entries.items (history c.args.platform.now).present device contents unread at_one)
 
-pub returns-in-Node-clause-time : goal.returns-in-Node-clause-time
-returns-in-Node-clause-time g c = λ told. one_look _ _ (c.fetch.ensures.time told) (c.fetch.ensures.image told)
-
 pub returns-in-Block-clause-holds : goal.returns-in-Block-clause-holds
 returns-in-Block-clause-holds g c = λ told device contents h. holds_same _ _ _ _ _ _ _ _ _ (c.fetch.ensures.image told) h
 
-pub returns-in-Block-clause-bad : goal.returns-in-Block-clause-bad
-returns-in-Block-clause-bad g c = λ told device contents h addr is.
+pub returns-in-Block-clause-sound : goal.returns-in-Block-clause-sound
+returns-in-Block-clause-sound g c = λ told device contents h addr is.
     let wanted = rw c.in-Block.is at c.in-Ok.ensures.wanted in
     no_block c.of_root-want.result c.args.self.now.root _ _ _ c.of_root-want.ensures c.requires.served.leaf.level wanted
 
-pub returns-in-Block-clause-time : goal.returns-in-Block-clause-time
-returns-in-Block-clause-time g c = λ told. one_look _ _ (c.fetch.ensures.time told) (c.fetch.ensures.image told)
-
 pub returns-in-Err-clause-follows : goal.returns-in-Err-clause-follows
 returns-in-Err-clause-follows g c = λ told follows. follows_same _ _ _ _ _ _ (c.fetch.ensures.image told) follows
-
-pub returns-in-Err-clause-wrong : goal.returns-in-Err-clause-wrong
-returns-in-Err-clause-wrong g c = λ told addr is.
-    let pages = (g.P.Platform.history c.args.platform.now).present.readable in
-    let self = c.args.self.now in
-    let nothing = subst (λ (w : Want). NothingFits pages w self.root.key) c.of_root-want.ensures (c.in-Err.ensures.nothing_fits told addr (cc)) in
-    let at : addr ≡ self.root.addr = c.in-Err.ensures.bad addr (cc) ∙ ap (λ (w : Want). w.addr) c.of_root-want.ensures in
-    subst (λ (n : ℕ). Wrong pages self.root n) (sym at) (wrong_root pages self.root nothing)
 
 pub returns-in-Node-clause-follows : goal.returns-in-Node-clause-follows
 returns-in-Node-clause-follows g c = λ told follows.
@@ -116,11 +95,6 @@ returns-in-Node-clause-follows g c = λ told follows.
 
 pub returns-in-Block-clause-follows : goal.returns-in-Block-clause-follows
 returns-in-Block-clause-follows g c = λ told follows. follows_same _ _ _ _ _ _ (c.fetch.ensures.image told) follows
-
-pub returns-in-Block-clause-wrong : goal.returns-in-Block-clause-wrong
-returns-in-Block-clause-wrong g c = λ told addr is.
-    let wanted = rw c.in-Block.is at c.in-Ok.ensures.wanted in
-    absurd (no_block c.of_root-want.result c.args.self.now.root _ _ _ c.of_root-want.ensures c.requires.served.leaf.level wanted)
 
 pub returns-in-Err-clause-listed : goal.returns-in-Err-clause-listed
 returns-in-Err-clause-listed g c = λ told keys kept h. listed_same _ _ _ _ _ _ _ keys (c.fetch.ensures.image told) h
@@ -144,10 +118,10 @@ returns-in-Node-clause-listed g c = λ told keys kept h.
     (listed_loaded self.root self.mapped self.is_touched self.entries.items c.in-Node.node.entries.items (history c.args.platform.now).present keys kept unread at_one)
 
 pub returns-then-self-clause-leaf : goal.returns-then-self-clause-leaf
-returns-then-self-clause-leaf g c = λ told. record { read = λ is. refl; unread = λ isnt. absurd (loaded_or_not c.args.self.now.is_loaded c.if-self.true isnt) }
+returns-then-self-clause-leaf g c = (c.if-self.true, λ told. record { read = λ is. refl; unread = λ isnt. absurd (loaded_or_not c.args.self.now.is_loaded c.if-self.true isnt) })
 
 pub returns-in-Node-clause-leaf : goal.returns-in-Node-clause-leaf
-returns-in-Node-clause-leaf g c = λ told.
+returns-in-Node-clause-leaf g c = (refl, λ told.
     let history = g.P.Platform.history in
     let head = g.P.Platform.head in
     let self = c.args.self.now in
@@ -159,14 +133,15 @@ returns-in-Node-clause-leaf g c = λ told.
     record {
       read = λ is. absurd (loaded_or_not self.is_loaded is c.if-self.false);
       unread = λ isnt. subst (λ (n : ℕ). FitsAt pages (root_want self.root) self.root.key (NodeRecord n c.in-Node.node.entries.items)) read.0 of_root;
-    }
+    })
 
 pub returns-in-Err-clause-misfit : goal.returns-in-Err-clause-misfit
-returns-in-Err-clause-misfit g c = λ told addr is. (
-  c.if-self.false,
-  c.in-Err.ensures.bad addr (cc) ∙ ap (λ (w : Want). w.addr) c.of_root-want.ensures,
-  subst (λ (w : Want). NothingFits (g.P.Platform.history c.args.platform.now).present.readable w c.args.self.now.root.key) c.of_root-want.ensures (c.in-Err.ensures.nothing_fits told addr (cc)),
-)
+returns-in-Err-clause-misfit g c = λ told addr is.
+    let pages = (g.P.Platform.history c.args.platform.now).present.readable in
+    let self = c.args.self.now in
+    let nothing = subst (λ (w : Want). NothingFits pages w self.root.key) c.of_root-want.ensures (c.in-Err.ensures.nothing_fits told addr (cc)) in
+    let at : addr ≡ self.root.addr = c.in-Err.ensures.bad addr (cc) ∙ ap (λ (w : Want). w.addr) c.of_root-want.ensures in
+    (c.if-self.false, at, nothing, subst (λ (n : ℕ). Wrong pages self.root n) (sym at) (wrong_root pages self.root nothing))
 
 pub returns-in-Block-clause-misfit : goal.returns-in-Block-clause-misfit
 returns-in-Block-clause-misfit g c = λ told addr is.

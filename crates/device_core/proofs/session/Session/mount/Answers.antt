@@ -1,33 +1,14 @@
 use Rattle.std.proofs.Common.{refl, arith}
-use Rattle.device_core.proofs.MomentLaws.{one_look}
 use Rattle.device_core.proofs.HoldLaws.{refused_bad, refused_levels, opened, mounted, holds_same}
 use Rattle.device_core.proofs.FollowLaws.{follows_none}
 use Rattle.device_core.proofs.KeyLaws.{listed_mounted}
 use Rattle.device_core.proofs.session.Session.mount.Goals as goal
 
-pub returns-in-Err-BadRoot-clause-bad_root : goal.returns-in-Err-BadRoot-clause-bad_root
-returns-in-Err-BadRoot-clause-bad_root g c = λ told is. refused_bad _ _ (c.in-Err-BadRoot.ensures.bad told (cc))
+pub returns-in-Err-BadRoot-clause-refused : goal.returns-in-Err-BadRoot-clause-refused
+returns-in-Err-BadRoot-clause-refused g c = λ told. refused_bad _ _ (c.in-Err-BadRoot.ensures.bad told (cc))
 
-pub returns-in-Err-BadRoot-clause-time : goal.returns-in-Err-BadRoot-clause-time
-returns-in-Err-BadRoot-clause-time g c = λ told. one_look _ _ (c.current.ensures.time told) (c.current.ensures.image told)
-
-pub returns-in-Err-PlatformFault-clause-time : goal.returns-in-Err-PlatformFault-clause-time
-returns-in-Err-PlatformFault-clause-time g c = λ told. one_look _ _ (c.current.ensures.time told) (c.current.ensures.image told)
-
-pub returns-in_default-clause-time : goal.returns-in_default-clause-time
-returns-in_default-clause-time g c = λ told. one_look _ _ (c.current.ensures.time told) (c.current.ensures.image told)
-
-pub returns-then-not-is_one_leaf-clause-time : goal.returns-then-not-is_one_leaf-clause-time
-returns-then-not-is_one_leaf-clause-time g c = λ told. one_look _ _ (c.current.ensures.time told) (c.current.ensures.image told)
-
-pub returns-in_default-new-clause-time : goal.returns-in_default-new-clause-time
-returns-in_default-new-clause-time g c = λ told. one_look _ _ (c.current.ensures.time told) (c.current.ensures.image told)
-
-pub returns-clause-time : goal.returns-clause-time
-returns-clause-time g c = λ told. one_look _ _ (c.current.ensures.time told) (c.current.ensures.image told)
-
-pub returns-then-not-is_one_leaf-clause-bad_root : goal.returns-then-not-is_one_leaf-clause-bad_root
-returns-then-not-is_one_leaf-clause-bad_root g c = λ told is.
+pub returns-then-not-is_one_leaf-clause-refused : goal.returns-then-not-is_one_leaf-clause-refused
+returns-then-not-is_one_leaf-clause-refused g c = λ told.
     let found = rw c.in-Some.is at c.in-Ok.ensures.found told in
     let within = rw c.in-Some.is at c.in-Ok.ensures.within in
     refused_levels _ _ c.in-Some.root found within (λ one. let no = c.is_one_leaf.ensures.1 one in grind (arith, no, c.if-not-is_one_leaf.true))

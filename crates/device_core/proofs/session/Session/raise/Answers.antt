@@ -1,4 +1,4 @@
-use Rattle.std.proofs.Common.{◌≡◌, ◌∙◌, ◌+◌, ◌≤◌, ◌<◌, ◌^◌, ℕ, List, Some, Bool, false, inr, refl, ap, sym, subst, arith}
+use Rattle.std.proofs.Common.{◌≡◌, ◌∙◌, ◌+◌, ◌≤◌, ◌<◌, ◌^◌, ℕ, List, [], Some, Bool, false, inr, refl, ap, sym, subst, arith}
 use Rattle.sdbt_base.specs.Bytes.{IsBytes}
 use Rattle.platform.specs.Image.{Image, with_page, with_cell, all_synced}
 use Rattle.seal_record.specs.Sealing.{masked}
@@ -7,11 +7,9 @@ use Rattle.node_codec.specs.Record.{NodeRecord, record_bytes}
 use Rattle.root_codec.specs.declared.root.Root.{Root}
 use Rattle.page_store.specs.Buffer.{Held}
 use Rattle.device_core.specs.Leaf.{IsServed, AreEntries}
-use Rattle.page_store.specs.Device.{Device}
-use Rattle.device_core.specs.Blocks.{Blocks}
+use Rattle.sdbt_base.specs.Arrays.{Device, Blocks, committed_with}
 use Rattle.device_core.specs.Holding.{HoldsBy}
-use Rattle.device_core.specs.Replies.{committed_device}
-use Rattle.device_core.proofs.MomentLaws.{one_call, then_published, once}
+use Rattle.device_core.proofs.MomentLaws.{one_call, then_published, once, stays_once}
 use Rattle.device_core.proofs.EntryLaws.{AreEntries-later}
 use Rattle.device_core.proofs.HoldLaws.{during_stands, entries_fit, IsNext, next_fits, next_leaf, raise_turns, raise_held, held_stands}
 use Rattle.platform.proofs.Moments.{whole-now}
@@ -46,8 +44,8 @@ page_is addr head key body given known is same at =
     ap (masked key) is ∙ ap (λ (es : List Entry). masked key (record_bytes head (NodeRecord 1 es))) same ∙ ap (λ (n : ℕ). masked key (record_bytes n (NodeRecord 1 known))) at
 
 -- the device after a commit, by the number that is answered
-committed_with : (image : Image) (first next : Root) (count : ℕ) (loaded : Bool) (known : List Entry) (device : Device) (contents : Blocks) (number : ℕ) → number ≡ device.number + 1 → HoldsBy next count loaded false known image (committed_device device contents) contents → HoldsBy next count loaded false known image (record device { number = number; contents = contents }) contents
-committed_with image first next count loaded known device contents number is h =
+answered_with : (image : Image) (first next : Root) (count : ℕ) (loaded : Bool) (known : List Entry) (device : Device) (contents : Blocks) (number : ℕ) → number ≡ device.number + 1 → HoldsBy next count loaded false known image (committed_with device contents) contents → HoldsBy next count loaded false known image (record device { number = number; contents = contents }) contents
+answered_with image first next count loaded known device contents number is h =
     subst (λ (n : ℕ). HoldsBy next count loaded false known image (record { blocks = device.blocks; order = device.order; number = n; contents = contents }) contents) (sym is) h
 
 pub put_node-requires : goal.put_node-requires
@@ -68,11 +66,11 @@ publish-requires g c =
 
 pub returns-in-Err-TapeFault-clause-time : goal.returns-in-Err-TapeFault-clause-time
 returns-in-Err-TapeFault-clause-time g c = λ told device contents h.
-    during_stands _ _ (Some device) (Some (committed_device device contents)) (held_stands _ _ _ _ _ _ device contents h) (one_call _ _ (c.append.ensures.time told) (c.append.ensures.cell told))
+    during_stands _ _ (Some device) (Some (committed_with device contents)) (held_stands _ _ _ _ _ _ device contents h) (one_call _ _ (c.append.ensures.time told) (c.append.ensures.cell told))
 
 pub returns-in-Err-PlatformFault-clause-time : goal.returns-in-Err-PlatformFault-clause-time
 returns-in-Err-PlatformFault-clause-time g c = λ told device contents h.
-    during_stands _ _ (Some device) (Some (committed_device device contents)) (held_stands _ _ _ _ _ _ device contents h) (one_call _ _ (c.append.ensures.time told) (c.append.ensures.cell told))
+    during_stands _ _ (Some device) (Some (committed_with device contents)) (held_stands _ _ _ _ _ _ device contents h) (one_call _ _ (c.append.ensures.time told) (c.append.ensures.cell told))
 
 pub returns-in_default-clause-time : goal.returns-in_default-clause-time
 returns-in_default-clause-time g c = λ told device contents h.
@@ -106,8 +104,8 @@ returns-clause-time g c = λ told device contents h.
     (c.requires.open.loaded c.requires.touched) h (is_next self.root self.mapped addr _ c.in-Ok.placed.key address) c.requires.open.served c.requires.open.mapped room c.in-Ok.ensures.key (sym pages) c.requires.open.entries
     (c.append.ensures.time told) (c.append.ensures.cell told) appended (c.publish.ensures.time told)
 
-pub returns-clause-holds : goal.returns-clause-holds
-returns-clause-holds g c = λ told device contents h.
+pub returns-clause-array : goal.returns-clause-array
+returns-clause-array g c = λ told device contents h.
     let history = g.P.Platform.history in
     let head = g.P.Platform.head in
     let self = c.args.self in
@@ -118,7 +116,7 @@ returns-clause-holds g c = λ told device contents h.
     let room : head c.args.platform.now < 2 ^ 32 = omega (arith, c.requires.room, g.met.P.Platform.is_limited c.args.platform.now) in
     let appended = c.in-Ok.ensures.appended told ∙ ap (λ (bytes : List ℕ). with_page (history c.args.platform.now).present bytes bytes)
     (page_is addr c.head.result c.in-Ok.placed.key c.put_node.new.self.body c.deref.result.now self.entries.items (ap (λ (b : Held). b.body) c.put_node.ensures) c.deref.ensures.0 (c.head.ensures.value ∙ sym address)) in
-    committed_with (history c.publish.new.platform).present self.root root self.mapped self.is_loaded self.entries.items device contents (self.root.commit + 1) (ap (λ (n : ℕ). n + 1) h.stands.number)
+    answered_with (history c.publish.new.platform).present self.root root self.mapped self.is_loaded self.entries.items device contents (self.root.commit + 1) (ap (λ (n : ℕ). n + 1) h.stands.number)
     (raise_held (history c.args.platform.now) (history c.append.new.platform) (history c.publish.new.platform) self.root root self.mapped (head c.args.platform.now) self.is_loaded self.is_touched self.entries.items device contents
     (c.requires.open.loaded c.requires.touched) h (is_next self.root self.mapped addr _ c.in-Ok.placed.key address) c.requires.open.served c.requires.open.mapped room c.in-Ok.ensures.key (sym pages) c.requires.open.entries
     appended (c.in-Ok-publish.ensures.published told))
@@ -132,13 +130,13 @@ returns-clause-open g c =
     let root = next_root self.root self.mapped addr c.in-Ok.placed.key in
     let address : addr ≡ head c.args.platform.now = c.in-Ok.ensures.address in
     let next = is_next self.root self.mapped addr (head c.args.platform.now) c.in-Ok.placed.key address in
-    record {
+    (record {
       served = next_served self.root root self.mapped (head c.args.platform.now) (head c.publish.new.platform) next c.requires.open.served c.requires.open.mapped
           (omega (arith, c.requires.room, g.met.P.Platform.is_limited c.args.platform.now)) c.in-Ok.ensures.key (omega (arith, c.in-Ok.ensures.head_ok, c.publish.ensures.head));
       mapped = c.requires.open.mapped;
       entries = AreEntries-later self.entries.items self.root.blocks (head c.args.platform.now) _ c.requires.open.entries (omega (arith, c.in-Ok.ensures.head_ok, c.publish.ensures.head));
       loaded = λ never. c.requires.open.loaded c.requires.touched;
-    }
+    }, refl, refl)
 
 pub returns-clause-follows : goal.returns-clause-follows
 returns-clause-follows g c = λ told.
@@ -159,207 +157,212 @@ returns-clause-follows g c = λ told.
     (subst (λ (n : ℕ). AreEntries self.entries.items self.root.blocks n) (sym address) c.requires.open.entries)
     (c.in-Ok-publish.ensures.published told ∙ ap (λ (i : Image). with_cell (all_synced i) (Some (root_bytes root))) appended)
 
-pub returns-in-Err-TapeFault-clause-still : goal.returns-in-Err-TapeFault-clause-still
-returns-in-Err-TapeFault-clause-still g c = λ told. inr (inr (one_call _ _ (c.append.ensures.time told) (c.append.ensures.cell told)))
+pub returns-in-Err-TapeFault-clause-discloses : goal.returns-in-Err-TapeFault-clause-discloses
+returns-in-Err-TapeFault-clause-discloses g c = record {
+  keys = 
+      let history = g.P.Platform.history in
+      let drawn = g.T.Tape.drawn in
+      let head = g.P.Platform.head in
+      let self = c.args.self in
+      let old = history c.args.platform.now in
+      let mid = history c.append.new.platform in
+      let body : c.put_node.new.self.body ≡ record_bytes c.head.result (NodeRecord 1 self.entries.items)
+      = ap (λ (b : Held). b.body) c.put_node.ensures ∙ ap (λ (es : List Entry). record_bytes c.head.result (NodeRecord 1 es)) c.deref.ensures.0 in
+      let pages = g.met.P.Platform.counts_pages in
+      let here = subst (λ (n : ℕ). AreEntries self.entries.items self.root.blocks n) (sym c.head.ensures.value) c.requires.open.entries in
+      let first = raise_appends g.P.Platform.tells (drawn c.args.tape.now) (drawn c.append.new.tape) old mid self.root self.mapped self.is_loaded self.is_touched self.entries.items
+      c.put_node.new.self.body c.head.result _ _ c.append.ensures.keeps body c.head.ensures.value
+      (entries_fit self.root c.head.result self.entries.items c.requires.open.served.leaf here) c.requires.open.entries.keys in
+      keeps_from _ _ _ _ _ _ (HoldsListed self old.present) _ (λ keys. Unit {0}) first (λ told keys ready. ready) (λ told keys more ready done. tt);
+  turns = λ told. stays_once _ _ (one_call _ _ (c.append.ensures.time told) (c.append.ensures.cell told));
+  serves = λ told. serves_still _ _ (one_call _ _ (c.append.ensures.time told) (c.append.ensures.cell told));
+  forgets = λ told keys h. forgets_still _ _ (listed_sound _ _ _ _ _ _ keys h) (one_call _ _ (c.append.ensures.time told) (c.append.ensures.cell told));
+}
 
-pub returns-in-Err-TapeFault-clause-serves : goal.returns-in-Err-TapeFault-clause-serves
-returns-in-Err-TapeFault-clause-serves g c = λ told. serves_still _ _ (one_call _ _ (c.append.ensures.time told) (c.append.ensures.cell told))
+pub returns-in-Err-PlatformFault-clause-discloses : goal.returns-in-Err-PlatformFault-clause-discloses
+returns-in-Err-PlatformFault-clause-discloses g c = record {
+  keys = 
+      let history = g.P.Platform.history in
+      let drawn = g.T.Tape.drawn in
+      let head = g.P.Platform.head in
+      let self = c.args.self in
+      let old = history c.args.platform.now in
+      let mid = history c.append.new.platform in
+      let body : c.put_node.new.self.body ≡ record_bytes c.head.result (NodeRecord 1 self.entries.items)
+      = ap (λ (b : Held). b.body) c.put_node.ensures ∙ ap (λ (es : List Entry). record_bytes c.head.result (NodeRecord 1 es)) c.deref.ensures.0 in
+      let pages = g.met.P.Platform.counts_pages in
+      let here = subst (λ (n : ℕ). AreEntries self.entries.items self.root.blocks n) (sym c.head.ensures.value) c.requires.open.entries in
+      let first = raise_appends g.P.Platform.tells (drawn c.args.tape.now) (drawn c.append.new.tape) old mid self.root self.mapped self.is_loaded self.is_touched self.entries.items
+      c.put_node.new.self.body c.head.result _ _ c.append.ensures.keeps body c.head.ensures.value
+      (entries_fit self.root c.head.result self.entries.items c.requires.open.served.leaf here) c.requires.open.entries.keys in
+      keeps_from _ _ _ _ _ _ (HoldsListed self old.present) _ (λ keys. Unit {0}) first (λ told keys ready. ready) (λ told keys more ready done. tt);
+  turns = λ told. stays_once _ _ (one_call _ _ (c.append.ensures.time told) (c.append.ensures.cell told));
+  serves = λ told. serves_still _ _ (one_call _ _ (c.append.ensures.time told) (c.append.ensures.cell told));
+  forgets = λ told keys h. forgets_still _ _ (listed_sound _ _ _ _ _ _ keys h) (one_call _ _ (c.append.ensures.time told) (c.append.ensures.cell told));
+}
 
-pub returns-in-Err-PlatformFault-clause-serves : goal.returns-in-Err-PlatformFault-clause-serves
-returns-in-Err-PlatformFault-clause-serves g c = λ told. serves_still _ _ (one_call _ _ (c.append.ensures.time told) (c.append.ensures.cell told))
-
-pub returns-in_default-clause-serves : goal.returns-in_default-clause-serves
-returns-in_default-clause-serves g c = λ told served.
-    let history = g.P.Platform.history in
-    let head = g.P.Platform.head in
-    let self = c.args.self in
-    let addr = c.in-Ok.placed.addr in
-    let root = next_root self.root self.mapped addr c.in-Ok.placed.key in
-    let address : addr ≡ head c.args.platform.now = c.in-Ok.ensures.address in
-    let room : head c.args.platform.now < 2 ^ 32 = omega (arith, c.requires.room, g.met.P.Platform.is_limited c.args.platform.now) in
-    let next = next_served self.root root self.mapped (head c.args.platform.now) (head c.append.new.platform) (is_next self.root self.mapped addr (head c.args.platform.now) c.in-Ok.placed.key address)
-    c.requires.open.served c.requires.open.mapped room c.in-Ok.ensures.key (omega (arith, c.in-Ok.ensures.head_ok)) in
-    serves_turned (history c.args.platform.now) (history c.publish.new.platform) _
-    (then_published (history c.args.platform.now) (history c.append.new.platform) (history c.publish.new.platform) _ (one_call _ _ (c.append.ensures.time told) (c.append.ensures.cell told)) (c.publish.ensures.time told))
-    served (served_published (history c.append.new.platform).present root (head c.append.new.platform) (g.met.P.Platform.counts_pages told c.append.new.platform) next)
-
-pub returns-clause-serves : goal.returns-clause-serves
-returns-clause-serves g c = λ told served.
-    let history = g.P.Platform.history in
-    let head = g.P.Platform.head in
-    let self = c.args.self in
-    let addr = c.in-Ok.placed.addr in
-    let root = next_root self.root self.mapped addr c.in-Ok.placed.key in
-    let address : addr ≡ head c.args.platform.now = c.in-Ok.ensures.address in
-    let room : head c.args.platform.now < 2 ^ 32 = omega (arith, c.requires.room, g.met.P.Platform.is_limited c.args.platform.now) in
-    let next = next_served self.root root self.mapped (head c.args.platform.now) (head c.append.new.platform) (is_next self.root self.mapped addr (head c.args.platform.now) c.in-Ok.placed.key address)
-    c.requires.open.served c.requires.open.mapped room c.in-Ok.ensures.key (omega (arith, c.in-Ok.ensures.head_ok)) in
-    serves_turned (history c.args.platform.now) (history c.publish.new.platform) _
-    (then_published (history c.args.platform.now) (history c.append.new.platform) (history c.publish.new.platform) _ (one_call _ _ (c.append.ensures.time told) (c.append.ensures.cell told)) (c.publish.ensures.time told))
-    served (served_published (history c.append.new.platform).present root (head c.append.new.platform) (g.met.P.Platform.counts_pages told c.append.new.platform) next)
-
-pub returns-clause-cell : goal.returns-clause-cell
-returns-clause-cell g c = λ told. ap (λ (i : Image). i.cell) (c.in-Ok-publish.ensures.published told)
-
-pub returns-in-Err-TapeFault-clause-keeps : goal.returns-in-Err-TapeFault-clause-keeps
-returns-in-Err-TapeFault-clause-keeps g c =
-    let history = g.P.Platform.history in
-    let drawn = g.T.Tape.drawn in
-    let head = g.P.Platform.head in
-    let self = c.args.self in
-    let old = history c.args.platform.now in
-    let mid = history c.append.new.platform in
-    let body : c.put_node.new.self.body ≡ record_bytes c.head.result (NodeRecord 1 self.entries.items)
-    = ap (λ (b : Held). b.body) c.put_node.ensures ∙ ap (λ (es : List Entry). record_bytes c.head.result (NodeRecord 1 es)) c.deref.ensures.0 in
-    let pages = g.met.P.Platform.counts_pages in
-    let here = subst (λ (n : ℕ). AreEntries self.entries.items self.root.blocks n) (sym c.head.ensures.value) c.requires.open.entries in
-    let first = raise_appends g.P.Platform.tells (drawn c.args.tape.now) (drawn c.append.new.tape) old mid self.root self.mapped self.is_loaded self.is_touched self.entries.items
-    c.put_node.new.self.body c.head.result _ _ c.append.ensures.keeps body c.head.ensures.value
-    (entries_fit self.root c.head.result self.entries.items c.requires.open.served.leaf here) c.requires.open.entries.keys in
-    keeps_from _ _ _ _ _ _ (HoldsListed self old.present) _ (λ keys. Unit {0}) first (λ told keys ready. ready) (λ told keys more ready done. tt)
-
-pub returns-in-Err-TapeFault-clause-forgets : goal.returns-in-Err-TapeFault-clause-forgets
-returns-in-Err-TapeFault-clause-forgets g c = λ told keys h. forgets_still _ _ (listed_sound _ _ _ _ _ _ keys h) (one_call _ _ (c.append.ensures.time told) (c.append.ensures.cell told))
-
-pub returns-in-Err-PlatformFault-clause-keeps : goal.returns-in-Err-PlatformFault-clause-keeps
-returns-in-Err-PlatformFault-clause-keeps g c =
-    let history = g.P.Platform.history in
-    let drawn = g.T.Tape.drawn in
-    let head = g.P.Platform.head in
-    let self = c.args.self in
-    let old = history c.args.platform.now in
-    let mid = history c.append.new.platform in
-    let body : c.put_node.new.self.body ≡ record_bytes c.head.result (NodeRecord 1 self.entries.items)
-    = ap (λ (b : Held). b.body) c.put_node.ensures ∙ ap (λ (es : List Entry). record_bytes c.head.result (NodeRecord 1 es)) c.deref.ensures.0 in
-    let pages = g.met.P.Platform.counts_pages in
-    let here = subst (λ (n : ℕ). AreEntries self.entries.items self.root.blocks n) (sym c.head.ensures.value) c.requires.open.entries in
-    let first = raise_appends g.P.Platform.tells (drawn c.args.tape.now) (drawn c.append.new.tape) old mid self.root self.mapped self.is_loaded self.is_touched self.entries.items
-    c.put_node.new.self.body c.head.result _ _ c.append.ensures.keeps body c.head.ensures.value
-    (entries_fit self.root c.head.result self.entries.items c.requires.open.served.leaf here) c.requires.open.entries.keys in
-    keeps_from _ _ _ _ _ _ (HoldsListed self old.present) _ (λ keys. Unit {0}) first (λ told keys ready. ready) (λ told keys more ready done. tt)
-
-pub returns-in-Err-PlatformFault-clause-forgets : goal.returns-in-Err-PlatformFault-clause-forgets
-returns-in-Err-PlatformFault-clause-forgets g c = λ told keys h. forgets_still _ _ (listed_sound _ _ _ _ _ _ keys h) (one_call _ _ (c.append.ensures.time told) (c.append.ensures.cell told))
-
-pub returns-in_default-clause-keeps : goal.returns-in_default-clause-keeps
-returns-in_default-clause-keeps g c =
-    let history = g.P.Platform.history in
-    let drawn = g.T.Tape.drawn in
-    let head = g.P.Platform.head in
-    let self = c.args.self in
-    let old = history c.args.platform.now in
-    let mid = history c.append.new.platform in
-    let body : c.put_node.new.self.body ≡ record_bytes c.head.result (NodeRecord 1 self.entries.items)
-    = ap (λ (b : Held). b.body) c.put_node.ensures ∙ ap (λ (es : List Entry). record_bytes c.head.result (NodeRecord 1 es)) c.deref.ensures.0 in
-    let pages = g.met.P.Platform.counts_pages in
-    let here = subst (λ (n : ℕ). AreEntries self.entries.items self.root.blocks n) (sym c.head.ensures.value) c.requires.open.entries in
-    let first = raise_appends g.P.Platform.tells (drawn c.args.tape.now) (drawn c.append.new.tape) old mid self.root self.mapped self.is_loaded self.is_touched self.entries.items
-    c.put_node.new.self.body c.head.result _ _ c.in-Ok.ensures.keeps body c.head.ensures.value
-    (entries_fit self.root c.head.result self.entries.items c.requires.open.served.leaf here) c.requires.open.entries.keys in
-    let new = history c.publish.new.platform in
-    let addr = c.in-Ok.placed.addr in
-    let root = next_root self.root self.mapped addr c.in-Ok.placed.key in
-    let address : addr ≡ head c.args.platform.now = c.in-Ok.ensures.address in
-    let room : head c.args.platform.now < 2 ^ 32 = omega (arith, c.requires.room, g.met.P.Platform.is_limited c.args.platform.now) in
-    let appended : g.P.Platform.tells → mid.present ≡ with_page old.present (masked c.in-Ok.placed.key (record_bytes addr (NodeRecord 1 self.entries.items))) (masked c.in-Ok.placed.key (record_bytes addr (NodeRecord 1 self.entries.items)))
-    = λ told. c.in-Ok.ensures.appended told ∙ ap (λ (bytes : List ℕ). with_page old.present bytes bytes)
-    (page_is addr c.head.result c.in-Ok.placed.key c.put_node.new.self.body c.deref.result.now self.entries.items (ap (λ (b : Held). b.body) c.put_node.ensures) c.deref.ensures.0 (c.head.ensures.value ∙ sym address)) in
-    let follows = is_next self.root self.mapped addr (head c.args.platform.now) c.in-Ok.placed.key address in
-    raise_publishes g.P.Platform.tells (drawn c.args.tape.now) (drawn c.append.new.tape) old mid new self.root root self.mapped (head c.args.platform.now) self.is_loaded self.is_touched self.entries.items _ first appended
+pub returns-in_default-clause-discloses : goal.returns-in_default-clause-discloses
+returns-in_default-clause-discloses g c = record {
+  keys = 
+      let history = g.P.Platform.history in
+      let drawn = g.T.Tape.drawn in
+      let head = g.P.Platform.head in
+      let self = c.args.self in
+      let old = history c.args.platform.now in
+      let mid = history c.append.new.platform in
+      let body : c.put_node.new.self.body ≡ record_bytes c.head.result (NodeRecord 1 self.entries.items)
+      = ap (λ (b : Held). b.body) c.put_node.ensures ∙ ap (λ (es : List Entry). record_bytes c.head.result (NodeRecord 1 es)) c.deref.ensures.0 in
+      let pages = g.met.P.Platform.counts_pages in
+      let here = subst (λ (n : ℕ). AreEntries self.entries.items self.root.blocks n) (sym c.head.ensures.value) c.requires.open.entries in
+      let first = raise_appends g.P.Platform.tells (drawn c.args.tape.now) (drawn c.append.new.tape) old mid self.root self.mapped self.is_loaded self.is_touched self.entries.items
+      c.put_node.new.self.body c.head.result _ _ c.in-Ok.ensures.keeps body c.head.ensures.value
+      (entries_fit self.root c.head.result self.entries.items c.requires.open.served.leaf here) c.requires.open.entries.keys in
+      let new = history c.publish.new.platform in
+      let addr = c.in-Ok.placed.addr in
+      let root = next_root self.root self.mapped addr c.in-Ok.placed.key in
+      let address : addr ≡ head c.args.platform.now = c.in-Ok.ensures.address in
+      let room : head c.args.platform.now < 2 ^ 32 = omega (arith, c.requires.room, g.met.P.Platform.is_limited c.args.platform.now) in
+      let appended : g.P.Platform.tells → mid.present ≡ with_page old.present (masked c.in-Ok.placed.key (record_bytes addr (NodeRecord 1 self.entries.items))) (masked c.in-Ok.placed.key (record_bytes addr (NodeRecord 1 self.entries.items)))
+      = λ told. c.in-Ok.ensures.appended told ∙ ap (λ (bytes : List ℕ). with_page old.present bytes bytes)
+      (page_is addr c.head.result c.in-Ok.placed.key c.put_node.new.self.body c.deref.result.now self.entries.items (ap (λ (b : Held). b.body) c.put_node.ensures) c.deref.ensures.0 (c.head.ensures.value ∙ sym address)) in
+      let follows = is_next self.root self.mapped addr (head c.args.platform.now) c.in-Ok.placed.key address in
+      raise_publishes g.P.Platform.tells (drawn c.args.tape.now) (drawn c.append.new.tape) old mid new self.root root self.mapped (head c.args.platform.now) self.is_loaded self.is_touched self.entries.items _ first appended
     (λ told. pages told c.publish.new.platform ∙ (c.publish.ensures.head ∙ sym (pages told c.append.new.platform))) c.publish.ensures.time
     (c.requires.open.loaded c.requires.touched) follows c.requires.open.served c.requires.open.mapped room c.in-Ok.ensures.key (λ told. sym (pages told c.args.platform.now)) c.requires.open.entries
-    (λ told keys h. tt)
+    (λ told keys h. tt);
+  turns = λ told. once _ _ _ (then_published _ _ _ _ (one_call _ _ (c.append.ensures.time told) (c.append.ensures.cell told)) (c.publish.ensures.time told));
+  serves = λ told served.
+      let history = g.P.Platform.history in
+      let head = g.P.Platform.head in
+      let self = c.args.self in
+      let addr = c.in-Ok.placed.addr in
+      let root = next_root self.root self.mapped addr c.in-Ok.placed.key in
+      let address : addr ≡ head c.args.platform.now = c.in-Ok.ensures.address in
+      let room : head c.args.platform.now < 2 ^ 32 = omega (arith, c.requires.room, g.met.P.Platform.is_limited c.args.platform.now) in
+      let next = next_served self.root root self.mapped (head c.args.platform.now) (head c.append.new.platform) (is_next self.root self.mapped addr (head c.args.platform.now) c.in-Ok.placed.key address)
+      c.requires.open.served c.requires.open.mapped room c.in-Ok.ensures.key (omega (arith, c.in-Ok.ensures.head_ok)) in
+      serves_turned (history c.args.platform.now) (history c.publish.new.platform) _
+    (then_published (history c.args.platform.now) (history c.append.new.platform) (history c.publish.new.platform) _ (one_call _ _ (c.append.ensures.time told) (c.append.ensures.cell told)) (c.publish.ensures.time told))
+    served (served_published (history c.append.new.platform).present root (head c.append.new.platform) (g.met.P.Platform.counts_pages told c.append.new.platform) next);
+  forgets = λ told keys h.
+      let history = g.P.Platform.history in
+      let head = g.P.Platform.head in
+      let self = c.args.self in
+      let old = history c.args.platform.now in
+      let mid = history c.append.new.platform in
+      let pages = g.met.P.Platform.counts_pages in
+      let new = history c.publish.new.platform in
+      let addr = c.in-Ok.placed.addr in
+      let root = next_root self.root self.mapped addr c.in-Ok.placed.key in
+      let address : addr ≡ head c.args.platform.now = c.in-Ok.ensures.address in
+      let room : head c.args.platform.now < 2 ^ 32 = omega (arith, c.requires.room, g.met.P.Platform.is_limited c.args.platform.now) in
+      let appended : g.P.Platform.tells → mid.present ≡ with_page old.present (masked c.in-Ok.placed.key (record_bytes addr (NodeRecord 1 self.entries.items))) (masked c.in-Ok.placed.key (record_bytes addr (NodeRecord 1 self.entries.items)))
+      = λ told. c.in-Ok.ensures.appended told ∙ ap (λ (bytes : List ℕ). with_page old.present bytes bytes)
+      (page_is addr c.head.result c.in-Ok.placed.key c.put_node.new.self.body c.deref.result.now self.entries.items (ap (λ (b : Held). b.body) c.put_node.ensures) c.deref.ensures.0 (c.head.ensures.value ∙ sym address)) in
+      let follows = is_next self.root self.mapped addr (head c.args.platform.now) c.in-Ok.placed.key address in
+      raise_forgets old mid new self.root root self.mapped (head c.args.platform.now) self.is_loaded self.is_touched self.entries.items keys h (c.append.ensures.time told) (c.append.ensures.cell told) (appended told) (c.publish.ensures.time told)
+    (c.requires.open.loaded c.requires.touched) follows c.requires.open.served c.requires.open.mapped room c.in-Ok.ensures.key (sym (pages told c.args.platform.now)) c.requires.open.entries;
+}
 
-pub returns-in_default-clause-forgets : goal.returns-in_default-clause-forgets
-returns-in_default-clause-forgets g c = λ told keys h.
-    let history = g.P.Platform.history in
-    let head = g.P.Platform.head in
-    let self = c.args.self in
-    let old = history c.args.platform.now in
-    let mid = history c.append.new.platform in
-    let pages = g.met.P.Platform.counts_pages in
-    let new = history c.publish.new.platform in
-    let addr = c.in-Ok.placed.addr in
-    let root = next_root self.root self.mapped addr c.in-Ok.placed.key in
-    let address : addr ≡ head c.args.platform.now = c.in-Ok.ensures.address in
-    let room : head c.args.platform.now < 2 ^ 32 = omega (arith, c.requires.room, g.met.P.Platform.is_limited c.args.platform.now) in
-    let appended : g.P.Platform.tells → mid.present ≡ with_page old.present (masked c.in-Ok.placed.key (record_bytes addr (NodeRecord 1 self.entries.items))) (masked c.in-Ok.placed.key (record_bytes addr (NodeRecord 1 self.entries.items)))
-    = λ told. c.in-Ok.ensures.appended told ∙ ap (λ (bytes : List ℕ). with_page old.present bytes bytes)
-    (page_is addr c.head.result c.in-Ok.placed.key c.put_node.new.self.body c.deref.result.now self.entries.items (ap (λ (b : Held). b.body) c.put_node.ensures) c.deref.ensures.0 (c.head.ensures.value ∙ sym address)) in
-    let follows = is_next self.root self.mapped addr (head c.args.platform.now) c.in-Ok.placed.key address in
-    raise_forgets old mid new self.root root self.mapped (head c.args.platform.now) self.is_loaded self.is_touched self.entries.items keys h (c.append.ensures.time told) (c.append.ensures.cell told) (appended told) (c.publish.ensures.time told)
-    (c.requires.open.loaded c.requires.touched) follows c.requires.open.served c.requires.open.mapped room c.in-Ok.ensures.key (sym (pages told c.args.platform.now)) c.requires.open.entries
-
-pub returns-clause-keeps : goal.returns-clause-keeps
-returns-clause-keeps g c =
-    let history = g.P.Platform.history in
-    let drawn = g.T.Tape.drawn in
-    let head = g.P.Platform.head in
-    let self = c.args.self in
-    let old = history c.args.platform.now in
-    let mid = history c.append.new.platform in
-    let body : c.put_node.new.self.body ≡ record_bytes c.head.result (NodeRecord 1 self.entries.items)
-    = ap (λ (b : Held). b.body) c.put_node.ensures ∙ ap (λ (es : List Entry). record_bytes c.head.result (NodeRecord 1 es)) c.deref.ensures.0 in
-    let pages = g.met.P.Platform.counts_pages in
-    let here = subst (λ (n : ℕ). AreEntries self.entries.items self.root.blocks n) (sym c.head.ensures.value) c.requires.open.entries in
-    let first = raise_appends g.P.Platform.tells (drawn c.args.tape.now) (drawn c.append.new.tape) old mid self.root self.mapped self.is_loaded self.is_touched self.entries.items
-    c.put_node.new.self.body c.head.result _ _ c.in-Ok.ensures.keeps body c.head.ensures.value
-    (entries_fit self.root c.head.result self.entries.items c.requires.open.served.leaf here) c.requires.open.entries.keys in
-    let new = history c.publish.new.platform in
-    let addr = c.in-Ok.placed.addr in
-    let root = next_root self.root self.mapped addr c.in-Ok.placed.key in
-    let address : addr ≡ head c.args.platform.now = c.in-Ok.ensures.address in
-    let room : head c.args.platform.now < 2 ^ 32 = omega (arith, c.requires.room, g.met.P.Platform.is_limited c.args.platform.now) in
-    let appended : g.P.Platform.tells → mid.present ≡ with_page old.present (masked c.in-Ok.placed.key (record_bytes addr (NodeRecord 1 self.entries.items))) (masked c.in-Ok.placed.key (record_bytes addr (NodeRecord 1 self.entries.items)))
-    = λ told. c.in-Ok.ensures.appended told ∙ ap (λ (bytes : List ℕ). with_page old.present bytes bytes)
-    (page_is addr c.head.result c.in-Ok.placed.key c.put_node.new.self.body c.deref.result.now self.entries.items (ap (λ (b : Held). b.body) c.put_node.ensures) c.deref.ensures.0 (c.head.ensures.value ∙ sym address)) in
-    let follows = is_next self.root self.mapped addr (head c.args.platform.now) c.in-Ok.placed.key address in
-    raise_publishes g.P.Platform.tells (drawn c.args.tape.now) (drawn c.append.new.tape) old mid new self.root root self.mapped (head c.args.platform.now) self.is_loaded self.is_touched self.entries.items _ first appended
+pub returns-clause-discloses : goal.returns-clause-discloses
+returns-clause-discloses g c = record {
+  keys = 
+      let history = g.P.Platform.history in
+      let drawn = g.T.Tape.drawn in
+      let head = g.P.Platform.head in
+      let self = c.args.self in
+      let old = history c.args.platform.now in
+      let mid = history c.append.new.platform in
+      let body : c.put_node.new.self.body ≡ record_bytes c.head.result (NodeRecord 1 self.entries.items)
+      = ap (λ (b : Held). b.body) c.put_node.ensures ∙ ap (λ (es : List Entry). record_bytes c.head.result (NodeRecord 1 es)) c.deref.ensures.0 in
+      let pages = g.met.P.Platform.counts_pages in
+      let here = subst (λ (n : ℕ). AreEntries self.entries.items self.root.blocks n) (sym c.head.ensures.value) c.requires.open.entries in
+      let first = raise_appends g.P.Platform.tells (drawn c.args.tape.now) (drawn c.append.new.tape) old mid self.root self.mapped self.is_loaded self.is_touched self.entries.items
+      c.put_node.new.self.body c.head.result _ _ c.in-Ok.ensures.keeps body c.head.ensures.value
+      (entries_fit self.root c.head.result self.entries.items c.requires.open.served.leaf here) c.requires.open.entries.keys in
+      let new = history c.publish.new.platform in
+      let addr = c.in-Ok.placed.addr in
+      let root = next_root self.root self.mapped addr c.in-Ok.placed.key in
+      let address : addr ≡ head c.args.platform.now = c.in-Ok.ensures.address in
+      let room : head c.args.platform.now < 2 ^ 32 = omega (arith, c.requires.room, g.met.P.Platform.is_limited c.args.platform.now) in
+      let appended : g.P.Platform.tells → mid.present ≡ with_page old.present (masked c.in-Ok.placed.key (record_bytes addr (NodeRecord 1 self.entries.items))) (masked c.in-Ok.placed.key (record_bytes addr (NodeRecord 1 self.entries.items)))
+      = λ told. c.in-Ok.ensures.appended told ∙ ap (λ (bytes : List ℕ). with_page old.present bytes bytes)
+      (page_is addr c.head.result c.in-Ok.placed.key c.put_node.new.self.body c.deref.result.now self.entries.items (ap (λ (b : Held). b.body) c.put_node.ensures) c.deref.ensures.0 (c.head.ensures.value ∙ sym address)) in
+      let follows = is_next self.root self.mapped addr (head c.args.platform.now) c.in-Ok.placed.key address in
+      raise_publishes g.P.Platform.tells (drawn c.args.tape.now) (drawn c.append.new.tape) old mid new self.root root self.mapped (head c.args.platform.now) self.is_loaded self.is_touched self.entries.items _ first appended
     (λ told. pages told c.publish.new.platform ∙ (c.publish.ensures.head ∙ sym (pages told c.append.new.platform))) c.publish.ensures.time
     (c.requires.open.loaded c.requires.touched) follows c.requires.open.served c.requires.open.mapped room c.in-Ok.ensures.key (λ told. sym (pages told c.args.platform.now)) c.requires.open.entries
-    (λ told keys h. raise_listed old mid new self.root root self.mapped (head c.args.platform.now) self.is_loaded self.is_touched self.entries.items keys h (appended told) (c.in-Ok-publish.ensures.published told) (c.requires.open.loaded c.requires.touched) follows c.requires.open.served c.requires.open.mapped room c.in-Ok.ensures.key (sym (pages told c.args.platform.now)) c.requires.open.entries)
+    (λ told keys h. raise_listed old mid new self.root root self.mapped (head c.args.platform.now) self.is_loaded self.is_touched self.entries.items keys h (appended told) (c.in-Ok-publish.ensures.published told) (c.requires.open.loaded c.requires.touched) follows c.requires.open.served c.requires.open.mapped room c.in-Ok.ensures.key (sym (pages told c.args.platform.now)) c.requires.open.entries);
+  turns = λ told. once _ _ _ (then_published _ _ _ _ (one_call _ _ (c.append.ensures.time told) (c.append.ensures.cell told)) (c.publish.ensures.time told));
+  serves = λ told served.
+      let history = g.P.Platform.history in
+      let head = g.P.Platform.head in
+      let self = c.args.self in
+      let addr = c.in-Ok.placed.addr in
+      let root = next_root self.root self.mapped addr c.in-Ok.placed.key in
+      let address : addr ≡ head c.args.platform.now = c.in-Ok.ensures.address in
+      let room : head c.args.platform.now < 2 ^ 32 = omega (arith, c.requires.room, g.met.P.Platform.is_limited c.args.platform.now) in
+      let next = next_served self.root root self.mapped (head c.args.platform.now) (head c.append.new.platform) (is_next self.root self.mapped addr (head c.args.platform.now) c.in-Ok.placed.key address)
+      c.requires.open.served c.requires.open.mapped room c.in-Ok.ensures.key (omega (arith, c.in-Ok.ensures.head_ok)) in
+      serves_turned (history c.args.platform.now) (history c.publish.new.platform) _
+    (then_published (history c.args.platform.now) (history c.append.new.platform) (history c.publish.new.platform) _ (one_call _ _ (c.append.ensures.time told) (c.append.ensures.cell told)) (c.publish.ensures.time told))
+    served (served_published (history c.append.new.platform).present root (head c.append.new.platform) (g.met.P.Platform.counts_pages told c.append.new.platform) next);
+  forgets = λ told keys h.
+      let history = g.P.Platform.history in
+      let head = g.P.Platform.head in
+      let self = c.args.self in
+      let old = history c.args.platform.now in
+      let mid = history c.append.new.platform in
+      let pages = g.met.P.Platform.counts_pages in
+      let new = history c.publish.new.platform in
+      let addr = c.in-Ok.placed.addr in
+      let root = next_root self.root self.mapped addr c.in-Ok.placed.key in
+      let address : addr ≡ head c.args.platform.now = c.in-Ok.ensures.address in
+      let room : head c.args.platform.now < 2 ^ 32 = omega (arith, c.requires.room, g.met.P.Platform.is_limited c.args.platform.now) in
+      let appended : g.P.Platform.tells → mid.present ≡ with_page old.present (masked c.in-Ok.placed.key (record_bytes addr (NodeRecord 1 self.entries.items))) (masked c.in-Ok.placed.key (record_bytes addr (NodeRecord 1 self.entries.items)))
+      = λ told. c.in-Ok.ensures.appended told ∙ ap (λ (bytes : List ℕ). with_page old.present bytes bytes)
+      (page_is addr c.head.result c.in-Ok.placed.key c.put_node.new.self.body c.deref.result.now self.entries.items (ap (λ (b : Held). b.body) c.put_node.ensures) c.deref.ensures.0 (c.head.ensures.value ∙ sym address)) in
+      let follows = is_next self.root self.mapped addr (head c.args.platform.now) c.in-Ok.placed.key address in
+      raise_forgets old mid new self.root root self.mapped (head c.args.platform.now) self.is_loaded self.is_touched self.entries.items keys h (c.append.ensures.time told) (c.append.ensures.cell told) (appended told) (c.publish.ensures.time told)
+    (c.requires.open.loaded c.requires.touched) follows c.requires.open.served c.requires.open.mapped room c.in-Ok.ensures.key (sym (pages told c.args.platform.now)) c.requires.open.entries;
+}
 
-pub returns-clause-forgets : goal.returns-clause-forgets
-returns-clause-forgets g c = λ told keys h.
-    let history = g.P.Platform.history in
-    let head = g.P.Platform.head in
-    let self = c.args.self in
-    let old = history c.args.platform.now in
-    let mid = history c.append.new.platform in
-    let pages = g.met.P.Platform.counts_pages in
-    let new = history c.publish.new.platform in
-    let addr = c.in-Ok.placed.addr in
-    let root = next_root self.root self.mapped addr c.in-Ok.placed.key in
-    let address : addr ≡ head c.args.platform.now = c.in-Ok.ensures.address in
-    let room : head c.args.platform.now < 2 ^ 32 = omega (arith, c.requires.room, g.met.P.Platform.is_limited c.args.platform.now) in
-    let appended : g.P.Platform.tells → mid.present ≡ with_page old.present (masked c.in-Ok.placed.key (record_bytes addr (NodeRecord 1 self.entries.items))) (masked c.in-Ok.placed.key (record_bytes addr (NodeRecord 1 self.entries.items)))
-    = λ told. c.in-Ok.ensures.appended told ∙ ap (λ (bytes : List ℕ). with_page old.present bytes bytes)
-    (page_is addr c.head.result c.in-Ok.placed.key c.put_node.new.self.body c.deref.result.now self.entries.items (ap (λ (b : Held). b.body) c.put_node.ensures) c.deref.ensures.0 (c.head.ensures.value ∙ sym address)) in
-    let follows = is_next self.root self.mapped addr (head c.args.platform.now) c.in-Ok.placed.key address in
-    raise_forgets old mid new self.root root self.mapped (head c.args.platform.now) self.is_loaded self.is_touched self.entries.items keys h (c.append.ensures.time told) (c.append.ensures.cell told) (appended told) (c.publish.ensures.time told)
-    (c.requires.open.loaded c.requires.touched) follows c.requires.open.served c.requires.open.mapped room c.in-Ok.ensures.key (sym (pages told c.args.platform.now)) c.requires.open.entries
+pub returns-in-Err-TapeFault-clause-cause : goal.returns-in-Err-TapeFault-clause-cause
+returns-in-Err-TapeFault-clause-cause g c = (
+      c.append.ensures.tape_cause (cc),
+      record { head = c.append.ensures.untouched (cc); image = λ told. c.append.ensures.unchanged told (cc); drawn = c.append.ensures.undrawn (cc) },
+      λ told. one_call _ _ (c.append.ensures.time told) (c.append.ensures.cell told),
+    )
 
-pub returns-in_default-clause-once : goal.returns-in_default-clause-once
-returns-in_default-clause-once g c = λ told. once _ _ _ (then_published _ _ _ _ (one_call _ _ (c.append.ensures.time told) (c.append.ensures.cell told)) (c.publish.ensures.time told))
-
-pub returns-clause-once : goal.returns-clause-once
-returns-clause-once g c = λ told. once _ _ _ (then_published _ _ _ _ (one_call _ _ (c.append.ensures.time told) (c.append.ensures.cell told)) (c.publish.ensures.time told))
-
-pub returns-clause-known : goal.returns-clause-known
-returns-clause-known g c = λ told device contents h.
-    let history = g.P.Platform.history in
-    let head = g.P.Platform.head in
-    let self = c.args.self in
-    let old = history c.args.platform.now in
-    let mid = history c.append.new.platform in
-    let pages = g.met.P.Platform.counts_pages in
-    let new = history c.publish.new.platform in
-    let addr = c.in-Ok.placed.addr in
-    let root = next_root self.root self.mapped addr c.in-Ok.placed.key in
-    let address : addr ≡ head c.args.platform.now = c.in-Ok.ensures.address in
-    let room : head c.args.platform.now < 2 ^ 32 = omega (arith, c.requires.room, g.met.P.Platform.is_limited c.args.platform.now) in
-    let appended : g.P.Platform.tells → mid.present ≡ with_page old.present (masked c.in-Ok.placed.key (record_bytes addr (NodeRecord 1 self.entries.items))) (masked c.in-Ok.placed.key (record_bytes addr (NodeRecord 1 self.entries.items)))
-    = λ told. c.in-Ok.ensures.appended told ∙ ap (λ (bytes : List ℕ). with_page old.present bytes bytes)
-    (page_is addr c.head.result c.in-Ok.placed.key c.put_node.new.self.body c.deref.result.now self.entries.items (ap (λ (b : Held). b.body) c.put_node.ensures) c.deref.ensures.0 (c.head.ensures.value ∙ sym address)) in
-    let follows = is_next self.root self.mapped addr (head c.args.platform.now) c.in-Ok.placed.key address in
-    raise_knows old mid new self.root root self.mapped (head c.args.platform.now) self.is_loaded self.is_touched self.entries.items device contents h (appended told) (c.in-Ok-publish.ensures.published told) (c.requires.open.loaded c.requires.touched) follows c.requires.open.served c.requires.open.mapped room c.in-Ok.ensures.key (sym (pages told c.args.platform.now)) c.requires.open.entries
+pub returns-clause-raised : goal.returns-clause-raised
+returns-clause-raised g c = record {
+  reply = refl;
+  number = refl;
+  untouched = refl;
+  wiped = c.wipe.ensures;
+  head = omega (arith, c.in-Ok.ensures.head_ok, c.publish.ensures.head);
+  names = record {
+    earlier = [];
+    drew = c.in-Ok.ensures.drew;
+    node = omega (arith, c.in-Ok.ensures.address, c.in-Ok.ensures.head_ok, c.publish.ensures.head);
+    head = omega (arith, c.in-Ok.ensures.address, c.in-Ok.ensures.head_ok, c.publish.ensures.head);
+  };
+  cell = λ told. ap (λ (i : Image). i.cell) (c.in-Ok-publish.ensures.published told);
+  knows = λ told device contents h.
+      let history = g.P.Platform.history in
+      let head = g.P.Platform.head in
+      let self = c.args.self in
+      let old = history c.args.platform.now in
+      let mid = history c.append.new.platform in
+      let pages = g.met.P.Platform.counts_pages in
+      let new = history c.publish.new.platform in
+      let addr = c.in-Ok.placed.addr in
+      let root = next_root self.root self.mapped addr c.in-Ok.placed.key in
+      let address : addr ≡ head c.args.platform.now = c.in-Ok.ensures.address in
+      let room : head c.args.platform.now < 2 ^ 32 = omega (arith, c.requires.room, g.met.P.Platform.is_limited c.args.platform.now) in
+      let appended : g.P.Platform.tells → mid.present ≡ with_page old.present (masked c.in-Ok.placed.key (record_bytes addr (NodeRecord 1 self.entries.items))) (masked c.in-Ok.placed.key (record_bytes addr (NodeRecord 1 self.entries.items)))
+      = λ told. c.in-Ok.ensures.appended told ∙ ap (λ (bytes : List ℕ). with_page old.present bytes bytes)
+      (page_is addr c.head.result c.in-Ok.placed.key c.put_node.new.self.body c.deref.result.now self.entries.items (ap (λ (b : Held). b.body) c.put_node.ensures) c.deref.ensures.0 (c.head.ensures.value ∙ sym address)) in
+      let follows = is_next self.root self.mapped addr (head c.args.platform.now) c.in-Ok.placed.key address in
+      raise_knows old mid new self.root root self.mapped (head c.args.platform.now) self.is_loaded self.is_touched self.entries.items device contents h (appended told) (c.in-Ok-publish.ensures.published told) (c.requires.open.loaded c.requires.touched) follows c.requires.open.served c.requires.open.mapped room c.in-Ok.ensures.key (sym (pages told c.args.platform.now)) c.requires.open.entries;
+}

@@ -1,7 +1,6 @@
 use Rattle.std.proofs.Common.{◌≡◌, ◌∙◌, ◌<◌, ℕ, List, Option, get_or, inl, ap, sym, subst, arith}
 use Rattle.node_codec.specs.declared.body.Entry.{Entry}
 use Rattle.std.specs.Prelude.{unwrap_or, replicate}
-use Rattle.device_core.proofs.MomentLaws.{still, look_more}
 use Rattle.device_core.proofs.HoldLaws.{holds_same, content_none, content_read, block_fits}
 use Rattle.root_codec.specs.declared.root.Root.{Root}
 use Rattle.platform.specs.Image.{Image}
@@ -15,15 +14,35 @@ use Rattle.device_core.proofs.FollowLaws.{unmapped_place}
 use Rattle.device_core.proofs.ReadingLaws.{entry_at}
 use Rattle.device_core.proofs.session.Session.read.Goals as goal
 
-pub returns-then-block-self-clause-time : goal.returns-then-block-self-clause-time
-returns-then-block-self-clause-time g c = λ told. still _
-
-pub returns-in_default-clause-content : goal.returns-in_default-clause-content
-returns-in_default-clause-content g c = λ told device contents h.
+pub returns-in_default-clause-array : goal.returns-in_default-clause-array
+returns-in_default-clause-array g c = λ told device contents h.
     let place = rw c.as_slice.ensures.value at c.in_default.ensures in
     let held = c.load.ensures.holds told device contents h in
-    let none = content_none _ _ _ _ _ _ device contents _ c.args.block c.in-Ok.ensures.loaded held place in
-    c.fill.ensures.after (λ y same. same) ∙ ap (λ (n : ℕ). replicate n 0) c.requires.size ∙ sym (ap (λ (o : Option (List ℕ)). unwrap_or o (replicate 4096 0)) none)
+    let none = content_none _ _ _ _ _ _ device contents _ c.args.block c.in-Ok.ensures.leaf.0 held place in
+    (c.load.ensures.holds told device contents h, c.fill.ensures.after (λ y same. same) ∙ ap (λ (n : ℕ). replicate n 0) c.requires.size ∙ sym (ap (λ (o : Option (List ℕ)). unwrap_or o (replicate 4096 0)) none))
+
+pub returns-in-Ok-fetch_block-clause-array : goal.returns-in-Ok-fetch_block-clause-array
+returns-in-Ok-fetch_block-clause-array g c = λ told device contents h.
+    let place = rw c.as_slice.ensures.value at c.in-Ok-place_of.ensures in
+    let at : c.index-deref-place.result ≡ get_or c.load.new.self.entries.items c.in-Ok-place_of.place c.index-deref-place.result = rw c.deref.ensures.0 at c.index-deref-place.is in
+    let held = c.load.ensures.holds told device contents h in
+    let there = c.in-Ok-fetch_block.ensures.fits told in
+    let small = subst (λ (e : Entry). e.addr < g.P.Platform.head c.load.new.platform) (sym at) (c.load.ensures.open.entries.below c.in-Ok-place_of.place c.index-deref-place.result place.0) in
+    (holds_same _ _ _ _ _ _ _ _ _ (c.fetch_block.ensures.looks.image told) (c.load.ensures.holds told device contents h), content_read _ _ _ _ _ _ device contents _ c.args.block _ c.index-deref-place.result there.0 c.fetch_block.new.out c.in-Ok.ensures.leaf.0 held place at small (omega (arith, g.met.P.Platform.has_room c.load.new.platform, g.met.P.Platform.is_limited c.load.new.platform)) there.1 (λ n t is. cc (there.2, is)))
+
+pub returns-in-Err-BadRecord-fetch_block-clause-array : goal.returns-in-Err-BadRecord-fetch_block-clause-array
+returns-in-Err-BadRecord-fetch_block-clause-array g c = λ told device contents h.
+    let place = rw c.as_slice.ensures.value at c.in-Ok-place_of.ensures in
+    let at : c.index-deref-place.result ≡ get_or c.load.new.self.entries.items c.in-Ok-place_of.place c.index-deref-place.result = rw c.deref.ensures.0 at c.index-deref-place.is in
+    let held = c.load.ensures.holds told device contents h in
+    (holds_same _ _ _ _ _ _ _ _ _ (c.fetch_block.ensures.looks.image told) (c.load.ensures.holds told device contents h), block_fits _ _ _ _ _ _ device contents _ c.args.block c.index-deref-place.result c.in-Ok.ensures.leaf.0 held place at
+    (c.fetch_block.ensures.nothing_fits told c.in-Err-BadRecord-fetch_block.addr (cc)))
+
+pub returns-in-Err-BadRecord-clause-array : goal.returns-in-Err-BadRecord-clause-array
+returns-in-Err-BadRecord-clause-array g c = λ told device contents h. (c.load.ensures.holds told device contents h, c.load.ensures.sound told device contents h c.in-Err-BadRecord.addr (cc))
+
+pub returns-in-Err-PlatformFault-fetch_block-clause-array : goal.returns-in-Err-PlatformFault-fetch_block-clause-array
+returns-in-Err-PlatformFault-fetch_block-clause-array g c = λ told device contents h. (holds_same _ _ _ _ _ _ _ _ _ (c.fetch_block.ensures.looks.image told) (c.load.ensures.holds told device contents h), tt)
 
 pub fetch_block-requires-clause-within : goal.fetch_block-requires-clause-within
 fetch_block-requires-clause-within g c =
@@ -31,75 +50,20 @@ fetch_block-requires-clause-within g c =
     let at : c.index-deref-place.result ≡ get_or c.load.new.self.entries.items c.in-Ok-place_of.place c.index-deref-place.result = rw c.deref.ensures.0 at c.index-deref-place.is in
     subst (λ (e : Entry). e.addr < g.P.Platform.head c.load.new.platform) (sym at) (c.load.ensures.open.entries.below c.in-Ok-place_of.place c.index-deref-place.result place.0)
 
-pub returns-in-Ok-fetch_block-clause-content : goal.returns-in-Ok-fetch_block-clause-content
-returns-in-Ok-fetch_block-clause-content g c = λ told device contents h.
-    let place = rw c.as_slice.ensures.value at c.in-Ok-place_of.ensures in
-    let at : c.index-deref-place.result ≡ get_or c.load.new.self.entries.items c.in-Ok-place_of.place c.index-deref-place.result = rw c.deref.ensures.0 at c.index-deref-place.is in
-    let held = c.load.ensures.holds told device contents h in
-    let there = c.in-Ok-fetch_block.ensures.fits told in
-    let small = subst (λ (e : Entry). e.addr < g.P.Platform.head c.load.new.platform) (sym at) (c.load.ensures.open.entries.below c.in-Ok-place_of.place c.index-deref-place.result place.0) in
-    content_read _ _ _ _ _ _ device contents _ c.args.block _ c.index-deref-place.result there.0 c.fetch_block.new.out c.in-Ok.ensures.loaded held place at small (omega (arith, g.met.P.Platform.has_room c.load.new.platform, g.met.P.Platform.is_limited c.load.new.platform)) there.1 (λ n t is. cc (there.2, is))
-
-pub returns-in-Ok-fetch_block-clause-holds : goal.returns-in-Ok-fetch_block-clause-holds
-returns-in-Ok-fetch_block-clause-holds g c = λ told device contents h.
-    holds_same _ _ _ _ _ _ _ _ _ (c.fetch_block.ensures.image told) (c.load.ensures.holds told device contents h)
-
-pub returns-in-Ok-fetch_block-clause-time : goal.returns-in-Ok-fetch_block-clause-time
-returns-in-Ok-fetch_block-clause-time g c = λ told. look_more _ _ _ (c.load.ensures.time told) (c.fetch_block.ensures.time told) (c.fetch_block.ensures.image told)
-
-pub returns-in-Err-BadRecord-fetch_block-clause-holds : goal.returns-in-Err-BadRecord-fetch_block-clause-holds
-returns-in-Err-BadRecord-fetch_block-clause-holds g c = λ told device contents h.
-    holds_same _ _ _ _ _ _ _ _ _ (c.fetch_block.ensures.image told) (c.load.ensures.holds told device contents h)
-
-pub returns-in-Err-BadRecord-fetch_block-clause-time : goal.returns-in-Err-BadRecord-fetch_block-clause-time
-returns-in-Err-BadRecord-fetch_block-clause-time g c = λ told. look_more _ _ _ (c.load.ensures.time told) (c.fetch_block.ensures.time told) (c.fetch_block.ensures.image told)
-
-pub returns-in-Err-BadRecord-fetch_block-clause-sound : goal.returns-in-Err-BadRecord-fetch_block-clause-sound
-returns-in-Err-BadRecord-fetch_block-clause-sound g c = λ told device contents h addr is.
-    let place = rw c.as_slice.ensures.value at c.in-Ok-place_of.ensures in
-    let at : c.index-deref-place.result ≡ get_or c.load.new.self.entries.items c.in-Ok-place_of.place c.index-deref-place.result = rw c.deref.ensures.0 at c.index-deref-place.is in
-    let held = c.load.ensures.holds told device contents h in
-    block_fits _ _ _ _ _ _ device contents _ c.args.block c.index-deref-place.result c.in-Ok.ensures.loaded held place at
-    (c.fetch_block.ensures.nothing_fits told c.in-Err-BadRecord-fetch_block.addr (cc))
-
-pub returns-in-Err-PlatformFault-fetch_block-clause-holds : goal.returns-in-Err-PlatformFault-fetch_block-clause-holds
-returns-in-Err-PlatformFault-fetch_block-clause-holds g c = λ told device contents h.
-    holds_same _ _ _ _ _ _ _ _ _ (c.fetch_block.ensures.image told) (c.load.ensures.holds told device contents h)
-
-pub returns-in-Err-PlatformFault-fetch_block-clause-time : goal.returns-in-Err-PlatformFault-fetch_block-clause-time
-returns-in-Err-PlatformFault-fetch_block-clause-time g c = λ told. look_more _ _ _ (c.load.ensures.time told) (c.fetch_block.ensures.time told) (c.fetch_block.ensures.image told)
-
-pub returns-in-Err-BadRecord-clause-sound : goal.returns-in-Err-BadRecord-clause-sound
-returns-in-Err-BadRecord-clause-sound g c = λ told device contents h addr is. c.load.ensures.bad told device contents h c.in-Err-BadRecord.addr (cc)
-
 pub returns-in-Ok-fetch_block-clause-follows : goal.returns-in-Ok-fetch_block-clause-follows
-returns-in-Ok-fetch_block-clause-follows g c = λ told follows. follows_same _ _ _ _ _ _ (c.fetch_block.ensures.image told) (c.load.ensures.follows told follows)
+returns-in-Ok-fetch_block-clause-follows g c = λ told follows. follows_same _ _ _ _ _ _ (c.fetch_block.ensures.looks.image told) (c.load.ensures.follows told follows)
 
 pub returns-in-Err-BadRecord-fetch_block-clause-follows : goal.returns-in-Err-BadRecord-fetch_block-clause-follows
-returns-in-Err-BadRecord-fetch_block-clause-follows g c = λ told follows. follows_same _ _ _ _ _ _ (c.fetch_block.ensures.image told) (c.load.ensures.follows told follows)
+returns-in-Err-BadRecord-fetch_block-clause-follows g c = λ told follows. follows_same _ _ _ _ _ _ (c.fetch_block.ensures.looks.image told) (c.load.ensures.follows told follows)
 
 pub returns-in-Err-PlatformFault-fetch_block-clause-follows : goal.returns-in-Err-PlatformFault-fetch_block-clause-follows
-returns-in-Err-PlatformFault-fetch_block-clause-follows g c = λ told follows. follows_same _ _ _ _ _ _ (c.fetch_block.ensures.image told) (c.load.ensures.follows told follows)
-
-pub returns-in-Err-BadRecord-clause-wrong : goal.returns-in-Err-BadRecord-clause-wrong
-returns-in-Err-BadRecord-clause-wrong g c = λ told follows addr is. c.load.ensures.wrong told addr (cc)
-
-pub returns-in-Err-BadRecord-fetch_block-clause-wrong : goal.returns-in-Err-BadRecord-fetch_block-clause-wrong
-returns-in-Err-BadRecord-fetch_block-clause-wrong g c = λ told follows addr is.
-    let history = g.P.Platform.history in
-    let place = rw c.as_slice.ensures.value at c.in-Ok-place_of.ensures in
-    let at : c.index-deref-place.result ≡ get_or c.load.new.self.entries.items c.in-Ok-place_of.place c.index-deref-place.result = rw c.deref.ensures.0 at c.index-deref-place.is in
-    let nothing = c.fetch_block.ensures.nothing_fits told c.in-Err-BadRecord-fetch_block.addr (cc) in
-    let named : addr ≡ c.index-deref-place.result.addr = let same : c.in-Err-BadRecord-fetch_block.addr ≡ addr = cc in sym same ∙ c.fetch_block.ensures.bad c.in-Err-BadRecord-fetch_block.addr (cc) in
-    let found = wrong_found c.load.new.self.root c.load.new.self.mapped c.load.new.self.is_loaded c.load.new.self.entries.items (history c.load.new.platform).present.readable _ c.args.block c.index-deref-place.result c.in-Ok.ensures.loaded
-    (c.load.ensures.follows told follows) c.load.ensures.open.served.leaf.level place at nothing in
-    let before = subst (λ (i : Image). Wrong i.readable c.load.new.self.root c.index-deref-place.result.addr) (c.load.ensures.image told) found in
-    let of_root = subst (λ (r : Root). Wrong (history c.args.platform.now).present.readable r c.index-deref-place.result.addr) c.load.ensures.same.0 before in
-    subst (λ (n : ℕ). Wrong (history c.args.platform.now).present.readable c.args.self.now.root n) (sym named) of_root
+returns-in-Err-PlatformFault-fetch_block-clause-follows g c = λ told follows. follows_same _ _ _ _ _ _ (c.fetch_block.ensures.looks.image told) (c.load.ensures.follows told follows)
 
 pub returns-in-Err-BadRecord-clause-damaged : goal.returns-in-Err-BadRecord-clause-damaged
-returns-in-Err-BadRecord-clause-damaged g c = λ told follows addr is.
-    inl (subst (λ (i : Image). Wrong i.readable c.args.self.now.root addr) (sym (c.load.ensures.image told)) (c.load.ensures.wrong told addr (cc)))
+returns-in-Err-BadRecord-clause-damaged g c = λ told follows addr is. (
+  (c.load.ensures.misfit told addr (cc)).3,
+  inl (subst (λ (i : Image). Wrong i.readable c.args.self.now.root addr) (sym (c.load.ensures.looks.image told)) ((c.load.ensures.misfit told addr (cc)).3)),
+)
 
 pub returns-in-Err-BadRecord-fetch_block-clause-damaged : goal.returns-in-Err-BadRecord-fetch_block-clause-damaged
 returns-in-Err-BadRecord-fetch_block-clause-damaged g c = λ told follows addr is.
@@ -108,26 +72,28 @@ returns-in-Err-BadRecord-fetch_block-clause-damaged g c = λ told follows addr i
     let at : c.index-deref-place.result ≡ get_or c.load.new.self.entries.items c.in-Ok-place_of.place c.index-deref-place.result = rw c.deref.ensures.0 at c.index-deref-place.is in
     let nothing = c.fetch_block.ensures.nothing_fits told c.in-Err-BadRecord-fetch_block.addr (cc) in
     let named : addr ≡ c.index-deref-place.result.addr = let same : c.in-Err-BadRecord-fetch_block.addr ≡ addr = cc in sym same ∙ c.fetch_block.ensures.bad c.in-Err-BadRecord-fetch_block.addr (cc) in
-    let found = wrong_found c.load.new.self.root c.load.new.self.mapped c.load.new.self.is_loaded c.load.new.self.entries.items (history c.load.new.platform).present.readable _ c.args.block c.index-deref-place.result c.in-Ok.ensures.loaded
+    let found = wrong_found c.load.new.self.root c.load.new.self.mapped c.load.new.self.is_loaded c.load.new.self.entries.items (history c.load.new.platform).present.readable _ c.args.block c.index-deref-place.result c.in-Ok.ensures.leaf.0
     (c.load.ensures.follows told follows) c.load.ensures.open.served.leaf.level place at nothing in
-    let after = subst (λ (i : Image). Wrong i.readable c.load.new.self.root c.index-deref-place.result.addr) (sym (c.fetch_block.ensures.image told)) found in
+    let after = subst (λ (i : Image). Wrong i.readable c.load.new.self.root c.index-deref-place.result.addr) (sym (c.fetch_block.ensures.looks.image told)) found in
     let of_root = subst (λ (r : Root). Wrong (history c.fetch_block.new.platform).present.readable r c.index-deref-place.result.addr) c.load.ensures.same.0 after in
-    inl (subst (λ (n : ℕ). Wrong (history c.fetch_block.new.platform).present.readable c.args.self.now.root n) (sym named) of_root)
+    let before = subst (λ (i : Image). Wrong i.readable c.load.new.self.root c.index-deref-place.result.addr) (c.load.ensures.looks.image told) found in
+    let of_root_before = subst (λ (r : Root). Wrong (history c.args.platform.now).present.readable r c.index-deref-place.result.addr) c.load.ensures.same.0 before in
+    (subst (λ (n : ℕ). Wrong (history c.args.platform.now).present.readable c.args.self.now.root n) (sym named) of_root_before, inl (subst (λ (n : ℕ). Wrong (history c.fetch_block.new.platform).present.readable c.args.self.now.root n) (sym named) of_root))
 
 pub returns-in-Ok-fetch_block-clause-listed : goal.returns-in-Ok-fetch_block-clause-listed
-returns-in-Ok-fetch_block-clause-listed g c = λ told keys kept h. listed_same _ _ _ _ _ _ _ keys (c.fetch_block.ensures.image told) (c.load.ensures.listed told keys kept h)
+returns-in-Ok-fetch_block-clause-listed g c = λ told keys kept h. listed_same _ _ _ _ _ _ _ keys (c.fetch_block.ensures.looks.image told) (c.load.ensures.listed told keys kept h)
 
 pub returns-in-Err-BadRecord-fetch_block-clause-listed : goal.returns-in-Err-BadRecord-fetch_block-clause-listed
-returns-in-Err-BadRecord-fetch_block-clause-listed g c = λ told keys kept h. listed_same _ _ _ _ _ _ _ keys (c.fetch_block.ensures.image told) (c.load.ensures.listed told keys kept h)
+returns-in-Err-BadRecord-fetch_block-clause-listed g c = λ told keys kept h. listed_same _ _ _ _ _ _ _ keys (c.fetch_block.ensures.looks.image told) (c.load.ensures.listed told keys kept h)
 
 pub returns-in-Err-PlatformFault-fetch_block-clause-listed : goal.returns-in-Err-PlatformFault-fetch_block-clause-listed
-returns-in-Err-PlatformFault-fetch_block-clause-listed g c = λ told keys kept h. listed_same _ _ _ _ _ _ _ keys (c.fetch_block.ensures.image told) (c.load.ensures.listed told keys kept h)
+returns-in-Err-PlatformFault-fetch_block-clause-listed g c = λ told keys kept h. listed_same _ _ _ _ _ _ _ keys (c.fetch_block.ensures.looks.image told) (c.load.ensures.listed told keys kept h)
 
 pub returns-in_default-clause-finds : goal.returns-in_default-clause-finds
 returns-in_default-clause-finds g c = λ told.
     let place = rw c.as_slice.ensures.value at c.in_default.ensures in (
       c.load.new.self.entries.items,
-      c.in-Ok.ensures.leaf told,
+      c.in-Ok.ensures.leaf.1 told,
       inl (unmapped_place c.load.new.self.entries.items (Err _) c.args.block place refl, c.fill.ensures.after (λ y same. same) ∙ ap (λ (n : ℕ). replicate n 0) c.requires.size),
     )
 
@@ -140,16 +106,16 @@ returns-in-Ok-fetch_block-clause-finds g c = λ told.
     let there = c.in-Ok-fetch_block.ensures.fits told in
     let fits = subst (λ (v : Record). FitsAt (history c.load.new.platform).present.readable (block_want entry.addr c.args.block) entry.key v) there.2 there.1 in (
       c.load.new.self.entries.items,
-      c.in-Ok.ensures.leaf told,
+      c.in-Ok.ensures.leaf.1 told,
       inr (
         entry,
         entry_at c.load.new.self.entries.items c.args.block c.in-Ok-place_of.place entry place at,
-        subst (λ (i : Image). FitsAt i.readable (block_want entry.addr c.args.block) entry.key (DataRecord c.args.block c.fetch_block.new.out)) (c.load.ensures.image told) fits,
+        subst (λ (i : Image). FitsAt i.readable (block_want entry.addr c.args.block) entry.key (DataRecord c.args.block c.fetch_block.new.out)) (c.load.ensures.looks.image told) fits,
       ),
     )
 
 pub returns-in-Err-BadRecord-clause-misfit : goal.returns-in-Err-BadRecord-clause-misfit
-returns-in-Err-BadRecord-clause-misfit g c = λ told addr is. inl (c.load.ensures.misfit told addr (cc))
+returns-in-Err-BadRecord-clause-misfit g c = λ told addr is. let m = c.load.ensures.misfit told addr (cc) in inl (m.0, m.1, m.2)
 
 pub returns-in-Err-BadRecord-fetch_block-clause-misfit : goal.returns-in-Err-BadRecord-fetch_block-clause-misfit
 returns-in-Err-BadRecord-fetch_block-clause-misfit g c = λ told addr is.
@@ -162,8 +128,8 @@ returns-in-Err-BadRecord-fetch_block-clause-misfit g c = λ told addr is.
     inr (
       c.load.new.self.entries.items,
       entry,
-      c.in-Ok.ensures.leaf told,
+      c.in-Ok.ensures.leaf.1 told,
       entry_at c.load.new.self.entries.items c.args.block c.in-Ok-place_of.place entry place at,
       named,
-      subst (λ (i : Image). NothingFits i.readable (block_want entry.addr c.args.block) entry.key) (c.load.ensures.image told) nothing,
+      subst (λ (i : Image). NothingFits i.readable (block_want entry.addr c.args.block) entry.key) (c.load.ensures.looks.image told) nothing,
     )

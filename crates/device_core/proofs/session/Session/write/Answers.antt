@@ -4,7 +4,8 @@ use Rattle.seal_record.specs.Sealing.{masked}
 use Rattle.node_codec.specs.declared.body.Entry.{Entry}
 use Rattle.node_codec.specs.Record.{DataRecord, record_bytes}
 use Rattle.root_codec.specs.declared.root.Root.{Root}
-use Rattle.page_store.specs.Buffer.{Held, padded}
+use Rattle.page_store.specs.Buffer.{Held}
+use Rattle.sdbt_base.specs.Arrays.{padded}
 use Rattle.platform.specs.Image.{Image, with_page}
 use Rattle.device_core.specs.Leaf.{AreEntries, placed}
 use Rattle.device_core.proofs.MomentLaws.{still, call_more}
@@ -30,37 +31,37 @@ returns-then-block-self-clause-time g c = λ told. still _
 pub returns-then-head-capacity-clause-time : goal.returns-then-head-capacity-clause-time
 returns-then-head-capacity-clause-time g c = λ told. still _
 
-pub returns-in-Err-BadRecord-clause-sound : goal.returns-in-Err-BadRecord-clause-sound
-returns-in-Err-BadRecord-clause-sound g c = λ told device contents h addr is. c.load.ensures.bad told device contents h c.in-Err-BadRecord.addr (cc)
+pub returns-in-Err-BadRecord-clause-array : goal.returns-in-Err-BadRecord-clause-array
+returns-in-Err-BadRecord-clause-array g c = λ told device contents h. c.load.ensures.sound told device contents h c.in-Err-BadRecord.addr (cc)
 
-pub returns-in_default-clause-sound : goal.returns-in_default-clause-sound
-returns-in_default-clause-sound g c = λ told device contents h addr is.
+pub returns-in_default-clause-array : goal.returns-in_default-clause-array
+returns-in_default-clause-array g c = λ told device contents h.
     let session = c.load.new.self in
     let place = rw c.as_slice.ensures.value at c.place_of-place.ensures in
     let same = ap (λ (r : Root). r.blocks) c.load.ensures.same.0 in
     let counter = c.mapped_with.ensures.none.0 (grind (arith, c.in_default.is)) in
-    some_unmapped session.root session.mapped session.is_loaded session.is_touched session.entries.items _ device contents c.args.block session.root.blocks _ c.place_of-place.result c.in-Ok.ensures.loaded
+    some_unmapped session.root session.mapped session.is_loaded session.is_touched session.entries.items _ device contents c.args.block session.root.blocks _ c.place_of-place.result c.in-Ok.ensures.leaf.0
     (c.load.ensures.holds told device contents h) c.load.ensures.open.entries place (omega (arith, same)) counter.0 counter.1
 
 pub put_block-requires-clause-block : goal.put_block-requires-clause-block
 put_block-requires-clause-block g c = omega (arith, c.requires.open.served.leaf.blocks)
 
-pub returns-in-Err-TapeFault-clause-refused : goal.returns-in-Err-TapeFault-clause-refused
-returns-in-Err-TapeFault-clause-refused g c = λ told device contents h.
+pub returns-in-Err-TapeFault-clause-array : goal.returns-in-Err-TapeFault-clause-array
+returns-in-Err-TapeFault-clause-array g c = λ told device contents h.
     holds_same _ _ _ _ _ _ _ _ _ (c.append.ensures.unchanged told (cc)) (c.load.ensures.holds told device contents h)
 
 pub returns-in-Err-TapeFault-clause-time : goal.returns-in-Err-TapeFault-clause-time
-returns-in-Err-TapeFault-clause-time g c = λ told. call_more _ _ _ (c.load.ensures.time told) (c.append.ensures.time told) (c.append.ensures.cell told)
+returns-in-Err-TapeFault-clause-time g c = λ told. call_more _ _ _ (c.load.ensures.looks.time told) (c.append.ensures.time told) (c.append.ensures.cell told)
 
-pub returns-in-Err-PlatformFault-append-clause-refused : goal.returns-in-Err-PlatformFault-append-clause-refused
-returns-in-Err-PlatformFault-append-clause-refused g c = λ told device contents h.
+pub returns-in-Err-PlatformFault-append-clause-array : goal.returns-in-Err-PlatformFault-append-clause-array
+returns-in-Err-PlatformFault-append-clause-array g c = λ told device contents h.
     holds_later _ _ _ _ _ _ _ device contents (Extends-earlier _ _ (c.append.ensures.time told).extends) (c.append.ensures.cell told) (c.load.ensures.holds told device contents h)
 
 pub returns-in-Err-PlatformFault-append-clause-time : goal.returns-in-Err-PlatformFault-append-clause-time
-returns-in-Err-PlatformFault-append-clause-time g c = λ told. call_more _ _ _ (c.load.ensures.time told) (c.append.ensures.time told) (c.append.ensures.cell told)
+returns-in-Err-PlatformFault-append-clause-time g c = λ told. call_more _ _ _ (c.load.ensures.looks.time told) (c.append.ensures.time told) (c.append.ensures.cell told)
 
 pub returns-clause-time : goal.returns-clause-time
-returns-clause-time g c = λ told. call_more _ _ _ (c.load.ensures.time told) (c.append.ensures.time told) (c.append.ensures.cell told)
+returns-clause-time g c = λ told. call_more _ _ _ (c.load.ensures.looks.time told) (c.append.ensures.time told) (c.append.ensures.cell told)
 
 pub put_entry-requires-clause-room : goal.put_entry-requires-clause-room
 put_entry-requires-clause-room g c none =
@@ -86,11 +87,11 @@ returns-clause-open g c =
       entries = rw c.put_entry.ensures (AreEntries-placed session.entries.items c.place_of-place.result entry session.root.blocks
           (g.P.Platform.head c.load.new.platform) (g.P.Platform.head c.append.new.platform) opened.entries
           (rw c.as_slice.ensures.value at c.place_of-place.ensures) (omega (arith, same)) (omega (arith, c.in-Ok-append.ensures.address, c.in-Ok-append.ensures.head_ok)) c.in-Ok-append.ensures.key c.append.ensures.head_rises);
-      loaded = λ yes. c.in-Ok.ensures.loaded;
+      loaded = λ yes. c.in-Ok.ensures.leaf.0;
     }
 
-pub returns-clause-written : goal.returns-clause-written
-returns-clause-written g c = λ told device contents h.
+pub returns-clause-array : goal.returns-clause-array
+returns-clause-array g c = λ told device contents h.
     let history = g.P.Platform.history in
     let session = c.load.new.self in
     let opened = c.load.ensures.open in
@@ -107,23 +108,9 @@ returns-clause-written g c = λ told device contents h.
     let later = c.in-Ok-append.ensures.appended told ∙ ap (λ (bytes : List ℕ). with_page (history c.load.new.platform).present bytes bytes) page in
     let place = rw c.as_slice.ensures.value at c.place_of-place.ensures in
     rw c.put_entry.ensures (written session.root session.mapped _ session.is_loaded session.is_touched session.entries.items (history c.load.new.platform).present (history c.append.new.platform).present device contents c.args.block addr
-    c.place_of-place.result key text c.in-Ok.ensures.loaded (c.load.ensures.holds told device contents h) (whole-now (history c.load.new.platform)) (address ∙ sym pages)
+    c.place_of-place.result key text c.in-Ok.ensures.leaf.0 (c.load.ensures.holds told device contents h) (whole-now (history c.load.new.platform)) (address ∙ sym pages)
     (omega (arith, address, g.met.P.Platform.has_room c.load.new.platform, g.met.P.Platform.is_limited c.load.new.platform)) are place (omega (arith, c.requires.open.served.leaf.blocks))
     (padded_bytes c.args.content.now c.requires.size c.are_bytes.ensures) c.in-Some.ensures.found.1 (Extends-earlier _ _ (c.append.ensures.time told).extends) later)
-
-pub returns-in-Err-BadRecord-clause-wrong : goal.returns-in-Err-BadRecord-clause-wrong
-returns-in-Err-BadRecord-clause-wrong g c = λ told addr is. inl (c.load.ensures.wrong told addr (cc))
-
-pub returns-in_default-clause-wrong : goal.returns-in_default-clause-wrong
-returns-in_default-clause-wrong g c = λ told addr is.
-    let place = rw c.as_slice.ensures.value at c.place_of-place.ensures in
-    let counter = c.mapped_with.ensures.none.0 (grind (arith, c.in_default.is)) in
-    let named : c.load.new.self.root.addr ≡ addr = cc in
-    inr (
-      sym named ∙ ap (λ (r : Root). r.addr) c.load.ensures.same.0,
-      sym c.load.ensures.same.1 ∙ counter.1 ∙ ap (λ (r : Root). r.blocks) c.load.ensures.same.0,
-      unmapped_place _ c.place_of-place.result c.args.block place counter.0,
-    )
 
 pub returns-in-Err-TapeFault-clause-follows : goal.returns-in-Err-TapeFault-clause-follows
 returns-in-Err-TapeFault-clause-follows g c = λ told follows. follows_same _ _ _ _ _ _ (c.append.ensures.unchanged told (cc)) (c.load.ensures.follows told follows)
@@ -147,33 +134,38 @@ returns-clause-follows g c = λ told follows.
     let later = c.in-Ok-append.ensures.appended told ∙ ap (λ (bytes : List ℕ). with_page (history c.load.new.platform).present bytes bytes) page in
     let place = rw c.as_slice.ensures.value at c.place_of-place.ensures in
     rw c.put_entry.ensures (follows_written session.root session.mapped _ session.is_loaded session.entries.items (history c.load.new.platform).present (history c.append.new.platform).present c.args.block addr c.place_of-place.result key text
-    c.in-Ok.ensures.loaded (c.load.ensures.follows told follows) place c.in-Some.ensures.found.1 (whole-now (history c.load.new.platform)) (address ∙ sym pages)
+    c.in-Ok.ensures.leaf.0 (c.load.ensures.follows told follows) place c.in-Some.ensures.found.1 (whole-now (history c.load.new.platform)) (address ∙ sym pages)
     (omega (arith, address, g.met.P.Platform.has_room c.load.new.platform, g.met.P.Platform.is_limited c.load.new.platform)) (omega (arith, c.requires.open.served.leaf.blocks))
     (padded_bytes c.args.content.now c.requires.size c.are_bytes.ensures) (Extends-earlier _ _ (c.append.ensures.time told).extends) later)
 
 pub returns-in-Err-BadRecord-clause-damaged : goal.returns-in-Err-BadRecord-clause-damaged
-returns-in-Err-BadRecord-clause-damaged g c = λ told follows addr is.
-    inl (subst (λ (i : Image). Wrong i.readable c.args.self.now.root addr) (sym (c.load.ensures.image told)) (c.load.ensures.wrong told addr (cc)))
+returns-in-Err-BadRecord-clause-damaged g c = λ told addr is.
+    (inl ((c.load.ensures.misfit told addr (cc)).3), λ follows. inl (subst (λ (i : Image). Wrong i.readable c.args.self.now.root addr) (sym (c.load.ensures.looks.image told)) ((c.load.ensures.misfit told addr (cc)).3)))
 
 pub returns-in_default-clause-damaged : goal.returns-in_default-clause-damaged
-returns-in_default-clause-damaged g c = λ told follows addr is.
-    let session = c.load.new.self in
-    let pages = (g.P.Platform.history c.load.new.platform).present.readable in
+returns-in_default-clause-damaged g c = λ told addr is.
     let place = rw c.as_slice.ensures.value at c.place_of-place.ensures in
     let counter = c.mapped_with.ensures.none.0 (grind (arith, c.in_default.is)) in
+    let named : c.load.new.self.root.addr ≡ addr = cc in
+    let session = c.load.new.self in
+    let pages = (g.P.Platform.history c.load.new.platform).present.readable in
     let named : session.root.addr ≡ addr = cc in
     let same = ap (λ (r : Root). r.blocks) c.load.ensures.same.0 in
-    inr (
+    (inr (
+      sym named ∙ ap (λ (r : Root). r.addr) c.load.ensures.same.0,
+      sym c.load.ensures.same.1 ∙ counter.1 ∙ ap (λ (r : Root). r.blocks) c.load.ensures.same.0,
+      unmapped_place _ c.place_of-place.result c.args.block place counter.0,
+    ), λ follows. inr (
       sym named ∙ ap (λ (r : Root). r.addr) c.load.ensures.same.0,
       subst (λ (r : Root). IsMiscounted pages r) c.load.ensures.same.0
           (miscounted_full session.root session.mapped session.is_loaded session.entries.items pages c.place_of-place.result c.args.block session.root.blocks (g.P.Platform.head c.load.new.platform)
-          c.in-Ok.ensures.loaded (c.load.ensures.follows told follows) c.load.ensures.open.entries place (omega (arith, same)) counter.0 counter.1),
-    )
+          c.in-Ok.ensures.leaf.0 (c.load.ensures.follows told follows) c.load.ensures.open.entries place (omega (arith, same)) counter.0 counter.1),
+    ))
 
 pub returns-in-Err-TapeFault-clause-counter : goal.returns-in-Err-TapeFault-clause-counter
 returns-in-Err-TapeFault-clause-counter g c = λ told leaf is none all stop.
     let place = rw c.as_slice.ensures.value at c.place_of-place.ensures in
-    let same = one_leaf c.args.self.now.root c.args.self.now.is_loaded c.args.self.now.entries.items _ leaf c.load.new.self.entries.items (omega (arith, c.requires.open.served.fits.addr, c.requires.open.served.fits.head)) is (c.in-Ok.ensures.leaf told) in
+    let same = one_leaf c.args.self.now.root c.args.self.now.is_loaded c.args.self.now.entries.items _ leaf c.load.new.self.entries.items (omega (arith, c.requires.open.served.fits.addr, c.requires.open.served.fits.head)) is (c.in-Ok.ensures.leaf.1 told) in
     let new = new_place c.load.new.self.entries.items c.place_of-place.result c.args.block place (subst (λ (es : List Entry). All (λ (e : Entry). e.low ≢ c.args.block) es) same none) in
     let no = c.mapped_with.ensures.none.1 (new, c.load.ensures.same.1 ∙ all ∙ sym (ap (λ (r : Root). r.blocks) c.load.ensures.same.0)) in
     grind (arith, no, c.in-Some.is)
@@ -181,13 +173,17 @@ returns-in-Err-TapeFault-clause-counter g c = λ told leaf is none all stop.
 pub returns-clause-counter : goal.returns-clause-counter
 returns-clause-counter g c = λ told leaf is none all stop.
     let place = rw c.as_slice.ensures.value at c.place_of-place.ensures in
-    let same = one_leaf c.args.self.now.root c.args.self.now.is_loaded c.args.self.now.entries.items _ leaf c.load.new.self.entries.items (omega (arith, c.requires.open.served.fits.addr, c.requires.open.served.fits.head)) is (c.in-Ok.ensures.leaf told) in
+    let same = one_leaf c.args.self.now.root c.args.self.now.is_loaded c.args.self.now.entries.items _ leaf c.load.new.self.entries.items (omega (arith, c.requires.open.served.fits.addr, c.requires.open.served.fits.head)) is (c.in-Ok.ensures.leaf.1 told) in
     let new = new_place c.load.new.self.entries.items c.place_of-place.result c.args.block place (subst (λ (es : List Entry). All (λ (e : Entry). e.low ≢ c.args.block) es) same none) in
     let no = c.mapped_with.ensures.none.1 (new, c.load.ensures.same.1 ∙ all ∙ sym (ap (λ (r : Root). r.blocks) c.load.ensures.same.0)) in
     grind (arith, no, c.in-Some.is)
 
-pub returns-in-Err-TapeFault-clause-refused_still : goal.returns-in-Err-TapeFault-clause-refused_still
-returns-in-Err-TapeFault-clause-refused_still g c = λ told is. c.append.ensures.unchanged told (cc) ∙ c.load.ensures.image told
+pub returns-in-Err-TapeFault-clause-adds : goal.returns-in-Err-TapeFault-clause-adds
+returns-in-Err-TapeFault-clause-adds g c = record {
+      head = c.append.ensures.untouched (cc) ∙ c.load.ensures.looks.head;
+      image = λ told. c.append.ensures.unchanged told (cc) ∙ c.load.ensures.looks.image told;
+      drawn = c.append.ensures.undrawn (cc);
+    }
 
 pub returns-then-block-self-clause-keeps : goal.returns-then-block-self-clause-keeps
 returns-then-block-self-clause-keeps g c =
@@ -201,15 +197,15 @@ returns-then-head-capacity-clause-keeps g c =
 
 pub returns-in-Err-BadRecord-clause-keeps : goal.returns-in-Err-BadRecord-clause-keeps
 returns-in-Err-BadRecord-clause-keeps g c =
-    load_keeps _ _ _ _ (HoldsListed c.args.self.now (g.P.Platform.history c.args.platform.now).present) _ c.load.ensures.image c.load.ensures.time c.load.ensures.listed
+    load_keeps _ _ _ _ (HoldsListed c.args.self.now (g.P.Platform.history c.args.platform.now).present) _ c.load.ensures.looks.image c.load.ensures.looks.time c.load.ensures.listed
 
 pub returns-in-Err-PlatformFault-clause-keeps : goal.returns-in-Err-PlatformFault-clause-keeps
 returns-in-Err-PlatformFault-clause-keeps g c =
-    load_keeps _ _ _ _ (HoldsListed c.args.self.now (g.P.Platform.history c.args.platform.now).present) _ c.load.ensures.image c.load.ensures.time c.load.ensures.listed
+    load_keeps _ _ _ _ (HoldsListed c.args.self.now (g.P.Platform.history c.args.platform.now).present) _ c.load.ensures.looks.image c.load.ensures.looks.time c.load.ensures.listed
 
 pub returns-in_default-clause-keeps : goal.returns-in_default-clause-keeps
 returns-in_default-clause-keeps g c =
-    load_keeps _ _ _ _ (HoldsListed c.args.self.now (g.P.Platform.history c.args.platform.now).present) _ c.load.ensures.image c.load.ensures.time c.load.ensures.listed
+    load_keeps _ _ _ _ (HoldsListed c.args.self.now (g.P.Platform.history c.args.platform.now).present) _ c.load.ensures.looks.image c.load.ensures.looks.time c.load.ensures.listed
 
 pub returns-in-Err-TapeFault-clause-keeps : goal.returns-in-Err-TapeFault-clause-keeps
 returns-in-Err-TapeFault-clause-keeps g c =
@@ -220,7 +216,7 @@ returns-in-Err-TapeFault-clause-keeps g c =
     let new = history c.append.new.platform in
     let session = c.load.new.self in
     let text = padded c.args.content.now in
-    let look = load_keeps g.P.Platform.tells (drawn c.args.tape.now) old looked (HoldsListed c.args.self.now old.present) (HoldsListed session looked.present) c.load.ensures.image c.load.ensures.time c.load.ensures.listed in
+    let look = load_keeps g.P.Platform.tells (drawn c.args.tape.now) old looked (HoldsListed c.args.self.now old.present) (HoldsListed session looked.present) c.load.ensures.looks.image c.load.ensures.looks.time c.load.ensures.listed in
     let body : c.put_block.new.self.body ≡ record_bytes c.head-addr.result (DataRecord c.args.block text) = ap (λ (b : Held). b.body) c.put_block.ensures in
     write_keeps g.P.Platform.tells (drawn c.args.tape.now) (drawn c.append.new.tape) old looked new session.root session.mapped session.is_loaded session.is_touched session.entries.items c.put_block.new.self.body c.head-addr.result c.args.block text _
     (HoldsListed c.args.self.now old.present) _ _ look c.append.ensures.keeps body c.head-addr.ensures.value (omega (arith, c.requires.open.served.leaf.blocks))
@@ -236,7 +232,7 @@ returns-in-Err-PlatformFault-append-clause-keeps g c =
     let new = history c.append.new.platform in
     let session = c.load.new.self in
     let text = padded c.args.content.now in
-    let look = load_keeps g.P.Platform.tells (drawn c.args.tape.now) old looked (HoldsListed c.args.self.now old.present) (HoldsListed session looked.present) c.load.ensures.image c.load.ensures.time c.load.ensures.listed in
+    let look = load_keeps g.P.Platform.tells (drawn c.args.tape.now) old looked (HoldsListed c.args.self.now old.present) (HoldsListed session looked.present) c.load.ensures.looks.image c.load.ensures.looks.time c.load.ensures.listed in
     let body : c.put_block.new.self.body ≡ record_bytes c.head-addr.result (DataRecord c.args.block text) = ap (λ (b : Held). b.body) c.put_block.ensures in
     write_keeps g.P.Platform.tells (drawn c.args.tape.now) (drawn c.append.new.tape) old looked new session.root session.mapped session.is_loaded session.is_touched session.entries.items c.put_block.new.self.body c.head-addr.result c.args.block text _
     (HoldsListed c.args.self.now old.present) _ _ look c.append.ensures.keeps body c.head-addr.ensures.value (omega (arith, c.requires.open.served.leaf.blocks))
@@ -252,7 +248,7 @@ returns-clause-keeps g c =
     let new = history c.append.new.platform in
     let session = c.load.new.self in
     let text = padded c.args.content.now in
-    let look = load_keeps g.P.Platform.tells (drawn c.args.tape.now) old looked (HoldsListed c.args.self.now old.present) (HoldsListed session looked.present) c.load.ensures.image c.load.ensures.time c.load.ensures.listed in
+    let look = load_keeps g.P.Platform.tells (drawn c.args.tape.now) old looked (HoldsListed c.args.self.now old.present) (HoldsListed session looked.present) c.load.ensures.looks.image c.load.ensures.looks.time c.load.ensures.listed in
     let body : c.put_block.new.self.body ≡ record_bytes c.head-addr.result (DataRecord c.args.block text) = ap (λ (b : Held). b.body) c.put_block.ensures in
     let entry : Entry = record { low = c.args.block; addr = c.in-Ok-append.placed.addr; key = c.in-Ok-append.placed.key } in
     let opened = c.load.ensures.open in
@@ -269,20 +265,20 @@ returns-clause-keeps g c =
     let place = rw c.as_slice.ensures.value at c.place_of-place.ensures in
     let earlier = Extends-earlier _ _ (c.append.ensures.time told).extends in
     let held = written session.root session.mapped _ session.is_loaded session.is_touched session.entries.items looked.present new.present h.device h.contents c.args.block c.in-Ok-append.placed.addr
-    c.place_of-place.result c.in-Ok-append.placed.key text c.in-Ok.ensures.loaded h.holds (whole-now looked) (address ∙ sym pages)
+    c.place_of-place.result c.in-Ok-append.placed.key text c.in-Ok.ensures.leaf.0 h.holds (whole-now looked) (address ∙ sym pages)
     (omega (arith, address, g.met.P.Platform.has_room c.load.new.platform, g.met.P.Platform.is_limited c.load.new.platform)) are place (omega (arith, c.requires.open.served.leaf.blocks))
     (padded_bytes c.args.content.now c.requires.size c.are_bytes.ensures) c.in-Some.ensures.found.1 earlier later in
     rw c.put_entry.ensures (listed_written session.root session.mapped _ session.is_loaded _ session.is_touched session.entries.items c.place_of-place.result entry looked.present new.present h.device _ keys more h held earlier
     (c.append.ensures.cell told) (omega (arith, address, opened.served.within)) has))
 
-pub returns-clause-entered : goal.returns-clause-entered
-returns-clause-entered g c =
+pub returns-clause-adds : goal.returns-clause-adds
+returns-clause-adds g c =
     let entry : Entry = record { low = c.args.block; addr = c.in-Ok-append.placed.addr; key = c.in-Ok-append.placed.key } in
     let place = rw c.as_slice.ensures.value at c.place_of-place.ensures in
-    let here : c.in-Ok-append.placed.addr ≡ g.P.Platform.head c.args.platform.now = c.in-Ok-append.ensures.address ∙ c.load.ensures.head in
-    record {
+    let here : c.in-Ok-append.placed.addr ≡ g.P.Platform.head c.args.platform.now = c.in-Ok-append.ensures.address ∙ c.load.ensures.looks.head in
+    (omega (arith, c.in-Ok-append.ensures.head_ok, c.load.ensures.looks.head), record {
       key = c.in-Ok-append.placed.key;
       drew = c.in-Ok-append.ensures.drew;
       entry = rw c.put_entry.ensures (subst (λ (n : ℕ). Contains (placed c.load.new.self.entries.items c.place_of-place.result entry) (record { low = c.args.block; addr = n; key = c.in-Ok-append.placed.key })) here
           (placed_there c.load.new.self.entries.items c.args.block c.place_of-place.result entry place));
-    }
+    })

@@ -1,0 +1,88 @@
+-- What the calls say that may replace the root record: a format, a commit and an erasure.
+use Rattle.std.specs.Prelude.{◌≡◌, ◌≢◌, ◌+◌, ℕ, false, List, Option, Some, None, Result, Ok, Err}
+use Rattle.sdbt_base.specs.Arrays.{Device, Blocks}
+use Rattle.sdbt_base.specs.declared.tapes.Tape.{Ghosts as TapeGhosts}
+use Rattle.platform.specs.declared.platforms.Platform.{Ghosts as PlatformGhosts}
+use Rattle.platform.specs.History.{History, During, CellStays, CellTurns}
+use Rattle.root_codec.specs.RootRecord.{root_bytes}
+use Rattle.page_store.specs.Buffer.{IsBlank}
+use Rattle.page_store.specs.Keeping.{KeepsKeys}
+use Rattle.page_store.specs.Floors.{Forgets}
+use Rattle.page_store.specs.Stands.{Stands}
+use Rattle.device_core.specs.Changes.{AddsNothing}
+use Rattle.device_core.specs.Drawing.{NamesLast, KeepsTree}
+use Rattle.device_core.specs.Holds.{Holds}
+use Rattle.device_core.specs.Leaf.{IsServedImage}
+use Rattle.device_core.specs.Open.{number_of, entries_of, root_of, buffers_of, is_touched}
+use Rattle.device_core.specs.declared.session.Session.{Session}
+use Rattle.device_core.specs.declared.refusals.CommitReply.{CommitReply}
+use Rattle.device_core.specs.declared.refusals.CommitReply.TheVariants.{Committed}
+use Rattle.device_core.specs.declared.refusals.CommitFault.{CommitFault}
+use Rattle.device_core.specs.declared.refusals.CommitFault.TheVariants as commit
+use Rattle.device_core.specs.declared.refusals.FormatRefusal.{FormatRefusal}
+use Rattle.device_core.specs.declared.refusals.FormatRefusal.TheVariants as format
+use Rattle.device_core.specs.declared.refusals.EraseRefusal.{EraseRefusal}
+use Rattle.device_core.specs.declared.refusals.EraseRefusal.TheVariants as erase
+
+-- what a call discloses, whatever its answer: each page that it handed over is sealed under a key that it drew; the cell changes at most once, and
+-- one that can be served is one at each moment; and over an image that is ready for the keys that it keeps, each moment keeps those with the keys
+-- that were drawn, and what was deleted before stays deleted
+pub record Discloses (tells : Type 0) (drawn drawn_now : Option (List (List ℕ))) (old new : History) (Ready Done : List (List ℕ) → Type 0) : Type 0 where
+  pub keys : KeepsKeys tells drawn drawn_now old new Ready Done
+  pub turns : tells → CellTurns old new
+  pub serves : tells → IsServedImage old.present → During old new IsServedImage
+  pub forgets : tells → (keys : List (List ℕ)) → Ready keys → Forgets old new
+
+-- a commit that raised the number: one page was added, which the root record in the cell names with the key that was drawn last; every key that the
+-- session has is one of the new tree, and nothing of what was read or sealed is left in its buffers
+pub record HasRaised {S R : Type 0} (P : PlatformGhosts S) (T : TapeGhosts R) (platform platform_now : S) (tape tape_now : R) (session : Session) (answer : Session × CommitReply) : Type 0 where
+  pub reply : answer.1 ≡ Committed (number_of session + 1)
+  pub number : number_of answer.0 ≡ number_of session + 1
+  pub untouched : is_touched answer.0 ≡ false
+  pub wiped : IsBlank (buffers_of answer.0)
+  pub head : P.head platform_now ≡ P.head platform + 1
+  pub names : NamesLast (T.drawn tape) (T.drawn tape_now) (P.head platform_now) (root_of answer.0)
+  pub cell : P.tells → (P.history platform_now).present.cell ≡ Some (root_bytes (root_of answer.0))
+  pub knows : P.tells → (device : Device) (contents : Blocks) → Holds session (P.history platform).present device contents
+      → KeepsTree (root_of answer.0) (entries_of answer.0) (P.history platform_now).present
+
+-- a commit fails where the platform, the tape or the ledger failed. Where no key was drawn nothing was handed over; but for a fault of the platform
+-- the cell is as it was at each moment
+abbrev pub IsCommitCause : {S R : Type 0} → PlatformGhosts S → TapeGhosts R → S → S → R → R → Type 0 → Type 0 → Type 0 → CommitFault → Type 0
+IsCommitCause P T platform platform_now tape tape_now Failed Undrawn Unput commit.PlatformFault = Failed
+IsCommitCause P T platform platform_now tape tape_now Failed Undrawn Unput commit.TapeFault =
+    Undrawn × AddsNothing P T platform platform_now tape tape_now × (P.tells → CellStays (P.history platform) (P.history platform_now))
+IsCommitCause P T platform platform_now tape tape_now Failed Undrawn Unput commit.LedgerFault =
+    Unput × (P.tells → CellStays (P.history platform) (P.history platform_now))
+IsCommitCause P T platform platform_now tape tape_now Failed Undrawn Unput commit.Memory = ⊥
+
+-- nothing came of a format: no page, no key, and at each moment the cell as it was
+abbrev pub IsUnmade : {S R : Type 0} → PlatformGhosts S → TapeGhosts R → S → S → R → R → Type 0
+IsUnmade P T platform platform_now tape tape_now =
+    AddsNothing P T platform platform_now tape tape_now × (P.tells → CellStays (P.history platform) (P.history platform_now))
+
+-- a device is made where the cell is empty and a page is free, and one page is added then. There is a device already exactly where the cell is full, and
+-- else the medium is full exactly where no page is free
+abbrev pub IsFormatCause : {S R : Type 0} → PlatformGhosts S → TapeGhosts R → S → S → R → R → Type 0 → Type 0 → Type 0 → Result (Unit {0}) FormatRefusal → Type 0
+IsFormatCause P T platform platform_now tape tape_now Failed Undrawn Unput (Ok done) =
+    (P.tells → (P.history platform).present.cell ≡ None) × (P.head platform ≢ P.capacity platform) × (P.head platform_now ≡ P.head platform + 1)
+IsFormatCause P T platform platform_now tape tape_now Failed Undrawn Unput (Err format.NotEmpty) =
+    (P.tells → (P.history platform).present.cell ≢ None) × IsUnmade P T platform platform_now tape tape_now
+IsFormatCause P T platform platform_now tape tape_now Failed Undrawn Unput (Err format.Full) =
+    (P.tells → (P.history platform).present.cell ≡ None) × (P.head platform ≡ P.capacity platform) × IsUnmade P T platform platform_now tape tape_now
+IsFormatCause P T platform platform_now tape tape_now Failed Undrawn Unput (Err format.Memory) =
+    (P.head platform ≢ P.capacity platform) × IsUnmade P T platform platform_now tape tape_now
+IsFormatCause P T platform platform_now tape tape_now Failed Undrawn Unput (Err format.TapeFault) =
+    Undrawn × (P.head platform ≢ P.capacity platform) × IsUnmade P T platform platform_now tape tape_now
+IsFormatCause P T platform platform_now tape tape_now Failed Undrawn Unput (Err format.LedgerFault) =
+    Unput × (P.head platform ≢ P.capacity platform) × (P.tells → CellStays (P.history platform) (P.history platform_now))
+IsFormatCause P T platform platform_now tape tape_now Failed Undrawn Unput (Err format.PlatformFault) = Failed
+
+-- an erasure empties a full cell; there is no device exactly where the cell is empty, and then all is as it was
+abbrev pub IsEraseCause : {S : Type 0} → PlatformGhosts S → S → S → Type 0 → Result (Unit {0}) EraseRefusal → Type 0
+IsEraseCause P platform platform_now Failed (Ok done) =
+    P.tells → ((P.history platform).present.cell ≢ None) × Stands (P.history platform_now).present None
+IsEraseCause P platform platform_now Failed (Err erase.NoDevice) =
+    P.tells → ((P.history platform).present.cell ≡ None) × ((P.history platform_now).present ≡ (P.history platform).present)
+    × CellStays (P.history platform) (P.history platform_now)
+IsEraseCause P platform platform_now Failed (Err erase.PlatformFault) = Failed
