@@ -10,7 +10,8 @@ use Rattle.sdbt_base.specs.Arrays.{State, Device}
 use Rattle.script_lang.specs.Answers.{Turn, Answers, IsMark}
 use Rattle.script_lang.proofs.AnswerLaws.{Answers-append, Answers-longer}
 use Rattle.script_lang.specs.declared.replies.Reply.{Reply}
-use Rattle.device_cli.specs.Represents.{StandsFor, Leaves}
+use Rattle.device_course.specs.Marks.{Leaves}
+use Rattle.device_cli.specs.Represents.{StandsFor}
 use Rattle.device_cli.specs.Replied.{HasMark}
 
 -- the first n of some replies, where more come behind them

@@ -9,7 +9,8 @@ use Rattle.script_lang.specs.declared.replies.Reply.TheVariants.{Full}
 use Rattle.std.proofs.lemmas.List.Elements.{All-nil}
 use Rattle.platform.specs.History.{During}
 use Rattle.device_cli.specs.World.{World, IsLater}
-use Rattle.device_cli.specs.Represents.{Stood, Leaves}
+use Rattle.device_course.specs.Marks.{Leaves}
+use Rattle.device_cli.specs.Represents.{Stood}
 use Rattle.device_cli.proofs.RepliedLaws.{Replied-idle, Handled-then, count-then}
 use Rattle.device_cli.proofs.PassLaws.{IsMark-none, Passes-stay}
 use Rattle.script_lang.specs.declared.replies.Reply.{Reply}

@@ -22,7 +22,8 @@ use Rattle.script_lang.specs.declared.replies.Reply.TheVariants.{Full, Bad}
 use Rattle.device_core.specs.Leaf.{IsServedImage}
 use Rattle.device_cli.specs.Run.{IsOfLine}
 use Rattle.device_cli.specs.World.{World, is_full, IsLater}
-use Rattle.device_cli.specs.Represents.{Stood, StandsFor, Leaves}
+use Rattle.device_course.specs.Marks.{Leaves}
+use Rattle.device_cli.specs.Represents.{Stood, StandsFor}
 use Rattle.device_cli.specs.Added.{HasAdded}
 use Rattle.device_cli.specs.Pages.{pages_after, TurnIf, AnswersOn}
 use Rattle.device_cli.specs.Replied.{no_line, Ending, AreMany, IfNext, IsDamageAt, IsAhead, HasMark, ExitsAt, EndsIn, Answered, Replied, Handled, AsksForBlock, IsSound, IsOfBlock, IsWrongPage, Halts, Serves, HasPut}

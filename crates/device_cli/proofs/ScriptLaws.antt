@@ -12,7 +12,8 @@ use Rattle.script_lang.specs.declared.replies.Reply.TheVariants.{Full}
 use Rattle.device_core.specs.declared.session.Session.{Session}
 use Rattle.platform.specs.History.{History}
 use Rattle.device_cli.specs.World.{World, world}
-use Rattle.device_cli.specs.Represents.{StandsFor, IsSessionOf, Represents}
+use Rattle.device_course.specs.States.{IsSessionOf}
+use Rattle.device_cli.specs.Represents.{StandsFor, Represents}
 use Rattle.device_cli.specs.Replied.{Ending, IsBehind, AreMany, IsDamageAt, IfNext, AsksForBlock, IsWrongPage, IsFirstPart, IsAhead, EndsIn, Answered, damage_line}
 use Rattle.device_cli.specs.Added.{IsNear}
 use Rattle.device_cli.specs.Pages.{IsOneMore}

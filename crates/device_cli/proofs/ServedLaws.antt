@@ -26,7 +26,9 @@ use Rattle.script_lang.specs.Arrays.{content_reply, in_limits}
 use Rattle.script_lang.specs.Answers.{answer}
 use Rattle.device_cli.specs.World.{World, is_full}
 use Rattle.device_cli.specs.Replied.{Serves, Halts, IsSound}
-use Rattle.device_cli.specs.Represents.{StandsFor, Leaves, IsSessionOf, Represents}
+use Rattle.device_course.specs.States.{IsSessionOf}
+use Rattle.device_course.specs.Marks.{Leaves}
+use Rattle.device_cli.specs.Represents.{StandsFor, Represents}
 use Rattle.device_cli.specs.declared.stop.DeviceStop.{DeviceStop}
 use Rattle.device_cli.specs.declared.stop.DeviceStop.TheVariants as device
 

@@ -24,7 +24,9 @@ use Rattle.sdbt_base.specs.Arrays.{Device, Session as OpenSession, State, new_de
 use Rattle.script_lang.specs.Answers.{answer}
 use Rattle.device_cli.specs.World.{World, is_full, world}
 use Rattle.device_cli.specs.Replied.{Serves, Halts}
-use Rattle.device_cli.specs.Represents.{StandsFor, Leaves, IsSessionOf, Represents}
+use Rattle.device_course.specs.States.{IsSessionOf}
+use Rattle.device_course.specs.Marks.{Leaves}
+use Rattle.device_cli.specs.Represents.{StandsFor, Represents}
 use Rattle.device_cli.specs.declared.stop.DeviceStop.TheVariants as device
 use Rattle.device_cli.proofs.ServedLaws.{at, on, with_session, without_session, holds_stands, has_session, has_none, serves_still, halts_still, is_full_true, is_full_false, gives_raised, gives_idle, gives_commit_full, gives_stat, gives_formatted, gives_format_full}
 

@@ -8,7 +8,9 @@ use Rattle.sdbt_base.specs.Arrays.{State}
 use Rattle.device_core.specs.Leaf.{IsServedImage}
 use Rattle.device_core.specs.declared.session.Session.{Session}
 use Rattle.device_cli.specs.World.{World}
-use Rattle.device_cli.specs.Represents.{StandsFor, IsSessionOf, Stood, Leaves}
+use Rattle.device_course.specs.States.{IsSessionOf}
+use Rattle.device_course.specs.Marks.{Leaves}
+use Rattle.device_cli.specs.Represents.{StandsFor, Stood}
 
 -- the cell is what it was
 HasCell : (image : Image) → Image → Type 0

@@ -17,7 +17,8 @@ use Rattle.script_lang.specs.declared.commands.Command.TheVariants as commands
 use Rattle.script_lang.specs.declared.replies.Reply.{Reply}
 use Rattle.script_lang.specs.declared.replies.Reply.TheVariants.{Full}
 use Rattle.device_cli.specs.World.{World, is_full, IsLater}
-use Rattle.device_cli.specs.Represents.{Represents, Stood, StandsFor, Leaves}
+use Rattle.device_course.specs.Marks.{Leaves}
+use Rattle.device_cli.specs.Represents.{Represents, Stood, StandsFor}
 use Rattle.device_cli.specs.Pages.{AnswersOn}
 use Rattle.device_cli.specs.Added.{IsNear}
 use Rattle.device_cli.specs.declared.stop.Stop.{Stop}

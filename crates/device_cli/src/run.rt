@@ -15,7 +15,8 @@ ghost use Rattle.device_cli.specs.Run.{counts, IsBlamedOn, IsRefusal, status_of}
 ghost use Rattle.device_cli.specs.Kept.{IsKept, IsPending};
 ghost use Rattle.device_cli.specs.Replied.{Handled, HasPut, IsSound, no_line, damage_line};
 ghost use Rattle.device_cli.specs.Ran.{Ran};
-ghost use Rattle.device_cli.specs.Reaching.{IsListed, KeepsOn};
+ghost use Rattle.device_course.specs.States.{IsListed};
+ghost use Rattle.device_course.specs.Keys.{KeepsOn};
 ghost use Rattle.device_cli.specs.Unserved.{IsUnserved};
 
 use crate::desk::Desk;

@@ -5,7 +5,7 @@ use Rattle.platform.specs.History.{History, Extends, During, Turns}
 use Rattle.platform.specs.Runs.{Passes}
 use Rattle.platform.proofs.Moments.{During-now, During-turns, LeavesOnly-now, Turns-not}
 use Rattle.platform.proofs.RunLaws.{Passes-start, Passes-during, Passes-turns, Turns-cases}
-use Rattle.sdbt_base.specs.Arrays.{Device, Blocks, committed_with}
+use Rattle.sdbt_base.specs.Arrays.{State, closed, session_on, Device, Blocks, committed_with}
 use Rattle.page_store.specs.Stands.{Stands, IsSound}
 use Rattle.page_store.specs.Kept.{Kept}
 use Rattle.page_store.specs.Keeping.{KeepsKeys}
@@ -25,9 +25,10 @@ use Rattle.device_core.specs.declared.refusals.CommitReply.{CommitReply}
 use Rattle.device_core.specs.declared.session.Session.{Session}
 use Rattle.device_core.proofs.ServedLaws.{serves_still}
 use Rattle.device_course.specs.Marks.{Leaves, HasMark, last_mark}
-use Rattle.device_course.specs.States.{Outside, State, Closed, Open, StandsFor, IsAt, IsListed, IsLater, device_of, committed_of}
+use Rattle.device_course.specs.States.{Outside, Represents, IsAt, IsListed, IsLater, mounted, committed_if}
 use Rattle.device_course.specs.Course.{Course, Stopped}
-use Rattle.device_course.proofs.CourseLaws.{sound_of, stands_at}
+use Rattle.device_course.proofs.KeysLaws.{sound_of, on_call}
+use Rattle.device_core.proofs.HoldLaws.{held_stands}
 
 -- what a call tells beside the devices that a loss of power leaves
 pub record Calls (tells : Type 0) (old new : Outside) (before after : Option Session) (entry : State) : Type 0 where
@@ -39,7 +40,7 @@ pub record Calls (tells : Type 0) (old new : Outside) (before after : Option Ses
   pub forgets : (keys : List (List ℕ)) → IsListed before old.history.present keys → Forgets old.history new.history
 
 course_of : (tells : Type 0) (old new : Outside) (before after : Option Session) (entry exit : State) (marks : List (Option Device)) → Calls tells old new before after entry
-    → Passes old.history new.history (HasMark (device_of entry) marks) (length marks) → device_of exit ≡ last_mark (device_of entry) marks → StandsFor new.history.present after exit
+    → Passes old.history new.history (HasMark entry.device marks) (length marks) → exit.device ≡ last_mark entry.device marks → Represents new.history.present after exit
     → Course old new before after entry marks exit
 course_of tells old new before after entry exit marks c passes last there = record {
   passes = passes;
@@ -47,20 +48,37 @@ course_of tells old new before after entry exit marks c passes last there = reco
   exits = record { there = there; served = During-now old.history new.history IsServedImage c.serves };
   serves = c.serves;
   later = c.later;
-  grew = c.keys.grew;
-  drew = c.keys.drew;
-  handed = c.keys.handed c.told;
-  keeps = λ keys kept h. c.keys.keeps c.told keys kept h;
-  deleted = λ keys kept h. deleted_call old.history new.history (c.forgets keys h);
+  on = record {
+    keys = record {
+      grew = c.keys.grew;
+      drew = c.keys.drew;
+      extends = λ yes. c.keys.extends c.told;
+      handed = λ yes. c.keys.handed c.told;
+      keeps = λ yes keys kept h. c.keys.keeps c.told keys kept h;
+    };
+    deleted = λ yes keys kept h. deleted_call old.history new.history (c.forgets keys h);
+  };
 }
+
+-- a session that has an array
+opens : (image : Image) (session : Session) (device : Device) (array : Blocks) (touched : Bool) → Holds session image device array → is_touched session ≡ touched
+    → Represents image (Some session) (mounted device (record { contents = array; touched = touched }))
+opens image session device array touched holds is = record {
+  device = held_stands session.root session.mapped session.is_loaded session.is_touched session.entries.items image device array holds;
+  session = (holds, is);
+}
+
+-- without a session
+shut : (image : Image) (device : Option Device) → Stands image device → Represents image None (closed device)
+shut image device stands = record { device = stands; session = tt }
 
 -- a call at whose moments the device stays
 pub stays : (tells : Type 0) (old new : Outside) (before after : Option Session) (entry exit : State) → Calls tells old new before after entry
-    → During old.history new.history (Leaves (device_of entry)) → device_of exit ≡ device_of entry → StandsFor new.history.present after exit → Course old new before after entry [] exit
+    → During old.history new.history (Leaves entry.device) → exit.device ≡ entry.device → Represents new.history.present after exit → Course old new before after entry [] exit
 stays tells old new before after entry exit c during same there =
-    let d : Option Device = device_of entry in
+    let d : Option Device = entry.device in
     course_of tells old new before after entry exit [] c
-    (Passes-during old.history old.history new.history (HasMark d []) 0 (Passes-start old.history (HasMark d []) 0 (stands_leaves old.history.present d (stands_at old.history.present before entry c.at.there))) during)
+    (Passes-during old.history old.history new.history (HasMark d []) 0 (Passes-start old.history (HasMark d []) 0 (stands_leaves old.history.present d c.at.there.device)) during)
     same there
 
 -- a call that may come to another device, and at whose end the image stands for this one
@@ -73,14 +91,14 @@ made old new d next here turns stands = elim (Turns-cases old new (Leaves d) (Le
 ]
 
 pub makes : (tells : Type 0) (old new : Outside) (before after : Option Session) (entry exit : State) (next : Option Device) → Calls tells old new before after entry
-    → Turns old.history new.history (Leaves (device_of entry)) (Leaves next) → StandsFor new.history.present after exit → Course old new before after entry (device_of exit ∷ []) exit
+    → Turns old.history new.history (Leaves entry.device) (Leaves next) → Represents new.history.present after exit → Course old new before after entry (exit.device ∷ []) exit
 makes tells old new before after entry exit next c turns there =
-    let d : Option Device = device_of entry in
-    let marks : List (Option Device) = device_of exit ∷ [] in
-    let stands = stands_at new.history.present after exit there in
+    let d : Option Device = entry.device in
+    let marks : List (Option Device) = exit.device ∷ [] in
+    let stands = there.device in
     course_of tells old new before after entry exit marks c
-    (Passes-turns old.history old.history new.history (HasMark d marks) 0 (Passes-start old.history (HasMark d marks) 0 (stands_leaves old.history.present d (stands_at old.history.present before entry c.at.there)))
-    (made old.history new.history d next (device_of exit) turns stands))
+    (Passes-turns old.history old.history new.history (HasMark d marks) 0 (Passes-start old.history (HasMark d marks) 0 (stands_leaves old.history.present d c.at.there.device))
+    (made old.history new.history d next exit.device turns stands))
     refl there
 
 -- at the end of which the image stands for the device that there was
@@ -92,18 +110,18 @@ stayed old new d next turns stands =
 -- a call that stopped on its way to another device
 pub stops : (tells : Type 0) (old new : Outside) (before : Option Session) (entry : State) (next : Option Device)
     → ((device : Option Device) → Stands new.history.present device → Calls tells old new before None entry)
-    → Turns old.history new.history (Leaves (device_of entry)) (Leaves next)
-    → Stopped old new before None entry next (Closed (device_of entry)) (Closed next)
+    → Turns old.history new.history (Leaves entry.device) (Leaves next)
+    → Stopped old new before None entry next (closed entry.device) (closed next)
 stops tells old new before entry next c turns =
-    let d : Option Device = device_of entry in
+    let d : Option Device = entry.device in
     let n = new.history in
-    elim (Turns-cases old.history n (Leaves d) (Leaves next) turns) as (λ e. Stopped old new before None entry next (Closed d) (Closed next)) [
+    elim (Turns-cases old.history n (Leaves d) (Leaves next) turns) as (λ e. Stopped old new before None entry next (closed d) (closed next)) [
       | inl during ↦
           let stands = LeavesOnly-now n (λ left. Stands left d) (During-now old.history n (Leaves d) during) in
-          inl (stays tells old new before None entry (Closed d) (c d stands) during refl stands)
+          inl (stays tells old new before None entry (closed d) (c d stands) during refl (shut new.history.present d stands))
       | inr come ↦
           let stands = LeavesOnly-now n (λ left. Stands left next) come in
-          inr (makes tells old new before None entry (Closed next) next (c next stands) turns stands)
+          inr (makes tells old new before None entry (closed next) next (c next stands) turns (shut new.history.present next stands))
     ]
 
 -- ---- what each call has of `Calls`
@@ -126,10 +144,10 @@ cell_stays tells told old new before after entry at cell later keys = record {
 pub course_still : (tells : Type 0) (told : tells) (old new : Outside) (before after : Option Session) (entry exit : State) → IsAt old.history.present before entry
     → During old.history new.history (λ image. image.cell ≡ old.history.present.cell) → IsLater old new
     → KeepsKeys tells old.drawn new.drawn old.history new.history (IsListed before old.history.present) (IsListed after new.history.present)
-    → device_of exit ≡ device_of entry → StandsFor new.history.present after exit → Course old new before after entry [] exit
+    → exit.device ≡ entry.device → Represents new.history.present after exit → Course old new before after entry [] exit
 course_still tells told old new before after entry exit at cell later keys same there =
     stays tells old new before after entry exit (cell_stays tells told old new before after entry at cell later keys)
-    (stands_during old.history new.history (device_of entry) (stands_at old.history.present before entry at.there) cell) same there
+    (stands_during old.history new.history entry.device at.there.device cell) same there
 
 -- the keys of a call that draws none and leaves the image as it was
 pub look_keys : (tells : Type 0) (drawn : Option (List (List ℕ))) (old new : History) (before after : Option Session) → (tells → new.present ≡ old.present) → (tells → During old new (λ image. image.cell ≡ old.present.cell))
@@ -140,39 +158,39 @@ look_keys tells drawn old new before after same cell listed = keeps_idle tells d
 -- ---- the calls
 
 -- a write, whatever its answer: the array is as it says
-pub write_course : (tells : Type 0) (told : tells) (old new : Outside) (session now : Session) (device : Device) (array next : Blocks) (was touched : Bool) → IsAt old.history.present (Some session) (Open device array was) → IsLater old new
+pub write_course : (tells : Type 0) (told : tells) (old new : Outside) (session now : Session) (device : Device) (array next : Blocks) (was touched : Bool) → IsAt old.history.present (Some session) (mounted device (record { contents = array; touched = was })) → IsLater old new
     → (tells → During old.history new.history (λ image. image.cell ≡ old.history.present.cell))
     → KeepsKeys tells old.drawn new.drawn old.history new.history (HoldsListed session old.history.present) (HoldsListed now new.history.present)
     → Holds now new.history.present device next → is_touched now ≡ touched
-    → Course old new (Some session) (Some now) (Open device array was) [] (Open device next touched)
+    → Course old new (Some session) (Some now) (mounted device (record { contents = array; touched = was })) [] (mounted device (record { contents = next; touched = touched }))
 write_course tells told old new session now device array next was touched at later time keeps holds is =
-    course_still tells told old new (Some session) (Some now) (Open device array was) (Open device next touched) at (time told) later keeps refl (holds, is)
+    course_still tells told old new (Some session) (Some now) (mounted device (record { contents = array; touched = was })) (mounted device (record { contents = next; touched = touched })) at (time told) later keeps refl (opens new.history.present now device next touched holds is)
 
 -- a read or a trim: no page is added, and no key drawn
-pub look_course : (tells : Type 0) (told : tells) (old new : Outside) (session now : Session) (device : Device) (array next : Blocks) (was touched : Bool) → IsAt old.history.present (Some session) (Open device array was) → IsLater old new → new.drawn ≡ old.drawn
+pub look_course : (tells : Type 0) (told : tells) (old new : Outside) (session now : Session) (device : Device) (array next : Blocks) (was touched : Bool) → IsAt old.history.present (Some session) (mounted device (record { contents = array; touched = was })) → IsLater old new → new.drawn ≡ old.drawn
     → (tells → new.history.present ≡ old.history.present) → (tells → During old.history new.history (λ image. image.cell ≡ old.history.present.cell))
     → (tells → (keys : List (List ℕ)) → Kept keys old.history.present → HoldsListed session old.history.present keys → HoldsListed now new.history.present keys)
     → Holds now new.history.present device next → is_touched now ≡ touched
-    → Course old new (Some session) (Some now) (Open device array was) [] (Open device next touched)
+    → Course old new (Some session) (Some now) (mounted device (record { contents = array; touched = was })) [] (mounted device (record { contents = next; touched = touched }))
 look_course tells told old new session now device array next was touched at later drawn image time listed holds is =
     let keys = look_keys tells old.drawn old.history new.history (Some session) (Some now) image time listed in
-    course_still tells told old new (Some session) (Some now) (Open device array was) (Open device next touched) at (time told) later
-    (subst (λ (d : Option (List (List ℕ))). KeepsKeys tells old.drawn d old.history new.history (HoldsListed session old.history.present) (HoldsListed now new.history.present)) (sym drawn) keys) refl (holds, is)
+    course_still tells told old new (Some session) (Some now) (mounted device (record { contents = array; touched = was })) (mounted device (record { contents = next; touched = touched })) at (time told) later
+    (subst (λ (d : Option (List (List ℕ))). KeepsKeys tells old.drawn d old.history new.history (HoldsListed session old.history.present) (HoldsListed now new.history.present)) (sym drawn) keys) refl (opens new.history.present now device next touched holds is)
 
-pub mount_course : (tells : Type 0) (told : tells) (old new : Outside) (session : Session) (device : Device) → IsAt old.history.present None (Closed (Some device)) → IsLater old new → new.drawn ≡ old.drawn
+pub mount_course : (tells : Type 0) (told : tells) (old new : Outside) (session : Session) (device : Device) → IsAt old.history.present None (closed (Some device)) → IsLater old new → new.drawn ≡ old.drawn
     → (tells → new.history.present ≡ old.history.present) → (tells → During old.history new.history (λ image. image.cell ≡ old.history.present.cell))
     → (tells → (keys : List (List ℕ)) → HoldsListed session new.history.present keys)
     → Holds session new.history.present device device.contents → is_touched session ≡ false
-    → Course old new None (Some session) (Closed (Some device)) [] (Open device device.contents false)
+    → Course old new None (Some session) (closed (Some device)) [] (mounted device (session_on device))
 mount_course tells told old new session device at later drawn image time listed holds is =
     let keys = look_keys tells old.drawn old.history new.history None (Some session) image time (λ told keys kept h. listed told keys) in
-    course_still tells told old new None (Some session) (Closed (Some device)) (Open device device.contents false) at (time told) later
-    (subst (λ (d : Option (List (List ℕ))). KeepsKeys tells old.drawn d old.history new.history (λ keys. IsSound old.history.present) (HoldsListed session new.history.present)) (sym drawn) keys) refl (holds, is)
+    course_still tells told old new None (Some session) (closed (Some device)) (mounted device (session_on device)) at (time told) later
+    (subst (λ (d : Option (List (List ℕ))). KeepsKeys tells old.drawn d old.history new.history (λ keys. IsSound old.history.present) (HoldsListed session new.history.present)) (sym drawn) keys) refl (opens new.history.present session device device.contents false holds is)
 
 -- what the clauses of a commit say that hold whatever its answer
 pub record Commits (tells : Type 0) (old new : Outside) (session : Session) (device : Device) (array : Blocks) (touched : Bool) (Then : List (List ℕ) → Type 0) : Type 0 where
   pub told : tells
-  pub at : IsAt old.history.present (Some session) (Open device array touched)
+  pub at : IsAt old.history.present (Some session) (mounted device (record { contents = array; touched = touched }))
   pub later : IsLater old new
   pub time : Turns old.history new.history (Leaves (Some device)) (Leaves (Some (committed_with device array)))
   pub keeps : KeepsKeys tells old.drawn new.drawn old.history new.history (HoldsListed session old.history.present) Then
@@ -180,7 +198,7 @@ pub record Commits (tells : Type 0) (old new : Outside) (session : Session) (dev
   pub serves : tells → IsServedImage old.history.present → During old.history new.history IsServedImage
 
 commit_calls : (tells : Type 0) (old new : Outside) (session : Session) (after : Option Session) (device : Device) (array : Blocks) (touched : Bool) (Then : List (List ℕ) → Type 0) → Commits tells old new session device array touched Then
-    → ((keys : List (List ℕ)) → Then keys → IsListed after new.history.present keys) → Calls tells old new (Some session) after (Open device array touched)
+    → ((keys : List (List ℕ)) → Then keys → IsListed after new.history.present keys) → Calls tells old new (Some session) after (mounted device (record { contents = array; touched = touched }))
 commit_calls tells old new session after device array touched Then c done = record {
   told = c.told;
   at = c.at;
@@ -193,17 +211,17 @@ commit_calls tells old new session after device array touched Then c done = reco
 -- a commit that was answered, with a number: its device is a mark
 pub commit_course : (tells : Type 0) (old new : Outside) (session now : Session) (device : Device) (array : Blocks) (touched : Bool) (reply : CommitReply) (Then : List (List ℕ) → Type 0) → Commits tells old new session device array touched Then
     → ((keys : List (List ℕ)) → Then keys → HoldsListed now new.history.present keys) → Holds now new.history.present (device_after reply device array) array → is_touched now ≡ false
-    → Course old new (Some session) (Some now) (Open device array touched) (Some (device_after reply device array) ∷ []) (Open (device_after reply device array) array false)
+    → Course old new (Some session) (Some now) (mounted device (record { contents = array; touched = touched })) (Some (device_after reply device array) ∷ []) (mounted (device_after reply device array) (record { contents = array; touched = false }))
 commit_course tells old new session now device array touched reply Then c done holds is =
-    makes tells old new (Some session) (Some now) (Open device array touched) (Open (device_after reply device array) array false) (Some (committed_with device array))
-    (commit_calls tells old new session (Some now) device array touched Then c done) c.time (holds, is)
+    makes tells old new (Some session) (Some now) (mounted device (record { contents = array; touched = touched })) (mounted (device_after reply device array) (record { contents = array; touched = false })) (Some (committed_with device array))
+    (commit_calls tells old new session (Some now) device array touched Then c done) c.time (opens new.history.present now (device_after reply device array) array false holds is)
 
 -- which number it has
 reply_is : (session now : Session) (image : Image) (device : Device) (array : Blocks) (touched : Bool) (reply : CommitReply) (number head capacity : ℕ) → Holds session image device array → is_touched session ≡ touched → reply ≡ Committed number
     → (is_touched session ≡ false → (now ≡ session) × (reply ≡ Committed (number_of session)))
     → (is_touched session ≡ true → head ≡ capacity → reply ≡ Full 1 0)
     → (is_touched session ≡ true → (head ≡ capacity → ⊥) → (reply ≡ Committed (number_of session + 1)) × (is_touched now ≡ false))
-    → (device_after reply device array ≡ committed_of device array touched) × (is_touched now ≡ false)
+    → (device_after reply device array ≡ committed_if touched device (record { contents = array; touched = touched })) × (is_touched now ≡ false)
 reply_is session now image device array false reply number head capacity holds same is idle full raised =
     let i = idle same in (
       ap (λ (r : CommitReply). device_after r device array) i.1
@@ -222,21 +240,20 @@ pub commit_answered : (tells : Type 0) (old new : Outside) (session now : Sessio
     → (is_touched session ≡ false → (now ≡ session) × (reply ≡ Committed (number_of session)))
     → (is_touched session ≡ true → old.head ≡ old.capacity → reply ≡ Full 1 0)
     → (is_touched session ≡ true → (old.head ≡ old.capacity → ⊥) → (reply ≡ Committed (number_of session + 1)) × (is_touched now ≡ false))
-    → Course old new (Some session) (Some now) (Open device array touched) (Some (committed_of device array touched) ∷ []) (Open (committed_of device array touched) array false)
+    → Course old new (Some session) (Some now) (mounted device (record { contents = array; touched = touched })) (Some (committed_if touched device (record { contents = array; touched = touched })) ∷ []) (mounted (committed_if touched device (record { contents = array; touched = touched })) (record { contents = array; touched = false }))
 commit_answered tells old new session now device array touched reply number Then c done holds is idle full raised =
-    let r = reply_is session now old.history.present device array touched reply number old.head old.capacity c.at.there.0 c.at.there.1 is idle full raised in
-    subst (λ (d : Device). Course old new (Some session) (Some now) (Open device array touched) (Some d ∷ []) (Open d array false)) r.0
+    let r = reply_is session now old.history.present device array touched reply number old.head old.capacity c.at.there.session.0 c.at.there.session.1 is idle full raised in
+    subst (λ (d : Device). Course old new (Some session) (Some now) (mounted device (record { contents = array; touched = touched })) (Some d ∷ []) (mounted d (record { contents = array; touched = false }))) r.0
     (commit_course tells old new session now device array touched reply Then c done holds r.1)
 
 -- or that no page is free: nothing was made
 pub commit_full : (tells : Type 0) (old new : Outside) (session now : Session) (device : Device) (array : Blocks) (touched : Bool) (Then : List (List ℕ) → Type 0) → Commits tells old new session device array touched Then
     → ((keys : List (List ℕ)) → Then keys → HoldsListed now new.history.present keys) → Holds now new.history.present device array → is_touched now ≡ touched
-    → Course old new (Some session) (Some now) (Open device array touched) [] (Open device array touched)
+    → Course old new (Some session) (Some now) (mounted device (record { contents = array; touched = touched })) [] (mounted device (record { contents = array; touched = touched }))
 commit_full tells old new session now device array touched Then c done holds is =
-    let there = stands_at new.history.present (Some now) (Open device array touched) (holds, is) in
-    stays tells old new (Some session) (Some now) (Open device array touched) (Open device array touched)
+    stays tells old new (Some session) (Some now) (mounted device (record { contents = array; touched = touched })) (mounted device (record { contents = array; touched = touched }))
     (commit_calls tells old new session (Some now) device array touched Then c done)
-    (stayed old.history new.history (Some device) (Some (committed_with device array)) c.time there) refl (holds, is)
+    (stayed old.history new.history (Some device) (Some (committed_with device array)) c.time (opens new.history.present now device array touched holds is).device) refl (opens new.history.present now device array touched holds is)
 
 -- the session is then as it was
 same_session : (session now : Session) (touched : Bool) (reply : CommitReply) (needed free head capacity : ℕ) → is_touched session ≡ touched → reply ≡ Full needed free
@@ -255,17 +272,17 @@ pub commit_refused : (tells : Type 0) (old new : Outside) (session now : Session
     → (is_touched session ≡ false → reply ≡ Committed (number_of session))
     → (is_touched session ≡ true → old.head ≡ old.capacity → now ≡ session)
     → (is_touched session ≡ true → (old.head ≡ old.capacity → ⊥) → reply ≡ Committed (number_of session + 1))
-    → Course old new (Some session) (Some now) (Open device array touched) [] (Open device array touched)
+    → Course old new (Some session) (Some now) (mounted device (record { contents = array; touched = touched })) [] (mounted device (record { contents = array; touched = touched }))
 commit_refused tells old new session now device array touched reply needed free Then c done holds is idle full raised =
-    let same = same_session session now touched reply needed free old.head old.capacity c.at.there.1 is idle full raised in
+    let same = same_session session now touched reply needed free old.head old.capacity c.at.there.session.1 is idle full raised in
     commit_full tells old new session now device array touched Then c done (subst (λ (r : CommitReply). Holds now new.history.present (device_after r device array) array) is holds)
-    (ap (λ (s : Session). is_touched s) same ∙ c.at.there.1)
+    (ap (λ (s : Session). is_touched s) same ∙ c.at.there.session.1)
 
 -- a commit that failed, with which the session ends
 pub commit_stop : (tells : Type 0) (old new : Outside) (session : Session) (device : Device) (array : Blocks) (touched : Bool) (Then : List (List ℕ) → Type 0) → Commits tells old new session device array touched Then
-    → Stopped old new (Some session) None (Open device array touched) (Some (committed_with device array)) (Closed (Some device)) (Closed (Some (committed_with device array)))
+    → Stopped old new (Some session) None (mounted device (record { contents = array; touched = touched })) (Some (committed_with device array)) (closed (Some device)) (closed (Some (committed_with device array)))
 commit_stop tells old new session device array touched Then c =
-    stops tells old new (Some session) (Open device array touched) (Some (committed_with device array))
+    stops tells old new (Some session) (mounted device (record { contents = array; touched = touched })) (Some (committed_with device array))
     (λ left stands. commit_calls tells old new session None device array touched Then c (λ keys then'. (left, stands))) c.time
 
 -- a format or an erasure
@@ -288,13 +305,13 @@ remake_calls tells old new before entry next device c stands = record {
   forgets = λ keys h. c.forgets c.told (sound_of before old.history.present keys h);
 }
 
-pub remake_course : (tells : Type 0) (old new : Outside) (before : Option Session) (entry : State) (next : Option Device) → Remakes tells old new before entry next → Stands new.history.present next → Course old new before None entry (next ∷ []) (Closed next)
+pub remake_course : (tells : Type 0) (old new : Outside) (before : Option Session) (entry : State) (next : Option Device) → Remakes tells old new before entry next → Stands new.history.present next → Course old new before None entry (next ∷ []) (closed next)
 remake_course tells old new before entry next c stands =
-    makes tells old new before None entry (Closed next) next (remake_calls tells old new before entry next next c stands) (c.time c.told (device_of entry) (stands_at old.history.present before entry c.at.there)) stands
+    makes tells old new before None entry (closed next) next (remake_calls tells old new before entry next next c stands) (c.time c.told entry.device c.at.there.device) (shut new.history.present next stands)
 
-pub remake_stop : (tells : Type 0) (old new : Outside) (before : Option Session) (entry : State) (next : Option Device) → Remakes tells old new before entry next → Stopped old new before None entry next (Closed (device_of entry)) (Closed next)
+pub remake_stop : (tells : Type 0) (old new : Outside) (before : Option Session) (entry : State) (next : Option Device) → Remakes tells old new before entry next → Stopped old new before None entry next (closed entry.device) (closed next)
 remake_stop tells old new before entry next c =
-    stops tells old new before entry next (λ left stands. remake_calls tells old new before entry next left c stands) (c.time c.told (device_of entry) (stands_at old.history.present before entry c.at.there))
+    stops tells old new before entry next (λ left stands. remake_calls tells old new before entry next left c stands) (c.time c.told entry.device c.at.there.device)
 
 -- the keys of an erasure, which draws none and adds no page
 pub erase_keys : (tells : Type 0) (drawn : Option (List (List ℕ))) (old new : History) → (tells → Extends old new) → (tells → length new.present.recorded ≡ length old.present.recorded) → (tells → (keys : List (List ℕ)) → Kept keys old.present → During old new (Kept keys))
@@ -302,11 +319,11 @@ pub erase_keys : (tells : Type 0) (drawn : Option (List (List ℕ))) (old new : 
 erase_keys tells drawn old new extends size keeps = keeps_still tells drawn drawn old new (λ keys. IsSound old.present) (λ keys. Unit {0}) refl extends size (λ told keys kept h. keeps told keys kept) (λ told keys h. tt)
 
 -- a mount that was refused
-pub mount_refused : (tells : Type 0) (told : tells) (old new : Outside) (device : Option Device) → IsAt old.history.present None (Closed device) → IsLater old new → new.drawn ≡ old.drawn
+pub mount_refused : (tells : Type 0) (told : tells) (old new : Outside) (device : Option Device) → IsAt old.history.present None (closed device) → IsLater old new → new.drawn ≡ old.drawn
     → (tells → new.history.present ≡ old.history.present) → (tells → During old.history new.history (λ image. image.cell ≡ old.history.present.cell))
-    → Course old new None None (Closed device) [] (Closed device)
+    → Course old new None None (closed device) [] (closed device)
 mount_refused tells told old new device at later drawn image time =
     let keys = look_keys tells old.drawn old.history new.history None None image time (λ told keys kept h. subst IsSound (sym (image told)) h) in
-    course_still tells told old new None None (Closed device) (Closed device) at (time told) later
+    course_still tells told old new None None (closed device) (closed device) at (time told) later
     (subst (λ (d : Option (List (List ℕ))). KeepsKeys tells old.drawn d old.history new.history (λ keys. IsSound old.history.present) (λ keys. IsSound new.history.present)) (sym drawn) keys) refl
-    (subst (λ (i : Image). Stands i device) (sym (image told)) at.there)
+    (shut new.history.present device (subst (λ (i : Image). Stands i device) (sym (image told)) at.there.device))

@@ -1,3 +1,4 @@
 pub mod MarkLaws
 pub mod CourseLaws
 pub mod CallCourses
+pub mod KeysLaws

@@ -33,8 +33,8 @@ pub record IsLater (old new : Outside) : Type 0 where
   pub within : new.head ≤ new.capacity
 
 -- a device with a session on it
-abbrev pub at : Device → OpenSession → State
-at device session = record { device = Some device; session = Some session }
+abbrev pub mounted : Device → OpenSession → State
+mounted device session = record { device = Some device; session = Some session }
 
 -- the session, if there is one, has over the image the array of the state's session; below it is the state's device
 abbrev pub IsSessionOf : Option Session → Image → Option Device → Option OpenSession → Type 0
@@ -45,13 +45,13 @@ IsSessionOf (Some session) image None (Some there) = ⊥
 IsSessionOf (Some session) image (Some device) (Some there) = Holds session image device there.contents × (is_touched session ≡ there.touched)
 
 -- the image stands for the state's device, and the session is the state's
-pub record Represents (image : Image) (session : Option Session) (state : State) : Type 0 where
+pub record Represents (image : Image) (held : Option Session) (state : State) : Type 0 where
   pub device : Stands image state.device
-  pub session : IsSessionOf session image state.device state.session
+  pub session : IsSessionOf held image state.device state.session
 
 -- the same, and the cell can be served
-pub record IsAt (image : Image) (session : Option Session) (state : State) : Type 0 where
-  pub there : Represents image session state
+pub record IsAt (image : Image) (held : Option Session) (state : State) : Type 0 where
+  pub there : Represents image held state
   pub served : IsServedImage image
 
 -- the image stands, and the session, if there is one, has no key that isn't listed

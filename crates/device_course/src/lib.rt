@@ -3,10 +3,10 @@
 #![tactic(auto)]
 
 ghost use Rattle.std.specs.Prelude.{◌≤◌, ◌++◌, List, ℕ, [], None, Option};
-ghost use Rattle.sdbt_base.specs.Arrays.{Device};
+ghost use Rattle.sdbt_base.specs.Arrays.{Device, State, closed};
 ghost use Rattle.page_store.specs.Kept.{Kept};
 ghost use Rattle.device_core.specs.declared.session.Session.{Session};
-ghost use Rattle.device_course.specs.States.{Outside, State, Closed, IsAt, IsListed, device_of};
+ghost use Rattle.device_course.specs.States.{Outside, IsAt, IsListed};
 ghost use Rattle.page_store.specs.Disclosing.{DisclosesBy};
 ghost use Rattle.device_course.specs.Course.{Course};
 
@@ -18,12 +18,12 @@ pub fn courses_compose()
         → Course first second before between entry one mid → Course second third between after mid two exit
         → Course first third before after entry (one ++ two) exit }
     ensures closed { (old new : Outside) (before after : Option Session) (entry exit : State) (marks : List (Option Device))
-        → Course old new before after entry marks exit → Course old new before None entry marks (Closed (device_of exit)) }
+        → Course old new before after entry marks exit → Course old new before None entry marks (closed exit.device) }
 {}
 
 /// What the pages disclose after a part of a run to whoever has the root record's key.
 pub fn course_discloses()
     ensures { (old new : Outside) (before after : Option Session) (entry exit : State) (marks : List (Option Device)) (keys : List (List ℕ))
         → (course : Course old new before after entry marks exit) → Kept keys old.history.present → IsListed before old.history.present keys
-        → DisclosesBy keys course.grew old.history new.history }
+        → DisclosesBy keys course.on.keys.grew old.history new.history }
 {}

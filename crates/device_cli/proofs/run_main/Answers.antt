@@ -6,7 +6,8 @@ use Rattle.device_cli.proofs.ScriptLaws.{answers_script, answers_nothing}
 use Rattle.device_cli.specs.Ran.{IsComplete}
 use Rattle.device_cli.specs.Run.{counts}
 use Rattle.device_cli.proofs.CompleteLaws.{complete_ending}
-use Rattle.device_cli.proofs.ReachingLaws.{on_start, discloses, passed_stands}
+use Rattle.device_course.proofs.KeysLaws.{on_start}
+use Rattle.device_cli.proofs.ReachingLaws.{discloses, passed_stands}
 use Rattle.device_cli.proofs.run_main.Goals as goal
 
 pub returns-then-not-are_run_words-clause-answers : goal.returns-then-not-are_run_words-clause-answers

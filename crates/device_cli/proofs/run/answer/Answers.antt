@@ -5,7 +5,8 @@ use Rattle.device_cli.proofs.RepliedLaws.{IsLater-refl, Handled-line, Handled-st
 use Rattle.platform.proofs.Moments.{During-now}
 use Rattle.device_core.specs.Leaf.{IsServedImage}
 use Rattle.device_cli.proofs.CellLaws.{serves_now}
-use Rattle.device_cli.proofs.ReachingLaws.{on_start, on_done, on_ok}
+use Rattle.device_course.proofs.KeysLaws.{on_start, on_done}
+use Rattle.device_cli.proofs.ReachingLaws.{on_ok}
 use Rattle.device_cli.proofs.run.answer.Goals as goal
 
 pub returns-in_default-clause-handled : goal.returns-in_default-clause-handled

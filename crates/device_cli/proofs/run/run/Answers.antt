@@ -8,8 +8,8 @@ use Rattle.device_cli.specs.declared.stop.Stop.TheVariants as stops
 use Rattle.device_cli.proofs.RanLaws.{Ran-refused, Ran-ended, Ran-other, Ran-after, sound_of}
 use Rattle.device_cli.proofs.StillLaws.{still_after}
 use Rattle.device_cli.proofs.CellLaws.{serves_looked, serves_then}
-use Rattle.device_cli.specs.Reaching.{IsListed}
-use Rattle.device_cli.proofs.ReachingLaws.{on_look, on_done, on_then, listed_none, listed_image}
+use Rattle.device_course.specs.States.{IsListed}
+use Rattle.device_course.proofs.KeysLaws.{on_look, on_done, on_then, listed_none, listed_image}
 use Rattle.device_core.proofs.MomentLaws.{one_look}
 use Rattle.device_cli.proofs.run.run.Goals as goal
 

@@ -4,7 +4,7 @@ use Rattle.device_cli.specs.Replied.{Handled, no_line}
 use Rattle.device_cli.specs.World.{World, world}
 use Rattle.device_cli.proofs.RepliedLaws.{Handled-nothing}
 use Rattle.device_cli.proofs.CellLaws.{serves_now}
-use Rattle.device_cli.proofs.ReachingLaws.{on_start}
+use Rattle.device_course.proofs.KeysLaws.{on_start}
 use Rattle.device_cli.proofs.run.serve_end.Goals as goal
 
 pub returns-then-is_empty-clause-handled : goal.returns-then-is_empty-clause-handled

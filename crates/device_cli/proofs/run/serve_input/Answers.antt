@@ -7,7 +7,7 @@ use Rattle.script_lang.specs.Lines.{rest_of}
 use Rattle.device_cli.specs.World.{World, world}
 use Rattle.device_cli.proofs.Reading.{IsReading, IsReading-start, IsReading-more, IsReading-stop, IsReading-end, IsReading-failed, IsReading-limit}
 use Rattle.device_cli.proofs.CellLaws.{serves_now, served_at, serves_then}
-use Rattle.device_cli.proofs.ReachingLaws.{on_start, on_done, on_then}
+use Rattle.device_course.proofs.KeysLaws.{on_start, on_done, on_then}
 use Rattle.device_cli.proofs.run.serve_input.Goals as goal
 
 -- nothing given leaves all

@@ -6,7 +6,7 @@ use Rattle.device_cli.specs.Kept.{IsKept}
 use Rattle.device_cli.specs.World.{World, world}
 use Rattle.device_cli.proofs.Serving.{IsServing-start, IsServing-line, IsServing-stop, IsServing-end}
 use Rattle.device_cli.proofs.CellLaws.{serves_now, served_at, serves_then}
-use Rattle.device_cli.proofs.ReachingLaws.{on_start, on_done, on_then}
+use Rattle.device_course.proofs.KeysLaws.{on_start, on_done, on_then}
 use Rattle.device_cli.proofs.run.serve_piece.Goals as goal
 
 pub loop-front-init : goal.loop-front-init

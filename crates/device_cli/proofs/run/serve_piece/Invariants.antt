@@ -6,7 +6,8 @@ use Rattle.device_cli.specs.Desk.{IsReady, IsMounted}
 use Rattle.device_cli.specs.Run.{counts, NoneFell}
 use Rattle.device_cli.specs.Kept.{IsPending}
 use Rattle.device_cli.specs.World.{world}
-use Rattle.device_cli.specs.Reaching.{IsListed, KeepsOn}
+use Rattle.device_course.specs.States.{IsListed}
+use Rattle.device_course.specs.Keys.{KeepsOn}
 use Rattle.device_cli.proofs.Serving.{IsServing}
 use Rattle.device_cli.proofs.run.serve_piece.Given as goal
 

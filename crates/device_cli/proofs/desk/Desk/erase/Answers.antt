@@ -2,7 +2,7 @@ use Rattle.std.proofs.Common.{None, refl, sym, ◌∙◌, arith}
 use Rattle.std.proofs.lemmas.Grind.{common_steps}
 use Rattle.device_cli.specs.World.{World, world}
 use Rattle.device_cli.proofs.ServingLaws.{serves_erased, serves_erase_none, halts_erase}
-use Rattle.device_cli.proofs.ReachingLaws.{on_kept, listed_image}
+use Rattle.device_course.proofs.KeysLaws.{on_kept, listed_image}
 use Rattle.device_cli.proofs.desk.Desk.erase.Goals as goal
 
 pub returns-in-Ok-clause-answered : goal.returns-in-Ok-clause-answered

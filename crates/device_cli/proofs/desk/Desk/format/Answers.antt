@@ -18,7 +18,8 @@ use Rattle.sdbt_base.specs.Arrays.{Session as OpenSession}
 use Rattle.device_cli.proofs.ServedLaws.{on, halts_still, gives_format_range, gives_format_unbuilt}
 use Rattle.device_cli.proofs.ServingLaws.{KeepsCell, serves_formatted, serves_format_full, serves_not_empty, serves_refused, halts_format}
 use Rattle.device_core.proofs.ServedLaws.{serves_still as serves_while_cell}
-use Rattle.device_cli.proofs.ReachingLaws.{on_look, on_call, on_ok, sound_of, listed_image, listed_keys, format_listed}
+use Rattle.device_course.proofs.KeysLaws.{on_look, on_call, sound_of, listed_image, listed_keys, format_listed}
+use Rattle.device_cli.proofs.ReachingLaws.{on_ok}
 use Rattle.device_cli.proofs.desk.Desk.format.Goals as goal
 
 -- what the looking for a device ended with

@@ -12,7 +12,7 @@ use Rattle.device_cli.proofs.ServedLaws.{halts_still}
 use Rattle.device_cli.proofs.ServingLaws.{serves_already, serves_mounted, serves_no_device}
 use Rattle.device_core.proofs.ServedLaws.{serves_still as serves_while_cell}
 use Rattle.device_cli.proofs.CellLaws.{serves_now}
-use Rattle.device_cli.proofs.ReachingLaws.{on_start, on_look, listed_image, mount_listed}
+use Rattle.device_course.proofs.KeysLaws.{on_start, on_look, listed_image, mount_listed}
 use Rattle.device_cli.proofs.desk.Desk.mount.Goals as goal
 
 some_of : (s : Option Session) → (s ≡ None → ⊥) → (Goal : Type 0) → ((session : Session) → s ≡ Some session → Goal) → Goal

@@ -8,7 +8,8 @@ use Rattle.device_cli.specs.Replied.{Serves}
 use Rattle.script_lang.specs.declared.commands.Command.{Command}
 use Rattle.device_cli.proofs.ServingLaws.{serves_seize}
 use Rattle.device_cli.proofs.CellLaws.{serves_now}
-use Rattle.device_cli.proofs.ReachingLaws.{on_start, on_done, on_ok, listed_none}
+use Rattle.device_course.proofs.KeysLaws.{on_start, on_done, listed_none}
+use Rattle.device_cli.proofs.ReachingLaws.{on_ok}
 use Rattle.device_cli.proofs.desk.Desk.serve.Goals as goal
 
 pub returns-in-Write-clause-answered : goal.returns-in-Write-clause-answered

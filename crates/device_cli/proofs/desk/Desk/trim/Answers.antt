@@ -14,7 +14,7 @@ use Rattle.device_cli.proofs.ServingLaws.{serves_unmounted}
 use Rattle.device_cli.proofs.Choices.{inside, not_both}
 use Rattle.device_core.proofs.ServedLaws.{serves_still as serves_while_cell}
 use Rattle.device_cli.proofs.CellLaws.{serves_now}
-use Rattle.device_cli.proofs.ReachingLaws.{on_start, on_look, listed_some}
+use Rattle.device_course.proofs.KeysLaws.{on_start, on_look, listed_some}
 use Rattle.device_cli.proofs.desk.Desk.trim.Goals as goal
 
 pub returns-in_default-clause-answered : goal.returns-in_default-clause-answered

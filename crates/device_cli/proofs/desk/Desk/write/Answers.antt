@@ -18,7 +18,7 @@ use Rattle.device_cli.proofs.Choices.{inside, not_both}
 use Rattle.device_core.proofs.ServedLaws.{serves_still as serves_while_cell}
 use Rattle.device_cli.proofs.CellLaws.{serves_now}
 use Rattle.page_store.proofs.FloorLaws.{forgets_still}
-use Rattle.device_cli.proofs.ReachingLaws.{on_start, on_call, sound_of, listed_some}
+use Rattle.device_course.proofs.KeysLaws.{on_start, on_call, sound_of, listed_some}
 use Rattle.device_cli.proofs.desk.Desk.write.Goals as goal
 
 pub returns-in_default-clause-answered : goal.returns-in_default-clause-answered

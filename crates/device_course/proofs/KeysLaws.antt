@@ -1,0 +1,99 @@
+-- How parts of a run compose that keep the keys of an image, and which calls do.
+use Rattle.std.proofs.Common.{◌≡◌, ℕ, List, ◌++◌, Option, None, Some, length, refl, sym, ◌∙◌, subst}
+use Rattle.sdbt_base.specs.Arrays.{Device}
+use Rattle.root_codec.specs.RootRecord.{root_bytes}
+use Rattle.platform.specs.Image.{Image}
+use Rattle.platform.specs.History.{History, Extends, During}
+use Rattle.platform.proofs.Moments.{During-start, During-now}
+use Rattle.page_store.specs.Stands.{Stands, IsSound}
+use Rattle.page_store.specs.Kept.{Kept}
+use Rattle.page_store.specs.Keeping.{KeepsKeys}
+use Rattle.page_store.specs.Floors.{Forgets}
+use Rattle.page_store.proofs.KeptLaws.{same_during}
+use Rattle.page_store.proofs.KeepingLaws.{keeps_idle, keeps_then, keeps_from, keeps_still}
+use Rattle.page_store.proofs.FloorLaws.{deleted_start, deleted_call, deleted_then, forgets_still}
+use Rattle.device_core.specs.Knowing.{HoldsListed}
+use Rattle.device_core.specs.declared.session.Session.{Session}
+use Rattle.device_core.proofs.KeyLaws.{listed_sound, listed_same, listed_grown}
+use Rattle.device_course.specs.States.{IsListed}
+use Rattle.device_course.specs.Keys.{KeepsOn}
+
+pub sound_of : (session : Option Session) (image : Image) (keys : List (List ℕ)) → IsListed session image keys → IsSound image
+sound_of None image keys sound = sound
+sound_of (Some session) image keys h = listed_sound session.root session.mapped session.is_loaded session.is_touched session.entries.items image keys h
+
+pub listed_image : (session : Option Session) (image other : Image) (keys : List (List ℕ)) → other ≡ image → IsListed session image keys → IsListed session other keys
+listed_image session image other keys same h = subst (λ (i : Image). IsListed session i keys) (sym same) h
+
+-- nothing happened
+pub on_start : (tells : Type 0) (drawn : Option (List (List ℕ))) (session : Option Session) (history : History) → KeepsOn tells drawn drawn session history history (IsListed session history.present)
+on_start tells drawn session history = record {
+  keys = keeps_idle tells drawn drawn history history (IsListed session history.present) (IsListed session history.present) refl (λ told. During-start history (λ image. image ≡ history.present) refl) (λ told keys kept h. h);
+  deleted = λ told keys kept h. deleted_start history (sound_of session history.present keys h);
+}
+
+-- a call that leaves the image as it was
+pub on_look : (tells : Type 0) (drawn : Option (List (List ℕ))) (session : Option Session) (old new : History) (Done : List (List ℕ) → Type 0) → (tells → new.present ≡ old.present) → (tells → During old new (λ image. image.cell ≡ old.present.cell)) → (tells → (keys : List (List ℕ)) → Kept keys old.present → IsListed session old.present keys → Done keys) → KeepsOn tells drawn drawn session old new Done
+on_look tells drawn session old new Done same cell done = record {
+  keys = keeps_idle tells drawn drawn old new (IsListed session old.present) Done refl (λ told. same_during old new (same told) (cell told)) done;
+  deleted = λ told keys kept h. deleted_call old new (forgets_still old new (sound_of session old.present keys h) (cell told));
+}
+
+-- a call that may draw
+pub on_call : (tells : Type 0) (drawn drawn_now : Option (List (List ℕ))) (session : Option Session) (old new : History) (Ready Then Done : List (List ℕ) → Type 0) → KeepsKeys tells drawn drawn_now old new Ready Then → (tells → (keys : List (List ℕ)) → IsListed session old.present keys → Ready keys) → (tells → (keys : List (List ℕ)) → IsListed session old.present keys → Forgets old new) → (tells → (keys more : List (List ℕ)) → IsListed session old.present keys → Then (keys ++ more) → Done (keys ++ more)) → KeepsOn tells drawn drawn_now session old new Done
+on_call tells drawn drawn_now session old new Ready Then Done k ready forgets done = record {
+  keys = keeps_from tells drawn drawn_now old new Ready (IsListed session old.present) Then Done k ready done;
+  deleted = λ told keys kept h. deleted_call old new (forgets told keys h);
+}
+
+-- a weaker end
+pub on_done : (tells : Type 0) (drawn drawn_now : Option (List (List ℕ))) (session : Option Session) (old new : History) (Then Done : List (List ℕ) → Type 0) → KeepsOn tells drawn drawn_now session old new Then → ((keys : List (List ℕ)) → Then keys → Done keys) → KeepsOn tells drawn drawn_now session old new Done
+on_done tells drawn drawn_now session old new Then Done on done = record {
+  keys = keeps_from tells drawn drawn_now old new (IsListed session old.present) (IsListed session old.present) Then Done on.keys (λ told keys h. h) (λ told keys more h then'. done (keys ++ more) then');
+  deleted = on.deleted;
+}
+
+-- one part after another
+pub on_then : (tells : Type 0) (drawn mid drawn_now : Option (List (List ℕ))) (session between : Option Session) (first second third : History) (Done : List (List ℕ) → Type 0) → KeepsOn tells drawn mid session first second (IsListed between second.present) → KeepsOn tells mid drawn_now between second third Done → KeepsOn tells drawn drawn_now session first third Done
+on_then tells drawn mid drawn_now session between first second third Done one two = record {
+  keys = keeps_then tells drawn mid drawn_now first second third (IsListed session first.present) (IsListed between second.present) (IsListed between second.present) Done Done one.keys two.keys (λ told keys kept h. h) (λ told keys more h done. done);
+  deleted = λ told keys kept h.
+      let a = one.keys.keeps told keys kept h in
+      let all = keys ++ one.keys.grew in
+      deleted_then first second third (one.deleted told keys kept h) (two.deleted told all (During-now first second (Kept all) a.kept) a.done);
+}
+
+-- ---- calls of a session
+
+pub listed_some : (held : Option Session) (session : Session) (image : Image) (keys : List (List ℕ)) → held ≡ Some session → IsListed held image keys → HoldsListed session image keys
+listed_some held session image keys is h = subst (λ (s : Option Session). IsListed s image keys) is h
+
+pub listed_none : (held now : Option Session) (image : Image) (keys : List (List ℕ)) → now ≡ None → IsListed held image keys → IsListed now image keys
+listed_none held now image keys none h = subst (λ (s : Option Session). IsListed s image keys) (sym none) (sound_of held image keys h)
+
+-- without a session a mount finds the device
+pub mount_listed : (held : Option Session) (image : Image) (keys bytes : List (List ℕ)) (X : Type 0) (cell : List ℕ) → held ≡ None → image.cell ≡ Some cell → IsListed held image keys → ((device : Device) → Stands image (Some device) → X) → X
+mount_listed held image keys bytes X cell none full h found = from (subst (λ (s : Option Session). IsListed s image keys) none h)
+  where
+    from : IsSound image → X
+    from (None, stands) = absurd (let no : None ≡ Some cell = sym stands ∙ full in cc)
+    from (Some device, stands) = found device stands
+
+-- a format leaves a device where there was no session
+pub format_listed : (held : Option Session) (image after : Image) (keys more : List (List ℕ)) (device : Device) → image.cell ≡ None → Stands after (Some device) → IsListed held image keys → IsListed held after more
+format_listed None image after keys more device empty stands h = (Some device, stands)
+format_listed (Some session) image after keys more device empty stands h = absurd (let no : None ≡ Some (root_bytes session.root) = sym empty ∙ h.holds.stands.cell in cc)
+
+-- a session whose image stays is listed by more keys
+pub listed_keys : (held : Option Session) (image other : Image) (keys more : List (List ℕ)) → other ≡ image → IsListed held image keys → IsListed held other (keys ++ more)
+listed_keys None image other keys more same h = subst IsSound (sym same) h
+listed_keys (Some session) image other keys more same h =
+    listed_same session.root session.mapped session.is_loaded session.is_touched session.entries.items image other (keys ++ more) same
+    (listed_grown session.root session.mapped session.is_loaded session.is_touched session.entries.items image keys more h)
+
+-- a call that draws none and adds no page
+pub on_kept : (tells : Type 0) (drawn : Option (List (List ℕ))) (session : Option Session) (old new : History) (Done : List (List ℕ) → Type 0) → (tells → Extends old new) → (tells → length new.present.recorded ≡ length old.present.recorded) → (tells → (keys : List (List ℕ)) → Kept keys old.present → During old new (Kept keys)) → (tells → IsSound old.present → Forgets old new) → (tells → (keys : List (List ℕ)) → IsListed session old.present keys → Done keys) → KeepsOn tells drawn drawn session old new Done
+on_kept tells drawn session old new Done extends size kept forgets done = record {
+  keys = keeps_still tells drawn drawn old new (IsListed session old.present) Done refl extends size (λ told keys k h. kept told keys k) done;
+  deleted = λ told keys k h. deleted_call old new (forgets told (sound_of session old.present keys h));
+}
