@@ -1,8 +1,15 @@
 -- That the cell can be served at each moment.
 use Rattle.platform.specs.History.{History, Steps, During}
-use Rattle.std.proofs.Common.{◌≡◌, sym, subst}
+use Rattle.std.proofs.Common.{◌≡◌, sym, subst, ap, ◌∙◌}
 use Rattle.platform.proofs.Moments.{During-start, During-step, During-now, During-then}
+use Rattle.std.specs.Prelude.{Option, Some, IfSome}
+use Rattle.platform.specs.History.{CellStays}
+use Rattle.root_codec.specs.declared.root.Root.{Root}
+use Rattle.root_codec.specs.RootRecord.{root_bytes}
+use Rattle.device_core.specs.Holds.{Follows}
 use Rattle.device_core.specs.Leaf.{IsServedImage}
+use Rattle.device_core.specs.declared.session.Session.{Session}
+use Rattle.device_cli.specs.Desk.{IsMounted}
 
 -- no time has passed
 pub serves_now : (history : History) → IsServedImage history.present → During history history IsServedImage
@@ -19,3 +26,13 @@ serves_then first second third one two = During-then first second third IsServed
 -- a look at the platform
 pub serves_looked : (old new : History) → Steps old new → new.present ≡ old.present → IsServedImage old.present → During old new IsServedImage
 serves_looked old new steps same served = During-step old new IsServedImage steps served (subst IsServedImage (sym same) served)
+
+-- a session that is on the root record in the cell stays so while both stay
+pub mounted_still : (held : Option Session) (session now : Session) (old new : History) → held ≡ Some session → IfSome held (IsMounted old.present)
+    → now.root ≡ session.root → CellStays old new → (Follows session old.present → Follows now new.present) → IsMounted new.present now
+mounted_still held session now old new is mounted same stays follows =
+    let there : IsMounted old.present session = subst (λ (s : Option Session). IfSome s (IsMounted old.present)) is mounted in
+    record {
+      cell = During-now old new (λ image. image.cell ≡ old.present.cell) stays ∙ (there.cell ∙ ap (λ (r : Root). Some (root_bytes r)) (sym same));
+      follows = follows there.follows;
+    }

@@ -154,7 +154,6 @@ above block blocks h = grind (arith, common_steps)
 -- and with one
 pub gives_content : (full : Bool) (d : Device) (t : OpenSession) (block : ℕ) (content : List ℕ) → block < d.blocks → content ≡ content_of t.contents block
     → (content_reply content, at d t) ≡ answer full (at d t) (Read block)
-unfolding zeros
 gives_content full d t block content within is = rw (below block d.blocks within) (ap (λ (c : List ℕ). (content_reply c, at d t)) is)
 
 pub gives_read_range : (full : Bool) (d : Device) (t : OpenSession) (block : ℕ) → d.blocks ≤ block → (Range, at d t) ≡ answer full (at d t) (Read block)

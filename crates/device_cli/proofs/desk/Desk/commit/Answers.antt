@@ -7,6 +7,7 @@ use Rattle.device_cli.proofs.ServedLaws.{halts_still, gives_unmounted_commit}
 use Rattle.device_cli.proofs.ServingLaws.{serves_unmounted, serves_committed, serves_commit_full, halts_commit, keeps_same}
 use Rattle.device_cli.proofs.CellLaws.{serves_now}
 use Rattle.device_course.proofs.KeysLaws.{on_start, on_call, on_done, listed_some, listed_none}
+use Rattle.device_core.specs.Publishing.{IsCommitCause}
 use Rattle.device_cli.proofs.desk.Desk.commit.Goals as goal
 
 pub returns-in_default-clause-answered : goal.returns-in_default-clause-answered
@@ -46,21 +47,21 @@ returns-in-Err-Memory-clause-answered g c told entry rep =
     let P = g.P.Platform in
     let old : World = world c.args.self.now.session (P.history c.args.platform.now) (P.head c.args.platform.now) (P.capacity c.args.platform.now) in
     let new : World = world c.take.new.self (P.history c.commit.new.platform) (P.head c.commit.new.platform) (P.capacity c.commit.new.platform) in
-    halts_still old new entry Commit device.Memory tt rep (absurd c.in-Err-Memory.ensures.cause)
+    halts_still old new entry Commit device.Memory tt rep (absurd (rw c.in-Err-Memory.field-0-is at c.in-Err-Memory.ensures.cause))
 
 pub returns-in-Err-TapeFault-clause-answered : goal.returns-in-Err-TapeFault-clause-answered
 returns-in-Err-TapeFault-clause-answered g c told entry rep =
     let P = g.P.Platform in
     let old : World = world c.args.self.now.session (P.history c.args.platform.now) (P.head c.args.platform.now) (P.capacity c.args.platform.now) in
     let new : World = world c.take.new.self (P.history c.commit.new.platform) (P.head c.commit.new.platform) (P.capacity c.commit.new.platform) in
-    halts_still old new entry Commit device.Tape tt rep (c.in-Err-TapeFault.ensures.cause.2 told)
+    halts_still old new entry Commit device.Tape tt rep ((rw c.in-Err-TapeFault.field-0-is at c.in-Err-TapeFault.ensures.cause).2 told)
 
 pub returns-in-Err-LedgerFault-clause-answered : goal.returns-in-Err-LedgerFault-clause-answered
 returns-in-Err-LedgerFault-clause-answered g c told entry rep =
     let P = g.P.Platform in
     let old : World = world c.args.self.now.session (P.history c.args.platform.now) (P.head c.args.platform.now) (P.capacity c.args.platform.now) in
     let new : World = world c.take.new.self (P.history c.commit.new.platform) (P.head c.commit.new.platform) (P.capacity c.commit.new.platform) in
-    halts_still old new entry Commit device.Ledger tt rep (c.in-Err-LedgerFault.ensures.cause.1 told)
+    halts_still old new entry Commit device.Ledger tt rep ((rw c.in-Err-LedgerFault.field-0-is at c.in-Err-LedgerFault.ensures.cause).1 told)
 
 pub returns-in-Err-PlatformFault-clause-answered : goal.returns-in-Err-PlatformFault-clause-answered
 returns-in-Err-PlatformFault-clause-answered g c told entry rep =

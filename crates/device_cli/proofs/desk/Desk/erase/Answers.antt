@@ -3,6 +3,7 @@ use Rattle.std.proofs.lemmas.Grind.{common_steps}
 use Rattle.device_cli.specs.World.{World, world}
 use Rattle.device_cli.proofs.ServingLaws.{serves_erased, serves_erase_none, halts_erase}
 use Rattle.device_course.proofs.KeysLaws.{on_kept, listed_image}
+use Rattle.device_core.specs.Publishing.{IsEraseCause}
 use Rattle.device_cli.proofs.desk.Desk.erase.Goals as goal
 
 pub returns-in-Ok-clause-answered : goal.returns-in-Ok-clause-answered
@@ -17,7 +18,7 @@ returns-in-Err-NoDevice-clause-answered g c told entry rep =
     let P = g.P.Platform in
     let old : World = world c.args.self.now.session (P.history c.args.platform.now) (P.head c.args.platform.now) (P.capacity c.args.platform.now) in
     let new : World = world c.args.self.now.session (P.history c.erase.new.platform) (P.head c.erase.new.platform) (P.capacity c.erase.new.platform) in
-    serves_erase_none old new entry (c.in-Err-NoDevice.ensures.cause told).0 refl (c.in-Err-NoDevice.ensures.cause told).1 (c.in-Err-NoDevice.ensures.cause told).2 rep
+    serves_erase_none old new entry ((rw c.in-Err-NoDevice.field-0-is at c.in-Err-NoDevice.ensures.cause) told).0 refl ((rw c.in-Err-NoDevice.field-0-is at c.in-Err-NoDevice.ensures.cause) told).1 ((rw c.in-Err-NoDevice.field-0-is at c.in-Err-NoDevice.ensures.cause) told).2 rep
 
 pub returns-in-Err-PlatformFault-clause-answered : goal.returns-in-Err-PlatformFault-clause-answered
 returns-in-Err-PlatformFault-clause-answered g c told entry rep =
@@ -30,7 +31,7 @@ pub returns-in-Ok-clause-keeps : goal.returns-in-Ok-clause-keeps
 returns-in-Ok-clause-keeps g c = λ drawn. on_kept _ drawn c.args.self.now.session _ _ _ (λ told. (c.erase.ensures.turns told).extends) (λ told. let pages = g.met.P.Platform.counts_pages in pages told c.erase.new.platform ∙ (c.erase.ensures.pages.0 ∙ sym (pages told c.args.platform.now))) c.erase.ensures.keeps c.erase.ensures.forgets (λ told keys h. (None, (c.in-Ok.ensures.cause told).1))
 
 pub returns-in-Err-NoDevice-clause-keeps : goal.returns-in-Err-NoDevice-clause-keeps
-returns-in-Err-NoDevice-clause-keeps g c = λ drawn. on_kept _ drawn c.args.self.now.session _ _ _ (λ told. (c.erase.ensures.turns told).extends) (λ told. let pages = g.met.P.Platform.counts_pages in pages told c.erase.new.platform ∙ (c.erase.ensures.pages.0 ∙ sym (pages told c.args.platform.now))) c.erase.ensures.keeps c.erase.ensures.forgets (λ told keys h. listed_image _ _ _ keys (c.in-Err-NoDevice.ensures.cause told).1 h)
+returns-in-Err-NoDevice-clause-keeps g c = λ drawn. on_kept _ drawn c.args.self.now.session _ _ _ (λ told. (c.erase.ensures.turns told).extends) (λ told. let pages = g.met.P.Platform.counts_pages in pages told c.erase.new.platform ∙ (c.erase.ensures.pages.0 ∙ sym (pages told c.args.platform.now))) c.erase.ensures.keeps c.erase.ensures.forgets (λ told keys h. listed_image _ _ _ keys ((rw c.in-Err-NoDevice.field-0-is at c.in-Err-NoDevice.ensures.cause) told).1 h)
 
 pub returns-in-Err-PlatformFault-clause-keeps : goal.returns-in-Err-PlatformFault-clause-keeps
 returns-in-Err-PlatformFault-clause-keeps g c = λ drawn. on_kept _ drawn c.args.self.now.session _ _ _ (λ told. (c.erase.ensures.turns told).extends) (λ told. let pages = g.met.P.Platform.counts_pages in pages told c.erase.new.platform ∙ (c.erase.ensures.pages.0 ∙ sym (pages told c.args.platform.now))) c.erase.ensures.keeps c.erase.ensures.forgets (λ told keys h. tt)

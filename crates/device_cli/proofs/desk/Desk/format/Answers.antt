@@ -20,6 +20,7 @@ use Rattle.device_cli.proofs.ServingLaws.{KeepsCell, serves_formatted, serves_fo
 use Rattle.device_core.proofs.ServedLaws.{serves_still as serves_while_cell}
 use Rattle.device_course.proofs.KeysLaws.{on_look, on_call, sound_of, listed_image, listed_keys, format_listed}
 use Rattle.device_cli.proofs.ReachingLaws.{on_ok}
+use Rattle.device_core.specs.Publishing.{IsFormatCause}
 use Rattle.device_cli.proofs.desk.Desk.format.Goals as goal
 
 -- what the looking for a device ended with
@@ -62,7 +63,7 @@ returns-in-Err-NotEmpty-clause-answered g c told entry rep =
     let P = g.P.Platform in
     let old : World = world c.args.self.now.session (P.history c.args.platform.now) (P.head c.args.platform.now) (P.capacity c.args.platform.now) in
     let new : World = world c.args.self.now.session (P.history c.format.new.platform) (P.head c.format.new.platform) (P.capacity c.format.new.platform) in
-    serves_not_empty old new entry c.args.blocks c.args.order (c.in-Err-NotEmpty.ensures.cause.0 told) refl (c.in-Err-NotEmpty.ensures.cause.1.0.image told) (c.in-Err-NotEmpty.ensures.cause.1.1 told) rep
+    serves_not_empty old new entry c.args.blocks c.args.order ((rw c.in-Err-NotEmpty.field-0-is at c.in-Err-NotEmpty.ensures.cause).0 told) refl ((rw c.in-Err-NotEmpty.field-0-is at c.in-Err-NotEmpty.ensures.cause).1.0.image told) ((rw c.in-Err-NotEmpty.field-0-is at c.in-Err-NotEmpty.ensures.cause).1.1 told) rep
 
 pub returns-in-Err-Full-clause-answered : goal.returns-in-Err-Full-clause-answered
 returns-in-Err-Full-clause-answered g c told entry rep =
@@ -73,28 +74,28 @@ returns-in-Err-Full-clause-answered g c told entry rep =
     let least : 1 ≤ c.args.blocks = size.0 in
     let most : c.args.blocks ≤ 64 = size.1 in
     let is : c.args.order ≡ 64 = size.2 in
-    serves_format_full old new entry c.args.blocks c.args.order (c.in-Err-Full.ensures.cause.0 told) refl (c.in-Err-Full.ensures.cause.2.0.image told) is least most c.in-Err-Full.ensures.cause.1 (c.in-Err-Full.ensures.cause.2.1 told) rep
+    serves_format_full old new entry c.args.blocks c.args.order ((rw c.in-Err-Full.field-0-is at c.in-Err-Full.ensures.cause).0 told) refl ((rw c.in-Err-Full.field-0-is at c.in-Err-Full.ensures.cause).2.0.image told) is least most (rw c.in-Err-Full.field-0-is at c.in-Err-Full.ensures.cause).1 ((rw c.in-Err-Full.field-0-is at c.in-Err-Full.ensures.cause).2.1 told) rep
 
 pub returns-in-Err-Memory-clause-answered : goal.returns-in-Err-Memory-clause-answered
 returns-in-Err-Memory-clause-answered g c told entry rep =
     let P = g.P.Platform in
     let old : World = world c.args.self.now.session (P.history c.args.platform.now) (P.head c.args.platform.now) (P.capacity c.args.platform.now) in
     let new : World = world c.args.self.now.session (P.history c.format.new.platform) (P.head c.format.new.platform) (P.capacity c.format.new.platform) in
-    halts_still old new entry (Format c.args.blocks c.args.order) device.Memory tt rep (c.in-Err-Memory.ensures.cause.1.1 told)
+    halts_still old new entry (Format c.args.blocks c.args.order) device.Memory tt rep ((rw c.in-Err-Memory.field-0-is at c.in-Err-Memory.ensures.cause).1.1 told)
 
 pub returns-in-Err-TapeFault-clause-answered : goal.returns-in-Err-TapeFault-clause-answered
 returns-in-Err-TapeFault-clause-answered g c told entry rep =
     let P = g.P.Platform in
     let old : World = world c.args.self.now.session (P.history c.args.platform.now) (P.head c.args.platform.now) (P.capacity c.args.platform.now) in
     let new : World = world c.args.self.now.session (P.history c.format.new.platform) (P.head c.format.new.platform) (P.capacity c.format.new.platform) in
-    halts_still old new entry (Format c.args.blocks c.args.order) device.Tape tt rep (c.in-Err-TapeFault.ensures.cause.2.1 told)
+    halts_still old new entry (Format c.args.blocks c.args.order) device.Tape tt rep ((rw c.in-Err-TapeFault.field-0-is at c.in-Err-TapeFault.ensures.cause).2.1 told)
 
 pub returns-in-Err-LedgerFault-clause-answered : goal.returns-in-Err-LedgerFault-clause-answered
 returns-in-Err-LedgerFault-clause-answered g c told entry rep =
     let P = g.P.Platform in
     let old : World = world c.args.self.now.session (P.history c.args.platform.now) (P.head c.args.platform.now) (P.capacity c.args.platform.now) in
     let new : World = world c.args.self.now.session (P.history c.format.new.platform) (P.head c.format.new.platform) (P.capacity c.format.new.platform) in
-    halts_still old new entry (Format c.args.blocks c.args.order) device.Ledger tt rep (c.in-Err-LedgerFault.ensures.cause.2 told)
+    halts_still old new entry (Format c.args.blocks c.args.order) device.Ledger tt rep ((rw c.in-Err-LedgerFault.field-0-is at c.in-Err-LedgerFault.ensures.cause).2 told)
 
 pub returns-in-Err-PlatformFault-clause-answered : goal.returns-in-Err-PlatformFault-clause-answered
 returns-in-Err-PlatformFault-clause-answered g c told entry rep =
@@ -126,10 +127,10 @@ pub returns-in-Ok-clause-keeps : goal.returns-in-Ok-clause-keeps
 returns-in-Ok-clause-keeps g c = on_call _ _ _ c.args.self.now.session _ _ _ _ _ c.format.ensures.discloses.keys (λ told keys h. sound_of _ _ keys h) (λ told keys h. c.format.ensures.discloses.forgets told keys (sound_of _ _ keys h)) (λ told keys more h done. format_listed _ _ _ keys _ _ (c.in-Ok.ensures.cause.0 told) (c.in-Ok.ensures.made told).0 h)
 
 pub returns-in-Err-NotEmpty-clause-keeps : goal.returns-in-Err-NotEmpty-clause-keeps
-returns-in-Err-NotEmpty-clause-keeps g c = on_call _ _ _ c.args.self.now.session _ _ _ _ _ c.format.ensures.discloses.keys (λ told keys h. sound_of _ _ keys h) (λ told keys h. c.format.ensures.discloses.forgets told keys (sound_of _ _ keys h)) (λ told keys more h done. listed_keys _ _ _ keys more (c.in-Err-NotEmpty.ensures.cause.1.0.image told) h)
+returns-in-Err-NotEmpty-clause-keeps g c = on_call _ _ _ c.args.self.now.session _ _ _ _ _ c.format.ensures.discloses.keys (λ told keys h. sound_of _ _ keys h) (λ told keys h. c.format.ensures.discloses.forgets told keys (sound_of _ _ keys h)) (λ told keys more h done. listed_keys _ _ _ keys more ((rw c.in-Err-NotEmpty.field-0-is at c.in-Err-NotEmpty.ensures.cause).1.0.image told) h)
 
 pub returns-in-Err-Full-clause-keeps : goal.returns-in-Err-Full-clause-keeps
-returns-in-Err-Full-clause-keeps g c = on_call _ _ _ c.args.self.now.session _ _ _ _ _ c.format.ensures.discloses.keys (λ told keys h. sound_of _ _ keys h) (λ told keys h. c.format.ensures.discloses.forgets told keys (sound_of _ _ keys h)) (λ told keys more h done. listed_keys _ _ _ keys more (c.in-Err-Full.ensures.cause.2.0.image told) h)
+returns-in-Err-Full-clause-keeps g c = on_call _ _ _ c.args.self.now.session _ _ _ _ _ c.format.ensures.discloses.keys (λ told keys h. sound_of _ _ keys h) (λ told keys h. c.format.ensures.discloses.forgets told keys (sound_of _ _ keys h)) (λ told keys more h done. listed_keys _ _ _ keys more ((rw c.in-Err-Full.field-0-is at c.in-Err-Full.ensures.cause).2.0.image told) h)
 
 pub returns-in-Err-Memory-clause-keeps : goal.returns-in-Err-Memory-clause-keeps
 returns-in-Err-Memory-clause-keeps g c = on_call _ _ _ c.args.self.now.session _ _ _ _ _ c.format.ensures.discloses.keys (λ told keys h. sound_of _ _ keys h) (λ told keys h. c.format.ensures.discloses.forgets told keys (sound_of _ _ keys h)) (λ told keys more h done. tt)

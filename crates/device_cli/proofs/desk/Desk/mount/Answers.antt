@@ -13,6 +13,7 @@ use Rattle.device_cli.proofs.ServingLaws.{serves_already, serves_mounted, serves
 use Rattle.device_core.proofs.ServedLaws.{serves_still as serves_while_cell}
 use Rattle.device_cli.proofs.CellLaws.{serves_now}
 use Rattle.device_course.proofs.KeysLaws.{on_start, on_look, listed_image, mount_listed}
+use Rattle.device_core.specs.Causes.{IsMountCause}
 use Rattle.device_cli.proofs.desk.Desk.mount.Goals as goal
 
 some_of : (s : Option Session) → (s ≡ None → ⊥) → (Goal : Type 0) → ((session : Session) → s ≡ Some session → Goal) → Goal
@@ -48,7 +49,7 @@ returns-in-Err-NoDevice-clause-answered g c told entry rep =
     let old : World = world c.args.self.now.session (P.history c.args.platform.now) (P.head c.args.platform.now) (P.capacity c.args.platform.now) in
     let new : World = world c.args.self.now.session (P.history c.mount.new.platform) (P.head c.mount.new.platform) (P.capacity c.mount.new.platform) in
     let none : c.args.self.now.session ≡ None = grind (arith, common_steps, c.is_some.ensures, c.if-is_some.false) in
-    serves_no_device old new entry none (c.in-Err-NoDevice.ensures.refused told) none (c.mount.ensures.looks.image told) (c.mount.ensures.looks.time told) rep
+    serves_no_device old new entry none ((rw c.in-Err-NoDevice.field-0-is at c.in-Err-NoDevice.ensures.refused) told) none (c.mount.ensures.looks.image told) (c.mount.ensures.looks.time told) rep
 
 pub returns-in-Err-PlatformFault-clause-answered : goal.returns-in-Err-PlatformFault-clause-answered
 returns-in-Err-PlatformFault-clause-answered g c told entry rep =
@@ -69,7 +70,7 @@ returns-in-Err-BadRoot-clause-answered g c told entry rep =
     let P = g.P.Platform in
     let old : World = world c.args.self.now.session (P.history c.args.platform.now) (P.head c.args.platform.now) (P.capacity c.args.platform.now) in
     let new : World = world c.args.self.now.session (P.history c.mount.new.platform) (P.head c.mount.new.platform) (P.capacity c.mount.new.platform) in
-    absurd {A = Serves old new entry commands.Mount (Err device.BadRoot)} (refused_served old.history.present.cell old.head (subst (λ (n : ℕ). IsServedCell old.history.present.cell n) (g.met.P.Platform.counts_pages told c.args.platform.now) (c.requires.cell told)) (c.in-Err-BadRoot.ensures.refused told))
+    absurd {A = Serves old new entry commands.Mount (Err device.BadRoot)} (refused_served old.history.present.cell old.head (subst (λ (n : ℕ). IsServedCell old.history.present.cell n) (g.met.P.Platform.counts_pages told c.args.platform.now) (c.requires.cell told)) ((rw c.in-Err-BadRoot.field-0-is at c.in-Err-BadRoot.ensures.refused) told))
 
 pub returns-then-is_some-clause-cell : goal.returns-then-is_some-clause-cell
 returns-then-is_some-clause-cell g c = λ told. serves_now _ (c.requires.cell told)

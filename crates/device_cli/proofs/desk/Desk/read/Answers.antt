@@ -1,4 +1,4 @@
-use Rattle.std.proofs.Common.{◌≡◌, ◌<◌, ◌≤◌, ℕ, None, Some, Ok, Err, refl, sym, ◌∙◌, subst, arith}
+use Rattle.std.proofs.Common.{◌≡◌, ◌<◌, ◌≤◌, ℕ, None, Some, Ok, Err, refl, sym, ◌∙◌, subst, rules, arith}
 use Rattle.std.proofs.lemmas.Grind.{common_steps}
 use Rattle.script_lang.specs.Arrays.{content_reply}
 use Rattle.script_lang.specs.declared.replies.Reply.{Reply}
@@ -11,8 +11,10 @@ use Rattle.device_cli.proofs.ServedLaws.{at, with_session, has_session, serves_s
 use Rattle.device_cli.proofs.ServingLaws.{serves_unmounted}
 use Rattle.device_cli.proofs.Choices.{inside, not_both}
 use Rattle.device_core.proofs.ServedLaws.{serves_still as serves_while_cell}
-use Rattle.device_cli.proofs.CellLaws.{serves_now}
+use Rattle.device_cli.proofs.CellLaws.{serves_now, mounted_still}
 use Rattle.device_course.proofs.KeysLaws.{on_start, on_look, listed_some}
+use Rattle.device_core.specs.Causes.{IsReadCause}
+use Rattle.device_core.specs.Reading.{ReadsArray}
 use Rattle.device_cli.proofs.desk.Desk.read.Goals as goal
 
 pub returns-in_default-clause-answered : goal.returns-in_default-clause-answered
@@ -44,7 +46,7 @@ returns-in-Err-Range-clause-answered g c told entry rep =
     let taken : c.args.self.now.session ≡ Some c.in-Some.session = c.in-Some.is in
     with_session old c.in-Some.session entry taken rep (λ state. Serves old new state (Read c.args.block) (Ok replies.Range))
     (λ d t holds touched.
-    let past : d.blocks ≤ c.args.block = subst (λ (n : ℕ). n ≤ c.args.block) holds.stands.blocks c.in-Err-Range.ensures.cause in
+    let past : d.blocks ≤ c.args.block = subst (λ (n : ℕ). n ≤ c.args.block) holds.stands.blocks (rw c.in-Err-Range.field-0-is at c.in-Err-Range.ensures.cause) in
     let after = has_session new c.read.new.self d t refl (c.read.ensures.array told d t.contents holds).0 (c.read.ensures.same.2 ∙ touched) in
     serves_still old new (at d t) (at d t) (Read c.args.block) replies.Range (has_session old c.in-Some.session d t taken holds touched)
     (gives_read_range (is_full old) d t c.args.block past) after (c.read.ensures.looks.time told))
@@ -56,7 +58,7 @@ returns-in-Err-BadRecord-clause-answered g c told entry rep =
     let new : World = world (Some c.read.new.self) (P.history c.read.new.platform) (P.head c.read.new.platform) (P.capacity c.read.new.platform) in
     let taken : c.args.self.now.session ≡ Some c.in-Some.session = c.in-Some.is in
     with_session old c.in-Some.session entry taken rep (λ state. Serves old new state (Read c.args.block) (Err (device.BadRecord c.in-Err-BadRecord.addr)))
-    (λ d t holds touched. absurd (c.in-Err-BadRecord.ensures.array told d t.contents holds).1)
+    (λ d t holds touched. absurd ((rw c.in-Err-BadRecord.field-0-is at c.in-Err-BadRecord.ensures.array) told d t.contents holds).1)
 
 pub returns-in-Err-PlatformFault-clause-answered : goal.returns-in-Err-PlatformFault-clause-answered
 returns-in-Err-PlatformFault-clause-answered g c told entry rep =
@@ -94,3 +96,16 @@ returns-in-Err-BadRecord-clause-keeps g c = λ drawn. on_look _ drawn c.args.sel
 
 pub returns-in-Err-PlatformFault-clause-keeps : goal.returns-in-Err-PlatformFault-clause-keeps
 returns-in-Err-PlatformFault-clause-keeps g c = λ drawn. on_look _ drawn c.args.self.now.session _ _ _ c.read.ensures.looks.image c.read.ensures.looks.time (λ told keys kept h. tt)
+
+pub returns-in-Ok-clause-after : goal.returns-in-Ok-clause-after
+returns-in-Ok-clause-after g c = record {
+  ready = c.in-Ok.ensures.open;
+  mounted = λ told. mounted_still _ c.in-Some.session _ _ _ c.in-Some.is (c.requires.mounted told) c.read.ensures.same.0 (c.read.ensures.looks.time told) (c.read.ensures.follows told);
+  reply = search rules;
+  bad_root = search rules;
+  capacity = search rules;
+  rises = search rules;
+  by_one = search rules;
+  added = search rules;
+  full = search rules;
+}

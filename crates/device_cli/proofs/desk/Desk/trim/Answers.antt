@@ -1,4 +1,4 @@
-use Rattle.std.proofs.Common.{◌≡◌, ◌<◌, ◌≤◌, ℕ, Bool, None, Some, Ok, Err, refl, sym, ◌∙◌, ap, subst, arith}
+use Rattle.std.proofs.Common.{◌≡◌, ◌<◌, ◌≤◌, ℕ, Bool, None, Some, Ok, Err, refl, sym, ◌∙◌, ap, subst, rules, arith}
 use Rattle.std.specs.Prelude.{◌||◌}
 use Rattle.std.proofs.lemmas.Grind.{common_steps}
 use Rattle.device_cli.specs.declared.stop.DeviceStop.TheVariants as device
@@ -13,8 +13,10 @@ use Rattle.device_cli.proofs.ServedLaws.{at, with_session, has_session, serves_s
 use Rattle.device_cli.proofs.ServingLaws.{serves_unmounted}
 use Rattle.device_cli.proofs.Choices.{inside, not_both}
 use Rattle.device_core.proofs.ServedLaws.{serves_still as serves_while_cell}
-use Rattle.device_cli.proofs.CellLaws.{serves_now}
+use Rattle.device_cli.proofs.CellLaws.{serves_now, mounted_still}
 use Rattle.device_course.proofs.KeysLaws.{on_start, on_look, listed_some}
+use Rattle.device_core.specs.Causes.{IsTrimCause}
+use Rattle.device_core.specs.Changes.{TrimsArray}
 use Rattle.device_cli.proofs.desk.Desk.trim.Goals as goal
 
 pub returns-in_default-clause-answered : goal.returns-in_default-clause-answered
@@ -46,8 +48,8 @@ returns-in-Err-Range-clause-answered g c told entry rep =
     let taken : c.args.self.now.session ≡ Some c.in-Some.session = c.in-Some.is in
     with_session old c.in-Some.session entry taken rep (λ state. Serves old new state (Trim c.args.block) (Ok replies.Range))
     (λ d t holds touched.
-    let past : d.blocks ≤ c.args.block = subst (λ (n : ℕ). n ≤ c.args.block) holds.stands.blocks c.in-Err-Range.ensures.cause in
-    let after = has_session new c.trim.new.self d t refl (c.in-Err-Range.ensures.array told d t.contents holds) (c.in-Err-Range.ensures.same.1 ∙ touched) in
+    let past : d.blocks ≤ c.args.block = subst (λ (n : ℕ). n ≤ c.args.block) holds.stands.blocks (rw c.in-Err-Range.field-0-is at c.in-Err-Range.ensures.cause) in
+    let after = has_session new c.trim.new.self d t refl ((rw c.in-Err-Range.field-0-is at c.in-Err-Range.ensures.array) told d t.contents holds) (c.in-Err-Range.ensures.same.1 ∙ touched) in
     serves_still old new (at d t) (at d t) (Trim c.args.block) replies.Range (has_session old c.in-Some.session d t taken holds touched)
     (gives_trim_range (is_full old) d t c.args.block past) after (c.trim.ensures.looks.time told))
 
@@ -58,7 +60,7 @@ returns-in-Err-BadRecord-clause-answered g c told entry rep =
     let new : World = world (Some c.trim.new.self) (P.history c.trim.new.platform) (P.head c.trim.new.platform) (P.capacity c.trim.new.platform) in
     let taken : c.args.self.now.session ≡ Some c.in-Some.session = c.in-Some.is in
     with_session old c.in-Some.session entry taken rep (λ state. Serves old new state (Trim c.args.block) (Err (device.BadRecord c.in-Err-BadRecord.addr)))
-    (λ d t holds touched. absurd (c.in-Err-BadRecord.ensures.array told d t.contents holds))
+    (λ d t holds touched. absurd ((rw c.in-Err-BadRecord.field-0-is at c.in-Err-BadRecord.ensures.array) told d t.contents holds))
 
 pub returns-in-Err-PlatformFault-clause-answered : goal.returns-in-Err-PlatformFault-clause-answered
 returns-in-Err-PlatformFault-clause-answered g c told entry rep =
@@ -109,3 +111,16 @@ returns-in-Err-BadRecord-clause-keeps g c = λ drawn. on_look _ drawn c.args.sel
 
 pub returns-in-Err-PlatformFault-clause-keeps : goal.returns-in-Err-PlatformFault-clause-keeps
 returns-in-Err-PlatformFault-clause-keeps g c = λ drawn. on_look _ drawn c.args.self.now.session _ _ _ c.trim.ensures.looks.image c.trim.ensures.looks.time (λ told keys kept h. tt)
+
+pub returns-in-Ok-clause-after : goal.returns-in-Ok-clause-after
+returns-in-Ok-clause-after g c = record {
+  ready = c.in-Ok.ensures.open;
+  mounted = λ told. mounted_still _ c.in-Some.session _ _ _ c.in-Some.is (c.requires.mounted told) c.trim.ensures.same.0 (c.trim.ensures.looks.time told) (c.trim.ensures.follows told);
+  reply = search rules;
+  bad_root = search rules;
+  capacity = search rules;
+  rises = search rules;
+  by_one = search rules;
+  added = search rules;
+  full = search rules;
+}

@@ -1,4 +1,4 @@
-use Rattle.std.proofs.Common.{◌≡◌, ◌<◌, ◌≤◌, ℕ, None, Some, Ok, Err, refl, sym, ◌∙◌, subst, arith}
+use Rattle.std.proofs.Common.{◌≡◌, ◌<◌, ◌≤◌, ℕ, None, Some, Ok, Err, refl, sym, rules, ◌∙◌, subst, arith}
 use Rattle.std.proofs.lemmas.Grind.{common_steps}
 use Rattle.device_cli.specs.declared.stop.DeviceStop.TheVariants as device
 use Rattle.device_cli.specs.World.{World, is_full, world}
@@ -9,14 +9,15 @@ use Rattle.std.specs.FinMap.{insert}
 use Rattle.sdbt_base.specs.Arrays.{padded}
 use Rattle.device_core.specs.Holds.{Holds}
 use Rattle.device_core.specs.declared.refusals.WriteRefusal.TheVariants as refusals
-use Rattle.script_lang.specs.Arrays.{zeros}
+use Rattle.device_core.specs.Causes.{IsWriteCause}
+use Rattle.device_core.specs.Changes.{WritesArray, WriteAdds}
 use Rattle.sdbt_base.specs.Arrays.{written}
 use Rattle.script_lang.specs.declared.commands.Command.TheVariants.{Write}
 use Rattle.device_cli.proofs.ServedLaws.{at, with_session, has_session, serves_still, halts_still, is_full_true, is_full_false, gives_unmounted_write, gives_written, gives_write_range, gives_write_full}
 use Rattle.device_cli.proofs.ServingLaws.{serves_unmounted}
 use Rattle.device_cli.proofs.Choices.{inside, not_both}
 use Rattle.device_core.proofs.ServedLaws.{serves_still as serves_while_cell}
-use Rattle.device_cli.proofs.CellLaws.{serves_now}
+use Rattle.device_cli.proofs.CellLaws.{serves_now, mounted_still}
 use Rattle.page_store.proofs.FloorLaws.{forgets_still}
 use Rattle.device_course.proofs.KeysLaws.{on_start, on_call, sound_of, listed_some}
 use Rattle.device_cli.proofs.desk.Desk.write.Goals as goal
@@ -29,7 +30,6 @@ returns-in_default-clause-answered g c told entry rep bytes same =
     (λ full there. gives_unmounted_write full there c.args.block bytes) rep
 
 pub returns-in-Ok-clause-answered : goal.returns-in-Ok-clause-answered
-unfolding zeros
 returns-in-Ok-clause-answered g c told entry rep bytes same =
     let P = g.P.Platform in
     let old : World = world c.args.self.now.session (P.history c.args.platform.now) (P.head c.args.platform.now) (P.capacity c.args.platform.now) in
@@ -52,8 +52,8 @@ returns-in-Err-Range-clause-answered g c told entry rep bytes same =
     let taken : c.args.self.now.session ≡ Some c.in-Some.session = c.in-Some.is in
     with_session old c.in-Some.session entry taken rep (λ state. Serves old new state (Write c.args.block bytes) (Ok replies.Range))
     (λ d t holds touched.
-    let past : d.blocks ≤ c.args.block = subst (λ (n : ℕ). n ≤ c.args.block) holds.stands.blocks c.in-Err-Range.ensures.cause in
-    let after = has_session new c.write.new.self d t refl (c.in-Err-Range.ensures.array told d t.contents holds) (c.in-Err-Range.ensures.same.2 ∙ touched) in
+    let past : d.blocks ≤ c.args.block = subst (λ (n : ℕ). n ≤ c.args.block) holds.stands.blocks (rw c.in-Err-Range.field-0-is at c.in-Err-Range.ensures.cause) in
+    let after = has_session new c.write.new.self d t refl ((rw c.in-Err-Range.field-0-is at c.in-Err-Range.ensures.array) told d t.contents holds) (c.in-Err-Range.ensures.same.2 ∙ touched) in
     serves_still old new (at d t) (at d t) (Write c.args.block bytes) replies.Range (has_session old c.in-Some.session d t taken holds touched)
     (gives_write_range (is_full old) d t c.args.block bytes past) after (c.write.ensures.time told))
 
@@ -65,9 +65,9 @@ returns-in-Err-Full-clause-answered g c told entry rep bytes same =
     let taken : c.args.self.now.session ≡ Some c.in-Some.session = c.in-Some.is in
     with_session old c.in-Some.session entry taken rep (λ state. Serves old new state (Write c.args.block bytes) (Ok replies.Full))
     (λ d t holds touched.
-    let both = c.in-Err-Full.ensures.cause in
+    let both = rw c.in-Err-Full.field-0-is at c.in-Err-Full.ensures.cause in
     let within : c.args.block < d.blocks = subst (λ (n : ℕ). c.args.block < n) holds.stands.blocks both.0 in
-    let after = has_session new c.write.new.self d t refl (c.in-Err-Full.ensures.array told d t.contents holds) (c.in-Err-Full.ensures.same.2 ∙ touched) in
+    let after = has_session new c.write.new.self d t refl ((rw c.in-Err-Full.field-0-is at c.in-Err-Full.ensures.array) told d t.contents holds) (c.in-Err-Full.ensures.same.2 ∙ touched) in
     serves_still old new (at d t) (at d t) (Write c.args.block bytes) replies.Full (has_session old c.in-Some.session d t taken holds touched)
     (gives_write_full (is_full old) d t c.args.block bytes (is_full_true old both.1) within) after (c.write.ensures.time told))
 
@@ -78,7 +78,7 @@ returns-in-Err-BadRecord-clause-answered g c told entry rep bytes same =
     let new : World = world (Some c.write.new.self) (P.history c.write.new.platform) (P.head c.write.new.platform) (P.capacity c.write.new.platform) in
     let taken : c.args.self.now.session ≡ Some c.in-Some.session = c.in-Some.is in
     with_session old c.in-Some.session entry taken rep (λ state. Serves old new state (Write c.args.block bytes) (Err (device.BadRecord c.in-Err-BadRecord.addr)))
-    (λ d t holds touched. absurd (c.in-Err-BadRecord.ensures.array told d t.contents holds))
+    (λ d t holds touched. absurd ((rw c.in-Err-BadRecord.field-0-is at c.in-Err-BadRecord.ensures.array) told d t.contents holds))
 
 pub returns-in-Err-Memory-clause-answered : goal.returns-in-Err-Memory-clause-answered
 returns-in-Err-Memory-clause-answered g c told entry rep bytes same =
@@ -148,3 +148,16 @@ returns-in-Err-TapeFault-clause-keeps g c = on_call _ _ _ c.args.self.now.sessio
 
 pub returns-in-Err-PlatformFault-clause-keeps : goal.returns-in-Err-PlatformFault-clause-keeps
 returns-in-Err-PlatformFault-clause-keeps g c = on_call _ _ _ c.args.self.now.session _ _ _ _ _ c.write.ensures.keeps (λ told keys h. listed_some _ c.in-Some.session _ keys c.in-Some.is h) (λ told keys h. forgets_still _ _ (sound_of _ _ keys h) (c.write.ensures.time told)) (λ told keys more h done. tt)
+
+pub returns-in-Ok-clause-after : goal.returns-in-Ok-clause-after
+returns-in-Ok-clause-after g c = record {
+  ready = c.in-Ok.ensures.open;
+  mounted = λ told. mounted_still _ c.in-Some.session _ _ _ c.in-Some.is (c.requires.before.mounted told) c.write.ensures.same.0 (c.write.ensures.time told) (c.write.ensures.follows told);
+  reply = search rules;
+  bad_root = search rules;
+  capacity = search rules;
+  rises = search rules;
+  by_one = search rules;
+  added = search rules;
+  full = search rules;
+}
