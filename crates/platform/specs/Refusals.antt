@@ -1,23 +1,39 @@
--- Why a folder can't be a platform.
-use Rattle.std.specs.Prelude.{◌≡◌, ◌≢◌, ⊤}
+-- Why folders can't be a platform.
+use Rattle.std.specs.Prelude.{◌≡◌, ◌≢◌, ◌<◌, ◌*◌, ⊤, Result, Ok, Err}
 use Rattle.std.specs.IoError.{error_kind}
 use Rattle.std.specs.declared.io.Error.{Error}
-use Rattle.std.specs.declared.io.ErrorKind.TheVariants.{OutOfMemory}
+use Rattle.std.specs.declared.io.ErrorKind.TheVariants.{OutOfMemory, WouldBlock}
+use Rattle.sdbt_base.specs.declared.limits.TheConstants.{RECORD, MAX_PAGES}
+use Rattle.platform.specs.declared.refusals.FolderFile.{FolderFile}
 use Rattle.platform.specs.declared.refusals.OpenRefusal.{OpenRefusal}
-use Rattle.platform.specs.declared.refusals.OpenRefusal.TheVariants.{TooLong, Io, Memory}
+use Rattle.platform.specs.declared.refusals.OpenRefusal.TheVariants.{TooLong, InUse, Io, Memory}
 
 -- no memory was given
 abbrev pub IsMemory : OpenRefusal → Type 0
 IsMemory refusal = refusal ≡ Memory
 
--- an error of a file that is none of memory
-abbrev pub IsNotMemory : OpenRefusal → Type 0
-IsNotMemory TooLong = ⊤
-IsNotMemory (Io error) = error_kind error ≢ OutOfMemory
-IsNotMemory Memory = ⊤
+-- a refusal shows its cause where one can be known: a length beyond that of all pages, or an error that is none of memory
+abbrev pub ShowsCause : OpenRefusal → Type 0
+ShowsCause (TooLong len) = MAX_PAGES * RECORD < len
+ShowsCause InUse = ⊤
+ShowsCause (Io _ error) = error_kind error ≢ OutOfMemory
+ShowsCause Memory = ⊤
 
--- a refusal that says what an error of a file says
-abbrev pub IsTold : Error → OpenRefusal → Type 0
-IsTold error TooLong = ⊥
-IsTold error (Io told) = (told ≡ error) × (error_kind error ≢ OutOfMemory)
-IsTold error Memory = error_kind error ≡ OutOfMemory
+-- a refusal that says what an error of this file says
+abbrev pub IsTold : FolderFile → Error → OpenRefusal → Type 0
+IsTold file error (TooLong _) = ⊥
+IsTold file error InUse = ⊥
+IsTold file error (Io named told) = (named ≡ file) × (told ≡ error) × (error_kind error ≢ OutOfMemory)
+IsTold file error Memory = error_kind error ≡ OutOfMemory
+
+-- what a call on a file gave, or a refusal that says its error
+abbrev pub TellsFile : {T : Type 0} → FolderFile → Result T Error → Result T OpenRefusal → Type 0
+TellsFile file (Ok value) told = told ≡ Ok value
+TellsFile file (Err error) (Ok value) = ⊥
+TellsFile file (Err error) (Err refusal) = IsTold file error refusal
+
+-- a lock that another has is a use by another, and that is said of no other failure
+abbrev pub TellsHeld : {T : Type 0} → FolderFile → Result T Error → Result T OpenRefusal → Type 0
+TellsHeld file (Ok value) told = told ≡ Ok value
+TellsHeld file (Err error) told = (error_kind error ≡ WouldBlock → told ≡ Err InUse)
+    × (error_kind error ≢ WouldBlock → TellsFile file (Err error) told)

@@ -1,10 +1,11 @@
 //! What no contract can say of a folder: which calls its files get, and in which order.
 //!
-//! Bodies that are proved and that these tests refuse: a `sync` with no call on `media`; a swap that does not sync `root.new`, or
+//! Bodies that are proved and that these tests refuse: an opening that tries no lock, or changes a file before it has both; one that
+//! looks for the root record in the medium's folder, or does not sync one of the folders; a `sync` with no call on `media`; a swap that does not sync `root.new`, or
 //! not the folder, or in another order, or that leaves `root.new` behind where it failed; a clear or an opening that leaves it, or
 //! does not sync the folder; a `load_root` that answers an empty cell where `root` can't be opened or read; an append over
 //! a torn page that was not filled up.
-use crate::file_tests::{FOLDER, make_folder};
+use crate::file_tests::{APART, CELL, FOLDER, make_apart, make_folder};
 use crate::logged_files::{CallLog, LoggedFiles};
 use crate::tests::{append, read_ends};
 use crate::{CallKind, FilePlatform, OpenRefusal, Platform};
@@ -17,9 +18,17 @@ type Answer = Result<u64, PlatformFault>;
 
 const FAULT: Answer = Err(PlatformFault);
 
-/// The calls of `open` over a torn last page.
+/// The calls of `open` over a torn last page, and how many they are.
 const OPENING: &str =
-    "open folder, remove root.new, open media, measure media, measure media, lengthen media, sync media, sync folder";
+    "open folder, measure folder, open folder, measure folder, lock folder, open media, lock media, \
+    remove root.new, measure media, measure media, lengthen media, sync media, sync folder, sync folder";
+
+const OPENING_CALLS: usize = 14;
+
+/// The calls of an opening with the root record in a folder of its own.
+const OPENING_APART: &str =
+    "open cell, measure cell, open folder, measure folder, lock cell, open media, lock media, \
+    remove root.new, measure media, measure media, lengthen media, sync media, sync folder, sync cell";
 
 // Makes a call of a kind: an append of a page of 8, a read of page 0, a swap to a record of 3.
 fn make<P: Platform>(platform: &mut P, call: CallKind) -> Answer {
@@ -105,6 +114,29 @@ fn calls_files_in_order(rt: HostRuntime) -> Result<(), Fail> {
 }
 
 #[test]
+fn calls_two_folders_in_order(rt: HostRuntime) -> Result<(), Fail> {
+    make_apart(&rt)?;
+    let log = CallLog::new(rt.alloc());
+    let inner = rt.clone()?;
+    let mut platform = FilePlatform::open_apart(LoggedFiles { inner, log: &log }, CELL, APART)?;
+    assert!(rt; log.is(OPENING_APART), "{log}");
+    log.begin(None);
+    assert_eq!(rt; make(&mut platform, CallKind::Swap), Ok(0));
+    assert!(rt;
+        log.is(
+            "remove root.new, make root.new, write root.new, sync root.new, put in place of root, sync cell"
+        ),
+        "{log}"
+    );
+    log.begin(None);
+    assert_eq!(rt; make(&mut platform, CallKind::Clear), Ok(0));
+    assert!(rt; log.is("remove root.new, remove root, sync cell"), "{log}");
+    fs::remove_dir_all(&rt, CELL)?;
+    fs::remove_dir_all(&rt, APART)?;
+    Ok(())
+}
+
+#[test]
 fn each_failed_call_is_answered(rt: HostRuntime) -> Result<(), Fail> {
     let log = CallLog::new(rt.alloc());
     // A call, and for each call on a file that it makes the first byte of the root record after that one failed.
@@ -137,7 +169,7 @@ fn each_failed_call_is_answered(rt: HostRuntime) -> Result<(), Fail> {
 #[test]
 fn each_failed_call_refuses_the_folder(rt: HostRuntime) -> Result<(), Fail> {
     let log = CallLog::new(rt.alloc());
-    for failing in 0..8 {
+    for failing in 0..OPENING_CALLS {
         fresh_folder(&rt)?;
         log.begin(Some(failing));
         let inner = rt.clone()?;

@@ -1,15 +1,15 @@
 //! A platform in a folder.
-ghost use Rattle.std.specs.Prelude.{◌≡◌, ◌≢◌, ◌<◌, ◌≤◌, ◌+◌, ◌*◌, ◌^◌, ◌↔◌, length, All, Some, IsSome, IfSome, IfOk, IfErr, IsOk, IsErr, IsTrue, OnOk, false};
+ghost use Rattle.std.specs.Prelude.{◌≡◌, ◌≢◌, ◌<◌, ◌≤◌, ◌+◌, ◌*◌, ◌^◌, ◌↔◌, length, All, Some, IfSome, IfOk, IfErr, IsOk, IsErr, IsTrue, OnOk, false};
 ghost use Rattle.std.specs.Io.KnownBytes.{Appends, Consumes};
 ghost use Rattle.std.specs.Io.Seek.{MovesTo};
 ghost use Rattle.std.specs.Int.{div_ceil};
 ghost use Rattle.sdbt_base.specs.Faults.{Rose, next_count};
 ghost use Rattle.platform.specs.Places.{ReadsAt, WritesAt};
-ghost use Rattle.platform.specs.Refusals.{IsNotMemory};
+ghost use Rattle.platform.specs.Refusals.{ShowsCause, TellsFile, TellsHeld};
 ghost use Rattle.platform.specs.Folder.{CountsFault, MarksTorn, TellsMissing, IsEmptyIfMissing};
 
 use crate::transfers::{read_whole, write_whole};
-use crate::{OpenRefusal, Platform};
+use crate::{FolderFile, LockFile, OpenRefusal, Platform};
 use sdbt_base::{MAX_PAGES, PlatformFault, RECORD, ROOT};
 use std::fs::{self, OpenFile, OpenOptions};
 use std::io::{self, ErrorKind, Read, Seek, SeekFrom, Write};
@@ -24,10 +24,13 @@ const ROOT_LEN: u64 = ROOT as u64;
 /// Who may read the files: their owner alone, since the root record is a key.
 const OWNER_ALONE: u32 = 0o600;
 
-/// A medium and a root cell in a folder: the file `media` has the pages one behind the other, and `root` is the root record.
+/// A medium and a root cell in folders: the file `media` has the pages one behind the other, and `root` is the root record.
 ///
 /// `root` absent or empty is an empty cell; of another length than a root record's it reads as zeros, which are no
-/// root record. The record is replaced by renaming the file `root.new`, which stands in the folder only meanwhile.
+/// root record. The record is replaced by renaming the file `root.new`, which stands in its folder only meanwhile.
+///
+/// As long as the platform is there, it has the locks on `media` and on the folder of `root`. They are advisory: they
+/// keep out other platforms, and no other program.
 ///
 /// No contract knows what a file system gives back, so this platform tells its head and capacity alone.
 #[derive(Drop)]
@@ -35,7 +38,8 @@ pub struct FilePlatform<R: Files + Alloc + Clone + Drop> {
     rt: R,
     root: String<R::A>,
     new_root: String<R::A>,
-    folder: R::File,
+    // The folder of the root record, and the medium: both with their locks.
+    cell: R::File,
     media: R::File,
     head: u64,
     // The last page may be there in part.
@@ -46,33 +50,48 @@ pub struct FilePlatform<R: Files + Alloc + Clone + Drop> {
     ghost room: { head ≤ 2 ^ 32 },
 }
 
-impl<R: Files + Alloc + Clone + Drop> FilePlatform<R> {
-    /// The platform in a folder that exists. `media` is made where there is none, a last page that was torn is filled
-    /// up with zeros, and a `root.new` that was left behind goes: a key that nothing needs must not stay.
+impl<R: Files + Alloc + Clone + Drop> FilePlatform<R>
+where
+    R::File: LockFile,
+{
+    /// The platform in a folder that exists: the medium and the root record are both in it.
     pub fn open(rt: R, folder: &str) -> Result<FilePlatform<R>, OpenRefusal>
         ensures faults { IfOk result (λ platform. ⟦<FilePlatform<R> as Platform>⟧.faults platform ≡ 0) }
         ensures believed { IfOk result (λ platform. platform.is_unsure ≡ false) }
         ensures whole { IfOk result (λ platform. platform.is_torn ≡ false) }
-        ensures memory { IfErr result IsNotMemory }
+        ensures cause { IfErr result ShowsCause }
     {
-        let root = format!(in rt.alloc(); "{folder}/root")?;
-        let new_root = format!(in rt.alloc(); "{folder}/root.new")?;
+        FilePlatform::open_apart(rt, folder, folder)
+    }
+
+    /// The platform in two folders that exist: the root record in `cell`, and the medium in `folder`. They may be one.
+    ///
+    /// Nothing is changed before both locks are taken, but that `media` is made where there is none. A last page
+    /// that was torn is filled up with zeros, and a `root.new` that was left behind goes: a key that nothing needs
+    /// must not stay.
+    pub fn open_apart(rt: R, cell: &str, folder: &str) -> Result<FilePlatform<R>, OpenRefusal>
+        ensures faults { IfOk result (λ platform. ⟦<FilePlatform<R> as Platform>⟧.faults platform ≡ 0) }
+        ensures believed { IfOk result (λ platform. platform.is_unsure ≡ false) }
+        ensures whole { IfOk result (λ platform. platform.is_torn ≡ false) }
+        ensures cause { IfErr result ShowsCause }
+    {
+        let root = format!(in rt.alloc(); "{cell}/root")?;
+        let new_root = format!(in rt.alloc(); "{cell}/root.new")?;
         let media = format!(in rt.alloc(); "{folder}/media")?;
-        let folder = fs::open(&rt, folder)?;
-        forget(&rt, new_root.as_str())?;
-        let media = OpenOptions::new()
-            .read(true)
-            .write(true)
-            .create(true)
-            .mode(OWNER_ALONE)
-            .open(&rt, media.as_str())?;
+        let cell = open_folder(&rt, FolderFile::Cell, cell)?;
+        let folder = open_folder(&rt, FolderFile::Folder, folder)?;
+        locked(FolderFile::Cell, cell.try_lock())?;
+        let media = told(FolderFile::Media, open_media(&rt, media.as_str()))?;
+        locked(FolderFile::Media, media.try_lock())?;
+        told(FolderFile::NewRoot, forget(&rt, new_root.as_str()))?;
         let head = settle(&media)?;
-        folder.sync_all()?;
+        told(FolderFile::Folder, folder.sync_all())?;
+        told(FolderFile::Cell, cell.sync_all())?;
         Ok(FilePlatform {
             rt,
             root,
             new_root,
-            folder,
+            cell,
             media,
             head,
             is_torn: false,
@@ -80,7 +99,9 @@ impl<R: Files + Alloc + Clone + Drop> FilePlatform<R> {
             faults: 0,
         })
     }
+}
 
+impl<R: Files + Alloc + Clone + Drop> FilePlatform<R> {
     // Moves to the end of the last page, once that is whole.
     fn go_to_end(&mut self) -> io::Result<()>
         ensures whole { OnOk result (self.new.is_torn ≡ false) }
@@ -144,14 +165,14 @@ impl<R: Files + Alloc + Clone + Drop> FilePlatform<R> {
         write_whole(&mut file, bytes)?;
         file.sync_all()?;
         fs::rename(&self.rt, self.new_root.as_str(), self.root.as_str())?;
-        self.folder.sync_all()
+        self.cell.sync_all()
     }
 
-    // Neither a root record nor one on its way to be it is in the folder.
+    // Neither a root record nor one on its way to be it is in its folder.
     fn remove_root(&self) -> io::Result<()> {
         forget(&self.rt, self.new_root.as_str())?;
         forget(&self.rt, self.root.as_str())?;
-        self.folder.sync_all()
+        self.cell.sync_all()
     }
 }
 
@@ -309,26 +330,71 @@ fn forget(files: &impl Files, path: &str) -> io::Result<()> {
     Ok(())
 }
 
-// The pages of a file of so many bytes, where no medium has more: a last one that is there in part is one.
-fn pages_of(len: u64) -> Option<u64>
-    ensures limit { IsSome result ↔ (len ≤ MAX_PAGES * RECORD) }
-    ensures pages { IfSome result (λ pages. pages ≡ div_ceil len RECORD) }
-    ensures most { IfSome result (λ pages. pages ≤ MAX_PAGES) }
+// What a call on a file answered: its error becomes a refusal that names the file.
+fn told<T>(file: FolderFile, outcome: io::Result<T>) -> Result<T, OpenRefusal>
+    ensures { TellsFile file outcome result }
 {
-    Some(len.div_ceil(PAGE_LEN)).filter(|pages| *pages <= MAX_PAGES)
+    match outcome {
+        Ok(value) => Ok(value),
+        Err(error) => Err(OpenRefusal::of(file, error)),
+    }
+}
+
+// What a try for the lock on a file answered: that another has it is a refusal of its own.
+fn locked(file: FolderFile, outcome: io::Result<()>) -> Result<(), OpenRefusal>
+    ensures { TellsHeld file outcome result }
+{
+    match outcome {
+        Err(error) if error.kind() == ErrorKind::WouldBlock => Err(OpenRefusal::InUse),
+        other => told(file, other),
+    }
+}
+
+// Opens a folder, and refuses what is none.
+fn open_folder<R: Files>(files: &R, file: FolderFile, path: &str) -> Result<R::File, OpenRefusal>
+    ensures cause { IfErr result ShowsCause }
+{
+    let folder = told(file, fs::open(files, path))?;
+    let metadata = told(file, folder.metadata())?;
+    if !metadata.is_dir() {
+        return Err(OpenRefusal::of(file, ErrorKind::NotADirectory.into()));
+    }
+    Ok(folder)
+}
+
+// Opens the file of the medium, which is made where there is none.
+fn open_media<R: Files>(files: &R, path: &str) -> io::Result<R::File> {
+    OpenOptions::new()
+        .read(true)
+        .write(true)
+        .create(true)
+        .mode(OWNER_ALONE)
+        .open(files, path)
+}
+
+// The pages of a file of so many bytes, where no medium has more: a last one that is there in part is one.
+fn pages_of(len: u64) -> Result<u64, OpenRefusal>
+    ensures limit { IsOk result ↔ (len ≤ MAX_PAGES * RECORD) }
+    ensures pages { IfOk result (λ pages. pages ≡ div_ceil len RECORD) }
+    ensures most { IfOk result (λ pages. pages ≤ MAX_PAGES) }
+    ensures refusal { IfErr result (λ refusal. refusal ≡ OpenRefusal.TooLong len) }
+{
+    let pages = len.div_ceil(PAGE_LEN);
+    if pages > MAX_PAGES {
+        return Err(OpenRefusal::TooLong { len });
+    }
+    Ok(pages)
 }
 
 // How many pages the file has, all of them whole and synced.
 fn settle<F: OpenFile>(media: &F) -> Result<u64, OpenRefusal>
     ensures limit { IfOk result (λ pages. pages ≤ MAX_PAGES) }
-    ensures memory { IfErr result IsNotMemory }
+    ensures cause { IfErr result ShowsCause }
 {
-    let len = media.metadata()?.len();
-    let Some(pages) = pages_of(len) else {
-        return Err(OpenRefusal::TooLong);
-    };
-    fill_up(media, pages * PAGE_LEN)?;
-    media.sync_all()?;
+    let metadata = told(FolderFile::Media, media.metadata())?;
+    let pages = pages_of(metadata.len())?;
+    told(FolderFile::Media, fill_up(media, pages * PAGE_LEN))?;
+    told(FolderFile::Media, media.sync_all())?;
     Ok(pages)
 }
 

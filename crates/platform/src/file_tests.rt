@@ -1,6 +1,6 @@
 //! What no clause says: which bytes stand in the files of a folder, and what they are read as.
 use crate::tests::{append, read_ends};
-use crate::{FilePlatform, OpenRefusal, Platform};
+use crate::{FilePlatform, LockFile, OpenRefusal, Platform};
 use sdbt_base::{PlatformFault, RECORD, ROOT};
 use std::alloc::{Allocator, Global};
 use std::fs::{self, File, Metadata, OpenFile, OpenOptions};
@@ -10,6 +10,11 @@ use std::rt::Files;
 use std::test::Fail;
 
 pub(crate) const FOLDER: &str = "file_platform_test";
+
+/// A folder for a root record, and one for a medium.
+pub(crate) const CELL: &str = "file_platform_test_cell";
+
+pub(crate) const APART: &str = "file_platform_test_apart";
 
 /// A write that begins with this byte takes half of its bytes, and fails.
 const TEARING: u8 = 0xEE;
@@ -86,6 +91,12 @@ impl OpenFile for BadFile {
     }
 }
 
+impl LockFile for BadFile {
+    fn try_lock(&self) -> io::Result<()> {
+        LockFile::try_lock(&self.inner)
+    }
+}
+
 /// The files of the system, each of them a bad one. A path that begins with a star finds no memory.
 #[derive(Clone, Drop)]
 struct BadFiles {
@@ -159,6 +170,21 @@ pub(crate) fn make_folder(rt: &HostRuntime, media: &[u8], root: &[u8]) -> io::Re
     fs::write(rt, "file_platform_test/root.new", [5; ROOT].as_slice())
 }
 
+// Two new folders: in one a medium with a torn last page, in the other a `root.new`.
+pub(crate) fn make_apart(rt: &HostRuntime) -> io::Result<()> {
+    for folder in [CELL, APART] {
+        let _ = fs::remove_dir_all(rt, folder);
+        fs::create_dir(rt, folder)?;
+    }
+    fill_apart(rt)
+}
+
+// Puts these two files into their folders.
+fn fill_apart(rt: &HostRuntime) -> io::Result<()> {
+    fs::write(rt, "file_platform_test_apart/media", [7; 100].as_slice())?;
+    fs::write(rt, "file_platform_test_cell/root.new", [5; ROOT].as_slice())
+}
+
 // The length of a file of the folder, and who may read and write it.
 fn length_and_mode(rt: &HostRuntime, path: &str) -> io::Result<(u64, u32)> {
     let metadata = fs::metadata(rt, path)?;
@@ -224,7 +250,9 @@ fn refuses_a_folder(rt: HostRuntime) -> Result<(), Fail> {
     assert!(rt;
         matches!(
             FilePlatform::open(&files, FOLDER),
-            Err(OpenRefusal::TooLong)
+            Err(OpenRefusal::TooLong {
+                len: 17_729_624_997_889
+            })
         )
     );
     assert!(rt; matches!(FilePlatform::open(&files, "*"), Err(OpenRefusal::Memory)));
@@ -238,5 +266,42 @@ fn refuses_a_folder(rt: HostRuntime) -> Result<(), Fail> {
         );
     }
     fs::remove_dir_all(&rt, FOLDER)?;
+    Ok(())
+}
+
+// Whether an opening of these folders is refused since a platform has them, and leaves what another would change.
+fn is_in_use(rt: &HostRuntime, cell: &str, folder: &str) -> Result<bool, Fail> {
+    let is_in_use = matches!(
+        FilePlatform::open_apart(rt, cell, folder),
+        Err(OpenRefusal::InUse)
+    );
+    let left = fs::exists(rt, "file_platform_test_cell/root.new")?;
+    let (len, _) = length_and_mode(rt, "file_platform_test_apart/media")?;
+    Ok(is_in_use && left && len == 100)
+}
+
+#[test]
+fn refuses_what_another_platform_has(rt: HostRuntime) -> Result<(), Fail> {
+    // The folders of a platform, and those of others that it keeps out.
+    let rows = [
+        ((CELL, FOLDER), (CELL, APART)),
+        ((FOLDER, APART), (CELL, APART)),
+    ];
+    for ((cell, folder), (other_cell, other_folder)) in rows {
+        make_folder(&rt, b"", b"")?;
+        make_apart(&rt)?;
+        let first = FilePlatform::open_apart(&rt, cell, folder)?;
+        fill_apart(&rt)?;
+        assert!(rt;
+            is_in_use(&rt, other_cell, other_folder)?,
+            "{cell} {folder}"
+        );
+        drop(first);
+        let second = FilePlatform::open_apart(&rt, other_cell, other_folder)?;
+        assert_eq!(rt; second.head(), 1, "{cell} {folder}");
+    }
+    for folder in [FOLDER, CELL, APART] {
+        fs::remove_dir_all(&rt, folder)?;
+    }
     Ok(())
 }

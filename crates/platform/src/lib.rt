@@ -3,6 +3,7 @@
 
 mod failures;
 mod file_platform;
+mod lock_file;
 mod mem_platform;
 mod platforms;
 mod refusals;
@@ -11,9 +12,10 @@ mod transfers;
 
 pub use failures::{CallKind, Failure};
 pub use file_platform::FilePlatform;
+pub use lock_file::LockFile;
 pub use mem_platform::MemPlatform;
 pub use platforms::Platform;
-pub use refusals::OpenRefusal;
+pub use refusals::{FolderFile, OpenRefusal};
 
 #[cfg(test)]
 mod call_tests;

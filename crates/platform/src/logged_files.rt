@@ -1,4 +1,5 @@
 //! A test double for files: those of the system, where each call is logged and one may fail.
+use crate::LockFile;
 use std::alloc::{Allocator, Global};
 use std::cell::{Cell, RefCell};
 use std::fmt;
@@ -77,6 +78,8 @@ fn name_of(path: &str) -> &'static str {
         "root"
     } else if path.ends_with("/root.new") {
         "root.new"
+    } else if path.ends_with("_cell") {
+        "cell"
     } else {
         "folder"
     }
@@ -134,6 +137,13 @@ impl OpenFile for LoggedFile<'_> {
     fn sync_data(&self) -> io::Result<()> {
         self.log.call("sync data of ", self.name)?;
         self.inner.sync_data()
+    }
+}
+
+impl LockFile for LoggedFile<'_> {
+    fn try_lock(&self) -> io::Result<()> {
+        self.log.call("lock ", self.name)?;
+        LockFile::try_lock(&self.inner)
     }
 }
 

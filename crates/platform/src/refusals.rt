@@ -1,44 +1,64 @@
-//! Why a folder can't be a platform.
+//! Why folders can't be a platform.
 ghost use Rattle.platform.specs.Refusals.{IsTold, IsMemory};
 
 use std::alloc::AllocError;
 use std::error::Error;
 use std::{fmt, io};
 
-/// Why a folder can't be opened as a platform.
+/// What is opened of a platform in folders.
+#[derive(Clone, Copy, Debug, PartialEq, Eq)]
+pub enum FolderFile {
+    /// The folder of the root record.
+    Cell,
+    /// The folder of the medium.
+    Folder,
+    /// The file `media` in the folder of the medium.
+    Media,
+    /// The file `root.new` in the folder of the root record.
+    NewRoot,
+}
+
+/// Why folders can't be opened as a platform.
 #[derive(Clone, Copy, Debug)]
 pub enum OpenRefusal {
-    /// `media` has more than 2^32 pages.
-    TooLong,
-    /// A call on a file failed, for another cause than want of memory.
-    Io { error: io::Error },
+    /// `media` has this length, which is more than that of 2^32 pages.
+    TooLong { len: u64 },
+    /// Another platform has the lock on `media`, or on the folder of the root record.
+    InUse,
+    /// A call on this file failed, for another cause than want of memory.
+    Io { file: FolderFile, error: io::Error },
     /// No memory was given.
     Memory,
+}
+
+impl OpenRefusal {
+    /// What an error of a file says.
+    pub fn of(file: FolderFile, error: io::Error) -> OpenRefusal
+        ensures { IsTold file error result }
+    {
+        if error.kind() == io::ErrorKind::OutOfMemory {
+            OpenRefusal::Memory
+        } else {
+            OpenRefusal::Io { file, error }
+        }
+    }
 }
 
 impl fmt::Display for OpenRefusal {
     fn fmt<W: fmt::Write>(&self, f: &mut fmt::Formatter<W>) -> fmt::Result {
         match self {
-            OpenRefusal::TooLong => write!(f, "the medium has more than 2^32 pages"),
-            OpenRefusal::Io { error } => write!(f, "{error}"),
+            OpenRefusal::TooLong { len } => write!(
+                f,
+                "a medium of {len} bytes has more than 2^32 pages"
+            ),
+            OpenRefusal::InUse => write!(f, "in use by another program"),
+            OpenRefusal::Io { error, .. } => write!(f, "{error}"),
             OpenRefusal::Memory => write!(f, "out of memory"),
         }
     }
 }
 
 impl Error for OpenRefusal {}
-
-impl From<io::Error> for OpenRefusal {
-    ghost from_gives = { IsTold };
-
-    fn from(error: io::Error) -> OpenRefusal {
-        if error.kind() == io::ErrorKind::OutOfMemory {
-            OpenRefusal::Memory
-        } else {
-            OpenRefusal::Io { error }
-        }
-    }
-}
 
 impl From<AllocError> for OpenRefusal {
     ghost from_gives = { λ _ refusal. IsMemory refusal };
