@@ -1,6 +1,7 @@
 -- What a seizure needs, which tries each key that it found on every page.
 use Rattle.std.proofs.Common.{ℕ, List, [], ◌∷◌, ◌++◌, sym, subst, append_assoc}
-use Rattle.std.specs.Prelude.{Contains}
+use Rattle.std.specs.Prelude.{All, Contains}
+use Rattle.std.proofs.lemmas.List.Elements.{All-contains}
 use Rattle.key_graph.specs.Chains.{Link, OpensAt, YieldsAt, IsChain, ChainEnds}
 
 -- a chain begins
@@ -26,3 +27,23 @@ all_found pages found May (first ∷ before) at begins goes_on is =
 
 pub chains_found : (roots pages : List (List ℕ)) (found : List Link) (at : Link) → ((next : Link) → Contains roots next.key → OpensAt pages next → Contains found next) → ((one next : Link) → Contains found one → YieldsAt pages one next.key → OpensAt pages next → Contains found next) → ChainEnds roots pages at → Contains found at
 chains_found roots pages found at begins goes_on ends = all_found pages found (Contains roots) ends.before at begins goes_on ends.chain
+
+-- the last key of a chain opens the page at its end
+chain_opens : (pages : List (List ℕ)) (May : List ℕ → Type 0) (before : List Link) (at : Link) → IsChain pages May (before ++ at ∷ []) → OpensAt pages at
+chain_opens pages May [] at is = is.1
+chain_opens pages May (first ∷ before) at is = chain_opens pages (YieldsAt pages first) before at is.2
+
+pub end_opens : (roots pages : List (List ℕ)) (at : Link) → ChainEnds roots pages at → OpensAt pages at
+end_opens roots pages at ends = chain_opens pages (Contains roots) ends.before at ends.chain
+
+-- and is one of any list that has the roots and what its keys yield
+chain_keys : (pages keys : List (List ℕ)) (May : List ℕ → Type 0) (before : List Link) (at : Link) → ((key : List ℕ) → May key → Contains keys key)
+    → ((one : Link) (other : List ℕ) → Contains keys one.key → YieldsAt pages one other → Contains keys other) → IsChain pages May (before ++ at ∷ []) → Contains keys at.key
+chain_keys pages keys May [] at begins goes_on is = begins at.key is.0
+chain_keys pages keys May (first ∷ before) at begins goes_on is =
+    chain_keys pages keys (YieldsAt pages first) before at (λ other. goes_on first other (begins first.key is.0)) goes_on is.2
+
+pub keys_found : (roots pages keys : List (List ℕ)) (at : Link) → All (Contains keys) roots
+    → ((one : Link) (other : List ℕ) → Contains keys one.key → YieldsAt pages one other → Contains keys other) → ChainEnds roots pages at → Contains keys at.key
+keys_found roots pages keys at begins goes_on ends =
+    chain_keys pages keys (Contains roots) ends.before at (λ key has. All-contains (Contains keys) roots key begins has) goes_on ends.chain

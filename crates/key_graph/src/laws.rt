@@ -61,7 +61,8 @@ pub fn reaches_by_one()
 {}
 
 /// A chain begins with a root on a page that it opens, and goes on with a yielded key on a page that it opens. Where neither
-/// leads out of what was found, every chain ends at what was found.
+/// leads out of what was found, every chain ends at what was found. Its last key opens the page at its end, and is one of any
+/// list that has the roots and all that its keys yield.
 pub fn chains_are_found()
     ensures begins { (roots pages : List (List ℕ)) (at : Link) →
         Contains roots at.key → OpensAt pages at → ChainEnds roots pages at }
@@ -71,4 +72,8 @@ pub fn chains_are_found()
         ((next : Link) → Contains roots next.key → OpensAt pages next → Contains found next) →
         ((one next : Link) → Contains found one → YieldsAt pages one next.key → OpensAt pages next → Contains found next) →
         ChainEnds roots pages at → Contains found at }
+    ensures opens { (roots pages : List (List ℕ)) (at : Link) → ChainEnds roots pages at → OpensAt pages at }
+    ensures keys { (roots pages keys : List (List ℕ)) (at : Link) → All (Contains keys) roots →
+        ((one : Link) (other : List ℕ) → Contains keys one.key → YieldsAt pages one other → Contains keys other) →
+        ChainEnds roots pages at → Contains keys at.key }
 {}

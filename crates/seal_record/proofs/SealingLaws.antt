@@ -1,9 +1,9 @@
 -- What a caller can rely on about masked pages, with no look at the keystream itself.
-use Rattle.std.proofs.Common.{◌≡◌, ℕ, ◌^◌, ◌<◌, ◌≤◌, List, [], ◌∷◌, length, take, bit_xor, refl, sym, ap, ◌∙◌, arith}
+use Rattle.std.proofs.Common.{◌≡◌, ◌↔◌, ℕ, ◌^◌, ◌<◌, ◌≤◌, List, [], ◌∷◌, length, take, bit_xor, refl, sym, ap, ◌∙◌, arith}
 use Rattle.std.specs.Simd.Lanes.{zip2}
 use Rattle.std.specs.List.{All}
 use Rattle.std.specs.Int.{w64, to_be_bytes, from_be_bytes}
-use Rattle.std.proofs.lemmas.List.{take_all, append_cancel_left}
+use Rattle.std.proofs.lemmas.List.{take_all, append_cancel_left, length-take-le}
 use Rattle.std.proofs.lemmas.Nat.{from_be_bytes-to_be_bytes_8}
 use Rattle.std.proofs.lemmas.Simd.{length-zip2}
 use Rattle.rand_chacha.specs.ChaCha.{key_of}
@@ -11,7 +11,7 @@ use Rattle.sdbt_base.specs.Bytes.{IsBytes}
 use Rattle.seal_record.specs.Keystream.{stream}
 use Rattle.seal_record.specs.Sealing.{masked, stamp_of, Opens}
 use Rattle.chacha_words.proofs.WordLaws.{length-words, All-words}
-use Rattle.seal_record.proofs.XorLemmas.{take-zip2, xor_twice, All-xor}
+use Rattle.seal_record.proofs.XorLemmas.{take-zip2, xor_twice, xor_back, All-xor}
 
 -- the keystream is as long as a record
 pub length-stream : (key : List ℕ) → length (stream key) ≡ 4128
@@ -79,3 +79,13 @@ pub Opens-one_address : (key page : List ℕ) (one other : ℕ) → one < 2 ^ 64
     → Opens key one page → Opens key other page → one ≡ other
 Opens-one_address key page one other small small' opens opens' =
     stamp_of-injective one other small small' (sym opens ∙ opens')
+
+-- the front of a page, mixed with a stamp, is the front of the keystreams that give that stamp back
+pub front_wanted : (page key stamp : List ℕ) → length page ≡ 4128 → length stamp ≡ 16
+    → (zip2 bit_xor (take 16 page) stamp ≡ take 16 (stream key)) ↔ (take 16 (masked key page) ≡ stamp)
+front_wanted page key stamp size stamped =
+    let long : length (take 16 page) ≡ 16 = length-take-le 16 page (omega arith) in
+    let front : length (take 16 (stream key)) ≡ 16 = length-take-le 16 (stream key) (omega (arith, length-stream key)) in (
+      λ is. sym (front_of_masked 16 key page) ∙ ap (zip2 bit_xor (take 16 page)) (sym is) ∙ xor_back (take 16 page) stamp (omega arith),
+      λ is. ap (zip2 bit_xor (take 16 page)) (sym is ∙ sym (front_of_masked 16 key page)) ∙ xor_back (take 16 page) (take 16 (stream key)) (omega arith),
+    )

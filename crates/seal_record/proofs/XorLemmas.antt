@@ -1,8 +1,8 @@
 -- Lists of bytes, mixed place by place.
-use Rattle.std.proofs.Common.{◌≡◌, ℕ, zero, suc, ◌<◌, ◌≤◌, List, [], ◌∷◌, length, take, bit_xor, refl, ap, ◌∙◌, arith}
+use Rattle.std.proofs.Common.{◌≡◌, ℕ, zero, suc, ◌<◌, ◌≤◌, List, [], ◌∷◌, length, take, bit_xor, refl, sym, ap, ◌∙◌, arith}
 use Rattle.std.specs.Simd.Lanes.{zip2}
 use Rattle.std.specs.List.{All}
-use Rattle.std.specs.Int.Bits.{xor_assoc, xor_self, xor_zero_r}
+use Rattle.std.specs.Int.Bits.{xor_assoc, xor_self, xor_zero_r, xor_zero_l}
 use Rattle.std.proofs.lemmas.List.Elements.{All-nil, All-cons, All-head, All-tail}
 use Rattle.std.proofs.lemmas.Nat.{xor_of_8}
 
@@ -21,6 +21,16 @@ xor_twice (x ∷ xs) (y ∷ ys) long =
     ap (λ (n : ℕ). n ∷ zip2 bit_xor (zip2 bit_xor xs ys) ys)
     (xor_assoc x y y ∙ ap (bit_xor x) (xor_self y) ∙ xor_zero_r x)
     ∙ ap (λ (rest : List ℕ). x ∷ rest) (xor_twice xs ys (omega arith))
+
+-- and so does a mix with what was mixed in already
+pub xor_back : (xs ys : List ℕ) → length ys ≤ length xs → zip2 bit_xor xs (zip2 bit_xor xs ys) ≡ ys
+xor_back [] [] long = refl
+xor_back [] (y ∷ ys) long = absurd (omega arith)
+xor_back (x ∷ xs) [] long = refl
+xor_back (x ∷ xs) (y ∷ ys) long =
+    ap (λ (n : ℕ). n ∷ zip2 bit_xor xs (zip2 bit_xor xs ys))
+    (sym (xor_assoc x x y) ∙ ap (λ (n : ℕ). bit_xor n y) (xor_self x) ∙ xor_zero_l y)
+    ∙ ap (λ (rest : List ℕ). y ∷ rest) (xor_back xs ys (omega arith))
 
 -- a mix of bytes is bytes
 pub All-xor : (xs ys : List ℕ) → All (λ b. b < 256) xs → All (λ b. b < 256) ys → All (λ b. b < 256) (zip2 bit_xor xs ys)

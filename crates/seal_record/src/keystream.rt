@@ -32,6 +32,16 @@ pub(crate) fn unmasked_front(key: &Key, page: &[u8]) -> [u8; FRONT]
     front
 }
 
+/// The first 16 bytes of the keystream of a key, with no more of it made. A key opens a page at an address exactly where they
+/// are what [`front_wanted`](crate::front_wanted) says of that page there.
+pub fn stream_front(key: &Key) -> [u8; FRONT]
+    ensures { result ≡ take FRONT (stream key.now) }
+{
+    let mut front = [0; FRONT];
+    fill_with_stream(key, &mut front);
+    front
+}
+
 /// Fills `out` with the front of the keystream of `key`, and makes no more of it.
 fn fill_with_stream(key: &Key, out: &mut [u8])
     requires { length out.old ≤ RECORD }
@@ -42,7 +52,7 @@ fn fill_with_stream(key: &Key, out: &mut [u8])
 }
 
 /// Mixes as many bytes into `out`, place by place.
-fn xor_into(out: &mut [u8], bytes: &[u8])
+pub(crate) fn xor_into(out: &mut [u8], bytes: &[u8])
     requires { length bytes.now ≡ length out.old }
     ensures { out.new ≡ zip2 bit_xor bytes.now out.old }
 {

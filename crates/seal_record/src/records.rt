@@ -1,9 +1,10 @@
 //! Sealing a record, unsealing it, and the test whether a key opens a page.
-ghost use Rattle.std.specs.Prelude.{◌≡◌, ◌↔◌, length, IsTrue};
+ghost use Rattle.std.specs.Prelude.{◌≡◌, ◌↔◌, ℕ, List, length, take, IsTrue};
 ghost use Rattle.sdbt_base.specs.Bytes.{IsBytes};
+ghost use Rattle.seal_record.specs.Keystream.{stream};
 ghost use Rattle.seal_record.specs.Sealing.{masked, stamp_of, Opens};
 
-use crate::keystream::{FRONT, mask, unmasked_front};
+use crate::keystream::{FRONT, mask, unmasked_front, xor_into};
 use sdbt_base::{FreshKey, Key, RECORD};
 
 /// Seals a record under a key that has sealed nothing yet, and answers that key, now used.
@@ -44,6 +45,19 @@ pub fn stamped(key: &Key, addr: u64, page: &[u8]) -> bool
     ensures { IsTrue result ↔ Opens key.now addr page.now }
 {
     unmasked_front(key, page) == stamp_at(addr)
+}
+
+/// The first 16 bytes that a key's keystream must have for the key to open `page` at an address: the front of the page XOR
+/// the stamp of that address.
+///
+/// `page` is 4,128 bytes. So one look-up of a [`stream_front`](crate::stream_front) among these finds all pages that a key opens.
+pub fn front_wanted(addr: u64, page: &[u8]) -> [u8; FRONT]
+    requires { length page.now ≡ RECORD }
+    ensures { (key : List ℕ) → (result ≡ take FRONT (stream key)) ↔ Opens key addr page.now }
+{
+    let mut front = stamp_at(addr);
+    xor_into(&mut front, &page[..FRONT]);
+    front
 }
 
 /// The stamp of a record at `addr`.

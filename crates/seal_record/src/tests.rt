@@ -48,6 +48,8 @@ fn seals_and_unseals_the_worked_page(rt: HostRuntime) {
         (other, 3, false),
     ] {
         assert_eq!(rt; stamped(&key, addr, &page), want, "at {addr}");
+        let fits = stream_front(&key) == front_wanted(addr, &page);
+        assert_eq!(rt; fits, want, "in two parts, at {addr}");
     }
     let used = seal(FreshKey::from_bytes(COUNTING), &body, &mut page);
     assert!(rt; used == other);
@@ -60,4 +62,5 @@ fn seals_zeros_to_the_keystream(rt: HostRuntime) {
     let mut page = [0; RECORD];
     seal(FreshKey::from_bytes(ZEROS), &[0; RECORD], &mut page);
     assert!(rt; page.starts_with(ZERO_STREAM));
+    assert!(rt; ZERO_STREAM.starts_with(&stream_front(&Key::from_bytes(ZEROS))));
 }

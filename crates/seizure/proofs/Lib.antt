@@ -1,0 +1,4 @@
+pub mod IndexLaws
+pub mod OpenedLaws
+pub mod WorkLaws
+pub mod SearchLaws

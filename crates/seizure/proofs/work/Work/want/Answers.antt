@@ -1,0 +1,21 @@
+use Rattle.std.proofs.Common.{◌≡◌, true, List, ℕ, sym, subst}
+use Rattle.std.specs.Ordering.{nat_cmp}
+use Rattle.std.specs.Cmp.Lexicographic.{slice_cmp}
+use Rattle.std.specs.BTreeSet.{contains, Updates}
+use Rattle.seizure.specs.Work.{Gains}
+use Rattle.seizure.proofs.WorkLaws.{IsSetOf, set_more, was_there, gains_one, gains_old}
+use Rattle.seizure.proofs.work.Work.want.Goals as goal
+
+pub returns-in_ok-push-clause-known : goal.returns-in_ok-push-clause-known
+returns-in_ok-push-clause-known c =
+    subst (IsSetOf c.insert.new.self) (sym c.in_ok-push.ensures)
+    (set_more c.args.self.now.known c.insert.new.self c.args.self.now.keys c.args.key.now c.requires
+    (subst (λ (k : List ℕ). Updates (slice_cmp nat_cmp) c.args.self.now.known c.insert.new.self k true) c.bytes.ensures.value c.in_ok-insert.ensures.updates))
+
+pub returns-in_ok-push-clause-keys : goal.returns-in_ok-push-clause-keys
+returns-in_ok-push-clause-keys c = subst (λ (l : List (List ℕ)). Gains c.args.self.now.keys l (λ other. other ≡ c.args.key.now)) (sym c.in_ok-push.ensures) (gains_one c.args.self.now.keys c.args.key.now)
+
+pub returns-else-branch-clause-keys : goal.returns-else-branch-clause-keys
+returns-else-branch-clause-keys c =
+    let there = was_there _ _ c.in_ok-insert.ensures.added c.if-branch.false in
+    gains_old c.args.self.now.keys c.args.key.now ((c.requires c.args.key.now).0 (subst (λ (k : List ℕ). contains (slice_cmp nat_cmp) c.args.self.now.known k ≡ true) c.bytes.ensures.value there))

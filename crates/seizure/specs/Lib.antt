@@ -1,0 +1,5 @@
+pub mod Opened
+pub mod Report
+pub mod Index
+pub mod Work
+pub mod Looks

@@ -1,0 +1,148 @@
+//! What a search has found: keys to try, and bodies that were opened.
+ghost use Rattle.std.specs.Prelude.{◌≡◌, ◌<◌, ◌++◌, ◌∷◌, [], All, Contains, OnOk, length};
+ghost use Rattle.key_graph.specs.Opening.{kind_of, count_of, key_in};
+ghost use Rattle.seizure.specs.Opened.{told_of, IsOrderOf};
+ghost use Rattle.seizure.specs.Work.{KnowsItsKeys, Gains, HasBelow, HasKey};
+
+use crate::opened::{Opened, OpenedList};
+use crate::report::Report;
+use key_graph::KeyList;
+use sdbt_base::{Key, Memory, RECORD};
+use std::alloc::Global;
+use std::collections::BTreeSet;
+
+/// The kind of a node.
+const NODE: u8 = 2;
+
+/// The most entries that a record has room for.
+const MOST: usize = 85;
+
+/// The keys that were found, each once, in the order in which they are tried, and what was opened.
+#[derive(Drop)]
+pub(crate) struct Work {
+    known: BTreeSet<[u8; 32]>,
+    /// The keys.
+    pub(crate) keys: KeyList,
+    opened: OpenedList,
+}
+
+impl Work {
+    /// Nothing. It takes no memory.
+    pub(crate) fn new(alloc: Global) -> Work
+        ensures known { KnowsItsKeys result }
+        ensures keys { result.keys ≡ [] }
+        ensures opened { result.opened ≡ [] }
+    {
+        Work {
+            known: BTreeSet::new(alloc),
+            keys: KeyList::new(alloc),
+            opened: OpenedList::new(alloc),
+        }
+    }
+
+    /// A key is to be tried, if it was not found before.
+    pub(crate) fn want(&mut self, key: &Key) -> Result<(), Memory>
+        requires { KnowsItsKeys self.old }
+        ensures known { OnOk result (KnowsItsKeys self.new) }
+        ensures keys { OnOk result (Gains self.old.keys self.new.keys (λ other. other ≡ key.now)) }
+        ensures opened { self.new.opened ≡ self.old.opened }
+    {
+        if self.known.insert(key.bytes())? {
+            self.keys.push(*key)?;
+        }
+        Ok(())
+    }
+
+    /// Each of these keys is to be tried.
+    pub(crate) fn want_all(&mut self, keys: &KeyList) -> Result<(), Memory>
+        requires { KnowsItsKeys self.old }
+        ensures known { OnOk result (KnowsItsKeys self.new) }
+        ensures keys { OnOk result (Gains self.old.keys self.new.keys (Contains keys.now)) }
+        ensures opened { self.new.opened ≡ self.old.opened }
+    {
+        for i in 0..keys.len() {
+            self.want(keys.at(i))?;
+        }
+        Ok(())
+    }
+
+    /// A body was opened at an address: what it says is noted, and the keys in it are to be tried.
+    pub(crate) fn note(&mut self, addr: u64, body: &[u8]) -> Result<(), Memory>
+        requires size { length body.now ≡ RECORD }
+        requires known { KnowsItsKeys self.old }
+        ensures known { OnOk result (KnowsItsKeys self.new) }
+        ensures opened { OnOk result (self.new.opened ≡ self.old.opened ++ told_of addr body.now ∷ []) }
+        ensures keys { OnOk result (Gains self.old.keys self.new.keys (HasKey body.now)) }
+    {
+        let told = told(addr, body);
+        self.opened.push(told)?;
+        if told.kind == NODE {
+            self.want_entries(body)
+        } else {
+            Ok(())
+        }
+    }
+
+    /// The keys in the entries of a node are to be tried.
+    fn want_entries(&mut self, body: &[u8]) -> Result<(), Memory>
+        requires size { length body.now ≡ RECORD }
+        requires node { kind_of body.now ≡ 2 }
+        requires known { KnowsItsKeys self.old }
+        ensures known { OnOk result (KnowsItsKeys self.new) }
+        ensures opened { self.new.opened ≡ self.old.opened }
+        ensures keys { OnOk result (Gains self.old.keys self.new.keys (HasKey body.now)) }
+    {
+        for entry in 0..count(body) {
+            self.want(&key_at(body, entry))?;
+        }
+        Ok(())
+    }
+
+    /// The report of what was opened of so many pages.
+    pub(crate) fn into_report(self, pages: u64) -> Report
+        ensures pages { result.pages ≡ pages }
+        ensures opened { IsOrderOf self.opened result.opened }
+    {
+        let Work {
+            known: _,
+            keys: _,
+            mut opened,
+        } = self;
+        opened.ascend();
+        Report::of(pages, opened)
+    }
+}
+
+/// What a body at an address says of itself.
+fn told(addr: u64, body: &[u8]) -> Opened
+    requires { length body.now ≡ RECORD }
+    ensures { result ≡ told_of addr body.now }
+{
+    let mut block = [0; 8];
+    block.copy_from_slice(&body[24..32]);
+    Opened {
+        addr,
+        kind: body[16],
+        block: u64::from_be_bytes(block),
+    }
+}
+
+/// How many entries a body has by its count: as many as there is room for, at most.
+fn count(body: &[u8]) -> usize
+    requires { length body.now ≡ RECORD }
+    ensures { result ≡ count_of body.now }
+{
+    let count = u16::from_be_bytes([body[18], body[19]]);
+    MOST.min(count as usize)
+}
+
+/// The key in an entry of a body.
+fn key_at(body: &[u8], entry: usize) -> Key
+    requires size { length body.now ≡ RECORD }
+    requires within { entry < MOST }
+    ensures { result ≡ key_in body.now entry }
+{
+    let mut bytes = [0; 32];
+    bytes.copy_from_slice(&body[48 * entry + 48..48 * entry + 80]);
+    Key::from_bytes(bytes)
+}
