@@ -34,7 +34,7 @@ impl Desk {
     ghost use Rattle.device_cli.specs.Pages.{pages_after};
     ghost use Rattle.device_cli.specs.Represents.{Represents};
     ghost use Rattle.device_course.specs.States.{IsListed};
-ghost use Rattle.device_course.specs.Keys.{KeepsOn};
+    ghost use Rattle.device_course.specs.Keys.{KeepsOn};
 
     /// No session.
     pub(crate) fn new(alloc: Global) -> Desk

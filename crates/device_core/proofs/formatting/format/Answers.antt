@@ -97,20 +97,21 @@ returns-in-Ok-publish-clause-made g c = λ told.
     ap (λ (b : Held). b.body) c.put_node.ensures ∙ ap (λ (n : ℕ). record_bytes n (NodeRecord 1 [])) (c.head-2.ensures.value ∙ sym address) in
     let appended = c.in-Ok-append.ensures.appended told ∙ ap (λ (b : List ℕ). with_page (history c.load_root.new.self).present (masked key b) (masked key b)) body in
     let next = first_served c.args.blocks c.args.order addr (head c.append.new.platform) c.in-Ok-append.placed.key c.requires.least c.requires.most c.requires.order room
-    c.in-Ok-append.ensures.key (omega (arith, address, c.in-Ok-append.ensures.head_ok)) in
-    (
+    c.in-Ok-append.ensures.key (omega (arith, address, c.in-Ok-append.ensures.head_ok)) in (
       format_made (history c.load_root.new.self) (history c.append.new.platform) (history c.publish.new.platform) c.args.blocks c.args.order addr key appended (c.in-Ok-publish.ensures.published told)
-    c.requires.least c.requires.most c.requires.order room c.in-Ok-append.ensures.key (address ∙ sym pages),
+          c.requires.least c.requires.most c.requires.order room c.in-Ok-append.ensures.key (address ∙ sym pages),
       subst IsServedImage (sym (c.in-Ok-publish.ensures.published told))
-    (served_published (history c.append.new.platform).present (first_root c.args.blocks c.args.order addr c.in-Ok-append.placed.key) (head c.append.new.platform) (g.met.P.Platform.counts_pages told c.append.new.platform) next),
-      (first_root c.args.blocks c.args.order addr key,
-      ap (λ (i : Image). i.cell) (c.in-Ok-publish.ensures.published told),
-      record {
-        earlier = [];
-        drew = c.in-Ok-append.ensures.drew;
-        node = omega (arith, address, c.in-Ok-append.ensures.head_ok, c.publish.ensures.head);
-        head = omega (arith, address, c.in-Ok-append.ensures.head_ok, c.publish.ensures.head);
-      }),
+          (served_published (history c.append.new.platform).present (first_root c.args.blocks c.args.order addr c.in-Ok-append.placed.key) (head c.append.new.platform) (g.met.P.Platform.counts_pages told c.append.new.platform) next),
+      (
+        first_root c.args.blocks c.args.order addr key,
+        ap (λ (i : Image). i.cell) (c.in-Ok-publish.ensures.published told),
+        record {
+          earlier = [];
+          drew = c.in-Ok-append.ensures.drew;
+          node = omega (arith, address, c.in-Ok-append.ensures.head_ok, c.publish.ensures.head);
+          head = omega (arith, address, c.in-Ok-append.ensures.head_ok, c.publish.ensures.head);
+        },
+      ),
     )
 
 pub returns-in-Ok-publish-clause-time : goal.returns-in-Ok-publish-clause-time
@@ -215,7 +216,7 @@ returns-in_default-new-clause-discloses g c = record {
 
 pub returns-in-Err-TapeFault-clause-discloses : goal.returns-in-Err-TapeFault-clause-discloses
 returns-in-Err-TapeFault-clause-discloses g c = record {
-  keys = 
+  keys =
       let history = g.P.Platform.history in
       let drawn = g.T.Tape.drawn in
       let body : c.put_node.new.self.body ≡ record_bytes c.head-2.result (NodeRecord 1 []) = ap (λ (b : Held). b.body) c.put_node.ensures in
@@ -230,7 +231,7 @@ returns-in-Err-TapeFault-clause-discloses g c = record {
 
 pub returns-in-Err-PlatformFault-clause-discloses : goal.returns-in-Err-PlatformFault-clause-discloses
 returns-in-Err-PlatformFault-clause-discloses g c = record {
-  keys = 
+  keys =
       let history = g.P.Platform.history in
       let drawn = g.T.Tape.drawn in
       let body : c.put_node.new.self.body ≡ record_bytes c.head-2.result (NodeRecord 1 []) = ap (λ (b : Held). b.body) c.put_node.ensures in
@@ -245,7 +246,7 @@ returns-in-Err-PlatformFault-clause-discloses g c = record {
 
 pub returns-in-Ok-publish-clause-discloses : goal.returns-in-Ok-publish-clause-discloses
 returns-in-Ok-publish-clause-discloses g c = record {
-  keys = 
+  keys =
       let history = g.P.Platform.history in
       let drawn = g.T.Tape.drawn in
       let body : c.put_node.new.self.body ≡ record_bytes c.head-2.result (NodeRecord 1 []) = ap (λ (b : Held). b.body) c.put_node.ensures in
@@ -260,10 +261,10 @@ returns-in-Ok-publish-clause-discloses g c = record {
       let pages = g.met.P.Platform.counts_pages in
       let leaf : c.put_node.new.self.body ≡ record_bytes addr (NodeRecord 1 []) = body ∙ ap (λ (n : ℕ). record_bytes n (NodeRecord 1 [])) (c.head-2.ensures.value ∙ sym address) in
       format_publishes g.P.Platform.tells (drawn c.args.tape.now) (drawn c.append.new.tape) (history c.args.platform.now) (history c.load_root.new.self) (history c.append.new.platform) (history c.publish.new.platform)
-    c.args.blocks c.args.order addr key first
-    (λ told. c.in-Ok-append.ensures.appended told ∙ ap (λ (b : List ℕ). with_page (history c.load_root.new.self).present (masked key b) (masked key b)) leaf)
-    (λ told. pages told c.publish.new.platform ∙ (c.publish.ensures.head ∙ sym (pages told c.append.new.platform)))
-    c.publish.ensures.time c.requires.least c.requires.most c.requires.order room c.in-Ok-append.ensures.key (λ told. address ∙ sym (pages told c.load_root.new.self));
+      c.args.blocks c.args.order addr key first
+      (λ told. c.in-Ok-append.ensures.appended told ∙ ap (λ (b : List ℕ). with_page (history c.load_root.new.self).present (masked key b) (masked key b)) leaf)
+      (λ told. pages told c.publish.new.platform ∙ (c.publish.ensures.head ∙ sym (pages told c.append.new.platform)))
+      c.publish.ensures.time c.requires.least c.requires.most c.requires.order room c.in-Ok-append.ensures.key (λ told. address ∙ sym (pages told c.load_root.new.self));
   turns = λ told. once _ _ _ (then_published _ _ _ _ (call_more _ _ _ (one_look _ _ (c.load_root.ensures.time told) (c.load_root.ensures.image told)) (c.append.ensures.time told) (c.append.ensures.cell told)) (c.publish.ensures.time told));
   serves = λ told served.
       let history = g.P.Platform.history in
@@ -274,8 +275,8 @@ returns-in-Ok-publish-clause-discloses g c = record {
       let next = first_served c.args.blocks c.args.order addr (head c.append.new.platform) c.in-Ok-append.placed.key c.requires.least c.requires.most c.requires.order room
       c.in-Ok-append.ensures.key (omega (arith, address, c.in-Ok-append.ensures.head_ok)) in
       serves_turned (history c.args.platform.now) (history c.publish.new.platform) _
-    (then_published (history c.args.platform.now) (history c.append.new.platform) (history c.publish.new.platform) _ (call_more _ _ _ (one_look _ _ (c.load_root.ensures.time told) (c.load_root.ensures.image told)) (c.append.ensures.time told) (c.append.ensures.cell told)) (c.publish.ensures.time told))
-    served (served_published (history c.append.new.platform).present (first_root c.args.blocks c.args.order addr c.in-Ok-append.placed.key) (head c.append.new.platform) (g.met.P.Platform.counts_pages told c.append.new.platform) next);
+      (then_published (history c.args.platform.now) (history c.append.new.platform) (history c.publish.new.platform) _ (call_more _ _ _ (one_look _ _ (c.load_root.ensures.time told) (c.load_root.ensures.image told)) (c.append.ensures.time told) (c.append.ensures.cell told)) (c.publish.ensures.time told))
+      served (served_published (history c.append.new.platform).present (first_root c.args.blocks c.args.order addr c.in-Ok-append.placed.key) (head c.append.new.platform) (g.met.P.Platform.counts_pages told c.append.new.platform) next);
   forgets = λ told keys sound.
       let history = g.P.Platform.history in
       let head = g.P.Platform.head in
@@ -299,13 +300,13 @@ returns-in-Ok-publish-clause-discloses g c = record {
       let none : old.present.cell ≡ None = empty_cell c.in-Ok.is_full old.present.cell c.if-is_full.false (c.in-Ok.ensures.full told) in
       let longer : length X.recorded ≡ addr + 1 = ap (λ (i : Image). length i.recorded) target ∙ simp length-append (ap (λ (n : ℕ). n + 1) pages) in
       forgets_first old (history c.publish.new.platform) X (new_device c.args.blocks c.args.order) root none sound
-    (then_published old mid (history c.publish.new.platform) _ (call_more _ _ _ (one_look _ _ (c.load_root.ensures.time told) (c.load_root.ensures.image told)) (c.append.ensures.time told) (c.append.ensures.cell told)) (c.publish.ensures.time told))
-    leaf (omega (arith, few, same)) (omega arith) (sym longer);
+      (then_published old mid (history c.publish.new.platform) _ (call_more _ _ _ (one_look _ _ (c.load_root.ensures.time told) (c.load_root.ensures.image told)) (c.append.ensures.time told) (c.append.ensures.cell told)) (c.publish.ensures.time told))
+      leaf (omega (arith, few, same)) (omega arith) (sym longer);
 }
 
 pub returns-clause-discloses : goal.returns-clause-discloses
 returns-clause-discloses g c = record {
-  keys = 
+  keys =
       let history = g.P.Platform.history in
       let drawn = g.T.Tape.drawn in
       let body : c.put_node.new.self.body ≡ record_bytes c.head-2.result (NodeRecord 1 []) = ap (λ (b : Held). b.body) c.put_node.ensures in
@@ -320,10 +321,10 @@ returns-clause-discloses g c = record {
       let pages = g.met.P.Platform.counts_pages in
       let leaf : c.put_node.new.self.body ≡ record_bytes addr (NodeRecord 1 []) = body ∙ ap (λ (n : ℕ). record_bytes n (NodeRecord 1 [])) (c.head-2.ensures.value ∙ sym address) in
       format_publishes g.P.Platform.tells (drawn c.args.tape.now) (drawn c.append.new.tape) (history c.args.platform.now) (history c.load_root.new.self) (history c.append.new.platform) (history c.publish.new.platform)
-    c.args.blocks c.args.order addr key first
-    (λ told. c.in-Ok-append.ensures.appended told ∙ ap (λ (b : List ℕ). with_page (history c.load_root.new.self).present (masked key b) (masked key b)) leaf)
-    (λ told. pages told c.publish.new.platform ∙ (c.publish.ensures.head ∙ sym (pages told c.append.new.platform)))
-    c.publish.ensures.time c.requires.least c.requires.most c.requires.order room c.in-Ok-append.ensures.key (λ told. address ∙ sym (pages told c.load_root.new.self));
+      c.args.blocks c.args.order addr key first
+      (λ told. c.in-Ok-append.ensures.appended told ∙ ap (λ (b : List ℕ). with_page (history c.load_root.new.self).present (masked key b) (masked key b)) leaf)
+      (λ told. pages told c.publish.new.platform ∙ (c.publish.ensures.head ∙ sym (pages told c.append.new.platform)))
+      c.publish.ensures.time c.requires.least c.requires.most c.requires.order room c.in-Ok-append.ensures.key (λ told. address ∙ sym (pages told c.load_root.new.self));
   turns = λ told. once _ _ _ (then_published _ _ _ _ (call_more _ _ _ (one_look _ _ (c.load_root.ensures.time told) (c.load_root.ensures.image told)) (c.append.ensures.time told) (c.append.ensures.cell told)) (c.publish.ensures.time told));
   serves = λ told served.
       let history = g.P.Platform.history in
@@ -334,8 +335,8 @@ returns-clause-discloses g c = record {
       let next = first_served c.args.blocks c.args.order addr (head c.append.new.platform) c.in-Ok-append.placed.key c.requires.least c.requires.most c.requires.order room
       c.in-Ok-append.ensures.key (omega (arith, address, c.in-Ok-append.ensures.head_ok)) in
       serves_turned (history c.args.platform.now) (history c.publish.new.platform) _
-    (then_published (history c.args.platform.now) (history c.append.new.platform) (history c.publish.new.platform) _ (call_more _ _ _ (one_look _ _ (c.load_root.ensures.time told) (c.load_root.ensures.image told)) (c.append.ensures.time told) (c.append.ensures.cell told)) (c.publish.ensures.time told))
-    served (served_published (history c.append.new.platform).present (first_root c.args.blocks c.args.order addr c.in-Ok-append.placed.key) (head c.append.new.platform) (g.met.P.Platform.counts_pages told c.append.new.platform) next);
+      (then_published (history c.args.platform.now) (history c.append.new.platform) (history c.publish.new.platform) _ (call_more _ _ _ (one_look _ _ (c.load_root.ensures.time told) (c.load_root.ensures.image told)) (c.append.ensures.time told) (c.append.ensures.cell told)) (c.publish.ensures.time told))
+      served (served_published (history c.append.new.platform).present (first_root c.args.blocks c.args.order addr c.in-Ok-append.placed.key) (head c.append.new.platform) (g.met.P.Platform.counts_pages told c.append.new.platform) next);
   forgets = λ told keys sound.
       let history = g.P.Platform.history in
       let head = g.P.Platform.head in
@@ -359,8 +360,8 @@ returns-clause-discloses g c = record {
       let none : old.present.cell ≡ None = empty_cell c.in-Ok.is_full old.present.cell c.if-is_full.false (c.in-Ok.ensures.full told) in
       let longer : length X.recorded ≡ addr + 1 = ap (λ (i : Image). length i.recorded) target ∙ simp length-append (ap (λ (n : ℕ). n + 1) pages) in
       forgets_first old (history c.publish.new.platform) X (new_device c.args.blocks c.args.order) root none sound
-    (then_published old mid (history c.publish.new.platform) _ (call_more _ _ _ (one_look _ _ (c.load_root.ensures.time told) (c.load_root.ensures.image told)) (c.append.ensures.time told) (c.append.ensures.cell told)) (c.publish.ensures.time told))
-    leaf (omega (arith, few, same)) (omega arith) (sym longer);
+      (then_published old mid (history c.publish.new.platform) _ (call_more _ _ _ (one_look _ _ (c.load_root.ensures.time told) (c.load_root.ensures.image told)) (c.append.ensures.time told) (c.append.ensures.cell told)) (c.publish.ensures.time told))
+      leaf (omega (arith, few, same)) (omega arith) (sym longer);
 }
 
 pub returns-then-is_full-clause-cause : goal.returns-then-is_full-clause-cause
@@ -380,12 +381,14 @@ pub returns-in-Err-TapeFault-clause-cause : goal.returns-in-Err-TapeFault-clause
 returns-in-Err-TapeFault-clause-cause g c = (
   c.append.ensures.tape_cause (cc),
   λ none. absurd (omega (arith, none, c.head.ensures.value, c.capacity.ensures.value, c.load_root.ensures.head, c.load_root.ensures.capacity, c.if-head-capacity.false)),
-  (record {
-    head = c.append.ensures.untouched (cc) ∙ c.load_root.ensures.head;
-    image = λ told. c.append.ensures.unchanged told (cc) ∙ c.load_root.ensures.image told;
-    drawn = c.append.ensures.undrawn (cc);
-  },
-  λ told. call_more _ _ _ (one_look _ _ (c.load_root.ensures.time told) (c.load_root.ensures.image told)) (c.append.ensures.time told) (c.append.ensures.cell told)),
+  (
+    record {
+      head = c.append.ensures.untouched (cc) ∙ c.load_root.ensures.head;
+      image = λ told. c.append.ensures.unchanged told (cc) ∙ c.load_root.ensures.image told;
+      drawn = c.append.ensures.undrawn (cc);
+    },
+    λ told. call_more _ _ _ (one_look _ _ (c.load_root.ensures.time told) (c.load_root.ensures.image told)) (c.append.ensures.time told) (c.append.ensures.cell told),
+  ),
 )
 
 pub returns-in-Ok-publish-clause-cause : goal.returns-in-Ok-publish-clause-cause

@@ -47,7 +47,7 @@ returns-then-head-capacity-clause-time g c = λ told device contents h.
 
 pub returns-then-not-self-clause-discloses : goal.returns-then-not-self-clause-discloses
 returns-then-not-self-clause-discloses g c = record {
-  keys = 
+  keys =
       let old = g.P.Platform.history c.args.platform.now in
       keeps_idle _ _ _ old old (HoldsListed c.args.self old.present) _ refl (λ told. During-start old (λ image. image ≡ old.present) refl) (λ told keys kept h. h);
   turns = λ told. stays_once _ _ (still _);
@@ -57,7 +57,7 @@ returns-then-not-self-clause-discloses g c = record {
 
 pub returns-then-head-capacity-clause-discloses : goal.returns-then-head-capacity-clause-discloses
 returns-then-head-capacity-clause-discloses g c = record {
-  keys = 
+  keys =
       let old = g.P.Platform.history c.args.platform.now in
       keeps_idle _ _ _ old old (HoldsListed c.args.self old.present) _ refl (λ told. During-start old (λ image. image ≡ old.present) refl) (λ told keys kept h. h);
   turns = λ told. stays_once _ _ (still _);

@@ -121,19 +121,22 @@ pub returns-then-self-clause-leaf : goal.returns-then-self-clause-leaf
 returns-then-self-clause-leaf g c = (c.if-self.true, λ told. record { read = λ is. refl; unread = λ isnt. absurd (loaded_or_not c.args.self.now.is_loaded c.if-self.true isnt) })
 
 pub returns-in-Node-clause-leaf : goal.returns-in-Node-clause-leaf
-returns-in-Node-clause-leaf g c = (refl, λ told.
-    let history = g.P.Platform.history in
-    let head = g.P.Platform.head in
-    let self = c.args.self.now in
-    let pages = (history c.args.platform.now).present.readable in
-    let wanted = rw c.in-Node.is at c.in-Ok.ensures.wanted in
-    let read = leaf_wanted_read c.of_root-want.result self.root c.in-Node.node.level (head c.args.platform.now) c.in-Node.node.entries.items _ c.of_root-want.ensures c.requires.served.leaf.level (omega (arith, c.requires.served.fits.addr, c.requires.served.within)) wanted in
-    let fits = rw c.in-Node.is at (c.in-Ok.ensures.fits told) in
-    let of_root = subst (λ (w : Want). FitsAt pages w self.root.key (NodeRecord c.in-Node.node.level c.in-Node.node.entries.items)) c.of_root-want.ensures fits in
-    record {
-      read = λ is. absurd (loaded_or_not self.is_loaded is c.if-self.false);
-      unread = λ isnt. subst (λ (n : ℕ). FitsAt pages (root_want self.root) self.root.key (NodeRecord n c.in-Node.node.entries.items)) read.0 of_root;
-    })
+returns-in-Node-clause-leaf g c = (
+  refl,
+  λ told.
+      let history = g.P.Platform.history in
+      let head = g.P.Platform.head in
+      let self = c.args.self.now in
+      let pages = (history c.args.platform.now).present.readable in
+      let wanted = rw c.in-Node.is at c.in-Ok.ensures.wanted in
+      let read = leaf_wanted_read c.of_root-want.result self.root c.in-Node.node.level (head c.args.platform.now) c.in-Node.node.entries.items _ c.of_root-want.ensures c.requires.served.leaf.level (omega (arith, c.requires.served.fits.addr, c.requires.served.within)) wanted in
+      let fits = rw c.in-Node.is at (c.in-Ok.ensures.fits told) in
+      let of_root = subst (λ (w : Want). FitsAt pages w self.root.key (NodeRecord c.in-Node.node.level c.in-Node.node.entries.items)) c.of_root-want.ensures fits in
+      record {
+        read = λ is. absurd (loaded_or_not self.is_loaded is c.if-self.false);
+        unread = λ isnt. subst (λ (n : ℕ). FitsAt pages (root_want self.root) self.root.key (NodeRecord n c.in-Node.node.entries.items)) read.0 of_root;
+      },
+)
 
 pub returns-in-Err-clause-misfit : goal.returns-in-Err-clause-misfit
 returns-in-Err-clause-misfit g c = λ told addr is.

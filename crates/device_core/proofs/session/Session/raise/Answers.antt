@@ -129,14 +129,17 @@ returns-clause-open g c =
     let addr = c.in-Ok.placed.addr in
     let root = next_root self.root self.mapped addr c.in-Ok.placed.key in
     let address : addr ≡ head c.args.platform.now = c.in-Ok.ensures.address in
-    let next = is_next self.root self.mapped addr (head c.args.platform.now) c.in-Ok.placed.key address in
-    (record {
-      served = next_served self.root root self.mapped (head c.args.platform.now) (head c.publish.new.platform) next c.requires.open.served c.requires.open.mapped
-          (omega (arith, c.requires.room, g.met.P.Platform.is_limited c.args.platform.now)) c.in-Ok.ensures.key (omega (arith, c.in-Ok.ensures.head_ok, c.publish.ensures.head));
-      mapped = c.requires.open.mapped;
-      entries = AreEntries-later self.entries.items self.root.blocks (head c.args.platform.now) _ c.requires.open.entries (omega (arith, c.in-Ok.ensures.head_ok, c.publish.ensures.head));
-      loaded = λ never. c.requires.open.loaded c.requires.touched;
-    }, refl, refl)
+    let next = is_next self.root self.mapped addr (head c.args.platform.now) c.in-Ok.placed.key address in (
+      record {
+        served = next_served self.root root self.mapped (head c.args.platform.now) (head c.publish.new.platform) next c.requires.open.served c.requires.open.mapped
+            (omega (arith, c.requires.room, g.met.P.Platform.is_limited c.args.platform.now)) c.in-Ok.ensures.key (omega (arith, c.in-Ok.ensures.head_ok, c.publish.ensures.head));
+        mapped = c.requires.open.mapped;
+        entries = AreEntries-later self.entries.items self.root.blocks (head c.args.platform.now) _ c.requires.open.entries (omega (arith, c.in-Ok.ensures.head_ok, c.publish.ensures.head));
+        loaded = λ never. c.requires.open.loaded c.requires.touched;
+      },
+      refl,
+      refl,
+    )
 
 pub returns-clause-follows : goal.returns-clause-follows
 returns-clause-follows g c = λ told.
@@ -159,7 +162,7 @@ returns-clause-follows g c = λ told.
 
 pub returns-in-Err-TapeFault-clause-discloses : goal.returns-in-Err-TapeFault-clause-discloses
 returns-in-Err-TapeFault-clause-discloses g c = record {
-  keys = 
+  keys =
       let history = g.P.Platform.history in
       let drawn = g.T.Tape.drawn in
       let head = g.P.Platform.head in
@@ -181,7 +184,7 @@ returns-in-Err-TapeFault-clause-discloses g c = record {
 
 pub returns-in-Err-PlatformFault-clause-discloses : goal.returns-in-Err-PlatformFault-clause-discloses
 returns-in-Err-PlatformFault-clause-discloses g c = record {
-  keys = 
+  keys =
       let history = g.P.Platform.history in
       let drawn = g.T.Tape.drawn in
       let head = g.P.Platform.head in
@@ -203,7 +206,7 @@ returns-in-Err-PlatformFault-clause-discloses g c = record {
 
 pub returns-in_default-clause-discloses : goal.returns-in_default-clause-discloses
 returns-in_default-clause-discloses g c = record {
-  keys = 
+  keys =
       let history = g.P.Platform.history in
       let drawn = g.T.Tape.drawn in
       let head = g.P.Platform.head in
@@ -227,9 +230,9 @@ returns-in_default-clause-discloses g c = record {
       (page_is addr c.head.result c.in-Ok.placed.key c.put_node.new.self.body c.deref.result.now self.entries.items (ap (λ (b : Held). b.body) c.put_node.ensures) c.deref.ensures.0 (c.head.ensures.value ∙ sym address)) in
       let follows = is_next self.root self.mapped addr (head c.args.platform.now) c.in-Ok.placed.key address in
       raise_publishes g.P.Platform.tells (drawn c.args.tape.now) (drawn c.append.new.tape) old mid new self.root root self.mapped (head c.args.platform.now) self.is_loaded self.is_touched self.entries.items _ first appended
-    (λ told. pages told c.publish.new.platform ∙ (c.publish.ensures.head ∙ sym (pages told c.append.new.platform))) c.publish.ensures.time
-    (c.requires.open.loaded c.requires.touched) follows c.requires.open.served c.requires.open.mapped room c.in-Ok.ensures.key (λ told. sym (pages told c.args.platform.now)) c.requires.open.entries
-    (λ told keys h. tt);
+      (λ told. pages told c.publish.new.platform ∙ (c.publish.ensures.head ∙ sym (pages told c.append.new.platform))) c.publish.ensures.time
+      (c.requires.open.loaded c.requires.touched) follows c.requires.open.served c.requires.open.mapped room c.in-Ok.ensures.key (λ told. sym (pages told c.args.platform.now)) c.requires.open.entries
+      (λ told keys h. tt);
   turns = λ told. once _ _ _ (then_published _ _ _ _ (one_call _ _ (c.append.ensures.time told) (c.append.ensures.cell told)) (c.publish.ensures.time told));
   serves = λ told served.
       let history = g.P.Platform.history in
@@ -242,8 +245,8 @@ returns-in_default-clause-discloses g c = record {
       let next = next_served self.root root self.mapped (head c.args.platform.now) (head c.append.new.platform) (is_next self.root self.mapped addr (head c.args.platform.now) c.in-Ok.placed.key address)
       c.requires.open.served c.requires.open.mapped room c.in-Ok.ensures.key (omega (arith, c.in-Ok.ensures.head_ok)) in
       serves_turned (history c.args.platform.now) (history c.publish.new.platform) _
-    (then_published (history c.args.platform.now) (history c.append.new.platform) (history c.publish.new.platform) _ (one_call _ _ (c.append.ensures.time told) (c.append.ensures.cell told)) (c.publish.ensures.time told))
-    served (served_published (history c.append.new.platform).present root (head c.append.new.platform) (g.met.P.Platform.counts_pages told c.append.new.platform) next);
+      (then_published (history c.args.platform.now) (history c.append.new.platform) (history c.publish.new.platform) _ (one_call _ _ (c.append.ensures.time told) (c.append.ensures.cell told)) (c.publish.ensures.time told))
+      served (served_published (history c.append.new.platform).present root (head c.append.new.platform) (g.met.P.Platform.counts_pages told c.append.new.platform) next);
   forgets = λ told keys h.
       let history = g.P.Platform.history in
       let head = g.P.Platform.head in
@@ -261,12 +264,12 @@ returns-in_default-clause-discloses g c = record {
       (page_is addr c.head.result c.in-Ok.placed.key c.put_node.new.self.body c.deref.result.now self.entries.items (ap (λ (b : Held). b.body) c.put_node.ensures) c.deref.ensures.0 (c.head.ensures.value ∙ sym address)) in
       let follows = is_next self.root self.mapped addr (head c.args.platform.now) c.in-Ok.placed.key address in
       raise_forgets old mid new self.root root self.mapped (head c.args.platform.now) self.is_loaded self.is_touched self.entries.items keys h (c.append.ensures.time told) (c.append.ensures.cell told) (appended told) (c.publish.ensures.time told)
-    (c.requires.open.loaded c.requires.touched) follows c.requires.open.served c.requires.open.mapped room c.in-Ok.ensures.key (sym (pages told c.args.platform.now)) c.requires.open.entries;
+      (c.requires.open.loaded c.requires.touched) follows c.requires.open.served c.requires.open.mapped room c.in-Ok.ensures.key (sym (pages told c.args.platform.now)) c.requires.open.entries;
 }
 
 pub returns-clause-discloses : goal.returns-clause-discloses
 returns-clause-discloses g c = record {
-  keys = 
+  keys =
       let history = g.P.Platform.history in
       let drawn = g.T.Tape.drawn in
       let head = g.P.Platform.head in
@@ -290,9 +293,9 @@ returns-clause-discloses g c = record {
       (page_is addr c.head.result c.in-Ok.placed.key c.put_node.new.self.body c.deref.result.now self.entries.items (ap (λ (b : Held). b.body) c.put_node.ensures) c.deref.ensures.0 (c.head.ensures.value ∙ sym address)) in
       let follows = is_next self.root self.mapped addr (head c.args.platform.now) c.in-Ok.placed.key address in
       raise_publishes g.P.Platform.tells (drawn c.args.tape.now) (drawn c.append.new.tape) old mid new self.root root self.mapped (head c.args.platform.now) self.is_loaded self.is_touched self.entries.items _ first appended
-    (λ told. pages told c.publish.new.platform ∙ (c.publish.ensures.head ∙ sym (pages told c.append.new.platform))) c.publish.ensures.time
-    (c.requires.open.loaded c.requires.touched) follows c.requires.open.served c.requires.open.mapped room c.in-Ok.ensures.key (λ told. sym (pages told c.args.platform.now)) c.requires.open.entries
-    (λ told keys h. raise_listed old mid new self.root root self.mapped (head c.args.platform.now) self.is_loaded self.is_touched self.entries.items keys h (appended told) (c.in-Ok-publish.ensures.published told) (c.requires.open.loaded c.requires.touched) follows c.requires.open.served c.requires.open.mapped room c.in-Ok.ensures.key (sym (pages told c.args.platform.now)) c.requires.open.entries);
+      (λ told. pages told c.publish.new.platform ∙ (c.publish.ensures.head ∙ sym (pages told c.append.new.platform))) c.publish.ensures.time
+      (c.requires.open.loaded c.requires.touched) follows c.requires.open.served c.requires.open.mapped room c.in-Ok.ensures.key (λ told. sym (pages told c.args.platform.now)) c.requires.open.entries
+      (λ told keys h. raise_listed old mid new self.root root self.mapped (head c.args.platform.now) self.is_loaded self.is_touched self.entries.items keys h (appended told) (c.in-Ok-publish.ensures.published told) (c.requires.open.loaded c.requires.touched) follows c.requires.open.served c.requires.open.mapped room c.in-Ok.ensures.key (sym (pages told c.args.platform.now)) c.requires.open.entries);
   turns = λ told. once _ _ _ (then_published _ _ _ _ (one_call _ _ (c.append.ensures.time told) (c.append.ensures.cell told)) (c.publish.ensures.time told));
   serves = λ told served.
       let history = g.P.Platform.history in
@@ -305,8 +308,8 @@ returns-clause-discloses g c = record {
       let next = next_served self.root root self.mapped (head c.args.platform.now) (head c.append.new.platform) (is_next self.root self.mapped addr (head c.args.platform.now) c.in-Ok.placed.key address)
       c.requires.open.served c.requires.open.mapped room c.in-Ok.ensures.key (omega (arith, c.in-Ok.ensures.head_ok)) in
       serves_turned (history c.args.platform.now) (history c.publish.new.platform) _
-    (then_published (history c.args.platform.now) (history c.append.new.platform) (history c.publish.new.platform) _ (one_call _ _ (c.append.ensures.time told) (c.append.ensures.cell told)) (c.publish.ensures.time told))
-    served (served_published (history c.append.new.platform).present root (head c.append.new.platform) (g.met.P.Platform.counts_pages told c.append.new.platform) next);
+      (then_published (history c.args.platform.now) (history c.append.new.platform) (history c.publish.new.platform) _ (one_call _ _ (c.append.ensures.time told) (c.append.ensures.cell told)) (c.publish.ensures.time told))
+      served (served_published (history c.append.new.platform).present root (head c.append.new.platform) (g.met.P.Platform.counts_pages told c.append.new.platform) next);
   forgets = λ told keys h.
       let history = g.P.Platform.history in
       let head = g.P.Platform.head in
@@ -324,15 +327,15 @@ returns-clause-discloses g c = record {
       (page_is addr c.head.result c.in-Ok.placed.key c.put_node.new.self.body c.deref.result.now self.entries.items (ap (λ (b : Held). b.body) c.put_node.ensures) c.deref.ensures.0 (c.head.ensures.value ∙ sym address)) in
       let follows = is_next self.root self.mapped addr (head c.args.platform.now) c.in-Ok.placed.key address in
       raise_forgets old mid new self.root root self.mapped (head c.args.platform.now) self.is_loaded self.is_touched self.entries.items keys h (c.append.ensures.time told) (c.append.ensures.cell told) (appended told) (c.publish.ensures.time told)
-    (c.requires.open.loaded c.requires.touched) follows c.requires.open.served c.requires.open.mapped room c.in-Ok.ensures.key (sym (pages told c.args.platform.now)) c.requires.open.entries;
+      (c.requires.open.loaded c.requires.touched) follows c.requires.open.served c.requires.open.mapped room c.in-Ok.ensures.key (sym (pages told c.args.platform.now)) c.requires.open.entries;
 }
 
 pub returns-in-Err-TapeFault-clause-cause : goal.returns-in-Err-TapeFault-clause-cause
 returns-in-Err-TapeFault-clause-cause g c = (
-      c.append.ensures.tape_cause (cc),
-      record { head = c.append.ensures.untouched (cc); image = λ told. c.append.ensures.unchanged told (cc); drawn = c.append.ensures.undrawn (cc) },
-      λ told. one_call _ _ (c.append.ensures.time told) (c.append.ensures.cell told),
-    )
+  c.append.ensures.tape_cause (cc),
+  record { head = c.append.ensures.untouched (cc); image = λ told. c.append.ensures.unchanged told (cc); drawn = c.append.ensures.undrawn (cc) },
+  λ told. one_call _ _ (c.append.ensures.time told) (c.append.ensures.cell told),
+)
 
 pub returns-clause-raised : goal.returns-clause-raised
 returns-clause-raised g c = record {

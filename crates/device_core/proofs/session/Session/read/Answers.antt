@@ -34,9 +34,11 @@ pub returns-in-Err-BadRecord-fetch_block-clause-array : goal.returns-in-Err-BadR
 returns-in-Err-BadRecord-fetch_block-clause-array g c = λ told device contents h.
     let place = rw c.as_slice.ensures.value at c.in-Ok-place_of.ensures in
     let at : c.index-deref-place.result ≡ get_or c.load.new.self.entries.items c.in-Ok-place_of.place c.index-deref-place.result = rw c.deref.ensures.0 at c.index-deref-place.is in
-    let held = c.load.ensures.holds told device contents h in
-    (holds_same _ _ _ _ _ _ _ _ _ (c.fetch_block.ensures.looks.image told) (c.load.ensures.holds told device contents h), block_fits _ _ _ _ _ _ device contents _ c.args.block c.index-deref-place.result c.in-Ok.ensures.leaf.0 held place at
-    (c.fetch_block.ensures.nothing_fits told c.in-Err-BadRecord-fetch_block.addr (cc)))
+    let held = c.load.ensures.holds told device contents h in (
+      holds_same _ _ _ _ _ _ _ _ _ (c.fetch_block.ensures.looks.image told) (c.load.ensures.holds told device contents h),
+      block_fits _ _ _ _ _ _ device contents _ c.args.block c.index-deref-place.result c.in-Ok.ensures.leaf.0 held place at
+          (c.fetch_block.ensures.nothing_fits told c.in-Err-BadRecord-fetch_block.addr (cc)),
+    )
 
 pub returns-in-Err-BadRecord-clause-array : goal.returns-in-Err-BadRecord-clause-array
 returns-in-Err-BadRecord-clause-array g c = λ told device contents h. (c.load.ensures.holds told device contents h, c.load.ensures.sound told device contents h c.in-Err-BadRecord.addr (cc))

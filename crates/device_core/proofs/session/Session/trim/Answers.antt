@@ -64,12 +64,14 @@ returns-then-self-eq0-clause-damaged g c = λ told addr is.
     let named : c.load.new.self.root.addr ≡ addr = cc in
     let session = c.load.new.self in
     let pages = (g.P.Platform.history c.load.new.platform).present.readable in
-    let named : session.root.addr ≡ addr = cc in
-    (inr (sym named ∙ ap (λ (r : Root). r.addr) c.load.ensures.same.0, sym c.load.ensures.same.1 ∙ c.if-self-eq0.true, (c.in-Ok-place_of.place, place.1)), λ follows. inr (
-      sym named ∙ ap (λ (r : Root). r.addr) c.load.ensures.same.0,
-      subst (λ (r : Root). IsMiscounted pages r) c.load.ensures.same.0
-          (miscounted_none session.root session.mapped session.is_loaded session.entries.items pages c.in-Ok-place_of.place c.in-Ok.ensures.leaf.0 (c.load.ensures.follows told follows) place.0 c.if-self-eq0.true),
-    ))
+    let named : session.root.addr ≡ addr = cc in (
+      inr (sym named ∙ ap (λ (r : Root). r.addr) c.load.ensures.same.0, sym c.load.ensures.same.1 ∙ c.if-self-eq0.true, (c.in-Ok-place_of.place, place.1)),
+      λ follows. inr (
+        sym named ∙ ap (λ (r : Root). r.addr) c.load.ensures.same.0,
+        subst (λ (r : Root). IsMiscounted pages r) c.load.ensures.same.0
+            (miscounted_none session.root session.mapped session.is_loaded session.entries.items pages c.in-Ok-place_of.place c.in-Ok.ensures.leaf.0 (c.load.ensures.follows told follows) place.0 c.if-self-eq0.true),
+      ),
+    )
 
 pub returns-in_default-clause-counter : goal.returns-in_default-clause-counter
 returns-in_default-clause-counter g c = λ told leaf entry is has none ok.

@@ -150,17 +150,19 @@ returns-in_default-clause-damaged g c = λ told addr is.
     let session = c.load.new.self in
     let pages = (g.P.Platform.history c.load.new.platform).present.readable in
     let named : session.root.addr ≡ addr = cc in
-    let same = ap (λ (r : Root). r.blocks) c.load.ensures.same.0 in
-    (inr (
-      sym named ∙ ap (λ (r : Root). r.addr) c.load.ensures.same.0,
-      sym c.load.ensures.same.1 ∙ counter.1 ∙ ap (λ (r : Root). r.blocks) c.load.ensures.same.0,
-      unmapped_place _ c.place_of-place.result c.args.block place counter.0,
-    ), λ follows. inr (
-      sym named ∙ ap (λ (r : Root). r.addr) c.load.ensures.same.0,
-      subst (λ (r : Root). IsMiscounted pages r) c.load.ensures.same.0
-          (miscounted_full session.root session.mapped session.is_loaded session.entries.items pages c.place_of-place.result c.args.block session.root.blocks (g.P.Platform.head c.load.new.platform)
-          c.in-Ok.ensures.leaf.0 (c.load.ensures.follows told follows) c.load.ensures.open.entries place (omega (arith, same)) counter.0 counter.1),
-    ))
+    let same = ap (λ (r : Root). r.blocks) c.load.ensures.same.0 in (
+      inr (
+        sym named ∙ ap (λ (r : Root). r.addr) c.load.ensures.same.0,
+        sym c.load.ensures.same.1 ∙ counter.1 ∙ ap (λ (r : Root). r.blocks) c.load.ensures.same.0,
+        unmapped_place _ c.place_of-place.result c.args.block place counter.0,
+      ),
+      λ follows. inr (
+        sym named ∙ ap (λ (r : Root). r.addr) c.load.ensures.same.0,
+        subst (λ (r : Root). IsMiscounted pages r) c.load.ensures.same.0
+            (miscounted_full session.root session.mapped session.is_loaded session.entries.items pages c.place_of-place.result c.args.block session.root.blocks (g.P.Platform.head c.load.new.platform)
+            c.in-Ok.ensures.leaf.0 (c.load.ensures.follows told follows) c.load.ensures.open.entries place (omega (arith, same)) counter.0 counter.1),
+      ),
+    )
 
 pub returns-in-Err-TapeFault-clause-counter : goal.returns-in-Err-TapeFault-clause-counter
 returns-in-Err-TapeFault-clause-counter g c = λ told leaf is none all stop.
@@ -180,10 +182,10 @@ returns-clause-counter g c = λ told leaf is none all stop.
 
 pub returns-in-Err-TapeFault-clause-adds : goal.returns-in-Err-TapeFault-clause-adds
 returns-in-Err-TapeFault-clause-adds g c = record {
-      head = c.append.ensures.untouched (cc) ∙ c.load.ensures.looks.head;
-      image = λ told. c.append.ensures.unchanged told (cc) ∙ c.load.ensures.looks.image told;
-      drawn = c.append.ensures.undrawn (cc);
-    }
+  head = c.append.ensures.untouched (cc) ∙ c.load.ensures.looks.head;
+  image = λ told. c.append.ensures.unchanged told (cc) ∙ c.load.ensures.looks.image told;
+  drawn = c.append.ensures.undrawn (cc);
+}
 
 pub returns-then-block-self-clause-keeps : goal.returns-then-block-self-clause-keeps
 returns-then-block-self-clause-keeps g c =
@@ -275,10 +277,12 @@ pub returns-clause-adds : goal.returns-clause-adds
 returns-clause-adds g c =
     let entry : Entry = record { low = c.args.block; addr = c.in-Ok-append.placed.addr; key = c.in-Ok-append.placed.key } in
     let place = rw c.as_slice.ensures.value at c.place_of-place.ensures in
-    let here : c.in-Ok-append.placed.addr ≡ g.P.Platform.head c.args.platform.now = c.in-Ok-append.ensures.address ∙ c.load.ensures.looks.head in
-    (omega (arith, c.in-Ok-append.ensures.head_ok, c.load.ensures.looks.head), record {
-      key = c.in-Ok-append.placed.key;
-      drew = c.in-Ok-append.ensures.drew;
-      entry = rw c.put_entry.ensures (subst (λ (n : ℕ). Contains (placed c.load.new.self.entries.items c.place_of-place.result entry) (record { low = c.args.block; addr = n; key = c.in-Ok-append.placed.key })) here
-          (placed_there c.load.new.self.entries.items c.args.block c.place_of-place.result entry place));
-    })
+    let here : c.in-Ok-append.placed.addr ≡ g.P.Platform.head c.args.platform.now = c.in-Ok-append.ensures.address ∙ c.load.ensures.looks.head in (
+      omega (arith, c.in-Ok-append.ensures.head_ok, c.load.ensures.looks.head),
+      record {
+        key = c.in-Ok-append.placed.key;
+        drew = c.in-Ok-append.ensures.drew;
+        entry = rw c.put_entry.ensures (subst (λ (n : ℕ). Contains (placed c.load.new.self.entries.items c.place_of-place.result entry) (record { low = c.args.block; addr = n; key = c.in-Ok-append.placed.key })) here
+            (placed_there c.load.new.self.entries.items c.args.block c.place_of-place.result entry place));
+      },
+    )
