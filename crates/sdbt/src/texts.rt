@@ -7,8 +7,9 @@ pub const USAGE: &str = "usage: sdbt [(- | [--root CELL] FOLDER) [run]]\n";
 /// more, and what is said of it.
 pub const HELP: &str = "
 Serves a script of block commands: reads one command a line from standard input, and writes one
-reply a line to standard output. What a committed write or trim deleted is sealed under keys that
-nothing holds any more, as long as the store of the root record keeps nothing of what it replaced.
+reply a line to standard output. What a committed write or trim deleted stays on the medium, under
+keys to which the root record leads no more. So it is gone for whoever has the medium, where the
+store of the root record keeps nothing of what it replaced.
 
 WORDS
   FOLDER       a device in this folder, which has to exist; its files are media, root and ledger
@@ -46,7 +47,7 @@ STATUS
   11  no memory was given
   12  2^32 bytes of input were taken before its end
 
-Status 1 and those from 2 on also say on standard error what failed.
+At each status but 0 standard error says what failed.
 
 EXAMPLE
   mkdir device
