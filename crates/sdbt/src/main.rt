@@ -1,13 +1,18 @@
 //! The program: makes the objects of the outside, and hands them to the top call.
 //!
-//! `sdbt FOLDER` serves the script on standard input over a device in a folder, and `sdbt -` over one in memory.
+//! `sdbt FOLDER` serves the script on standard input over a device in a folder, `sdbt --root CELL FOLDER` over one whose root
+//! record is in a folder of its own, and `sdbt -` over one in memory.
 #![tactic(auto)]
 
 mod ledger;
+mod not_ready;
+mod texts;
 
+use crate::not_ready::{NotReady, RANDOM};
+use crate::texts::{HELP, USAGE, VERSION, failure_of};
 use device_cli::run_main;
 use key_tape::{SeedTape, SourceTape};
-use platform::{FilePlatform, MemPlatform, OpenRefusal};
+use platform::{FilePlatform, LockFile, MemPlatform};
 use sdbt_base::{MemSink, ReadSource, Sink, WriteSink};
 use std::alloc::Global;
 use std::process::ExitCode;
@@ -16,9 +21,6 @@ use std::{env, fs, io};
 
 /// How many pages the medium in memory can have.
 const PAGES: u64 = 262_144;
-
-/// Where the keys of a device in a folder come from.
-const RANDOM: &str = "/dev/urandom";
 
 /// The exit status where a folder, a file in it or the random source could not be made ready.
 const NOT_READY: u8 = 1;
@@ -32,27 +34,19 @@ const OUTPUT_FAULT: u8 = 4;
 /// The exit status where memory was refused.
 const NO_MEMORY: u8 = 11;
 
-const HELP: &str = "\
-usage: sdbt [FOLDER|- [run]]
-
-Serves a script of block commands from standard input, one reply a line on standard output.
-
-  FOLDER  a device in this folder, which has to exist; its files are media, root and ledger
-  -       a device in memory, which is gone when the program ends; so is it without a word
-  run     serves the script, as is done without this word
-
-Lines of a script: format BLOCKS ORDER, mount, read BLOCK, write BLOCK HEX, trim BLOCK, commit, drop, erase, stat.
-";
-
-const VERSION: &str = "sdbt 0.1.0\n";
-
 fn main(rt: HostRuntime) -> ExitCode {
-    ExitCode::from(status(&rt))
+    let status = serve(&rt);
+    if let Some(failure) = failure_of(status) {
+        let _ = eprint!(rt; "{failure}");
+    }
+    ExitCode::from(status)
 }
 
-fn status<R>(rt: &R) -> u8
+/// Does what the command line asks for. The answer is the exit status.
+fn serve<R>(rt: &R) -> u8
 where
     R: Env + Files + Alloc<A = Global> + Input + Print + Eprint + Clone + Drop,
+    R::File: LockFile,
 {
     let words = match words_of(rt) {
         Ok(words) => words,
@@ -63,16 +57,15 @@ where
         [] => serve_memory(rt, &[]),
         [first, others @ ..] => match first.as_str() {
             "-" => serve_memory(rt, others),
-            "--help" => print(rt, HELP),
-            "--version" => print(rt, VERSION),
-            folder => match serve_folder(rt, folder, others) {
-                Ok(status) => status,
-                Err(OpenRefusal::Memory) => NO_MEMORY,
-                Err(OpenRefusal::TooLong | OpenRefusal::Io { .. }) => {
-                    let _ = eprintln!(rt; "folder not ready");
-                    NOT_READY
+            "-h" | "--help" => print(rt, &[USAGE, HELP]),
+            "--version" => print(rt, &[VERSION]),
+            "--root" => match others {
+                [cell, folder, others @ ..] if folder.as_str() != "-" => {
+                    serve_folders(rt, cell.as_str(), folder.as_str(), others)
                 }
+                _ => FAULTY,
             },
+            folder => serve_folders(rt, folder, folder, others),
         },
     }
 }
@@ -87,12 +80,14 @@ fn words_of(rt: &(impl Env + Alloc<A = Global>)) -> io::Result<Vec<String>> {
 }
 
 /// Puts a text to standard output.
-fn print(rt: &impl Print, text: &str) -> u8 {
+fn print(rt: &impl Print, parts: &[&str]) -> u8 {
     let mut output = WriteSink::new(io::writer(rt));
-    match output.put(text.as_bytes()) {
-        Ok(()) => 0,
-        Err(_) => OUTPUT_FAULT,
+    for part in parts {
+        if output.put(part.as_bytes()).is_err() {
+            return OUTPUT_FAULT;
+        }
     }
+    0
 }
 
 /// Serves the script on standard input over a device in memory.
@@ -117,15 +112,35 @@ fn serve_memory(rt: &(impl Alloc<A = Global> + Input + Print), words: &[String])
     )
 }
 
-/// Serves the script on standard input over a device in a folder. It is refused before the words are looked at
-/// where the folder, a file in it or the random source can't be made ready.
-fn serve_folder<R>(rt: &R, folder: &str, words: &[String]) -> Result<u8, OpenRefusal>
+/// Serves the script on standard input over a device whose root record is in the folder `cell`, and its medium in
+/// `folder`. What is not ready is said on standard error.
+fn serve_folders<R>(rt: &R, cell: &str, folder: &str, words: &[String]) -> u8
+where
+    R: Files + Alloc<A = Global> + Input + Print + Eprint + Clone + Drop,
+    R::File: LockFile,
+{
+    match run_in_folders(rt, cell, folder, words) {
+        Ok(status) => status,
+        Err(not_ready) if not_ready.is_memory() => NO_MEMORY,
+        Err(not_ready) => {
+            let _ = not_ready.tell(rt, cell, folder);
+            NOT_READY
+        }
+    }
+}
+
+/// Serves the script over folders. It is refused before the words are looked at where a folder, a file in it or the
+/// random source can't be made ready. The platform has its locks from before anything is changed until the run has ended.
+fn run_in_folders<R>(rt: &R, cell: &str, folder: &str, words: &[String]) -> Result<u8, NotReady>
 where
     R: Files + Alloc<A = Global> + Input + Print + Clone + Drop,
+    R::File: LockFile,
 {
-    let mut platform = FilePlatform::open(rt.clone()?, folder)?;
-    let mut tape = SourceTape::new(ReadSource::new(fs::open(rt, RANDOM)?));
-    let mut ledger = WriteSink::new(ledger::open(rt, folder)?);
+    let mut platform = FilePlatform::open_apart(rt.clone()?, cell, folder)?;
+    let random = fs::open(rt, RANDOM).map_err(NotReady::Keys)?;
+    let mut tape = SourceTape::new(ReadSource::new(random));
+    let ledger = ledger::open(rt, folder).map_err(NotReady::Ledger)?;
+    let mut ledger = WriteSink::new(ledger);
     let mut input = ReadSource::new(rt.reader());
     let mut output = WriteSink::new(io::writer(rt));
     Ok(run_main(
