@@ -2,3 +2,4 @@ pub mod IndexLaws
 pub mod OpenedLaws
 pub mod WorkLaws
 pub mod SearchLaws
+pub mod LooksLaws

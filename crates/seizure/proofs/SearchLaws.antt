@@ -1,10 +1,10 @@
 -- The search: each key is tried in turn, and at the end nothing is left out.
-use Rattle.std.proofs.Common.{◌≡◌, ◌⊎◌, ◌↔◌, ◌<◌, ◌≤◌, ◌+◌, inl, inr, ℕ, List, [], ◌++◌, map, length, get_or, refl, sym, ap, subst, ◌∙◌, arith}
-use Rattle.std.specs.Prelude.{All, Contains, Some, slice_get}
+use Rattle.std.proofs.Common.{◌≡◌, ◌⊎◌, ◌↔◌, ◌<◌, ◌≤◌, ◌+◌, inl, inr, ℕ, List, [], ◌∷◌, ◌++◌, map, length, get_or, refl, sym, ap, subst, ◌∙◌, arith}
+use Rattle.std.specs.Prelude.{All, Contains, Option, None, Some, MatchOption, IfSome, slice_get}
 use Rattle.std.proofs.Math.ListN.{get_or-append}
 use Rattle.std.proofs.lemmas.Bool.{cases_lt}
 use Rattle.std.proofs.lemmas.List.{get_or_default}
-use Rattle.std.proofs.lemmas.List.Elements.{All-nil, All-append, All-weaker, All-map, All-contains, All-get_or, All-contains_itself, Contains-append_left, Contains-append_right}
+use Rattle.std.proofs.lemmas.List.Elements.{All-nil, All-head, All-append, All-weaker, All-map, All-contains, All-get_or, All-contains_itself, Contains-append_left, Contains-append_right, Contains-push, Contains-push_cases}
 use Rattle.std.proofs.lemmas.Option.{get_or_from_slice_get}
 use Rattle.seal_record.specs.Sealing.{masked}
 use Rattle.key_graph.specs.Opening.{kind_of, block_of}
@@ -13,9 +13,11 @@ use Rattle.key_graph.proofs.ChainLaws.{map_contains}
 use Rattle.key_graph.proofs.SeizureLaws.{chain_begins, chain_goes_on, end_opens, keys_found}
 use Rattle.seizure.specs.declared.opened.Opened.{Opened}
 use Rattle.seizure.specs.Opened.{told_of, IsOrderOf}
-use Rattle.seizure.specs.Report.{Seized, IsSeizure}
+use Rattle.root_codec.specs.declared.root.Root.{Root}
+use Rattle.root_codec.specs.RootRecord.{root_bytes}
+use Rattle.seizure.specs.Report.{Seized, IsSeizure, roots_of}
 use Rattle.seizure.specs.Work.{Gains, HasKey, body_at, HasOneBelow, IsAllReached}
-use Rattle.seizure.proofs.WorkLaws.{still_has}
+use Rattle.seizure.proofs.WorkLaws.{still_has, gains_then}
 
 -- a key that a chain may go on with
 abbrev pub IsFound : List (List ℕ) → List (List ℕ) → List ℕ → Type 0
@@ -143,3 +145,27 @@ reported roots pages opened seized all order count = record {
   exact = λ o. (λ has. (all o).0 ((order.same o).0 has), λ reached. (order.same o).1 ((all o).1 reached));
   ascends = order.ascends;
 }
+
+-- the root record's key, after those that were given
+pub gains_root : (keys wanted more : List (List ℕ)) (root : Option Root) → Gains [] wanted (Contains keys)
+    → MatchOption root (more ≡ wanted) (λ r. Gains wanted more (λ key. key ≡ r.key)) → Gains [] more (Contains (roots_of keys root))
+gains_root keys wanted more None gains same = subst (λ (l : List (List ℕ)). Gains [] l (Contains keys)) (sym same) gains
+gains_root keys wanted more (Some root) gains one =
+    gains_then [] wanted more (Contains keys) (λ key. key ≡ root.key) (Contains (keys ++ root.key ∷ [])) gains one (Contains-append_left keys (root.key ∷ []))
+    (λ key same. subst (Contains (keys ++ root.key ∷ [])) (sym same) (Contains-push keys root.key))
+    (λ key has. elim (Contains-push_cases keys root.key key has) [ inl before ↦ inl before | inr same ↦ inr (sym same) ])
+
+-- with no key and an empty cell, none is wanted
+no_more : (more : List (List ℕ)) → All (Contains []) more → more ≡ []
+no_more [] all = refl
+no_more (key ∷ more) all = absurd (omega (arith, (All-head (Contains []) key more all).1))
+
+some_none : {A : Type 0} (x : A) → Some x ≡ None → ⊥
+some_none x same = cc
+
+pub nothing_wanted : (wanted roots : List (List ℕ)) → Gains [] wanted (Contains roots) → roots ≡ [] → wanted ≡ []
+nothing_wanted wanted roots gains none = gains.gained ∙ no_more gains.more (subst (λ (l : List (List ℕ)). All (Contains l) gains.more) none gains.some)
+
+pub root_none : (cell : Option (List ℕ)) (root : Option Root) → cell ≡ None → IfSome root (λ r. cell ≡ Some (root_bytes r)) → root ≡ None
+root_none cell None empty is = refl
+root_none cell (Some root) empty is = absurd (some_none (root_bytes root) (sym is ∙ empty))

@@ -1,5 +1,5 @@
 -- What a seizure reports.
-use Rattle.std.specs.Prelude.{◌≡◌, ◌⊎◌, ◌↔◌, ◌∷◌, ◌++◌, [], ℕ, List, Option, None, Some, AllPairs, Contains, length}
+use Rattle.std.specs.Prelude.{◌≡◌, ◌↔◌, ◌∷◌, ◌++◌, [], ℕ, List, Option, None, Some, AllPairs, Contains, length}
 use Rattle.root_codec.specs.declared.root.Root.{Root}
 use Rattle.root_codec.specs.RootRecord.{root_bytes}
 use Rattle.page_store.specs.Roots.{IsRootWithin}
@@ -18,8 +18,16 @@ pub record IsSeizure (keys readable : List (List ℕ)) (seized : Seized) : Type 
   pub exact : (o : Opened) → Contains seized.opened o ↔ ReachedBody keys readable o.addr o.kind o.block
   pub ascends : AllPairs IsBefore seized.opened
 
--- chains begin with these keys, and with that of the root record where the cell has one
+-- chains begin with these keys, and with that of the root record, if there is one
+abbrev pub roots_of : List (List ℕ) → Option Root → List (List ℕ)
+roots_of keys None = keys
+roots_of keys (Some root) = keys ++ root.key ∷ []
+
+-- the cell is empty, or holds the root record of a root within its range
+abbrev pub Holds : ℕ → Option (List ℕ) → Option Root → Type 0
+Holds head cell None = cell ≡ None
+Holds head cell (Some root) = IsRootWithin head root × (cell ≡ Some (root_bytes root))
+
+-- these are the keys that chains begin with: those that were given, and that of the root record which the cell holds
 abbrev pub Begins : ℕ → Option (List ℕ) → List (List ℕ) → List (List ℕ) → Type 0
-Begins head cell keys roots =
-    ((cell ≡ None) × (roots ≡ keys))
-    ⊎ ((root : Root) × IsRootWithin head root × (cell ≡ Some (root_bytes root)) × (roots ≡ keys ++ root.key ∷ []))
+Begins head cell keys roots = (root : Option Root) × Holds head cell root × (roots ≡ roots_of keys root)

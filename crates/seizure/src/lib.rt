@@ -13,9 +13,11 @@ mod opened;
 mod paging;
 mod refusals;
 mod report;
+mod seizing;
 mod work;
 
 pub use opened::{Opened, OpenedList};
 pub use paging::{seize_pages, seize_pages_all};
 pub use refusals::SeizeRefusal;
 pub use report::Report;
+pub use seizing::{seize, seize_all};

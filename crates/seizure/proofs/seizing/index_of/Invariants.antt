@@ -1,0 +1,10 @@
+use Rattle.seizure.specs.Index.{AreMarks, AreBelow}
+use Rattle.seizure.specs.Looks.{Looks}
+use Rattle.seizure.proofs.seizing.index_of.Given as goal
+
+abbrev pub invariant-loop-addr : goal.invariant-loop-addr
+invariant-loop-addr g l = record {
+  looks : Looks g.P.Platform l.fn.platform l.platform;
+  marks : g.P.Platform.tells → AreMarks (g.P.Platform.history l.fn.platform).present.readable l.addr l.index.marks.items;
+  below : AreBelow l.addr l.index.marks.items;
+}
