@@ -332,9 +332,10 @@ impl Desk {
             (world self.new.session (P.history platform.now) (P.head platform.now) (P.capacity platform.now)) entry Command.Drop result }
     {
         let _ = platform;
-        let Some(_) = self.session.take() else {
+        if self.session.is_none() {
             return Ok(Reply::Unmounted);
-        };
+        }
+        self.close();
         Ok(Reply::Dropped)
     }
 
@@ -358,11 +359,20 @@ impl Desk {
     {
         match device_core::erase(platform) {
             Ok(()) => {
-                self.session = None;
+                self.close();
                 Ok(Reply::Erased)
             }
             Err(EraseRefusal::NoDevice) => Ok(Reply::NoDevice),
             Err(EraseRefusal::PlatformFault) => Err(DeviceStop::Platform),
+        }
+    }
+
+    /// Ends the session, if there is one, and leaves nothing in its buffers.
+    fn close(&mut self)
+        ensures { self.new.session ≡ None }
+    {
+        if let Some(mut session) = self.session.take() {
+            session.wipe();
         }
     }
 

@@ -3,6 +3,7 @@ ghost use Rattle.sdbt_base.specs.Faults.{Rose};
 ghost use Rattle.platform.specs.Calls.{Looks};
 ghost use Rattle.root_codec.specs.RootRecord.{root_bytes};
 ghost use Rattle.sdbt_base.specs.Arrays.{Device, Blocks};
+ghost use Rattle.page_store.specs.Buffer.{IsBlank};
 ghost use Rattle.page_store.specs.Kept.{Kept};
 ghost use Rattle.page_store.specs.Stands.{Stands};
 ghost use Rattle.page_store.specs.Tree.{Wrong};
@@ -36,7 +37,7 @@ pub struct Session {
 }
 
 impl Session {
-    ghost use Rattle.device_core.specs.Open.{IsOpen, blocks_of, number_of, mapped_of, entries_of, is_touched};
+    ghost use Rattle.device_core.specs.Open.{IsOpen, blocks_of, number_of, mapped_of, entries_of, buffers_of, is_touched};
     ghost use Rattle.device_core.specs.Reading.{IsLeafOf};
     ghost use Rattle.device_core.specs.Holds.{Holds, Follows};
     ghost use Rattle.device_core.specs.Knowing.{HoldsListed};
@@ -112,6 +113,14 @@ impl Session {
         ensures { result ≡ blocks_of self.now }
     {
         self.root.blocks
+    }
+
+    /// Leaves nothing of what was read or sealed in the session's buffers: for a session that is given up.
+    pub fn wipe(&mut self)
+        ensures wiped { IsBlank (buffers_of self.new) }
+        ensures same { self.new ≡ record self.old { buffers = buffers_of self.new } }
+    {
+        self.buffers.wipe();
     }
 
     /// Reads the leaf, where it was not read yet.

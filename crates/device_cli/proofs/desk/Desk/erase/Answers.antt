@@ -1,5 +1,7 @@
-use Rattle.std.proofs.Common.{None, refl, sym, ◌∙◌, arith}
+use Rattle.std.proofs.Common.{Option, None, refl, sym, ◌∙◌, subst, arith}
 use Rattle.std.proofs.lemmas.Grind.{common_steps}
+use Rattle.device_core.specs.declared.session.Session.{Session}
+use Rattle.device_course.specs.States.{IsListed}
 use Rattle.device_cli.specs.World.{World, world}
 use Rattle.device_cli.proofs.ServingLaws.{serves_erased, serves_erase_none, halts_erase}
 use Rattle.device_course.proofs.KeysLaws.{on_kept, listed_image}
@@ -10,8 +12,8 @@ pub returns-in-Ok-clause-answered : goal.returns-in-Ok-clause-answered
 returns-in-Ok-clause-answered g c told entry rep =
     let P = g.P.Platform in
     let old : World = world c.args.self.now.session (P.history c.args.platform.now) (P.head c.args.platform.now) (P.capacity c.args.platform.now) in
-    let new : World = world None (P.history c.erase.new.platform) (P.head c.erase.new.platform) (P.capacity c.erase.new.platform) in
-    serves_erased old new entry (c.in-Ok.ensures.cause told).0 refl (c.in-Ok.ensures.cause told).1 (c.erase.ensures.time told _ rep.device) rep
+    let new : World = world c.close.new.self.session (P.history c.erase.new.platform) (P.head c.erase.new.platform) (P.capacity c.erase.new.platform) in
+    serves_erased old new entry (c.in-Ok.ensures.cause told).0 c.close.ensures (c.in-Ok.ensures.cause told).1 (c.erase.ensures.time told _ rep.device) rep
 
 pub returns-in-Err-NoDevice-clause-answered : goal.returns-in-Err-NoDevice-clause-answered
 returns-in-Err-NoDevice-clause-answered g c told entry rep =
@@ -28,7 +30,7 @@ returns-in-Err-PlatformFault-clause-answered g c told entry rep =
     halts_erase old new entry (c.erase.ensures.time told _ rep.device)
 
 pub returns-in-Ok-clause-keeps : goal.returns-in-Ok-clause-keeps
-returns-in-Ok-clause-keeps g c = λ drawn. on_kept _ drawn c.args.self.now.session _ _ _ (λ told. (c.erase.ensures.turns told).extends) (λ told. let pages = g.met.P.Platform.counts_pages in pages told c.erase.new.platform ∙ (c.erase.ensures.pages.0 ∙ sym (pages told c.args.platform.now))) c.erase.ensures.keeps c.erase.ensures.forgets (λ told keys h. (None, (c.in-Ok.ensures.cause told).1))
+returns-in-Ok-clause-keeps g c = λ drawn. on_kept _ drawn c.args.self.now.session _ _ _ (λ told. (c.erase.ensures.turns told).extends) (λ told. let pages = g.met.P.Platform.counts_pages in pages told c.erase.new.platform ∙ (c.erase.ensures.pages.0 ∙ sym (pages told c.args.platform.now))) c.erase.ensures.keeps c.erase.ensures.forgets (λ told keys h. subst (λ (s : Option Session). IsListed s (g.P.Platform.history c.erase.new.platform).present keys) (sym c.close.ensures) (None, (c.in-Ok.ensures.cause told).1))
 
 pub returns-in-Err-NoDevice-clause-keeps : goal.returns-in-Err-NoDevice-clause-keeps
 returns-in-Err-NoDevice-clause-keeps g c = λ drawn. on_kept _ drawn c.args.self.now.session _ _ _ (λ told. (c.erase.ensures.turns told).extends) (λ told. let pages = g.met.P.Platform.counts_pages in pages told c.erase.new.platform ∙ (c.erase.ensures.pages.0 ∙ sym (pages told c.args.platform.now))) c.erase.ensures.keeps c.erase.ensures.forgets (λ told keys h. listed_image _ _ _ keys ((rw c.in-Err-NoDevice.field-0-is at c.in-Err-NoDevice.ensures.cause) told).1 h)

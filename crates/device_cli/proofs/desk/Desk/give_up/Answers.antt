@@ -1,19 +1,27 @@
-use Rattle.std.proofs.Common.{◌≡◌, None, Some, arith}
+use Rattle.std.proofs.Common.{◌≡◌, None, Some, Ok, arith}
 use Rattle.std.proofs.lemmas.Grind.{common_steps}
 use Rattle.script_lang.specs.declared.commands.Command.TheVariants as commands
+use Rattle.script_lang.specs.declared.replies.Reply.TheVariants as replies
+use Rattle.device_cli.specs.Replied.{Serves}
+use Rattle.device_cli.specs.World.{World, world}
 use Rattle.device_cli.proofs.ServedLaws.{gives_unmounted_drop}
 use Rattle.device_cli.proofs.ServingLaws.{serves_unmounted, serves_drop}
+use Rattle.device_cli.proofs.Choices.{some_of}
 use Rattle.device_cli.proofs.desk.Desk.give_up.Goals as goal
 
-pub returns-in_default-clause-answered : goal.returns-in_default-clause-answered
-returns-in_default-clause-answered g c told entry rep =
+pub returns-then-is_none-clause-answered : goal.returns-then-is_none-clause-answered
+returns-then-is_none-clause-answered g c told entry rep =
     let P = g.P.Platform in
-    let none : c.args.self.now.session ≡ None = grind (arith, common_steps, c.take.ensures.value, c.in_default.is) in
-    serves_unmounted c.args.self.now.session c.take.new.self (P.history c.args.platform.now) (P.head c.args.platform.now) (P.capacity c.args.platform.now) entry commands.Drop none c.take.ensures.after
+    let held = c.args.self.now.session in
+    let none : held ≡ None = grind (arith, common_steps, c.is_none.ensures, c.if-is_none.true) in
+    serves_unmounted held held (P.history c.args.platform.now) (P.head c.args.platform.now) (P.capacity c.args.platform.now) entry commands.Drop none none
     (λ full there. gives_unmounted_drop full there) rep
 
 pub returns-clause-answered : goal.returns-clause-answered
 returns-clause-answered g c told entry rep =
     let P = g.P.Platform in
-    let taken : c.args.self.now.session ≡ Some c.in-Some.field-0 = cc (c.take.ensures.value, c.in-Some.is) in
-    serves_drop c.args.self.now.session c.take.new.self (P.history c.args.platform.now) (P.head c.args.platform.now) (P.capacity c.args.platform.now) entry c.in-Some.field-0 taken c.take.ensures.after rep
+    let held = c.args.self.now.session in
+    let old : World = world held (P.history c.args.platform.now) (P.head c.args.platform.now) (P.capacity c.args.platform.now) in
+    let new : World = world c.close.new.self.session (P.history c.args.platform.now) (P.head c.args.platform.now) (P.capacity c.args.platform.now) in
+    some_of held (λ none. grind (arith, common_steps, none, c.is_none.ensures, c.if-is_none.false)) (Serves old new entry commands.Drop (Ok replies.Dropped))
+    (λ session some. serves_drop held c.close.new.self.session (P.history c.args.platform.now) (P.head c.args.platform.now) (P.capacity c.args.platform.now) entry session some c.close.ensures rep)

@@ -14,11 +14,8 @@ use Rattle.device_core.proofs.ServedLaws.{serves_still as serves_while_cell}
 use Rattle.device_cli.proofs.CellLaws.{serves_now}
 use Rattle.device_course.proofs.KeysLaws.{on_start, on_look, listed_image, mount_listed}
 use Rattle.device_core.specs.Causes.{IsMountCause}
+use Rattle.device_cli.proofs.Choices.{some_of}
 use Rattle.device_cli.proofs.desk.Desk.mount.Goals as goal
-
-some_of : (s : Option Session) → (s ≡ None → ⊥) → (Goal : Type 0) → ((session : Session) → s ≡ Some session → Goal) → Goal
-some_of None some Goal k = absurd (some refl)
-some_of (Some session) some Goal k = k session refl
 
 -- a cell that can be served is not one that can't
 refused_served : (cell : Option (List ℕ)) (head : ℕ) → IsServedCell cell head → IsRefusedCell cell head → ⊥

@@ -15,7 +15,6 @@ use Rattle.sdbt_base.specs.Arrays.{written}
 use Rattle.script_lang.specs.declared.commands.Command.TheVariants.{Write}
 use Rattle.device_cli.proofs.ServedLaws.{at, with_session, has_session, serves_still, halts_still, is_full_true, is_full_false, gives_unmounted_write, gives_written, gives_write_range, gives_write_full}
 use Rattle.device_cli.proofs.ServingLaws.{serves_unmounted}
-use Rattle.device_cli.proofs.Choices.{inside, not_both}
 use Rattle.device_core.proofs.ServedLaws.{serves_still as serves_while_cell}
 use Rattle.device_cli.proofs.CellLaws.{serves_now, mounted_still}
 use Rattle.page_store.proofs.FloorLaws.{forgets_still}
