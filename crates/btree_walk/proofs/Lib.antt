@@ -1,3 +1,4 @@
+pub mod NodeLaws
 pub mod BalanceLaws
 pub mod Elements
 pub mod FindLaws
