@@ -9,3 +9,8 @@ pub mod RecentLaws
 pub mod SightLaws
 pub mod TurnLaws
 pub mod WayLaws
+pub mod ShowsLaws
+pub mod OneWalkLaws
+pub mod ListLaws
+pub mod ApartLaws
+pub mod LevelLaws

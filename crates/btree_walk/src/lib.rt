@@ -9,6 +9,7 @@ mod entry_list;
 mod finding;
 mod gathering;
 mod laws;
+mod list_laws;
 mod listing;
 mod looking;
 mod refusals;
@@ -20,6 +21,7 @@ pub use finding::find;
 pub use laws::{
     balance, found_is_mapped, sees_the_pages, stands_over_more_pages, stopped_is_wrong,
 };
+pub use list_laws::{lists_few, lists_the_tree, no_level_above, one_listing, one_place};
 pub use listing::{addresses, entries};
 pub use refusals::WalkRefusal;
 
