@@ -60,7 +60,11 @@ same_record pages p q one other small addr key is is' =
 abbrev IsSmallPlace : Place → Type 0
 IsSmallPlace place = place.addr < 2 ^ 64
 
-bound_most : (high : ℕ) (es : List Entry) → All (λ e. e.low < high) es → bound_of es high ≤ high
+pub from_bound : (high : ℕ) (xs : List Entry) → IsStrictlyIncreasing (lows xs) → All (λ x. bound_of xs high ≤ x.low) xs
+from_bound high [] up = All-nil (λ (x : Entry). bound_of [] high ≤ x.low)
+from_bound high (x ∷ xs) up = lows_from x.low (x ∷ xs) up (omega arith)
+
+pub bound_most : (high : ℕ) (es : List Entry) → All (λ e. e.low < high) es → bound_of es high ≤ high
 bound_most high [] below = omega arith
 bound_most high (e ∷ es) below = let less = All-head (λ (x : Entry). x.low < high) e es below in omega arith
 
@@ -102,10 +106,10 @@ module _ (pages : List (List ℕ)) (order : ℕ) (two : 2 ≤ order) where
 
 -- ---- apart
 
-AllPairs-none : {X : Type 0} (R : X → X → Type 0) → AllPairs R []
+pub AllPairs-none : {X : Type 0} (R : X → X → Type 0) → AllPairs R []
 AllPairs-none R i j d less within = absurd (omega arith)
 
-AllPairs-append : {X : Type 0} (R : X → X → Type 0) (xs ys : List X) → AllPairs R xs → AllPairs R ys → All (λ x. All (R x) ys) xs → AllPairs R (xs ++ ys)
+pub AllPairs-append : {X : Type 0} (R : X → X → Type 0) (xs ys : List X) → AllPairs R xs → AllPairs R ys → All (λ x. All (R x) ys) xs → AllPairs R (xs ++ ys)
 AllPairs-append R [] ys one two cross = two
 AllPairs-append R (x ∷ xs) ys one two cross =
     AllPairs-cons R x (xs ++ ys)
@@ -164,10 +168,6 @@ module _ (pages : List (List ℕ)) (order : ℕ) (two : 2 ≤ order) where
       (apart want e.key parts small' each.0)
       (each_apart level high es children apart up' to' (All-tail (λ (x : Entry). x.addr < 2 ^ 64) e es small) each.1)
       (cross_apart pages e.low (bound_of es high) high level parts.places (joined children).places (subtree_small pages order level want e.key parts small' each.0) first rest)
-    where
-      from_bound : (high : ℕ) (xs : List Entry) → IsStrictlyIncreasing (lows xs) → All (λ x. bound_of xs high ≤ x.low) xs
-      from_bound high [] up = All-nil (λ (x : Entry). bound_of [] high ≤ x.low)
-      from_bound high (x ∷ xs) up = lows_from x.low (x ∷ xs) up (omega arith)
 
   subtree_apart : (level : ℕ) → AreApart (Subtree pages order level)
   unfolding Subtree

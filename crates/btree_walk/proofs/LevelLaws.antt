@@ -14,7 +14,7 @@ use Rattle.btree_walk.proofs.ShowsLaws.{Shown, tree_shown}
 use Rattle.btree_walk.proofs.OneWalkLaws.{one_nodes}
 use Rattle.btree_walk.proofs.ListLaws.{few_listed}
 
-above_leaves : (level : ℕ) → 1 ≤ level → suc (level - 1) ≡ level
+pub above_leaves : (level : ℕ) → 1 ≤ level → suc (level - 1) ≡ level
 above_leaves level some = omega arith
 
 -- the nodes of a tree, and that they list what it has

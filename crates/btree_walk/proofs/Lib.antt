@@ -14,3 +14,4 @@ pub mod OneWalkLaws
 pub mod ListLaws
 pub mod ApartLaws
 pub mod LevelLaws
+pub mod OrderLaws

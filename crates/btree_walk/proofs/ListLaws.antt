@@ -43,7 +43,7 @@ few_below Below order level high (e ∷ es) nodes few up below is =
     subst (λ (ns : List Node). e.low + length (listed ns) ≤ high) (sym is.is) (omega arith)
 
 -- below a leaf are no nodes
-none_below : (pages : List (List ℕ)) (order : ℕ) (bs : List Branch) (nodes : List Node) → Joined (λ b. Nodes pages order zero b.want b.key) bs nodes → nodes ≡ []
+pub none_below : (pages : List (List ℕ)) (order : ℕ) (bs : List Branch) (nodes : List Node) → Joined (λ b. Nodes pages order zero b.want b.key) bs nodes → nodes ≡ []
 unfolding Nodes
 none_below pages order [] nodes is = is
 none_below pages order (b ∷ bs) nodes is =

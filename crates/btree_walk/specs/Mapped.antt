@@ -1,5 +1,5 @@
 -- What a tree maps a block to, and what a listing of it has.
-use Rattle.std.specs.Prelude.{◌≡◌, ◌≢◌, ℕ, List, Option, None, Some, Bool, true, false, All, Contains, map}
+use Rattle.std.specs.Prelude.{◌≡◌, ◌≢◌, ◌<◌, ◌≤◌, ℕ, List, Option, None, Some, Bool, true, false, All, Contains, map}
 use Rattle.std.specs.List.{filter}
 use Rattle.key_graph.specs.Trace.{TraceEntry, DataOf, NodeOver}
 use Rattle.node_codec.specs.declared.body.Entry.{Entry}
@@ -29,3 +29,13 @@ node_addrs places = map (λ p. p.addr) (filter (λ p. is_node p.trace) places)
 -- no page is, under one key, at two places of these
 abbrev pub ApartByKey : Place → Place → Type 0
 ApartByKey one other = ¬ ((one.addr ≡ other.addr) × (one.key ≡ other.key))
+
+-- an entry of a lower block than another
+abbrev pub ComesBefore : Entry → Entry → Type 0
+ComesBefore one other = one.low < other.low
+
+-- an entry of a block within bounds, whose data record lies below an address
+pub record IsListedWithin (low high addr : ℕ) (entry : Entry) : Type 0 where
+  pub from : low ≤ entry.low
+  pub to : entry.low < high
+  pub under : entry.addr < addr

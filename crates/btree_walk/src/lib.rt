@@ -21,9 +21,13 @@ pub use finding::find;
 pub use laws::{
     balance, found_is_mapped, sees_the_pages, stands_over_more_pages, stopped_is_wrong,
 };
-pub use list_laws::{lists_few, lists_the_tree, no_level_above, one_listing, one_place};
+pub use list_laws::{
+    lists_few, lists_in_order, lists_the_tree, no_level_above, one_listing, one_place,
+};
 pub use listing::{addresses, entries};
 pub use refusals::WalkRefusal;
 
+#[cfg(test)]
+mod builder;
 #[cfg(test)]
 mod tests;

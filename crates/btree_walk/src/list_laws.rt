@@ -1,10 +1,10 @@
 //! Laws of listings, and of how many entries and levels a tree has. The functions do nothing: each has its law as its contract.
-ghost use Rattle.std.specs.Prelude.{◌≡◌, ◌≤◌, ◌-◌, ◌*◌, ◌/◌, ◌^◌, ℕ, List, AllPairs, length, map};
+ghost use Rattle.std.specs.Prelude.{◌≡◌, ◌≤◌, ◌-◌, ◌*◌, ◌/◌, ◌^◌, ℕ, List, All, AllPairs, length, map};
 ghost use Rattle.root_codec.specs.declared.root.Root.{Root};
 ghost use Rattle.root_codec.specs.RootRecord.{FitsRoot};
 ghost use Rattle.page_store.specs.Tree.{Parts, Tree, Wrong};
 ghost use Rattle.btree_walk.specs.Nodes.{Node, NodesOf, FirstWrongOf, listed};
-ghost use Rattle.btree_walk.specs.Mapped.{ApartByKey, entry_of, node_addrs};
+ghost use Rattle.btree_walk.specs.Mapped.{ApartByKey, ComesBefore, IsListedWithin, entry_of, node_addrs};
 
 /// A law: the nodes of a tree list what it has, its mapped blocks and the addresses of its nodes, both in order; and none
 /// of them is refused.
@@ -28,6 +28,14 @@ pub fn one_listing()
 /// A law: over any pages, no more entries are listed than there are blocks; so a list takes no more memory than that.
 pub fn lists_few()
     ensures { (pages : List (List ℕ)) (root : Root) (nodes : List Node) → FitsRoot root → NodesOf pages root nodes → length (listed nodes) ≤ root.blocks }
+{}
+
+/// A law: listed entries are in the order of their blocks, of which each is one of the device, and their data records lie
+/// below the root node; and so lies each place of a tree.
+pub fn lists_in_order()
+    ensures ordered { (pages : List (List ℕ)) (root : Root) (nodes : List Node) → FitsRoot root → NodesOf pages root nodes → AllPairs ComesBefore (listed nodes) }
+    ensures within { (pages : List (List ℕ)) (root : Root) (nodes : List Node) → FitsRoot root → NodesOf pages root nodes → All (IsListedWithin 0 root.blocks root.addr) (listed nodes) }
+    ensures addrs { (pages : List (List ℕ)) (root : Root) (parts : Parts) → Tree pages root parts → All (λ p. p.addr ≤ root.addr) parts.places }
 {}
 
 /// A law: a tree has at most as many entries as blocks; and where there are at most 1,048,576, so many entries as the
