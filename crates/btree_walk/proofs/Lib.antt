@@ -1,3 +1,4 @@
+pub mod NodeLaws
 pub mod BalanceLaws
 pub mod Elements
 pub mod FindLaws
@@ -8,3 +9,9 @@ pub mod RecentLaws
 pub mod SightLaws
 pub mod TurnLaws
 pub mod WayLaws
+pub mod ShowsLaws
+pub mod OneWalkLaws
+pub mod ListLaws
+pub mod ApartLaws
+pub mod LevelLaws
+pub mod OrderLaws

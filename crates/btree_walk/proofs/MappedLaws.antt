@@ -168,7 +168,7 @@ mapped_right : (block : ℕ) (found : Option Entry) (xs ys : List Mapped) → Is
 mapped_right block None xs ys others is = All-append (λ (m : Mapped). m.block ≢ block) xs ys others is
 mapped_right block (Some e) xs ys others is = (is.0, (is.1.0, Contains-right xs ys (mapped_as e is.1.0) is.1.1))
 
-lows_from : (low : ℕ) (es : List Entry) → IsStrictlyIncreasing (lows es) → low ≤ bound_of es low → All (λ e. low ≤ e.low) es
+pub lows_from : (low : ℕ) (es : List Entry) → IsStrictlyIncreasing (lows es) → low ≤ bound_of es low → All (λ e. low ≤ e.low) es
 lows_from low [] up le = All-nil (λ (e : Entry). low ≤ e.low)
 lows_from low (e ∷ []) up le = All-cons (λ (x : Entry). low ≤ x.low) e [] le (All-nil (λ (x : Entry). low ≤ x.low))
 lows_from low (e ∷ f ∷ es) up le =

@@ -3,3 +3,5 @@ pub mod Sights
 pub mod Finds
 pub mod Looks
 pub mod Mapped
+pub mod Nodes
+pub mod Refusals

@@ -12,3 +12,12 @@ pub record Looks {S : Type 0} (P : Ghosts S) (most : ℕ) (old new : S) : Type 0
   pub reads_rise : P.tells → P.reads old ≤ P.reads new
   pub reads_most : P.tells → P.reads new ≤ P.reads old + most
   pub faults : P.faults old ≤ P.faults new
+
+-- the image stays, and nothing is handed over
+pub record OnlyLooks {S : Type 0} (P : Ghosts S) (old new : S) : Type 0 where
+  pub image : P.tells → (P.history new).present ≡ (P.history old).present
+  pub time : P.tells → Steps (P.history old) (P.history new)
+  pub head : P.head new ≡ P.head old
+  pub capacity : P.capacity new ≡ P.capacity old
+  pub reads_rise : P.tells → P.reads old ≤ P.reads new
+  pub faults : P.faults old ≤ P.faults new

@@ -4,15 +4,30 @@
 //! the node. A node that is kept still has to fit the place that is asked for.
 #![tactic(auto)]
 
+mod branches;
+mod entry_list;
 mod finding;
+mod gathering;
 mod laws;
+mod list_laws;
+mod listing;
 mod looking;
+mod refusals;
 mod turns;
+mod walking;
 
+pub use entry_list::Entries;
 pub use finding::find;
 pub use laws::{
     balance, found_is_mapped, sees_the_pages, stands_over_more_pages, stopped_is_wrong,
 };
+pub use list_laws::{
+    lists_few, lists_in_order, lists_the_tree, no_level_above, one_listing, one_place,
+};
+pub use listing::{addresses, entries};
+pub use refusals::WalkRefusal;
 
+#[cfg(test)]
+mod builder;
 #[cfg(test)]
 mod tests;

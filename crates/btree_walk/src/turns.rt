@@ -68,7 +68,7 @@ fn way_of(want: &Want, entries: &[Entry], block: u64) -> Turn
 }
 
 /// Where what lies below the entries before a place ends: at the low of the entry there, or with the node.
-fn end_of(entries: &[Entry], place: usize, high: u64) -> u64
+pub(crate) fn end_of(entries: &[Entry], place: usize, high: u64) -> u64
     ensures { result ≡ bound_of (drop place entries.now) high }
 {
     match entries.get(place) {

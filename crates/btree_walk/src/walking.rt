@@ -1,0 +1,70 @@
+ghost use Rattle.std.specs.Prelude.{◌≡◌, ◌<◌, ◌≤◌, ◌+◌, ℕ, List, IfOk, OnOk, IsErrOf};
+ghost use Rattle.sdbt_base.specs.Faults.{Rose};
+ghost use Rattle.node_codec.specs.Record.{NodeRecord, FitsNode};
+ghost use Rattle.page_store.specs.Places.{FitsAt};
+ghost use Rattle.page_store.specs.Tree.{IsMisfit};
+ghost use Rattle.btree_walk.specs.Nodes.{Meets, Adds, FirstWrong};
+ghost use Rattle.btree_walk.specs.Looks.{OnlyLooks};
+
+use crate::branches::branch_at;
+use crate::gathering::Gather;
+use crate::refusals::WalkRefusal;
+use node_codec::{Body, NodeBody};
+use page_store::{Buffers, Want, fetch};
+use platform::Platform;
+use sdbt_base::Key;
+
+/// Walks over the nodes from a place on, each before those below it, and gathers of each.
+///
+/// It goes no deeper than the level of the place, and reads each node once. After a refusal some nodes may be gathered.
+pub(crate) fn walk<P: Platform, G: Gather>(
+    platform: &mut P,
+    want: &Want,
+    key: &Key,
+    buf: &mut Buffers,
+    gathered: &mut G,
+) -> Result<(), WalkRefusal>
+    requires within { want.now.addr < P.head platform.old }
+    requires level { 1 ≤ want.now.level }
+    ensures met { P.tells → OnOk result (Meets (P.history platform.old).present.readable want.now key.now
+        (Adds G.holds gathered.old gathered.new) (P.reads platform.old) (P.reads platform.new)) }
+    ensures wrong { P.tells → (addr : ℕ) → IsErrOf result (WalkRefusal.BadRecord addr) →
+        FirstWrong (P.history platform.old).present.readable addr want.now.most want.now.level want.now key.now }
+    ensures looks { OnlyLooks P.Platform platform.old platform.new }
+    ensures cause { IsErrOf result WalkRefusal.PlatformFault → Rose (P.faults platform.old) (P.faults platform.new) }
+{
+    let node = fetch_node(platform, want, key, buf)?;
+    gathered.node(want.addr, &node)?;
+    if want.level == 1 {
+        return Ok(());
+    }
+    for place in 0..node.entries.len() {
+        let branch = branch_at(want, &node.entries, place);
+        walk(platform, &branch.want, &branch.key, buf, gathered)?;
+    }
+    Ok(())
+}
+
+/// The node of a place, by one read of its page.
+fn fetch_node<P: Platform>(
+    platform: &mut P,
+    want: &Want,
+    key: &Key,
+    buf: &mut Buffers,
+) -> Result<NodeBody, WalkRefusal>
+    requires within { want.now.addr < P.head platform.old }
+    requires level { 1 ≤ want.now.level }
+    ensures fits { P.tells → IfOk result (λ node. (node.level ≡ want.now.level) ×
+        FitsAt (P.history platform.old).present.readable want.now key.now (NodeRecord want.now.level node.entries.items)) }
+    ensures range { IfOk result (λ node. FitsNode want.now.addr want.now.level node.entries.items) }
+    ensures misfit { P.tells → (addr : ℕ) → IsErrOf result (WalkRefusal.BadRecord addr) →
+        IsMisfit (P.history platform.old).present.readable addr want.now key.now }
+    ensures reads { P.tells → OnOk result (P.reads platform.new ≡ P.reads platform.old + 1) }
+    ensures looks { OnlyLooks P.Platform platform.old platform.new }
+    ensures cause { IsErrOf result WalkRefusal.PlatformFault → Rose (P.faults platform.old) (P.faults platform.new) }
+{
+    match fetch(platform, want, key, buf)? {
+        Body::Node { node } => Ok(node),
+        Body::Block { .. } => unreachable!(),
+    }
+}
