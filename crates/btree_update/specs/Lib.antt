@@ -1,0 +1,4 @@
+pub mod GroveTree
+pub mod Maps
+pub mod Held
+pub mod Reading
