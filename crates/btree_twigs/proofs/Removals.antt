@@ -1,5 +1,5 @@
 -- The way of a removal, and what it leaves on the way up.
-use Rattle.std.proofs.Common.{◌≡◌, ℕ, zero, suc, ◌+◌, ◌-◌, ◌/◌, ◌<◌, ◌≤◌, List, [], ◌∷◌, ◌++◌, length, take, drop, get_or, set, inl, inr, refl, sym, ap, subst, ◌∙◌, arith, rules, append_assoc, append-nil, length-append, vec_capacity}
+use Rattle.std.proofs.Common.{◌≡◌, ◌⊎◌, ℕ, zero, suc, ◌+◌, ◌-◌, ◌/◌, ◌<◌, ◌≤◌, List, [], ◌∷◌, ◌++◌, length, take, drop, get_or, set, inl, inr, refl, sym, ap, subst, ◌∙◌, arith, rules, append_assoc, append-nil, length-append, vec_capacity}
 use Rattle.std.proofs.lemmas.List.{length-take-le}
 use Rattle.std.specs.declared.vec.Vec.{Vec}
 use Rattle.std.specs.declared.alloc.Global.{Global}
@@ -10,7 +10,7 @@ use Rattle.btree_twigs.specs.declared.twigs.Twig.{Twig, out-Twig, roll-Twig}
 use Rattle.btree_twigs.specs.Stubs.{Stub, Tiles, Takes, start_by, stubs_by, low_in, low_of, children_of, stubs, stubs_below}
 use Rattle.btree_twigs.specs.Shape.{EachBy, Begins, IsNodeBy, IsTwigBy, IsChildBy, IsChild, IsTwig}
 use Rattle.btree_twigs.specs.Updates.{IsNode, IsGrownBy, IsGrown, width_in, width_of, CanMend, IsMended, OneShort, stubs_under}
-use Rattle.btree_twigs.specs.Removal.{IsTaken, IsHeldIn, below_in, HasNeighbour, HasNeighbours, MendsAt, AreMended, CanTake, CanTakeBelow, IsTwigTaken, IsChildTaken, CanMendBeside}
+use Rattle.btree_twigs.specs.Removal.{IsTaken, IsHeldIn, below_in, Lends, IsHelped, HelpsOne, Helps, MendsAt, AreMended, CanTake, CanTakeBelow, IsTwigTaken, IsChildTaken, CanMendBeside}
 use Rattle.btree_twigs.proofs.ListLaws.{start_append, stubs_append, each_append, each_front, each_back, tiles_by, tiles_from, tiles_append, split_here, node_with}
 use Rattle.btree_twigs.proofs.Children.{begins_le, tiles_child}
 use Rattle.btree_twigs.proofs.Nodes.{low_of_grown, stubs_of_grown, twig_of, children_of_roll}
@@ -60,12 +60,30 @@ sooner : (block high : ℕ) (bs : List Child) → block < start_by low_of bs hig
 sooner block high [] h = omega arith
 sooner block high (b ∷ bs) h = h
 
-pub neighbours_at : (block level below : ℕ) (cs fs bs : List Child) (c : Child) → level ≡ suc below → HasNeighbours block level cs → cs ≡ fs ++ c ∷ bs → low_of c ≤ block → (high : ℕ) → block < start_by low_of bs high →
-    HasNeighbour fs bs × HasNeighbours block below (below_in (out-Child c))
-unfolding HasNeighbours
-neighbours_at block level below cs fs bs c is h split from high to =
-    let k = subst (λ l. HasNeighbours block l cs) is h in
+pub help_at : (order block level below loses : ℕ) (cs fs bs : List Child) (c : Child) → level ≡ suc below → Helps order block level cs loses → cs ≡ fs ++ c ∷ bs → low_of c ≤ block → (high : ℕ) → block < start_by low_of bs high →
+    HelpsOne (Helps order block below) order loses fs bs c
+unfolding Helps
+help_at order block level below loses cs fs bs c is h split from high to =
+    let k = subst (λ l. Helps order block l cs loses) is h in
     k fs bs c split from (sooner block high bs to)
+
+-- a child that is short gets help
+pub helped_if : (order block below loses : ℕ) (fs bs : List Child) (c d : Child) → (h : HelpsOne (Helps order block below) order loses fs bs c) → width_of c ≤ width_of d + h.fewer → width_of d < order / 2 → IsHelped order loses fs bs
+helped_if order block below loses fs bs c d h le lt = by h.helped
+  where
+    by : (order / 2 + h.fewer ≤ width_of c) ⊎ IsHelped order loses fs bs → IsHelped order loses fs bs
+    by (inl wide) = absurd (omega (arith, wide, le, lt))
+    by (inr helped) = helped
+
+pub width_of_grown : (low : ℕ) (twig : Twig) → width_of (made.Grown low twig) ≡ length (children_of twig)
+width_of_grown low twig = ap width_in (made.outs-Grown low twig)
+
+-- after a mend there are as many as before, or one less
+pub mended_wide : (order loses left : ℕ) (cs new : List Child) (m : MendsAt order cs left) → AreMended order cs left m new → ((order / 2 < width_of m.one) ⊎ (order / 2 < width_of m.other)) ⊎ (1 ≤ loses) → length cs ≤ length new + loses
+mended_wide order loses left cs new m a (inl spare) =
+    omega (arith, ap length m.is, length-append m.front (m.one ∷ m.other ∷ m.back), ap length a.now, length-append m.front (a.news ++ m.back), length-append a.news m.back, a.two spare)
+mended_wide order loses left cs new m a (inr one) =
+    omega (arith, ap length m.is, length-append m.front (m.one ∷ m.other ∷ m.back), ap length a.now, length-append m.front (a.news ++ m.back), length-append a.news m.back, a.some, one)
 
 -- children in the place of others
 module _ (order level least most low high : ℕ) (fs xs ys bs : List Child) (h : IsNode order level least most low high (fs ++ (xs ++ bs))) (some : 0 < length xs) (some' : 0 < length ys)
@@ -90,7 +108,7 @@ module _ (order level least most low high : ℕ) (fs xs ys bs : List Child) (h :
     each = other_each;
   }
 
-module _ (order l least low high block : ℕ) (fs : List Child) (c : Child) (bs : List Child) (d : Child) (h : IsNode order (suc l) least order low high (fs ++ c ∷ bs)) (t : IsChildTaken order l (start_by low_of bs high) block c d) where
+module _ (order l least low high block : ℕ) (fs : List Child) (c : Child) (bs : List Child) (d : Child) (h : IsNode order (suc l) least order low high (fs ++ c ∷ bs)) (fewer : ℕ) (t : IsChildTaken order l (start_by low_of bs high) block fewer c d) where
   -- what is taken below the child is taken below the node
   takes_node : Takes low high block (stubs_under (suc l) high (fs ++ c ∷ bs)) (stubs_under (suc l) (low_of c) fs ++ (stubs (suc l) (start_by low_of bs high) d ++ stubs_under (suc l) high bs))
   takes_node =
@@ -114,7 +132,7 @@ module _ (order l least low high block : ℕ) (fs : List Child) (c : Child) (bs 
       }
 
 -- it is mended with the one that follows
-module _ (order l least low high block : ℕ) (four : 4 ≤ order) (fs : List Child) (c b : Child) (bs : List Child) (d : Child) (h : IsNode order (suc l) least order low high (fs ++ c ∷ b ∷ bs)) (t : IsChildTaken order l (low_of b) block c d)
+module _ (order l least low high block : ℕ) (four : 4 ≤ order) (fs : List Child) (c b : Child) (bs : List Child) (d : Child) (h : IsNode order (suc l) least order low high (fs ++ c ∷ b ∷ bs)) (fewer : ℕ) (t : IsChildTaken order l (low_of b) block fewer c d)
     (in_memory : IsHeldIn (out-Child b)) (short : width_of d < order / 2) where
   abbrev can_next : CanMend order d b
   can_next =
@@ -135,11 +153,11 @@ module _ (order l least low high block : ℕ) (four : 4 ≤ order) (fs : List Ch
             ∙ ap (λ ss. ss ++ stubs_under (suc l) high bs) (sym m.same) ∙ sym (stubs_append low_of (stubs (suc l)) high news bs))
             ∙ ap (λ s. stubs_under (suc l) s fs ++ stubs_under (suc l) high (news ++ bs)) (sym start ∙ sym (start_append low_of news bs high))
             ∙ sym (stubs_append low_of (stubs (suc l)) high fs (news ++ bs)))
-            (takes_node order l least low high block fs c (b ∷ bs) d h t);
+            (takes_node order l least low high block fs c (b ∷ bs) d h fewer t);
       }
 
 -- or with the one before
-module _ (order l least low high block : ℕ) (four : 4 ≤ order) (fs : List Child) (g c : Child) (d : Child) (h : IsNode order (suc l) least order low high ((fs ++ g ∷ []) ++ c ∷ [])) (t : IsChildTaken order l high block c d)
+module _ (order l least low high block : ℕ) (four : 4 ≤ order) (fs : List Child) (g c : Child) (d : Child) (h : IsNode order (suc l) least order low high ((fs ++ g ∷ []) ++ c ∷ [])) (fewer : ℕ) (t : IsChildTaken order l high block fewer c d)
     (in_memory : IsHeldIn (out-Child g)) (short : width_of d < order / 2) where
   regrouped : IsNode order (suc l) least order low high (fs ++ ((g ∷ c ∷ []) ++ []))
   regrouped = subst (IsNode order (suc l) least order low high) (append_assoc fs (g ∷ []) (c ∷ [])) h
@@ -155,7 +173,7 @@ module _ (order l least low high block : ℕ) (four : 4 ≤ order) (fs : List Ch
       IsTaken order (suc l) least low high block ((fs ++ g ∷ []) ++ c ∷ []) (fs ++ (news ++ []))
   last_mended news some few m = record {
     node = other_node order (suc l) least order low high fs (g ∷ c ∷ []) news [] regrouped (omega arith) (omega (arith, some)) m.begins m.each (omega (arith, few)) (omega (arith, some));
-    takes = subst (Takes low high block (stubs_under (suc l) high ((fs ++ g ∷ []) ++ c ∷ []))) news_are (takes_node order l least low high block (fs ++ g ∷ []) c [] d h t);
+    takes = subst (Takes low high block (stubs_under (suc l) high ((fs ++ g ∷ []) ++ c ∷ []))) news_are (takes_node order l least low high block (fs ++ g ∷ []) c [] d h fewer t);
   }
     where
       news_are : stubs_under (suc l) (low_of c) (fs ++ g ∷ []) ++ (stubs (suc l) high d ++ []) ≡ stubs_under (suc l) high (fs ++ (news ++ []))
@@ -171,23 +189,25 @@ module _ (order l least low high block : ℕ) (four : 4 ≤ order) (fs : List Ch
           ∙ sym (stubs_append low_of (stubs (suc l)) high fs (news ++ []))
 
 -- a node whose list of children has changed
-pub twig_taken : (order level least low high block lev : ℕ) (t : Twig) (new : Vec Child Global) → lev ≡ suc level → order < vec_capacity new →
-    IsTaken order level least low high block (children_of t) new.items →
-    IsTwigTaken order level least low high block t (roll-Twig (record { level = lev; children = new }))
-twig_taken order level least low high block lev t new is room p = record {
+pub twig_taken : (order level least low high block loses lev : ℕ) (t : Twig) (new : Vec Child Global) → lev ≡ suc level → order < vec_capacity new →
+    IsTaken order level least low high block (children_of t) new.items → length (children_of t) ≤ length new.items + loses →
+    IsTwigTaken order level least low high block loses t (roll-Twig (record { level = lev; children = new }))
+twig_taken order level least low high block loses lev t new is room p wide = record {
   shaped = twig_of order level (least - 1) order low high (record { level = lev; children = new }) (record { level_is = is; room = room; node = p.node });
   takes = subst (λ xs. Takes low high block (stubs_below level high t) (stubs_under level high xs)) (sym (children_of_roll (record { level = lev; children = new }))) p.takes;
+  wide = subst (λ xs. length (children_of t) ≤ length xs + loses) (sym (children_of_roll (record { level = lev; children = new }))) wide;
 }
 
 -- a node without the place is a child without it
-pub child_taken : (order level low high block : ℕ) (old new : Twig) → IsTwigTaken order level (order / 2) low high block old new →
-    IsChildTaken order level high block (made.Grown low old) (made.Grown low new)
-child_taken order level low high block old new p = record {
+pub child_taken : (order level low high block loses : ℕ) (old new : Twig) → IsTwigTaken order level (order / 2) low high block loses old new →
+    IsChildTaken order level high block loses (made.Grown low old) (made.Grown low new)
+child_taken order level low high block loses old new p = record {
   low_is = low_of_grown low new ∙ sym (low_of_grown low old);
   grown = subst (IsGrownBy order level (order / 2 - 1) high) (sym (made.outs-Grown low new)) p.shaped;
   takes = subst (λ m. Takes m high block (stubs (suc level) high (made.Grown low old)) (stubs (suc level) high (made.Grown low new))) (sym (low_of_grown low old))
       (subst (λ xs. Takes low high block xs (stubs (suc level) high (made.Grown low new))) (sym (stubs_of_grown level high low old))
       (subst (Takes low high block (stubs_below level high old)) (sym (stubs_of_grown level high low new)) p.takes));
+  wide = omega (arith, width_of_grown low old, width_of_grown low new, p.wide);
 }
 
 -- the last of a list
@@ -201,9 +221,9 @@ snoc [] h = absurd (omega (arith, h))
 snoc (f ∷ []) h = record { front = []; last = f; is = refl }
 snoc (f ∷ g ∷ fs) h = let s = snoc (g ∷ fs) (omega arith) in record { front = f ∷ s.front; last = s.last; is = ap (λ ys. f ∷ ys) s.is }
 
-module _ (order l least low high block i : ℕ) (four : 4 ≤ order) (fs : List Child) (c d : Child) (at : length fs ≡ i) (short : width_of d < order / 2) where
-  abbrev next_at : (b : Child) (bs : List Child) → IsNode order (suc l) least order low high (fs ++ c ∷ b ∷ bs) → IsChildTaken order l (low_of b) block c d → IsHeldIn (out-Child b) → MendsAt order (fs ++ d ∷ b ∷ bs) i
-  next_at b bs h t in_memory = record { front = fs; one = d; other = b; back = bs; is = refl; at = at; can = can_next order l least low high block four fs c b bs d h t in_memory short }
+module _ (order l least low high block i loses fewer : ℕ) (four : 4 ≤ order) (fs : List Child) (c d : Child) (at : length fs ≡ i) (short : width_of d < order / 2) where
+  abbrev next_at : (b : Child) (bs : List Child) → IsNode order (suc l) least order low high (fs ++ c ∷ b ∷ bs) → IsChildTaken order l (low_of b) block fewer c d → IsHeldIn (out-Child b) → MendsAt order (fs ++ d ∷ b ∷ bs) i
+  next_at b bs h t in_memory = record { front = fs; one = d; other = b; back = bs; is = refl; at = at; can = can_next order l least low high block four fs c b bs d h fewer t in_memory short }
 
   last_is : (gs : List Child) (g : Child) → fs ≡ gs ++ g ∷ [] → (fs ++ d ∷ []) ≡ gs ++ g ∷ d ∷ []
   last_is gs g e = ap (λ ys. ys ++ d ∷ []) e ∙ append_assoc gs (g ∷ []) (d ∷ [])
@@ -211,7 +231,7 @@ module _ (order l least low high block i : ℕ) (four : 4 ≤ order) (fs : List 
   last_place : (gs : List Child) (g : Child) → fs ≡ gs ++ g ∷ [] → length gs ≡ i - 1
   last_place gs g e = omega (arith, at, ap length e, length-append gs (g ∷ []))
 
-  abbrev last_at : (gs : List Child) (g : Child) → fs ≡ gs ++ g ∷ [] → IsNode order (suc l) least order low high (fs ++ c ∷ []) → IsChildTaken order l high block c d → IsHeldIn (out-Child g) → MendsAt order (fs ++ d ∷ []) (i - 1)
+  abbrev last_at : (gs : List Child) (g : Child) → fs ≡ gs ++ g ∷ [] → IsNode order (suc l) least order low high (fs ++ c ∷ []) → IsChildTaken order l high block fewer c d → IsHeldIn (out-Child g) → MendsAt order (fs ++ d ∷ []) (i - 1)
   last_at gs g e h t in_memory = record {
     front = gs;
     one = g;
@@ -219,37 +239,56 @@ module _ (order l least low high block i : ℕ) (four : 4 ≤ order) (fs : List 
     back = [];
     is = last_is gs g e;
     at = last_place gs g e;
-    can = can_last order l least low high block four gs g c d (subst (λ ys. IsNode order (suc l) least order low high (ys ++ c ∷ [])) e h) t in_memory short;
+    can = can_last order l least low high block four gs g c d (subst (λ ys. IsNode order (suc l) least order low high (ys ++ c ∷ [])) e h) fewer t in_memory short;
   }
 
-  pub beside : (bs : List Child) → IsNode order (suc l) least order low high (fs ++ c ∷ bs) → IsChildTaken order l (start_by low_of bs high) block c d → HasNeighbour fs bs → 2 ≤ least →
+  pub beside : (bs : List Child) → IsNode order (suc l) least order low high (fs ++ c ∷ bs) → IsChildTaken order l (start_by low_of bs high) block fewer c d → IsHelped order loses fs bs → 2 ≤ least →
       CanMendBeside order (fs ++ d ∷ bs) i
   beside [] h t n two =
       let some : 0 < length fs = omega (arith, h.enough, two, length-append fs (c ∷ [])) in
       let s = snoc fs some in
-      (omega (arith, at, length-append fs (d ∷ [])), omega (arith, some, length-append fs (d ∷ [])), (λ lt. absurd (omega (arith, lt, at, length-append fs (d ∷ [])))), (λ e. last_at s.front s.last s.is h t (n s.front s.last s.is)))
+      (omega (arith, at, length-append fs (d ∷ [])), omega (arith, some, length-append fs (d ∷ [])), (λ lt. absurd (omega (arith, lt, at, length-append fs (d ∷ [])))), (λ e. last_at s.front s.last s.is h t (n s.front s.last s.is).0))
   beside (b ∷ bs) h t n two =
-      (omega (arith, at, length-append fs (d ∷ b ∷ bs)), omega (arith, length-append fs (d ∷ b ∷ bs)), (λ lt. next_at b bs h t n), (λ e. absurd (omega (arith, e, at, length-append fs (d ∷ b ∷ bs)))))
+      (omega (arith, at, length-append fs (d ∷ b ∷ bs)), omega (arith, length-append fs (d ∷ b ∷ bs)), (λ lt. next_at b bs h t n.0), (λ e. absurd (omega (arith, e, at, length-append fs (d ∷ b ∷ bs)))))
 
-  pub after_mend : (bs new : List Child) → IsNode order (suc l) least order low high (fs ++ c ∷ bs) → IsChildTaken order l (start_by low_of bs high) block c d → HasNeighbour fs bs → 2 ≤ least →
+  one_way : {A B C : Type 0} → B ⊎ C → (A ⊎ B) ⊎ C
+  one_way (inl b) = inl (inr b)
+  one_way (inr c) = inr c
+
+  other_way : {A B C : Type 0} → A ⊎ C → (A ⊎ B) ⊎ C
+  other_way (inl a) = inl (inl a)
+  other_way (inr c) = inr c
+
+  same_length : (bs : List Child) → length (fs ++ c ∷ bs) ≡ length (fs ++ d ∷ bs)
+  same_length bs = omega (arith, length-append fs (c ∷ bs), length-append fs (d ∷ bs))
+
+  pub after_mend : (bs new : List Child) → IsNode order (suc l) least order low high (fs ++ c ∷ bs) → IsChildTaken order l (start_by low_of bs high) block fewer c d → IsHelped order loses fs bs → 2 ≤ least →
       (suc i < length (fs ++ d ∷ bs) → (m : MendsAt order (fs ++ d ∷ bs) i) → AreMended order (fs ++ d ∷ bs) i m new) →
       (suc i ≡ length (fs ++ d ∷ bs) → (m : MendsAt order (fs ++ d ∷ bs) (i - 1)) → AreMended order (fs ++ d ∷ bs) (i - 1) m new) →
-      IsTaken order (suc l) least low high block (fs ++ c ∷ bs) new
+      IsTaken order (suc l) least low high block (fs ++ c ∷ bs) new × (length (fs ++ c ∷ bs) ≤ length new + loses)
   after_mend [] new h t n two next last =
       let some : 0 < length fs = omega (arith, h.enough, two, length-append fs (c ∷ [])) in
       let s = snoc fs some in
-      let m = last (omega (arith, at, length-append fs (d ∷ []))) (last_at s.front s.last s.is h t (n s.front s.last s.is)) in
-      subst (IsTaken order (suc l) least low high block (fs ++ c ∷ [])) (sym m.now)
-      (subst (λ ys. IsTaken order (suc l) least low high block (ys ++ c ∷ []) (s.front ++ (m.news ++ []))) (sym s.is)
-      (last_mended order l least low high block four s.front s.last c d (subst (λ ys. IsNode order (suc l) least order low high (ys ++ c ∷ [])) s.is h) t (n s.front s.last s.is) short m.news m.some m.few m.mended))
+      let lent = n s.front s.last s.is in
+      let here = last_at s.front s.last s.is h t lent.0 in
+      let m = last (omega (arith, at, length-append fs (d ∷ []))) here in (
+        subst (IsTaken order (suc l) least low high block (fs ++ c ∷ [])) (sym m.now)
+            (subst (λ ys. IsTaken order (suc l) least low high block (ys ++ c ∷ []) (s.front ++ (m.news ++ []))) (sym s.is)
+            (last_mended order l least low high block four s.front s.last c d (subst (λ ys. IsNode order (suc l) least order low high (ys ++ c ∷ [])) s.is h) fewer t lent.0 short m.news m.some m.few m.mended)),
+        omega (arith, same_length [], mended_wide order loses (i - 1) (fs ++ d ∷ []) new here m (other_way lent.1)),
+      )
   after_mend (b ∷ bs) new h t n two next last =
-      let m = next (omega (arith, at, length-append fs (d ∷ b ∷ bs))) (next_at b bs h t n) in
-      subst (IsTaken order (suc l) least low high block (fs ++ c ∷ b ∷ bs)) (sym m.now)
-      (next_mended order l least low high block four fs c b bs d h t n short m.news m.some m.few m.mended)
+      let here = next_at b bs h t n.0 in
+      let m = next (omega (arith, at, length-append fs (d ∷ b ∷ bs))) here in (
+        subst (IsTaken order (suc l) least low high block (fs ++ c ∷ b ∷ bs)) (sym m.now)
+            (next_mended order l least low high block four fs c b bs d h fewer t n.0 short m.news m.some m.few m.mended),
+        omega (arith, same_length (b ∷ bs), mended_wide order loses i (fs ++ d ∷ b ∷ bs) new here m (one_way n.1)),
+      )
 
-pub leaf_taken : (order block level least low high lev : ℕ) (t : Twig) (new : Vec Child Global) → IsTwig order level least order low high t → lev ≡ suc level → lev ≡ 1 →
-    low ≤ block → block < high → order < vec_capacity new →
+pub leaf_taken : (order block level least low high loses lev : ℕ) (t : Twig) (new : Vec Child Global) → IsTwig order level least order low high t → lev ≡ suc level → lev ≡ 1 →
+    low ≤ block → block < high → order < vec_capacity new → Helps order block level (children_of t) loses → length (children_of t) ≤ length new.items + 1 →
     (IsNode order 0 least order low high (children_of t) → low ≤ block → block < high → IsTaken order 0 least low high block (children_of t) new.items) →
-    IsTwigTaken order level least low high block t (roll-Twig (record { level = lev; children = new }))
-leaf_taken order block zero least low high lev t new h is one from to room take = twig_taken order 0 least low high block lev t new is room (take h.node from to)
-leaf_taken order block (suc level) least low high lev t new h is one from to room take = absurd (omega (arith, is, one))
+    IsTwigTaken order level least low high block loses t (roll-Twig (record { level = lev; children = new }))
+unfolding Helps
+leaf_taken order block zero least low high loses lev t new h is one from to room helps wide take = twig_taken order 0 least low high block loses lev t new is room (take h.node from to) (omega (arith, helps, wide))
+leaf_taken order block (suc level) least low high loses lev t new h is one from to room helps wide take = absurd (omega (arith, is, one))

@@ -14,11 +14,11 @@ use Rattle.btree_twigs.proofs.ListLaws.{start_append, stubs_append, each_front, 
 use Rattle.btree_twigs.proofs.Children.{begins_le, tiles_child}
 use Rattle.btree_twigs.proofs.Nodes.{low_of_grown, stubs_of_grown, grown_is_child, twig_of, children_of_roll}
 
-open_front : (block : ℕ) (xs ys : List Stub) → IsOpen block (xs ++ ys) → IsOpen block xs
+pub open_front : (block : ℕ) (xs ys : List Stub) → IsOpen block (xs ++ ys) → IsOpen block xs
 open_front block [] ys h = tt
 open_front block (x ∷ xs) ys h = (h.0, open_front block xs ys h.1)
 
-open_back : (block : ℕ) (xs ys : List Stub) → IsOpen block (xs ++ ys) → IsOpen block ys
+pub open_back : (block : ℕ) (xs ys : List Stub) → IsOpen block (xs ++ ys) → IsOpen block ys
 open_back block [] ys h = h
 open_back block (x ∷ xs) ys h = open_back block xs ys h.1
 

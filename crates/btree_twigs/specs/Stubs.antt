@@ -1,5 +1,5 @@
 -- The places on the medium below the nodes in memory, from left to right.
-use Rattle.std.specs.Prelude.{◌≡◌, ℕ, zero, suc, ◌+◌, ◌<◌, ◌≤◌, List, [], ◌∷◌, ◌++◌}
+use Rattle.std.specs.Prelude.{◌≡◌, ℕ, zero, suc, ◌+◌, ◌<◌, ◌≤◌, List, [], ◌∷◌, ◌++◌, Option, None, Some}
 use Rattle.btree_twigs.specs.declared.twigs.Child.{Child, Child-F, out-Child}
 use Rattle.btree_twigs.specs.declared.twigs.Child.TheOpen.{Kept, Grown}
 use Rattle.btree_twigs.specs.declared.twigs.Twig.{Twig, out-Twig}
@@ -38,6 +38,14 @@ low_in (Grown low twig) = low
 
 abbrev pub low_of : Child → ℕ
 low_of child = low_in (out-Child child)
+
+-- the address of a child on the medium
+abbrev pub addr_in : {C T : Type 0} → Child-F C T → Option ℕ
+addr_in (Kept low addr key) = Some addr
+addr_in (Grown low twig) = None
+
+abbrev pub addr_of : Child → Option ℕ
+addr_of child = addr_in (out-Child child)
 
 -- the children of a node
 abbrev pub children_of : Twig → List Child

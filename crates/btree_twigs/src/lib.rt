@@ -13,5 +13,5 @@ mod twigs;
 
 pub use finding::find;
 pub use putting::{put, put_datum, put_top};
-pub use taking::take;
-pub use twigs::{Child, Spot, Twig, addr_of, low_of, place};
+pub use taking::{take, take_top};
+pub use twigs::{Child, Spot, Twig, addr_of, level_of, low_of, place};

@@ -2,8 +2,7 @@ ghost use Rattle.std.specs.Prelude.{◌-◌, ◌∷◌, [], ◌++◌, ◌≡◌,
 ghost use Rattle.std.specs.List.{insert as insert_at};
 ghost use Rattle.btree_twigs.specs.Updates.{HasSpares};
 
-use crate::taking::take;
-use crate::twigs::{Child, place};
+use crate::twigs::Child;
 
 /// Inserts a child where there is room.
 pub(crate) fn insert(children: &mut Vec<Child>, at: usize, child: Child)

@@ -1,8 +1,10 @@
-ghost use Rattle.std.specs.Prelude.{◌⊎◌, IsTrue, ◌↔◌, ◌-◌, suc, ◌∷◌, ◌++◌, ◌≡◌, ℕ, ◌<◌, ◌≤◌, ◌+◌, ◌/◌, length, take, vec_capacity, vec_len};
+ghost use Rattle.std.specs.Prelude.{◌⊎◌, IsTrue, IsSome, ◌↔◌, ◌-◌, suc, ◌∷◌, [], ◌++◌, ◌≡◌, ℕ, ◌<◌, ◌≤◌, ◌+◌, ◌/◌, length, take, vec_capacity, vec_len};
 ghost use Rattle.btree_twigs.specs.Stubs.{children_of, nodes, level_of as level_in};
 ghost use Rattle.btree_twigs.specs.Updates.{IsNode, OneShort, HasRoom, width_of, CanMend, IsMended};
 ghost use Rattle.std.specs.Option.{option_to_list};
-ghost use Rattle.btree_twigs.specs.Removal.{IsTaken, MendsAt, AreMended, CanTake, CanTakeBelow, IsTwigTaken, IsChildTaken, CanMendBeside};
+ghost use Rattle.btree_twigs.specs.Removal.{below_in, IsTaken, MendsAt, AreMended, CanTake, CanTakeBelow, IsTwigTaken, IsChildTaken, CanMendBeside};
+ghost use Rattle.btree_twigs.specs.Top.{CanTakeTop, IsTopTaken, HasOnly};
+ghost use Rattle.btree_twigs.specs.declared.twigs.Child.{out-Child};
 ghost use Rattle.std.specs.Bool.{OnTrue, OnFalse};
 
 use crate::lists::{append, insert, lend_last, push};
@@ -12,6 +14,7 @@ use crate::twigs::{Child, Twig, low_of, place};
 fn take_datum(children: &mut Vec<Child>, block: u64)
     ensures take { (order least low high : ℕ) → IsNode order 0 least order low high children.old.items → low ≤ block → block < high
         → IsTaken order 0 least low high block children.old.items children.new.items }
+    ensures wide { length children.old.items ≤ length children.new.items + 1 }
     ensures capacity { vec_capacity children.new ≡ vec_capacity children.old }
 {
     let at = place(children, block);
@@ -61,6 +64,7 @@ fn even_twigs(left: &mut Twig, right: &mut Twig, order: usize) -> bool
     ensures one { OnFalse result ((length (children_of right.new) ≡ 0) × (order / 2 ≤ length (children_of left.new)) × (length (children_of left.new) ≤ order)) }
     ensures room { HasRoom order left.new × HasRoom order right.new }
     ensures levels { (level_in left.new ≡ level_in left.old) × (level_in right.new ≡ level_in right.old) }
+    ensures lends { ((order / 2 < length (children_of left.old)) ⊎ (order / 2 < length (children_of right.old))) → IsTrue result }
 {
     even_out(&mut left.children, &mut right.children, order)
 }
@@ -70,7 +74,8 @@ fn even_twigs(left: &mut Twig, right: &mut Twig, order: usize) -> bool
 fn mend_pair(left: &mut Child, right: Child, order: usize) -> Option<Child>
     requires four { 4 ≤ order }
     requires can { CanMend order left.old right }
-    ensures { (at : CanMend order left.old right) → IsMended order (suc at.level) at.high left.old right (left.new ∷ option_to_list result) }
+    ensures mended { (at : CanMend order left.old right) → IsMended order (suc at.level) at.high left.old right (left.new ∷ option_to_list result) }
+    ensures lends { ((order / 2 < width_of left.old) ⊎ (order / 2 < width_of right)) → IsSome result }
 {
     let Child::Grown {
         twig: mut right,
@@ -128,7 +133,7 @@ fn mend(children: &mut Vec<Child>, at: usize, order: usize)
 pub fn take(twig: &mut Twig, order: usize, block: u64)
     requires four { 4 ≤ order }
     requires can { CanTake order block twig.old }
-    ensures { (at : CanTake order block twig.old) → IsTwigTaken order at.level at.least at.low at.high block twig.old twig.new }
+    ensures { (at : CanTake order block twig.old) → IsTwigTaken order at.level at.least at.low at.high block at.loses twig.old twig.new }
 {
     if twig.level == 1 {
         take_datum(&mut twig.children, block);
@@ -146,7 +151,7 @@ pub fn take(twig: &mut Twig, order: usize, block: u64)
 fn take_below(child: &mut Child, order: usize, block: u64) -> bool
     requires four { 4 ≤ order }
     requires can { CanTakeBelow order block child.old }
-    ensures taken { (at : CanTakeBelow order block child.old) → IsChildTaken order at.level at.high block child.old child.new }
+    ensures taken { (at : CanTakeBelow order block child.old) → IsChildTaken order at.level at.high block at.loses child.old child.new }
     ensures short { IsTrue result ↔ (width_of child.new < order / 2) }
 {
     match child {
@@ -155,5 +160,46 @@ fn take_below(child: &mut Child, order: usize, block: u64) -> bool
             take(twig, order, block);
             twig.children.len() < order / 2
         }
+    }
+}
+
+/// Takes the data record of a block out of a tree whose root node is in memory. An inner root that is left with one child
+/// gives way to it.
+pub fn take_top(top: &mut Child, order: usize, block: u64)
+    requires four { 4 ≤ order }
+    requires can { CanTakeTop order block top.old }
+    ensures { (at : CanTakeTop order block top.old) → IsTopTaken order at.level at.high block top.old top.new }
+{
+    if let Child::Grown { twig, .. } = top {
+        take(twig, order, block);
+        if twig.level == 1 {
+            return;
+        }
+        if twig.children.len() < 2 {
+            give_way(top);
+        }
+    }
+}
+
+/// Puts the only child of a node in its place.
+fn give_way(top: &mut Child)
+    requires { HasOnly top.old }
+    ensures { below_in (out-Child top.old) ≡ top.new ∷ [] }
+{
+    let child = match top {
+        Child::Grown { twig, .. } => only(twig),
+        Child::Kept { .. } => unreachable!(),
+    };
+    *top = child;
+}
+
+/// Takes the only child of a node.
+fn only(twig: &mut Twig) -> Child
+    requires { length (children_of twig.old) ≡ 1 }
+    ensures { children_of twig.old ≡ result ∷ [] }
+{
+    match twig.children.pop() {
+        Some(child) => child,
+        None => unreachable!(),
     }
 }

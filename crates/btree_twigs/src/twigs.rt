@@ -1,9 +1,7 @@
 ghost use Rattle.std.specs.Prelude.{◌-◌, ◌≡◌, ℕ, ◌<◌, ◌≤◌, ◌/◌, length, take, drop};
 ghost use Rattle.std.specs.List.{AllByRecursion};
-ghost use Rattle.btree_twigs.specs.Stubs.{start_by, low_of as low_in};
+ghost use Rattle.btree_twigs.specs.Stubs.{start_by, low_of as low_in, addr_of as addr_in};
 ghost use Rattle.btree_twigs.specs.Top.{child_level};
-
-use crate::taking::take;
 
 /// A child.
 #[cycle(twig)]
@@ -51,7 +49,9 @@ pub fn low_of(child: &Child) -> u64
 }
 
 /// The address of a child on the medium.
-pub fn addr_of(child: &Child) -> Option<u64> {
+pub fn addr_of(child: &Child) -> Option<u64>
+    ensures { result ≡ addr_in child.now }
+{
     match child {
         Child::Kept { addr, .. } => Some(*addr),
         Child::Grown { .. } => None,
@@ -59,7 +59,7 @@ pub fn addr_of(child: &Child) -> Option<u64> {
 }
 
 /// The level of a child in memory, or 0.
-pub(crate) fn level_of(child: &Child) -> u8
+pub fn level_of(child: &Child) -> u8
     ensures { result ≡ child_level child.now }
 {
     match child {

@@ -1,3 +1,4 @@
 pub mod Places
-pub mod Opening
+pub mod OpenLaws
+pub mod OpenMaps
 pub mod Readings

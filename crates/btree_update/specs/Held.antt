@@ -6,7 +6,7 @@ use Rattle.page_store.specs.Places.{FitsAt}
 use Rattle.btree_twigs.specs.declared.twigs.Child.{Child, Child-F, out-Child}
 use Rattle.btree_twigs.specs.declared.twigs.Child.TheOpen.{Kept, Grown}
 use Rattle.btree_twigs.specs.declared.twigs.Twig.{Twig}
-use Rattle.btree_twigs.specs.Stubs.{Stub, start_by, low_of, children_of, stubs, stubs_below}
+use Rattle.btree_twigs.specs.Stubs.{Stub, start_by, low_of, children_of, stubs, stubs_below, nodes_below}
 use Rattle.btree_twigs.specs.Shape.{IsChild, IsTwig}
 use Rattle.btree_twigs.specs.Updates.{IsOpen}
 use Rattle.btree_update.specs.GroveTree.{want_of, stubs_at}
@@ -34,6 +34,7 @@ pub record TakesHeld (Reads : ℕ → Stub → Twig → Type 0) (order block : �
   pub is : held ≡ rest ++ twig ∷ []
   pub reads : Reads below (stub_at (suc below) low high addr key) twig
   pub shaped : IsTwig order below (order / 2) order low high twig
+  pub bare : nodes_below below twig ≡ 0
   pub on_way : OnWay block (λ high c. Rest high c rest) high twig
 
 abbrev pub HeldIn : (ℕ → Stub → Twig → Type 0) → ℕ → ℕ → (ℕ → Child → List Twig → Type 0) → ℕ → ℕ → Child-F Child Twig → List Twig → Type 0
@@ -68,6 +69,11 @@ pub record IsOpened (order level block high : ℕ) (old new : Child) : Type 0 wh
 abbrev pub IsTakenUp : Child-F Child Twig → Child → List Twig → List Twig → Type 0
 IsTakenUp (Kept low addr key) new old_held new_held = (twig : Twig) × (old_held ≡ new_held ++ twig ∷ []) × (out-Child new ≡ Grown low twig)
 IsTakenUp (Grown low twig) new old_held new_held = (out-Child new ≡ Grown low twig) × (new_held ≡ old_held)
+
+-- and its address is gone, where it was on the medium
+abbrev pub IsNoted : Child-F Child Twig → List ℕ → List ℕ → Type 0
+IsNoted (Kept low addr key) gone more = more ≡ gone ++ addr ∷ []
+IsNoted (Grown low twig) gone more = more ≡ gone
 
 -- it is in memory, or a node is held
 abbrev pub IsAtHand : Child-F Child Twig → List Twig → Type 0

@@ -1,4 +1,5 @@
 pub mod GroveTree
 pub mod Maps
 pub mod Held
+pub mod Opens
 pub mod Reading

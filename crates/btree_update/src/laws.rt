@@ -8,6 +8,7 @@ ghost use Rattle.page_store.specs.Tree.{Parts, Mapped, Subtree, joined, node_par
 ghost use Rattle.btree_twigs.specs.Stubs.{Stub, Puts, datum};
 ghost use Rattle.btree_update.specs.GroveTree.{HasEach, Maps, stubs_at};
 ghost use Rattle.btree_update.specs.Maps.{MapPuts};
+ghost use Rattle.btree_update.specs.Opens.{Opens};
 
 /// What is put among the places below the nodes in memory is put into what they map.
 pub fn put_maps()
@@ -28,4 +29,10 @@ pub fn sealed_is()
     ensures { (pages : List (List ℕ)) (order level : ℕ) (want : Want) (key : List ℕ) (entries : List Entry) (parts : List Parts) →
         FitsAt pages want key (NodeRecord (suc level) entries) → HasEach pages order (stubs_at level want.high entries) parts →
         Subtree pages order (suc level) want key (node_parts want.addr key entries (joined parts)) }
+{}
+
+/// What is opened maps what it mapped.
+pub fn opened_maps()
+    ensures { (pages : List (List ℕ)) (order : ℕ) (addrs : List ℕ) (old new : List Stub) (mapped : List Mapped) →
+        Opens pages order addrs old new → Maps pages order old mapped → Maps pages order new mapped }
 {}

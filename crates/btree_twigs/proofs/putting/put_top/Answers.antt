@@ -89,7 +89,7 @@ returns-then-len-order c at =
     let r = rw (c.in-Grown.is, made.outs-Grown c.in-Grown.low c.in-Grown.twig) at c.raise.ensures in
     let raised = r (record { level = at.level; level_is = ap level_in (made.outs-Grown c.in-Grown.low c.split-part.new.twig) ∙ s.left.level_is; small = at.small; order = c.args.order; four = c.requires.four; spare = left }) c.args.order left in
     rw c.in-Grown.is (top_raised c.args.order at.level at.high (datum c.args.block c.args.addr c.args.key) c.in-Grown.twig c.put.new.twig c.split-part.new.twig c.in-Grown.low c.split-part.result c.raise.new.top
-    c.requires.four zero_is p s raised)
+    c.requires.four zero_is p (e.nodes open_at) (c.split-part.ensures.nodes at.level) s raised)
 
 pub returns-else-len-order : goal.returns-else-len-order
 returns-else-len-order c at =
@@ -99,4 +99,4 @@ returns-else-len-order c at =
     let p = e.put open_at in
     let zero_is = (subst (IsTopBy c.args.order at.level at.high) (made.outs-Grown c.in-Grown.low c.in-Grown.twig) grown.shaped).0 in
     rw (c.in-Grown.is, made.outs-Grown c.in-Grown.low c.in-Grown.twig)
-    (top_kept c.args.order at.level at.high (datum c.args.block c.args.addr c.args.key) c.in-Grown.twig c.put.new.twig c.in-Grown.low zero_is p (omega arith))
+    (top_kept c.args.order at.level at.high (datum c.args.block c.args.addr c.args.key) c.in-Grown.twig c.put.new.twig c.in-Grown.low zero_is p (e.nodes open_at) (omega arith))

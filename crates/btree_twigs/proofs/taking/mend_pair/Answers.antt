@@ -9,8 +9,8 @@ use Rattle.btree_twigs.specs.Updates.{IsGrown, IsGrownBy, IsMended, CanMend}
 use Rattle.btree_twigs.proofs.Mends.{merged, recut}
 use Rattle.btree_twigs.proofs.taking.mend_pair.Goals as goal
 
-pub returns-then-not-even_twigs : goal.returns-then-not-even_twigs
-returns-then-not-even_twigs c at =
+pub returns-then-not-even_twigs-clause-mended : goal.returns-then-not-even_twigs-clause-mended
+returns-then-not-even_twigs-clause-mended c at =
     let at_left = subst (λ x. IsGrown c.args.order at.level 0 (low_of c.args.right) x) c.in-Grown-left.is at.on_left in
     let ta = subst (IsGrownBy c.args.order at.level 0 (low_of c.args.right)) (made.outs-Grown c.in-Grown-left.low c.in-Grown-left.left) at_left in
     let right_out = ap out-Child c.in-Grown.is ∙ made.outs-Grown c.in-Grown.low c.in-Grown.right in
@@ -21,8 +21,8 @@ returns-then-not-even_twigs c at =
     (sym (ap (λ xs. children_of c.even_twigs.new.left ++ xs) (nil_from_length (children_of c.even_twigs.new.right) c.if-not-even_twigs.ensures.one.0) ∙ append-nil (children_of c.even_twigs.new.left)) ∙ e.all) in
     rw (c.in-Grown-left.is, made.outs-Grown c.in-Grown-left.low c.in-Grown-left.left, c.in-Grown.is) m
 
-pub returns : goal.returns
-returns c at =
+pub returns-clause-mended : goal.returns-clause-mended
+returns-clause-mended c at =
     let at_left = subst (λ x. IsGrown c.args.order at.level 0 (low_of c.args.right) x) c.in-Grown-left.is at.on_left in
     let ta = subst (IsGrownBy c.args.order at.level 0 (low_of c.args.right)) (made.outs-Grown c.in-Grown-left.low c.in-Grown-left.left) at_left in
     let right_out = ap out-Child c.in-Grown.is ∙ made.outs-Grown c.in-Grown.low c.in-Grown.right in

@@ -1,22 +1,21 @@
 -- How the way to a block is opened.
-use Rattle.std.proofs.Common.{◌≡◌, ℕ, zero, suc, ◌+◌, ◌-◌, ◌/◌, ◌<◌, ◌≤◌, List, [], ◌∷◌, ◌++◌, length, take, drop, get_or, refl, sym, ap, subst, ◌∙◌, arith, append_assoc, append-nil, length-append, vec_capacity}
+use Rattle.std.proofs.Common.{◌≡◌, ℕ, zero, suc, ◌+◌, ◌-◌, ◌/◌, ◌<◌, ◌≤◌, List, [], ◌∷◌, ◌++◌, length, take, drop, get_or, refl, sym, ap, subst, ◌∙◌, arith, append_assoc, append-nil, length-append, vec_capacity, None, Some}
 use Rattle.std.specs.List.{AllByRecursion}
 use Rattle.std.proofs.lemmas.List.{same_from_push}
-use Rattle.page_store.specs.Tree.{Parts, Mapped, joined}
+use Rattle.std.proofs.lemmas.Option.{none-some}
 use Rattle.btree_twigs.specs.declared.twigs.Child.{Child, Child-F, out-Child}
 use Rattle.btree_twigs.specs.declared.twigs.Child.TheOpen.{Kept, Grown}
 use Rattle.btree_twigs.specs.declared.twigs.Twig.{Twig, out-Twig, roll-Twig}
 use Rattle.std.specs.declared.vec.Vec.{Vec}
 use Rattle.std.specs.declared.alloc.Global.{Global}
 use Rattle.btree_twigs.proofs.Nodes.{twig_of, children_of_roll}
-use Rattle.btree_twigs.specs.Stubs.{Stub, Tiles, start_by, stubs_by, stubs_in, datum_in, low_in, low_of, children_of, stubs, stubs_below}
+use Rattle.btree_twigs.specs.Stubs.{Stub, Tiles, start_by, stubs_by, stubs_in, datum_in, low_in, addr_in, low_of, children_of, stubs, stubs_below, nodes, nodes_in, nodes_below}
 use Rattle.btree_twigs.specs.Shape.{EachBy, Begins, IsNodeBy, IsTwigBy, IsChildBy, IsChild, IsTwig}
 use Rattle.btree_twigs.specs.Updates.{IsNode, IsOpen, stubs_under}
 use Rattle.btree_twigs.proofs.ListLaws.{stubs_append, start_append, each_front, each_back, tiles_by, tiles_le, split_here, at_end, node_with}
 use Rattle.btree_twigs.proofs.Children.{tiles_child}
-use Rattle.btree_update.specs.GroveTree.{want_of, HasEach, Maps, stubs_at}
-use Rattle.btree_update.specs.Held.{stub_at, IsReadAs, OnWay, TakesHeld, HeldIn, HeldFor, AnyRead, CanOpen, IsOpened, IsTakenUp, IsAtHand, CanOpenBelow, IsOpenedBelow}
-use Rattle.btree_update.proofs.Places.{AreMaps, maps_append, maps_split, read_maps}
+use Rattle.btree_update.specs.Held.{stub_at, IsReadAs, OnWay, TakesHeld, HeldIn, HeldFor, AnyRead, CanOpen, IsOpened, IsTakenUp, IsNoted, IsAtHand, CanOpenBelow, IsOpenedBelow}
+use Rattle.btree_update.specs.Opens.{Opens, Same, Here, Within, Then, GivesWay}
 
 -- places before the block or behind it are no hindrance
 open_before : (low high block : ℕ) (ss : List Stub) → Tiles low high ss → high ≤ block → IsOpen block ss
@@ -58,23 +57,21 @@ module _ (order level least low high block : ℕ) (fs : List Child) (c : Child) 
             (open_append block _ _ o.is_open (open_after (start_by low_of bs high) high block _ (tiles_by low_of (IsChild order level) (stubs level) (one_tiles order level) high bs back.2) to))),
       )
 
-  -- what the child maps still, the node maps still
-  pub still_maps : (pages : List (List ℕ)) (d : Child) (mapped : List Mapped) → low_of d ≡ low_of c →
-      ((m : List Mapped) → Maps pages order (stubs level (start_by low_of bs high) c) m → Maps pages order (stubs level (start_by low_of bs high) d) m) →
-      Maps pages order (stubs_under level high (fs ++ c ∷ bs)) mapped → Maps pages order (stubs_under level high (fs ++ d ∷ bs)) mapped
-  still_maps pages d mapped low_is one h =
-      let a = maps_split pages order (stubs_under level (low_of c) fs) _ mapped (subst (λ ss. Maps pages order ss mapped) (stubs_append low_of (stubs level) high fs (c ∷ bs)) h) in
-      let b = maps_split pages order (stubs level (start_by low_of bs high) c) (stubs_under level high bs) a.right a.on_right in
-      let on_left = subst (λ m. Maps pages order (stubs_under level m fs) a.left) (sym low_is) a.on_left in
-      let all = maps_append pages order _ _ a.left (b.left ++ b.right) on_left (maps_append pages order _ _ b.left b.right (one b.left b.on_left) b.on_right) in
-      subst (λ ss. Maps pages order ss mapped) (sym (stubs_append low_of (stubs level) high fs (d ∷ bs)))
-      (subst (λ m. Maps pages order (stubs_under level (low_of d) fs ++ (stubs level (start_by low_of bs high) d ++ stubs_under level high bs)) m) (sym (a.is ∙ ap (λ m. a.left ++ m) b.is)) all)
+  -- what is opened below the child is opened below the node
+  pub still_opens : (pages : List (List ℕ)) (d : Child) (addrs : List ℕ) → low_of d ≡ low_of c → Opens pages order addrs (stubs level (start_by low_of bs high) c) (stubs level (start_by low_of bs high) d) →
+      Opens pages order addrs (stubs_under level high (fs ++ c ∷ bs)) (stubs_under level high (fs ++ d ∷ bs))
+  still_opens pages d addrs low_is o =
+      let all = Within (stubs_under level (low_of c) fs) (stubs_under level high bs) o in
+      subst (λ ss. Opens pages order addrs ss (stubs_under level high (fs ++ d ∷ bs))) (sym (stubs_append low_of (stubs level) high fs (c ∷ bs)))
+      (subst (Opens pages order addrs (stubs_under level (low_of c) fs ++ (stubs level (start_by low_of bs high) c ++ stubs_under level high bs)))
+      (ap (λ m. stubs_under level m fs ++ (stubs level (start_by low_of bs high) d ++ stubs_under level high bs)) (sym low_is) ∙ sym (stubs_append low_of (stubs level) high fs (d ∷ bs))) all)
 
 -- the child at the place on the way
 pub record IsOnWay (order block level high : ℕ) (cs : List Child) (n : ℕ) (c : Child) : Type 0 where
   pub at : ℕ
   pub at_is : suc at ≡ n
   pub within : at < length cs
+  pub here : c ≡ get_or cs at c
   pub split : cs ≡ take at cs ++ c ∷ drop (suc at) cs
   pub from : low_of c ≤ block
   pub to : block < start_by low_of (drop (suc at) cs) high
@@ -89,6 +86,7 @@ on_way order block level high n cs ds c same some within before after to here =
       at = n - 1;
       at_is = at_is;
       within = lt;
+      here = here;
       split = split_here cs (n - 1) c lt here;
       from = at_end (λ d. low_of d ≤ block) cs (n - 1) n c at_is lt here (subst (λ xs. AllByRecursion (λ d. low_of d ≤ block) (take n xs)) same before);
       to = subst (λ m. block < start_by low_of (drop m cs) high) (sym at_is) (subst (λ xs. block < start_by low_of (drop n xs) high) same (after high to));
@@ -110,6 +108,7 @@ grown_of low twig = Grown low twig
 pub record IsUp (Reads : ℕ → Stub → Twig → Type 0) (order block l high : ℕ) (Rest : ℕ → Child → List Twig → Type 0) (x : Child-F Child Twig) (low : ℕ) (twig : Twig) (held : List Twig) : Type 0 where
   pub low_is : low ≡ low_in x
   pub shaped : IsTwig order l (order / 2) order low high twig
+  pub few : nodes_below l twig ≤ nodes_in (nodes l) x
   pub on_way : OnWay block (λ high c. Rest high c held) high twig
 
 up_by : (Reads : ℕ → Stub → Twig → Type 0) (order block l high : ℕ) (Rest : ℕ → Child → List Twig → Type 0) (x : Child-F Child Twig) (new : Child) (held rest : List Twig) (low : ℕ) (twig : Twig) →
@@ -122,6 +121,7 @@ up_by Reads order block l high Rest (Kept low' addr key) new held rest low twig 
     record {
       low_is = sym lows;
       shaped = subst (λ m. IsTwig order l (order / 2) order m high twig) lows (subst (IsTwig order l (order / 2) order low' high) (same.1 ∙ twigs) h.shaped);
+      few = omega (arith, subst (λ w. nodes_below l w ≡ 0) (same.1 ∙ twigs) h.bare);
       on_way = subst (λ r. OnWay block (λ high c. Rest high c r) high twig) same.0 (subst (OnWay block (λ high c. Rest high c h.rest) high) (same.1 ∙ twigs) h.on_way);
     }
 up_by Reads order block l high Rest (Grown low' twig') new held rest low twig c h t is =
@@ -131,6 +131,7 @@ up_by Reads order block l high Rest (Grown low' twig') new held rest low twig c 
     record {
       low_is = sym lows;
       shaped = subst (λ m. IsTwig order l (order / 2) order m high twig) lows (subst (IsTwig order l (order / 2) order low' high) twigs c);
+      few = omega (arith, ap (nodes_below l) twigs);
       on_way = subst (λ r. OnWay block (λ high c. Rest high c r) high twig) (sym t.1) (subst (OnWay block (λ high c. Rest high c held) high) twigs h);
     }
 
@@ -140,33 +141,45 @@ pub up : (Reads : ℕ → Stub → Twig → Type 0) (order block l high : ℕ) (
 unfolding IsChild HeldFor
 up Reads order block l high c new held rest low twig h k t is = up_by Reads order block l high (HeldFor Reads order block l) (out-Child c) new held rest low twig h k t is
 
-of_one : (pages : List (List ℕ)) (order l : ℕ) (s : Stub) (twig : Twig) (mapped : List Mapped) (r : IsReadAs pages order l s twig) (ps : List Parts) → HasEach pages order (record s { level = suc l } ∷ []) ps → mapped ≡ (joined ps).mapped →
-    Maps pages order (stubs_at l s.high r.entries) mapped
-of_one pages order l s twig mapped r [] has is = absurd has
-of_one pages order l s twig mapped r (p ∷ q ∷ ps) has is = absurd has.1
-of_one pages order l s twig mapped r (p ∷ []) has is =
-    subst (Maps pages order (stubs_at l s.high r.entries)) (sym (is ∙ append-nil p.mapped))
-    (read_maps pages order l (want_of order (record s { level = suc l })) s.key p r.entries r.small has.0 r.fits)
+-- nothing gives way
+pub gives_none : (pages : List (List ℕ)) (order : ℕ) (old : List Stub) (gone : List ℕ) → GivesWay pages order old old gone gone
+gives_none pages order old gone = record { addrs = []; opens = Same; more_is = sym (append-nil gone) }
 
-up_maps_by : (pages : List (List ℕ)) (order block l high : ℕ) (Rest : ℕ → Child → List Twig → Type 0) (x : Child-F Child Twig) (new : Child) (held rest : List Twig) (low : ℕ) (twig : Twig) (mapped : List Mapped) →
-    HeldIn (IsReadAs pages order) order block Rest l high x held → IsTakenUp x new held rest → out-Child new ≡ Grown low twig →
-    Maps pages order (stubs_in (stubs l) (suc l) high x) mapped → Maps pages order (stubs_below l high twig) mapped
-up_maps_by pages order block l high Rest (Kept low' addr key) new held rest low twig mapped h t is m =
+-- one after the other
+pub gives_then : (pages : List (List ℕ)) (order : ℕ) (old mid new : List Stub) (gone more most : List ℕ) → GivesWay pages order old mid gone more → GivesWay pages order mid new more most → GivesWay pages order old new gone most
+gives_then pages order old mid new gone more most h k = record {
+  addrs = h.addrs ++ k.addrs;
+  opens = Then h.opens k.opens;
+  more_is = k.more_is ∙ ap (λ g. g ++ k.addrs) h.more_is ∙ append_assoc gone h.addrs k.addrs;
+}
+
+up_gives_by : (pages : List (List ℕ)) (order block l high : ℕ) (Rest : ℕ → Child → List Twig → Type 0) (x : Child-F Child Twig) (new : Child) (held rest : List Twig) (low : ℕ) (twig : Twig) (gone more : List ℕ) →
+    HeldIn (IsReadAs pages order) order block Rest l high x held → IsTakenUp x new held rest → IsNoted x gone more → out-Child new ≡ Grown low twig →
+    GivesWay pages order (stubs_in (stubs l) (suc l) high x) (stubs_below l high twig) gone more
+up_gives_by pages order block l high Rest (Kept low' addr key) new held rest low twig gone more h t n is =
     let same = same_from_push h.rest rest h.twig t.0 (sym h.is ∙ t.1) in
     let grown : grown_of low' t.0 ≡ grown_of low twig = sym t.2 ∙ is in
     let twigs : t.0 ≡ twig = cc in
-    subst (λ w. Maps pages order (stubs_below l high w) mapped) (same.1 ∙ twigs)
-    (subst (λ ss. Maps pages order ss mapped) (sym h.reads.same) (of_one pages order l (stub_at (suc l) low' high addr key) h.twig mapped h.reads m.each m.has m.is))
-up_maps_by pages order block l high Rest (Grown low' twig') new held rest low twig mapped h t is m =
+    record {
+      addrs = addr ∷ [];
+      opens = subst (λ w. Opens pages order (addr ∷ []) (stub_at (suc l) low' high addr key ∷ []) (stubs_below l high w)) (same.1 ∙ twigs) (Here h.reads);
+      more_is = n;
+    }
+up_gives_by pages order block l high Rest (Grown low' twig') new held rest low twig gone more h t n is =
     let grown : grown_of low' twig' ≡ grown_of low twig = sym t.0 ∙ is in
     let twigs : twig' ≡ twig = cc in
-    subst (λ w. Maps pages order (stubs_below l high w) mapped) twigs m
+    subst (GivesWay pages order (stubs_below l high twig') (stubs_below l high twig) gone) (sym n)
+    (subst (λ w. GivesWay pages order (stubs_below l high twig') (stubs_below l high w) gone gone) twigs (gives_none pages order (stubs_below l high twig') gone))
 
-pub up_maps : (pages : List (List ℕ)) (order block l high : ℕ) (c new : Child) (held rest : List Twig) (low : ℕ) (twig : Twig) (mapped : List Mapped) →
-    HeldFor (IsReadAs pages order) order block (suc l) high c held → IsTakenUp (out-Child c) new held rest → out-Child new ≡ Grown low twig →
-    Maps pages order (stubs (suc l) high c) mapped → Maps pages order (stubs_below l high twig) mapped
+pub up_gives : (pages : List (List ℕ)) (order block l high : ℕ) (c new : Child) (held rest : List Twig) (low : ℕ) (twig : Twig) (gone more : List ℕ) →
+    HeldFor (IsReadAs pages order) order block (suc l) high c held → IsTakenUp (out-Child c) new held rest → IsNoted (out-Child c) gone more → out-Child new ≡ Grown low twig →
+    GivesWay pages order (stubs (suc l) high c) (stubs_below l high twig) gone more
 unfolding HeldFor stubs
-up_maps pages order block l high c new held rest low twig mapped h t is m = up_maps_by pages order block l high (HeldFor (IsReadAs pages order) order block l) (out-Child c) new held rest low twig mapped h t is m
+up_gives pages order block l high c new held rest low twig gone more h t n is = up_gives_by pages order block l high (HeldFor (IsReadAs pages order) order block l) (out-Child c) new held rest low twig gone more h t n is
+
+pub nodes_is : (l : ℕ) (c : Child) → nodes (suc l) c ≡ nodes_in (nodes l) (out-Child c)
+unfolding nodes
+nodes_is l c = refl
 
 datum_open : (block : ℕ) (x : Child-F Child Twig) → IsOpen block (datum_in x)
 datum_open block (Kept low addr key) = ((λ from to. refl), tt)
@@ -185,6 +198,11 @@ twig_opened order level least low high block lev t new is room h o = record {
   is_open = subst (λ xs. IsOpen block (stubs_under level high xs)) (sym (children_of_roll (record { level = lev; children = new }))) o;
 }
 
-pub twig_maps : (pages : List (List ℕ)) (order level high lev : ℕ) (new : Vec Child Global) (mapped : List Mapped) → Maps pages order (stubs_under level high new.items) mapped →
-    Maps pages order (stubs_below level high (roll-Twig (record { level = lev; children = new }))) mapped
-twig_maps pages order level high lev new mapped h = subst (λ xs. Maps pages order (stubs_under level high xs) mapped) (sym (children_of_roll (record { level = lev; children = new }))) h
+pub twig_gives : (pages : List (List ℕ)) (order level high lev : ℕ) (old : List Stub) (new : Vec Child Global) (gone more : List ℕ) → GivesWay pages order old (stubs_under level high new.items) gone more →
+    GivesWay pages order old (stubs_below level high (roll-Twig (record { level = lev; children = new }))) gone more
+twig_gives pages order level high lev old new gone more h = subst (λ xs. GivesWay pages order old (stubs_under level high xs) gone more) (sym (children_of_roll (record { level = lev; children = new }))) h
+
+-- a child on the medium that took a node
+pub taken_up : (x : Child-F Child Twig) (new : Child) (old rest : List Twig) (low addr : ℕ) → addr_in x ≡ Some addr → low ≡ low_in x → (twig : Twig) × (old ≡ rest ++ twig ∷ []) × (out-Child new ≡ Grown low twig) → IsTakenUp x new old rest
+taken_up (Kept low' addr' key) new old rest low addr some is t = (t.0, t.1, subst (λ (l : ℕ). out-Child new ≡ Grown l t.0) is t.2)
+taken_up (Grown low' twig) new old rest low addr some is t = absurd (none-some addr some)

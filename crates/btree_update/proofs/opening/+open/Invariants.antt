@@ -1,5 +1,5 @@
 use Rattle.std.proofs.Common.{◌+◌, ◌*◌}
-use Rattle.btree_update.proofs.+open.Given as goal
+use Rattle.btree_update.proofs.opening.+open.Given as goal
 
 abbrev pub decreases-open_way : goal.decreases-open_way
 decreases-open_way l = 2 * l.level

@@ -2,18 +2,18 @@ use Rattle.std.proofs.Common.{◌≡◌, ℕ, zero, suc, ◌<◌, ◌≤◌, ◌
 use Rattle.std.specs.List.{AllByRecursion}
 use Rattle.std.specs.Vec.{with_item}
 use Rattle.std.proofs.lemmas.List.{set_split}
-use Rattle.page_store.specs.Tree.{Mapped}
 use Rattle.btree_twigs.specs.declared.twigs.Child.{Child, out-Child}
 use Rattle.btree_twigs.specs.declared.twigs.Child.TheVariants as made
 use Rattle.btree_twigs.specs.declared.twigs.Twig.{Twig, out-Twig, roll-Twig}
-use Rattle.btree_twigs.specs.Stubs.{start_by, low_of, low_in, children_of, stubs, stubs_below}
+use Rattle.btree_twigs.specs.Stubs.{start_by, low_of, low_in, children_of, stubs, stubs_below, nodes, nodes_below}
 use Rattle.btree_twigs.specs.Shape.{IsChild, IsTwig}
 use Rattle.btree_twigs.specs.Updates.{IsNode, IsOpen, stubs_under}
 use Rattle.btree_twigs.proofs.Nodes.{twig_of, children_of_roll, low_of_grown, stubs_of_grown, grown_is_child}
-use Rattle.btree_update.specs.GroveTree.{Maps}
+use Rattle.btree_update.specs.Opens.{Opens, GivesWay}
+use Rattle.btree_twigs.proofs.Counts.{one_nodes, nodes_grown}
 use Rattle.btree_update.specs.Held.{IsReadAs, OnWay, HeldFor, AnyRead, CanOpen, IsOpened, CanOpenBelow, IsOpenedBelow}
-use Rattle.btree_update.proofs.Opening.{open_first, child_is, opened, still_maps, IsOnWay, on_way, at_hand, IsUp, up, up_maps, data_open, twig_opened, twig_maps}
-use Rattle.btree_update.proofs.+open.Goals as goal
+use Rattle.btree_update.proofs.OpenLaws.{open_first, child_is, opened, still_opens, IsOnWay, on_way, at_hand, IsUp, up, up_gives, gives_none, gives_then, nodes_is, data_open, twig_opened, twig_gives}
+use Rattle.btree_update.proofs.opening.+open.Goals as goal
 
 pub open_below-returns-then-at-eq0-clause-opened : goal.open_below-returns-then-at-eq0-clause-opened
 open_below-returns-then-at-eq0-clause-opened t c at =
@@ -60,7 +60,7 @@ open_below-open_way-requires t c =
     let at = c.requires.can in
     let w = on_way at.order c.args.block c.args.level at.high c.place-at.result (children_of c.args.twig.now) c.deref.result.now c.index_mut.result.now c.deref.ensures.value c.if-at-eq0.false
     c.place-at.ensures.within c.place-at.ensures.before c.place-at.ensures.after at.to c.index_mut.ensures.value in
-    (search rules, below_at at.order c.args.level c.args.block c.place-at.result at.least at.low at.high c.args.held.now.items c.args.twig.now c.index_mut.result.now at.shaped at.at_hand w)
+    (search rules, (below_at at.order c.args.level c.args.block c.place-at.result at.least at.low at.high c.args.held.now.items c.args.twig.now c.index_mut.result.now at.shaped at.at_hand w, c.requires.room))
 
 pub open_below-returns-clause-opened : goal.open_below-returns-clause-opened
 open_below-returns-clause-opened t c at =
@@ -75,18 +75,32 @@ open_below-returns-clause-opened t c at =
     twig_opened at.order c.args.level at.least at.low at.high c.args.block (out-Twig c.args.twig.now).level c.args.twig.now _ at.shaped.level_is at.shaped.room node
     (subst (λ xs. IsOpen c.args.block (stubs_under c.args.level at.high xs)) (sym same) o.1)
 
-pub open_below-returns-clause-maps : goal.open_below-returns-clause-maps
-open_below-returns-clause-maps t c pages at held mapped m =
+pub open_below-returns-then-at-eq0-clause-gives : goal.open_below-returns-then-at-eq0-clause-gives
+open_below-returns-then-at-eq0-clause-gives t c pages at held = gives_none pages at.order _ _
+
+pub open_below-returns-clause-gives : goal.open_below-returns-clause-gives
+open_below-returns-clause-gives t c pages at held =
     let w = on_way at.order c.args.block c.args.level at.high c.place-at.result (children_of c.args.twig.now) c.deref.result.now c.index_mut.result.now c.deref.ensures.value c.if-at-eq0.false
     c.place-at.ensures.within c.place-at.ensures.before c.place-at.ensures.after at.to c.index_mut.ensures.value in
     let cs = children_of c.args.twig.now in
     let can = below_at at.order c.args.level c.args.block c.place-at.result at.least at.low at.high c.args.held.now.items c.args.twig.now c.index_mut.result.now at.shaped at.at_hand w in
     let same = set_is c.place-at.result w.at cs c.open_way.new.child w.at_is w.within in
-    let r = still_maps at.order c.args.level at.least at.low at.high c.args.block (take w.at cs) c.index_mut.result.now (drop (suc w.at) cs) (subst (IsNode at.order c.args.level at.least at.order at.low at.high) w.split at.shaped.node)
-    pages c.open_way.new.child mapped (c.open_way.ensures.opened can).low_is
-    (λ k. c.open_way.ensures.maps pages can (held (take w.at cs) (drop (suc w.at) cs) c.index_mut.result.now w.split w.from w.to) k)
-    (subst (λ xs. Maps pages at.order (stubs_under c.args.level at.high xs) mapped) w.split m) in
-    twig_maps pages at.order c.args.level at.high (out-Twig c.args.twig.now).level (with_item (out-Twig c.args.twig.now).children (c.place-at.result - 1) c.open_way.new.child) mapped (subst (λ xs. Maps pages at.order (stubs_under c.args.level at.high xs) mapped) (sym same) r)
+    let g = c.open_way.ensures.gives pages can (held (take w.at cs) (drop (suc w.at) cs) c.index_mut.result.now w.split w.from w.to) in
+    let o = still_opens at.order c.args.level at.least at.low at.high c.args.block (take w.at cs) c.index_mut.result.now (drop (suc w.at) cs) (subst (IsNode at.order c.args.level at.least at.order at.low at.high) w.split at.shaped.node)
+    pages c.open_way.new.child g.addrs (c.open_way.ensures.opened can).low_is g.opens in
+    let from_old = subst (λ xs. Opens pages at.order g.addrs (stubs_under c.args.level at.high xs) (stubs_under c.args.level at.high (take w.at cs ++ c.open_way.new.child ∷ drop (suc w.at) cs))) (sym w.split) o in
+    let to_new = subst (λ xs. Opens pages at.order g.addrs (stubs_under c.args.level at.high cs) (stubs_under c.args.level at.high xs)) (sym same) from_old in
+    twig_gives pages at.order c.args.level at.high (out-Twig c.args.twig.now).level _ (with_item (out-Twig c.args.twig.now).children (c.place-at.result - 1) c.open_way.new.child) _ _ (record { addrs = g.addrs; opens = to_new; more_is = g.more_is })
+
+pub open_below-returns-clause-nodes : goal.open_below-returns-clause-nodes
+open_below-returns-clause-nodes t c at =
+    let w = on_way at.order c.args.block c.args.level at.high c.place-at.result (children_of c.args.twig.now) c.deref.result.now c.index_mut.result.now c.deref.ensures.value c.if-at-eq0.false
+    c.place-at.ensures.within c.place-at.ensures.before c.place-at.ensures.after at.to c.index_mut.ensures.value in
+    let cs = children_of c.args.twig.now in
+    let can = below_at at.order c.args.level c.args.block c.place-at.result at.least at.low at.high c.args.held.now.items c.args.twig.now c.index_mut.result.now at.shaped at.at_hand w in
+    let le = c.open_way.ensures.nodes can in
+    one_nodes c.args.level (out-Twig c.args.twig.now).level c.place-at.result w.at c.args.twig.now c.index_mut.result.now c.open_way.new.child
+    (with_item (out-Twig c.args.twig.now).children (c.place-at.result - 1) c.open_way.new.child) w.at_is w.within w.here refl (omega (arith, le))
 
 pub open_way-returns-then-level-eq0-clause-opened : goal.open_way-returns-then-level-eq0-clause-opened
 open_way-returns-then-level-eq0-clause-opened t c at = record {
@@ -98,8 +112,11 @@ open_way-returns-then-level-eq0-clause-opened t c at = record {
 pub open_way-take_held-requires : goal.open_way-take_held-requires
 open_way-take_held-requires t c =
     let at = c.requires.can in
-    at_hand at.order c.args.block (c.args.level - 1) at.high c.args.child.now c.args.held.now.items
-    (subst (λ m. HeldFor AnyRead at.order c.args.block m at.high c.args.child.now c.args.held.now.items) (above c.args.level c.if-level-eq0.false) at.at_hand)
+    record {
+      at_hand = at_hand at.order c.args.block (c.args.level - 1) at.high c.args.child.now c.args.held.now.items
+          (subst (λ m. HeldFor AnyRead at.order c.args.block m at.high c.args.child.now c.args.held.now.items) (above c.args.level c.if-level-eq0.false) at.at_hand);
+      room = c.requires.room;
+    }
 
 pub open_way-open_below-requires : goal.open_way-open_below-requires
 open_way-open_below-requires t c =
@@ -109,8 +126,8 @@ open_way-open_below-requires t c =
     let level_is : c.args.level ≡ suc l = above c.args.level c.if-level-eq0.false in
     let shaped = subst (λ m. IsChild at.order m at.high c.args.child.now) level_is at.shaped in
     let at_hand_is = subst (λ m. HeldFor AnyRead at.order c.args.block m at.high c.args.child.now c.args.held.now.items) level_is at.at_hand in
-    let u = up AnyRead at.order c.args.block l at.high c.args.child.now c.take_held.new.child c.args.held.now.items c.take_held.new.held.items c.in-Grown.low c.in-Grown.twig shaped at_hand_is c.take_held.ensures is in
-    (search rules, rw (c.in-Grown.is, made.outs-Grown c.in-Grown.low c.in-Grown.twig) (below_up at.order c.args.block l at.high c.args.child.now c.in-Grown.low c.in-Grown.twig c.take_held.new.held.items at.from at.to u))
+    let u = up AnyRead at.order c.args.block l at.high c.args.child.now c.take_held.new.child c.args.held.now.items c.take_held.new.held.items c.in-Grown.low c.in-Grown.twig shaped at_hand_is c.take_held.ensures.taken is in
+    (search rules, rw (c.in-Grown.is, made.outs-Grown c.in-Grown.low c.in-Grown.twig) (below_up at.order c.args.block l at.high c.args.child.now c.in-Grown.low c.in-Grown.twig c.take_held.new.held.items at.from at.to u, c.take_held.ensures.room))
 
 pub open_way-returns-clause-opened : goal.open_way-returns-clause-opened
 open_way-returns-clause-opened t c at =
@@ -119,7 +136,7 @@ open_way-returns-clause-opened t c at =
     let level_is : c.args.level ≡ suc l = above c.args.level c.if-level-eq0.false in
     let shaped = subst (λ m. IsChild at.order m at.high c.args.child.now) level_is at.shaped in
     let at_hand_is = subst (λ m. HeldFor AnyRead at.order c.args.block m at.high c.args.child.now c.args.held.now.items) level_is at.at_hand in
-    let u = up AnyRead at.order c.args.block l at.high c.args.child.now c.take_held.new.child c.args.held.now.items c.take_held.new.held.items c.in-Grown.low c.in-Grown.twig shaped at_hand_is c.take_held.ensures is in
+    let u = up AnyRead at.order c.args.block l at.high c.args.child.now c.take_held.new.child c.args.held.now.items c.take_held.new.held.items c.in-Grown.low c.in-Grown.twig shaped at_hand_is c.take_held.ensures.taken is in
     let e = rw (c.in-Grown.is, made.outs-Grown c.in-Grown.low c.in-Grown.twig) at c.open_below.ensures in
     let open_at = below_up at.order c.args.block l at.high c.args.child.now c.in-Grown.low c.in-Grown.twig c.take_held.new.held.items at.from at.to u in
     let o = e.opened open_at in
@@ -131,21 +148,39 @@ open_way-returns-clause-opened t c at =
     } in
     rw (c.in-Grown.is, made.outs-Grown c.in-Grown.low c.in-Grown.twig) (subst (λ m. IsOpened at.order m c.args.block at.high c.args.child.now new) (sym level_is) r)
 
-pub open_way-returns-clause-maps : goal.open_way-returns-clause-maps
-open_way-returns-clause-maps t c pages at held mapped m =
+pub open_way-returns-then-level-eq0-clause-gives : goal.open_way-returns-then-level-eq0-clause-gives
+open_way-returns-then-level-eq0-clause-gives t c pages at held = gives_none pages at.order _ _
+
+pub open_way-returns-clause-gives : goal.open_way-returns-clause-gives
+open_way-returns-clause-gives t c pages at held =
     let is = ap out-Child c.in-Grown.is ∙ made.outs-Grown c.in-Grown.low c.in-Grown.twig in
     let l = c.args.level - 1 in
     let level_is : c.args.level ≡ suc l = above c.args.level c.if-level-eq0.false in
     let shaped = subst (λ m. IsChild at.order m at.high c.args.child.now) level_is at.shaped in
     let at_hand_is = subst (λ m. HeldFor AnyRead at.order c.args.block m at.high c.args.child.now c.args.held.now.items) level_is at.at_hand in
-    let u = up AnyRead at.order c.args.block l at.high c.args.child.now c.take_held.new.child c.args.held.now.items c.take_held.new.held.items c.in-Grown.low c.in-Grown.twig shaped at_hand_is c.take_held.ensures is in
+    let u = up AnyRead at.order c.args.block l at.high c.args.child.now c.take_held.new.child c.args.held.now.items c.take_held.new.held.items c.in-Grown.low c.in-Grown.twig shaped at_hand_is c.take_held.ensures.taken is in
     let e = rw (c.in-Grown.is, made.outs-Grown c.in-Grown.low c.in-Grown.twig) at c.open_below.ensures in
     let open_at = below_up at.order c.args.block l at.high c.args.child.now c.in-Grown.low c.in-Grown.twig c.take_held.new.held.items at.from at.to u in
     let held_is = subst (λ m. HeldFor (IsReadAs pages at.order) at.order c.args.block m at.high c.args.child.now c.args.held.now.items) level_is held in
-    let v = up (IsReadAs pages at.order) at.order c.args.block l at.high c.args.child.now c.take_held.new.child c.args.held.now.items c.take_held.new.held.items c.in-Grown.low c.in-Grown.twig shaped held_is c.take_held.ensures is in
-    let before = up_maps pages at.order c.args.block l at.high c.args.child.now c.take_held.new.child c.args.held.now.items c.take_held.new.held.items c.in-Grown.low c.in-Grown.twig mapped held_is c.take_held.ensures is
-    (subst (λ k. Maps pages at.order (stubs k at.high c.args.child.now) mapped) level_is m) in
-    let after = e.maps pages open_at v.on_way mapped before in
+    let v = up (IsReadAs pages at.order) at.order c.args.block l at.high c.args.child.now c.take_held.new.child c.args.held.now.items c.take_held.new.held.items c.in-Grown.low c.in-Grown.twig shaped held_is c.take_held.ensures.taken is in
+    let first = up_gives pages at.order c.args.block l at.high c.args.child.now c.take_held.new.child c.args.held.now.items c.take_held.new.held.items c.in-Grown.low c.in-Grown.twig c.args.gone.now.items c.take_held.new.gone.items held_is c.take_held.ensures.taken c.take_held.ensures.noted is in
+    let second = e.gives pages open_at v.on_way in
     let new = made.Grown c.in-Grown.low c.open_below.new.twig in
+    let both = gives_then pages at.order _ _ _ _ _ _ first second in
     rw (c.in-Grown.is, made.outs-Grown c.in-Grown.low c.in-Grown.twig)
-    (subst (λ k. Maps pages at.order (stubs k at.high new) mapped) (sym level_is) (subst (λ ss. Maps pages at.order ss mapped) (sym (stubs_of_grown l at.high c.in-Grown.low c.open_below.new.twig)) after))
+    (subst (λ k. GivesWay pages at.order (stubs k at.high c.args.child.now) (stubs k at.high new) c.args.gone.now.items c.open_below.new.gone.items) (sym level_is)
+    (subst (λ ss. GivesWay pages at.order (stubs (suc l) at.high c.args.child.now) ss c.args.gone.now.items c.open_below.new.gone.items) (sym (stubs_of_grown l at.high c.in-Grown.low c.open_below.new.twig)) both))
+
+pub open_way-returns-clause-nodes : goal.open_way-returns-clause-nodes
+open_way-returns-clause-nodes t c at =
+    let is = ap out-Child c.in-Grown.is ∙ made.outs-Grown c.in-Grown.low c.in-Grown.twig in
+    let l = c.args.level - 1 in
+    let level_is : c.args.level ≡ suc l = above c.args.level c.if-level-eq0.false in
+    let shaped = subst (λ m. IsChild at.order m at.high c.args.child.now) level_is at.shaped in
+    let at_hand_is = subst (λ m. HeldFor AnyRead at.order c.args.block m at.high c.args.child.now c.args.held.now.items) level_is at.at_hand in
+    let u = up AnyRead at.order c.args.block l at.high c.args.child.now c.take_held.new.child c.args.held.now.items c.take_held.new.held.items c.in-Grown.low c.in-Grown.twig shaped at_hand_is c.take_held.ensures.taken is in
+    let e = rw (c.in-Grown.is, made.outs-Grown c.in-Grown.low c.in-Grown.twig) at c.open_below.ensures in
+    let le = e.nodes (below_up at.order c.args.block l at.high c.args.child.now c.in-Grown.low c.in-Grown.twig c.take_held.new.held.items at.from at.to u) in
+    let new = made.Grown c.in-Grown.low c.open_below.new.twig in
+    let r : nodes (suc l) new ≤ nodes (suc l) c.args.child.now + suc l = omega (arith, le, u.few, nodes_is l c.args.child.now, nodes_grown l c.in-Grown.low c.open_below.new.twig) in
+    rw (c.in-Grown.is, made.outs-Grown c.in-Grown.low c.in-Grown.twig) (subst (λ k. nodes k new ≤ nodes k c.args.child.now + k) (sym level_is) r)
