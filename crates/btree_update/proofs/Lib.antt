@@ -2,3 +2,4 @@ pub mod Places
 pub mod OpenLaws
 pub mod OpenMaps
 pub mod Readings
+pub mod RootLaws

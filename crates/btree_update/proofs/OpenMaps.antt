@@ -14,7 +14,7 @@ of_one pages order l s twig mapped r [] has is = absurd has
 of_one pages order l s twig mapped r (p ∷ q ∷ ps) has is = absurd has.1
 of_one pages order l s twig mapped r (p ∷ []) has is =
     subst (Maps pages order (stubs_at l s.high r.entries)) (sym (is ∙ append-nil p.mapped))
-    (read_maps pages order l (want_of order (record s { level = suc l })) s.key p r.entries r.small has.0 r.fits)
+    (read_maps pages order l (want_of order (record s { level = suc l })) s.key p r.entries r.small has.0 r.here)
 
 within_maps : (pages : List (List ℕ)) (order : ℕ) (fs bs old new : List Stub) (mapped : List Mapped) → ((m : List Mapped) → Maps pages order old m → Maps pages order new m) →
     Maps pages order (fs ++ (old ++ bs)) mapped → Maps pages order (fs ++ (new ++ bs)) mapped

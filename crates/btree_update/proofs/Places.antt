@@ -43,10 +43,10 @@ entries_from pages order (suc level) high (e ∷ es) (p ∷ ps) h = (h.0, entrie
 
 -- a node that was read from its page: the places below its entries map what the node maps
 pub read_maps : (pages : List (List ℕ)) (order level : ℕ) (want : Want) (key : List ℕ) (parts : Parts) (es : List Entry) → want.addr < 2 ^ 64 →
-    Subtree pages order (suc level) want key parts → FitsAt pages want key (NodeRecord (suc level) es) → Maps pages order (stubs_at level want.high es) parts.mapped
+    Subtree pages order (suc level) want key parts → IsRecordAt pages want.addr key (NodeRecord (suc level) es) → Maps pages order (stubs_at level want.high es) parts.mapped
 unfolding Subtree
-read_maps pages order level want key parts es small is fits =
-    let value : NodeRecord (suc level) is.entries ≡ NodeRecord (suc level) es = one_record pages want.addr key _ _ small is.fits.0 fits.0 in
+read_maps pages order level want key parts es small is here =
+    let value : NodeRecord (suc level) is.entries ≡ NodeRecord (suc level) es = one_record pages want.addr key _ _ small is.fits.0 here in
     let same : is.entries ≡ es = cc in
     record {
       each = is.children;

@@ -2,14 +2,14 @@
 use Rattle.std.specs.Prelude.{◌≡◌, ℕ, zero, suc, ◌/◌, ◌^◌, ◌<◌, ◌≤◌, List, [], ◌∷◌, ◌++◌, length}
 use Rattle.node_codec.specs.declared.body.Entry.{Entry}
 use Rattle.node_codec.specs.Record.{NodeRecord}
-use Rattle.page_store.specs.Places.{FitsAt}
+use Rattle.page_store.specs.Places.{IsRecordAt}
 use Rattle.btree_twigs.specs.declared.twigs.Child.{Child, Child-F, out-Child}
 use Rattle.btree_twigs.specs.declared.twigs.Child.TheOpen.{Kept, Grown}
 use Rattle.btree_twigs.specs.declared.twigs.Twig.{Twig}
 use Rattle.btree_twigs.specs.Stubs.{Stub, start_by, low_of, children_of, stubs, stubs_below, nodes_below}
 use Rattle.btree_twigs.specs.Shape.{IsChild, IsTwig}
 use Rattle.btree_twigs.specs.Updates.{IsOpen}
-use Rattle.btree_update.specs.GroveTree.{want_of, stubs_at}
+use Rattle.btree_update.specs.GroveTree.{stubs_at}
 
 -- a place at a level, and a node over children of the level below
 abbrev pub stub_at : ℕ → ℕ → ℕ → ℕ → List ℕ → Stub
@@ -19,7 +19,7 @@ stub_at level low high addr key = record { level = level; low = low; high = high
 pub record IsReadAs (pages : List (List ℕ)) (order below : ℕ) (stub : Stub) (twig : Twig) : Type 0 where
   pub small : stub.addr < 2 ^ 64
   pub entries : List Entry
-  pub fits : FitsAt pages (want_of order (record stub { level = suc below })) stub.key (NodeRecord (suc below) entries)
+  pub here : IsRecordAt pages stub.addr stub.key (NodeRecord (suc below) entries)
   pub same : stubs_below below stub.high twig ≡ stubs_at below stub.high entries
 
 -- below the child on the way to the block

@@ -3,3 +3,4 @@ pub mod Maps
 pub mod Held
 pub mod Opens
 pub mod Reading
+pub mod Roots

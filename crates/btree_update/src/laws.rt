@@ -20,7 +20,7 @@ pub fn put_maps()
 /// The places below a node that was read from its page map what the node maps.
 pub fn read_maps()
     ensures { (pages : List (List ℕ)) (order level : ℕ) (want : Want) (key : List ℕ) (parts : Parts) (entries : List Entry) → want.addr < 2 ^ 64 →
-        Subtree pages order (suc level) want key parts → FitsAt pages want key (NodeRecord (suc level) entries) →
+        Subtree pages order (suc level) want key parts → IsRecordAt pages want.addr key (NodeRecord (suc level) entries) →
         Maps pages order (stubs_at level want.high entries) parts.mapped }
 {}
 

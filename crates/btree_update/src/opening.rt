@@ -5,6 +5,9 @@ ghost use Rattle.btree_twigs.specs.declared.twigs.Child.TheOpen.{Grown};
 ghost use Rattle.btree_twigs.specs.declared.twigs.Twig.{Twig};
 ghost use Rattle.btree_update.specs.Held.{IsReadAs, HeldFor, OnWay, CanOpen, IsOpened, IsTakenUp, IsNoted, IsAtHand, CanOpenBelow, IsOpenedBelow};
 ghost use Rattle.btree_update.specs.Opens.{GivesWay};
+ghost use Rattle.btree_update.specs.Roots.{CanOpenRoot, IsRootOpened, HeldRoot, RootMaps};
+ghost use Rattle.btree_update.specs.GroveTree.{Maps};
+ghost use Rattle.page_store.specs.Tree.{Mapped};
 
 use btree_twigs::{Child, Twig, addr_of, low_of, place};
 
@@ -54,6 +57,33 @@ pub(crate) fn open_below(
         return;
     }
     open_way(&mut twig.children[at - 1], level, block, held, gone);
+}
+
+/// Takes the root and the nodes on the way to a block into the tree, from those that are held for it.
+pub(crate) fn open_root(
+    top: &mut Child,
+    level: u8,
+    block: u64,
+    held: &mut Vec<Twig>,
+    gone: &mut Vec<u64>,
+)
+    requires can { CanOpenRoot level block held.old.items top.old }
+    requires room { vec_len gone.old + vec_len held.old ≤ vec_capacity gone.old }
+    ensures opened { (at : CanOpenRoot level block held.old.items top.old) → IsRootOpened at.order at.below block at.high top.new }
+    ensures gives { (pages : List (List ℕ)) (at : CanOpenRoot level block held.old.items top.old)
+        → HeldRoot (IsReadAs pages at.order) at.order block at.below at.high top.old held.old.items
+        → GivesWay pages at.order (stubs level at.high top.old) (stubs level at.high top.new) gone.old.items gone.new.items }
+    ensures maps { (pages : List (List ℕ)) (at : CanOpenRoot level block held.old.items top.old)
+        → HeldRoot (IsReadAs pages at.order) at.order block at.below at.high top.old held.old.items
+        → (mapped : List Mapped) → RootMaps pages at.order at.below at.high top.old mapped → Maps pages at.order (stubs level at.high top.new) mapped }
+    ensures room { vec_len gone.new + vec_len held.new ≤ vec_capacity gone.new }
+    ensures nodes { (at : CanOpenRoot level block held.old.items top.old) → nodes level top.new ≤ nodes level top.old + level }
+{
+    take_held(top, held, gone);
+    match top {
+        Child::Kept { .. } => unreachable!(),
+        Child::Grown { twig, .. } => open_below(twig, level - 1, block, held, gone),
+    }
 }
 
 /// Takes the node that is held last for a child that isn't in memory.
