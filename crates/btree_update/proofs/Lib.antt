@@ -3,3 +3,4 @@ pub mod OpenLaws
 pub mod OpenMaps
 pub mod Readings
 pub mod RootLaws
+pub mod GroveLaws

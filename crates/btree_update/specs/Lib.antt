@@ -4,3 +4,4 @@ pub mod Held
 pub mod Opens
 pub mod Reading
 pub mod Roots
+pub mod Groves

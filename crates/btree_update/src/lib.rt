@@ -1,10 +1,12 @@
 //! Trees that are partly in memory, over pages: what they map, and how the way of an update is brought into memory.
 #![tactic(auto)]
 
+mod groves;
 mod laws;
 mod opening;
 mod reading;
 
+pub use groves::Grove;
 pub use laws::{opened_maps, put_maps, read_maps, sealed_is};
 pub use opening::open_way;
 pub use reading::read_twig;

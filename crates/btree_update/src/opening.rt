@@ -22,6 +22,7 @@ pub fn open_way(child: &mut Child, level: u8, block: u64, held: &mut Vec<Twig>, 
         → HeldFor (IsReadAs pages at.order) at.order block level at.high child.old held.old.items
         → GivesWay pages at.order (stubs level at.high child.old) (stubs level at.high child.new) gone.old.items gone.new.items }
     ensures room { vec_len gone.new + vec_len held.new ≤ vec_capacity gone.new }
+    ensures spare { vec_len gone.new + vec_len held.new + vec_capacity gone.old ≤ vec_len gone.old + vec_len held.old + vec_capacity gone.new }
     ensures nodes { (at : CanOpen level block held.old.items child.old) → nodes level child.new ≤ nodes level child.old + level }
 {
     if level == 0 {
@@ -50,6 +51,7 @@ pub(crate) fn open_below(
         → OnWay block (λ high c. HeldFor (IsReadAs pages at.order) at.order block level high c held.old.items) at.high twig.old
         → GivesWay pages at.order (stubs_below level at.high twig.old) (stubs_below level at.high twig.new) gone.old.items gone.new.items }
     ensures room { vec_len gone.new + vec_len held.new ≤ vec_capacity gone.new }
+    ensures spare { vec_len gone.new + vec_len held.new + vec_capacity gone.old ≤ vec_len gone.old + vec_len held.old + vec_capacity gone.new }
     ensures nodes { (at : CanOpenBelow level block held.old.items twig.old) → nodes_below level twig.new ≤ nodes_below level twig.old + level }
 {
     let at = place(&twig.children, block);
@@ -77,6 +79,7 @@ pub(crate) fn open_root(
         → HeldRoot (IsReadAs pages at.order) at.order block at.below at.high top.old held.old.items
         → (mapped : List Mapped) → RootMaps pages at.order at.below at.high top.old mapped → Maps pages at.order (stubs level at.high top.new) mapped }
     ensures room { vec_len gone.new + vec_len held.new ≤ vec_capacity gone.new }
+    ensures spare { vec_len gone.new + vec_len held.new + vec_capacity gone.old ≤ vec_len gone.old + vec_len held.old + vec_capacity gone.new }
     ensures nodes { (at : CanOpenRoot level block held.old.items top.old) → nodes level top.new ≤ nodes level top.old + level }
 {
     take_held(top, held, gone);
@@ -93,6 +96,7 @@ pub(crate) fn take_held(child: &mut Child, held: &mut Vec<Twig>, gone: &mut Vec<
     ensures taken { IsTakenUp (out-Child child.old) child.new held.old.items held.new.items }
     ensures noted { IsNoted (out-Child child.old) gone.old.items gone.new.items }
     ensures room { vec_len gone.new + vec_len held.new ≤ vec_capacity gone.new }
+    ensures spare { vec_len gone.new + vec_len held.new + vec_capacity gone.old ≤ vec_len gone.old + vec_len held.old + vec_capacity gone.new }
 {
     let low = low_of(child);
     if let Some(addr) = addr_of(child) {
@@ -114,7 +118,7 @@ fn take_up(child: &mut Child, low: u64, held: &mut Vec<Twig>)
 }
 
 /// Notes an address where there is room.
-fn note(gone: &mut Vec<u64>, addr: u64)
+pub(crate) fn note(gone: &mut Vec<u64>, addr: u64)
     requires { vec_len gone.old < vec_capacity gone.old }
     ensures items { gone.new.items ≡ gone.old.items ++ addr ∷ [] }
     ensures capacity { vec_capacity gone.old ≤ vec_capacity gone.new }

@@ -88,7 +88,7 @@ returns-clause-nodes c at =
     let u = root_up AnyRead at.order c.args.block at.below at.high (out-Child c.args.top.now) c.take_held.new.child c.args.held.now.items c.take_held.new.held.items c.in-Grown.low c.in-Grown.twig at.shaped at.at_hand c.take_held.ensures.taken is in
     let e = rw (c.in-Grown.is, made.outs-Grown c.in-Grown.low c.in-Grown.twig) at c.open_below.ensures in
     let le = subst (λ m. nodes_below m c.open_below.new.twig ≤ nodes_below m c.in-Grown.twig + m) l
-        (e.nodes (below_root at.order c.args.block at.below (c.args.level - 1) at.high c.in-Grown.low (out-Child c.args.top.now) c.in-Grown.twig c.take_held.new.held.items l at.to u)) in
+    (e.nodes (below_root at.order c.args.block at.below (c.args.level - 1) at.high c.in-Grown.low (out-Child c.args.top.now) c.in-Grown.twig c.take_held.new.held.items l at.to u)) in
     let new = made.Grown c.in-Grown.low c.open_below.new.twig in
     let r : nodes (suc at.below) new ≤ nodes (suc at.below) c.args.top.now + suc at.below = omega (arith, le, u.few, nodes_is at.below c.args.top.now, nodes_grown at.below c.in-Grown.low c.open_below.new.twig) in
     rw (c.in-Grown.is, made.outs-Grown c.in-Grown.low c.in-Grown.twig) (subst (λ k. nodes k new ≤ nodes k c.args.top.now + k) (sym at.level_is) r)
