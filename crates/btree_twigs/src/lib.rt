@@ -14,4 +14,4 @@ mod twigs;
 pub use finding::find;
 pub use putting::{put, put_datum, put_top};
 pub use taking::{take, take_top};
-pub use twigs::{Child, Spot, Twig, addr_of, level_of, low_of, place};
+pub use twigs::{Child, Spot, Twig, addr_of, end_of, level_of, low_of, place};

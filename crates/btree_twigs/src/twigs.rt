@@ -83,7 +83,7 @@ pub fn place(children: &[Child], block: u64) -> usize
 }
 
 /// Where a child ends: at the low of the one that follows, or with the node.
-pub(crate) fn end_of(children: &[Child], next: usize, high: u64) -> u64
+pub fn end_of(children: &[Child], next: usize, high: u64) -> u64
     ensures { result ≡ start_by low_in (drop next children.now) high }
 {
     match children.get(next) {

@@ -4,3 +4,5 @@ pub mod OpenMaps
 pub mod Readings
 pub mod RootLaws
 pub mod GroveLaws
+pub mod CacheLaws
+pub mod HoldLaws

@@ -6,7 +6,7 @@ use Rattle.std.specs.List.Sorted.{IsStrictlyIncreasing}
 use Rattle.std.proofs.lemmas.List.{length-map}
 use Rattle.std.proofs.lemmas.List.Elements.{recursion_from_All}
 use Rattle.node_codec.specs.declared.body.Entry.{Entry}
-use Rattle.node_codec.specs.Record.{NodeRecord, FitsRecord}
+use Rattle.node_codec.specs.Record.{NodeRecord, FitsNode}
 use Rattle.page_store.specs.declared.wants.Want.{Want}
 use Rattle.page_store.specs.Places.{IsNodeWanted}
 use Rattle.page_store.specs.Tree.{bound_of}
@@ -60,21 +60,21 @@ first_from : (low high : ℕ) (es : List Entry) → low ≤ high → AllByRecurs
 first_from low high [] le h = le
 first_from low high (e ∷ es) le h = omega (arith, h.0, low_of_kept e.low e.addr e.key)
 
-begins_kept : (level low high : ℕ) (es : List Entry) → low ≤ high → 0 < length es → AllByRecursion (λ (e : Entry). low ≤ e.low) es → (2 ≤ suc level → IfSome (slice_get es 0) (λ (e : Entry). e.low ≡ low)) →
+begins_kept : (level low high : ℕ) (es : List Entry) → low ≤ high → (1 ≤ level → 0 < length es) → AllByRecursion (λ (e : Entry). low ≤ e.low) es → (2 ≤ suc level → IfSome (slice_get es 0) (λ (e : Entry). e.low ≡ low)) →
     Begins level low (start_by low_of (all_kept es) high)
 begins_kept zero low high es le some h first = first_from low high es le h
-begins_kept (suc level) low high es le some h first = first_is low high es some (first (omega arith))
+begins_kept (suc level) low high es le some h first = first_is low high es (some (omega arith)) (first (omega arith))
 
 -- the node that a wanted record is
-pub read_is_twig : (order level : ℕ) (want : Want) (es : List Entry) (twig : Twig) → 4 ≤ order → want.least ≡ order / 2 → want.most ≡ order → want.low ≤ want.high →
-    FitsRecord want.addr (NodeRecord (suc level) es) → IsNodeWanted want (suc level) es → level_of twig ≡ suc level → order < vec_capacity (out-Twig twig).children → children_of twig ≡ all_kept es →
-    IsTwig order level (order / 2) order want.low want.high twig
-read_is_twig order level want es twig four least most le fits wanted is room all =
+pub read_is_twig : (order level least : ℕ) (want : Want) (es : List Entry) (twig : Twig) → (1 ≤ level → 1 ≤ least) → want.least ≡ least → want.most ≡ order → want.low ≤ want.high →
+    FitsNode want.addr (suc level) es → IsNodeWanted want (suc level) es → level_of twig ≡ suc level → order < vec_capacity (out-Twig twig).children → children_of twig ≡ all_kept es →
+    IsTwig order level least order want.low want.high twig
+read_is_twig order level few want es twig some least most le fits wanted is room all =
     let n : length (all_kept es) ≡ length es = length-map es kept_of in
-    let node : IsNode order level (order / 2) order want.low want.high (all_kept es) = record {
+    let node : IsNode order level few order want.low want.high (all_kept es) = record {
       enough = omega (arith, n, least, wanted.least);
       within = omega (arith, n, most, wanted.most);
-      begins = begins_kept level want.low want.high es le (omega (arith, four, least, wanted.least)) (recursion_from_All (λ (e : Entry). want.low ≤ e.low) es wanted.from_low) wanted.first;
-      each = each_kept order level want.high es (recursion_from_All (λ (e : Entry). e.low < want.high) es wanted.below_high) fits.0.ascend;
+      begins = begins_kept level want.low want.high es le (λ one. omega (arith, some one, least, wanted.least)) (recursion_from_All (λ (e : Entry). want.low ≤ e.low) es wanted.from_low) wanted.first;
+      each = each_kept order level want.high es (recursion_from_All (λ (e : Entry). e.low < want.high) es wanted.below_high) fits.ascend;
     } in
-    record { level_is = is; room = room; node = subst (IsNode order level (order / 2) order want.low want.high) (sym all) node }
+    record { level_is = is; room = room; node = subst (IsNode order level few order want.low want.high) (sym all) node }

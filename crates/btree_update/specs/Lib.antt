@@ -5,3 +5,4 @@ pub mod Opens
 pub mod Reading
 pub mod Roots
 pub mod Groves
+pub mod Holding

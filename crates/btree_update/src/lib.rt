@@ -2,11 +2,13 @@
 #![tactic(auto)]
 
 mod groves;
+mod holding;
 mod laws;
 mod opening;
 mod reading;
+mod refusals;
 
 pub use groves::Grove;
 pub use laws::{opened_maps, put_maps, read_maps, sealed_is};
 pub use opening::open_way;
-pub use reading::read_twig;
+pub use refusals::ReadyRefusal;
