@@ -132,8 +132,9 @@ pub fn put_top(
 )
     requires four { 4 ≤ order }
     requires can { CanPutTop order block spares.old.items top.old }
-    ensures { (at : CanPutTop order block spares.old.items top.old)
+    ensures put { (at : CanPutTop order block spares.old.items top.old)
         → IsTopPut order at.level at.high (datum block addr key) top.old top.new }
+    ensures spares { HasSpares order 0 spares.new.items }
 {
     if let Child::Grown { twig, .. } = top {
         put(twig, order, block, addr, key, spares);
@@ -147,8 +148,9 @@ pub fn put_top(
 /// Puts a new root node above the root and what was cut off it.
 fn raise(top: &mut Child, part: Child, spares: &mut Vec<Vec<Child>>)
     requires can { CanRaise top.old part spares.old.items }
-    ensures { (at : CanRaise top.old part spares.old.items) (order : ℕ) → HasSpares order 1 spares.old.items
+    ensures raised { (at : CanRaise top.old part spares.old.items) (order : ℕ) → HasSpares order 1 spares.old.items
         → IsRaised order at.level top.old part top.new }
+    ensures spares { (order count : ℕ) → HasSpares order (count + 1) spares.old.items → HasSpares order count spares.new.items }
 {
     let mut children = take_spare(spares);
     let blank = Child::Kept {

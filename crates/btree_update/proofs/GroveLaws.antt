@@ -1,5 +1,8 @@
 -- What an update does to a grove, from what it does to its root.
-use Rattle.std.proofs.Common.{◌≡◌, ℕ, zero, suc, ◌+◌, ◌-◌, ◌/◌, ◌<◌, ◌≤◌, List, [], ◌∷◌, ◌++◌, Option, None, Some, refl, sym, ap, subst, ◌∙◌, arith}
+use Rattle.std.proofs.Common.{◌≡◌, ℕ, zero, suc, ◌+◌, ◌-◌, ◌/◌, ◌<◌, ◌≤◌, List, [], ◌∷◌, ◌++◌, Option, None, Some, refl, sym, ap, subst, ◌∙◌, arith, length, vec_capacity}
+use Rattle.std.specs.List.{AllByRecursion}
+use Rattle.std.specs.declared.vec.Vec.{Vec}
+use Rattle.std.specs.declared.alloc.Global.{Global}
 use Rattle.page_store.specs.Tree.{Mapped}
 use Rattle.btree_twigs.specs.declared.twigs.Child.{Child, Child-F, out-Child}
 use Rattle.btree_twigs.specs.declared.twigs.Child.TheOpen.{Kept, Grown}
@@ -8,7 +11,7 @@ use Rattle.btree_twigs.specs.declared.twigs.Twig.{Twig}
 use Rattle.btree_twigs.specs.declared.twigs.Spot.{Spot}
 use Rattle.btree_twigs.specs.Stubs.{Stub, stubs, stubs_in, stubs_below}
 use Rattle.btree_twigs.specs.Shape.{IsTwig}
-use Rattle.btree_twigs.specs.Updates.{IsOpen}
+use Rattle.btree_twigs.specs.Updates.{IsOpen, HasSpares}
 use Rattle.btree_twigs.specs.Search.{IsAt, IsSpot}
 use Rattle.btree_twigs.specs.Top.{IsTop, IsTopBy, top_least, level_in, child_level}
 use Rattle.btree_twigs.proofs.Nodes.{stubs_of_grown}
@@ -55,3 +58,14 @@ top_maps pages order level high c mapped h m = top_maps_by pages order level hig
 
 pub above_it : (level : ℕ) → 1 ≤ level → level ≡ suc (level - 1)
 above_it level one = omega (arith, one)
+
+-- one list more
+pub spares_push : (order : ℕ) (spares : List (Vec Child Global)) (spare : Vec Child Global) → order ≤ 64 → spare.items ≡ [] → 64 < vec_capacity spare → HasSpares order 0 spares → HasSpares order 0 (spares ++ spare ∷ [])
+spares_push order spares spare le empty room h = record { many = omega arith; each = go spares h.each }
+  where
+    go : (xs : List (Vec Child Global)) → AllByRecursion (λ v. (v.items ≡ []) × (order < vec_capacity v)) xs → AllByRecursion (λ v. (v.items ≡ []) × (order < vec_capacity v)) (xs ++ spare ∷ [])
+    go [] h = ((empty, omega (arith, le, room)), tt)
+    go (x ∷ xs) h = (h.0, go xs h.1)
+
+pub spares_many : (order count : ℕ) (spares : List (Vec Child Global)) → count ≤ length spares → HasSpares order 0 spares → HasSpares order count spares
+spares_many order count spares le h = record { many = le; each = h.each }

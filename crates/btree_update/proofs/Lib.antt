@@ -6,3 +6,4 @@ pub mod RootLaws
 pub mod GroveLaws
 pub mod CacheLaws
 pub mod HoldLaws
+pub mod RootHolds

@@ -12,12 +12,13 @@ use Rattle.btree_update.specs.Held.{AnyRead, IsReadAs}
 use Rattle.btree_update.specs.Opens.{Opens}
 use Rattle.btree_update.specs.Roots.{IsRoot, HeldRoot, RootMaps}
 
--- the order and the root are as they may be
+-- the order and the root are as they may be, and the lists for new nodes have room for them
 pub record IsSound (grove : Grove) : Type 0 where
   pub least : 4 ≤ grove.order
   pub most : grove.order ≤ 64
   pub one : 1 ≤ grove.level
   pub shaped : IsRoot grove.order (grove.level - 1) grove.blocks grove.top
+  pub spares : HasSpares grove.order 0 grove.spares.items
 
 -- the nodes on the way to a block are in memory or held
 abbrev pub IsAtHand : ℕ → Grove → Type 0
@@ -67,3 +68,13 @@ pub record Goes (pages : List (List ℕ)) (order head block : ℕ) (old : List S
   pub replaced : Option ℕ
   pub was : IsAddressOf block opened replaced
   pub goes : LetsGo head block replaced (gone ++ addrs) more never most
+
+-- the tree and what it let go are the same
+pub record KeepsTree (old new : Grove) : Type 0 where
+  pub order : new.order ≡ old.order
+  pub blocks : new.blocks ≡ old.blocks
+  pub head : new.head ≡ old.head
+  pub level : new.level ≡ old.level
+  pub top : new.top ≡ old.top
+  pub gone : new.gone.items ≡ old.gone.items
+  pub never : new.never.items ≡ old.never.items

@@ -1,5 +1,5 @@
 -- What is read for an update.
-use Rattle.std.specs.Prelude.{◌≡◌, ℕ, suc, ◌<◌, ◌≤◌, List, vec_capacity}
+use Rattle.std.specs.Prelude.{◌≡◌, ℕ, suc, ◌-◌, ◌<◌, ◌≤◌, List, vec_capacity}
 use Rattle.std.specs.List.{AllByRecursion}
 use Rattle.node_codec.specs.declared.body.Entry.{Entry}
 use Rattle.node_codec.specs.Record.{NodeRecord, FitsNode}
@@ -10,6 +10,7 @@ use Rattle.btree_twigs.specs.declared.twigs.Twig.{Twig, out-Twig}
 use Rattle.btree_twigs.specs.Stubs.{Stub, low_of, level_of, children_of, stubs, stubs_below}
 use Rattle.btree_twigs.specs.Shape.{IsChild, IsTwig}
 use Rattle.btree_update.specs.Reading.{all_kept}
+use Rattle.btree_update.specs.Roots.{IsRoot}
 
 -- a node in memory that is in range and wanted at a place, with room for one child more than a node may have
 pub record IsNodeFor (want : Want) (twig : Twig) : Type 0 where
@@ -51,3 +52,12 @@ pub record CanHoldBelow (order level block high head : ℕ) (twig : Twig) : Type
   pub from : low ≤ block
   pub to : block < high
   pub within : AreBelow head (stubs_below level high twig)
+
+-- a root on the way to a block
+pub record CanHoldRoot (order level block high head : ℕ) (top : Child) : Type 0 where
+  pub one : 1 ≤ level
+  pub four : 4 ≤ order
+  pub most : order ≤ 64
+  pub shaped : IsRoot order (level - 1) high top
+  pub to : block < high
+  pub within : AreBelow head (stubs level high top)

@@ -1,17 +1,30 @@
-ghost use Rattle.std.specs.Prelude.{◌≡◌, ◌⊎◌, ◌<◌, ◌≤◌, ◌+◌, ◌-◌, ◌*◌, ℕ, List, [], ◌∷◌, ◌++◌, suc, vec_len, vec_capacity};
+ghost use Rattle.std.specs.Prelude.{◌≡◌, ◌⊎◌, ◌<◌, ◌≤◌, ◌+◌, ◌-◌, ◌*◌, ℕ, List, [], ◌∷◌, ◌++◌, suc, vec_len, vec_capacity, IfOk, IsErr, IsErrOf};
 ghost use Rattle.root_codec.specs.RootRecord.{FitsRoot};
 ghost use Rattle.node_codec.specs.Record.{DataRecord};
 ghost use Rattle.page_store.specs.Places.{IsRecordAt};
 ghost use Rattle.page_store.specs.Tree.{Mapped};
 ghost use Rattle.btree_twigs.specs.declared.twigs.Child.TheVariants.{Kept};
 ghost use Rattle.btree_twigs.specs.Stubs.{stubs};
-ghost use Rattle.btree_twigs.specs.Updates.{IsOpen};
+ghost use Rattle.btree_twigs.specs.Updates.{IsOpen, HasSpares};
 ghost use Rattle.btree_twigs.specs.Top.{IsTop};
 ghost use Rattle.btree_update.specs.Maps.{MapPuts};
-ghost use Rattle.btree_update.specs.Groves.{IsSound, IsReadFrom, CanInsert, GroveMaps, places_of, grown_in, IsAddressOf, LetsGo, Goes};
+ghost use Rattle.sdbt_base.specs.Faults.{Rose};
+ghost use Rattle.std.specs.declared.vec.Vec.{Vec};
+ghost use Rattle.std.specs.declared.alloc.Global.{Global};
+ghost use Rattle.btree_walk.specs.Looks.{Looks};
+ghost use Rattle.btree_walk.specs.Sights.{StandsOver};
+ghost use Rattle.btree_twigs.specs.declared.twigs.Child.{Child};
+ghost use Rattle.btree_update.specs.declared.refusals.ReadyRefusal.{ReadyRefusal};
+ghost use Rattle.btree_update.specs.Holding.{AreBelow};
+ghost use Rattle.btree_update.specs.Groves.{KeepsTree, IsSound, IsReadFrom, CanInsert, GroveMaps, places_of, grown_in, IsAddressOf, LetsGo, Goes};
 
+use crate::holding::hold_root;
 use crate::opening::{note, open_root};
+use crate::refusals::ReadyRefusal;
 use btree_twigs::{Child, Spot, Twig, find, level_of, put_top};
+use node_cache::NodeCache;
+use page_store::Buffers;
+use platform::Platform;
 use root_codec::Root;
 use sdbt_base::{Key, Unkept};
 use std::alloc::Global;
@@ -85,6 +98,45 @@ impl Grove {
         self.level
     }
 
+    /// Reads what an update of a block may need, through the cache, and takes all memory that it may take; the tree is the same.
+    /// Answers whether the block is mapped. `BadRecord` names a node on the way to the block that does not fit.
+    pub fn ready<P: Platform>(
+        &mut self,
+        alloc: Global,
+        block: u64,
+        platform: &mut P,
+        cache: &mut NodeCache,
+        buf: &mut Buffers,
+    ) -> Result<bool, ReadyRefusal>
+        requires sound { IsSound self.old }
+        requires to { block < self.old.blocks }
+        requires within { AreBelow (P.head platform.old) (places_of self.old) }
+        ensures can { IfOk result (λ _. CanInsert block self.new) }
+        ensures reads { P.tells → StandsOver (P.history platform.old).present.readable cache.old → IfOk result (λ _. IsReadFrom (P.history platform.old).present.readable block self.new) }
+        ensures sound { IsSound self.new }
+        ensures tree { KeepsTree self.old self.new }
+        ensures stands { P.tells → StandsOver (P.history platform.old).present.readable cache.old → StandsOver (P.history platform.old).present.readable cache.new }
+        ensures looks { Looks P.Platform self.old.level platform.old platform.new }
+        ensures cause { IsErrOf result ReadyRefusal.PlatformFault → Rose (P.faults platform.old) (P.faults platform.new) }
+    {
+        self.held.clear();
+        let is_mapped = hold_root(
+            alloc,
+            platform,
+            cache,
+            buf,
+            self.order,
+            block,
+            &self.top,
+            self.level,
+            self.blocks,
+            &mut self.held,
+        )?;
+        make_spares(alloc, self.level, &mut self.spares)?;
+        make_room(self.held.len(), &mut self.gone, &mut self.never)?;
+        Ok(is_mapped)
+    }
+
     /// Maps a block to a data record, once all is at hand that this may need. The address of the record that it had is gone, where it
     /// was committed, and else never committed.
     pub fn insert(&mut self, block: u64, addr: u64, key: Key)
@@ -152,4 +204,50 @@ fn let_go(head: u64, block: u64, old: Option<u64>, gone: &mut Vec<u64>, never: &
             }
         }
     }
+}
+
+/// Makes empty lists for new nodes, one more than there are levels, with room for one child more than a node may have.
+fn make_spares(alloc: Global, level: u8, spares: &mut Vec<Vec<Child>>) -> Result<(), ReadyRefusal>
+    ensures made { (order : ℕ) → order ≤ 64 → HasSpares order 0 spares.old.items → IfOk result (λ _. HasSpares order (level + 1) spares.new.items) }
+    ensures kept { (order : ℕ) → order ≤ 64 → HasSpares order 0 spares.old.items → HasSpares order 0 spares.new.items }
+    ensures memory { (e : ReadyRefusal) → IsErrOf result e → e ≡ ReadyRefusal.Memory }
+{
+    while spares.len() <= level as usize {
+        add_spare(alloc, spares)?;
+    }
+    Ok(())
+}
+
+/// Makes one such list.
+fn add_spare(alloc: Global, spares: &mut Vec<Vec<Child>>) -> Result<(), ReadyRefusal>
+    ensures count { IfOk result (λ _. vec_len spares.new ≡ vec_len spares.old + 1) }
+    ensures kept { (order : ℕ) → order ≤ 64 → HasSpares order 0 spares.old.items → HasSpares order 0 spares.new.items }
+    ensures memory { (e : ReadyRefusal) → IsErrOf result e → e ≡ ReadyRefusal.Memory }
+{
+    match Vec::with_capacity(alloc, 65) {
+        Ok(spare) => match spares.push(spare) {
+            Ok(_) => Ok(()),
+            Err(_) => Err(ReadyRefusal::Memory),
+        },
+        Err(_) => Err(ReadyRefusal::Memory),
+    }
+}
+
+/// Makes room for what an update may let go: so many nodes, and a data record.
+fn make_room(nodes: usize, gone: &mut Vec<u64>, never: &mut Vec<Unkept>) -> Result<(), ReadyRefusal>
+    ensures gone { IfOk result (λ _. vec_len gone.new + nodes < vec_capacity gone.new) }
+    ensures never { IfOk result (λ _. vec_len never.new < vec_capacity never.new) }
+    ensures kept { (gone.new.items ≡ gone.old.items) × (never.new.items ≡ never.old.items) }
+    ensures memory { (e : ReadyRefusal) → IsErrOf result e → e ≡ ReadyRefusal.Memory }
+{
+    let Some(more) = nodes.checked_add(1) else {
+        return Err(ReadyRefusal::Memory);
+    };
+    if gone.reserve(more).is_err() {
+        return Err(ReadyRefusal::Memory);
+    }
+    if never.reserve(1).is_err() {
+        return Err(ReadyRefusal::Memory);
+    }
+    Ok(())
 }

@@ -71,8 +71,8 @@ raise-requires c =
       };
     })
 
-pub returns-then-len-order : goal.returns-then-len-order
-returns-then-len-order c at =
+pub returns-then-len-order-clause-put : goal.returns-then-len-order-clause-put
+returns-then-len-order-clause-put c at =
     let e = rw (c.in-Grown.is, made.outs-Grown c.in-Grown.low c.in-Grown.twig) at c.put.ensures in
     let grown = subst (CanPutTop c.args.order c.args.block c.args.spares.now.items) c.in-Grown.is at in
     let open_at = open_top c.args.order c.args.block c.in-Grown.low _ c.in-Grown.twig grown in
@@ -86,13 +86,13 @@ returns-then-len-order c at =
     let s = c.split-part.ensures.split at.level 0 at.high full in
     let spare = e.spares open_at 2 (fewer c.args.order (2 + at.level) (at.level + 2) _ (omega arith) at.enough) in
     let left = c.split-part.ensures.spares 1 spare in
-    let r = rw (c.in-Grown.is, made.outs-Grown c.in-Grown.low c.in-Grown.twig) at c.raise.ensures in
+    let r = rw (c.in-Grown.is, made.outs-Grown c.in-Grown.low c.in-Grown.twig) at c.raise.ensures.raised in
     let raised = r (record { level = at.level; level_is = ap level_in (made.outs-Grown c.in-Grown.low c.split-part.new.twig) ∙ s.left.level_is; small = at.small; order = c.args.order; four = c.requires.four; spare = left }) c.args.order left in
     rw c.in-Grown.is (top_raised c.args.order at.level at.high (datum c.args.block c.args.addr c.args.key) c.in-Grown.twig c.put.new.twig c.split-part.new.twig c.in-Grown.low c.split-part.result c.raise.new.top
     c.requires.four zero_is p (e.nodes open_at) (c.split-part.ensures.nodes at.level) s raised)
 
-pub returns-else-len-order : goal.returns-else-len-order
-returns-else-len-order c at =
+pub returns-else-len-order-clause-put : goal.returns-else-len-order-clause-put
+returns-else-len-order-clause-put c at =
     let e = rw (c.in-Grown.is, made.outs-Grown c.in-Grown.low c.in-Grown.twig) at c.put.ensures in
     let grown = subst (CanPutTop c.args.order c.args.block c.args.spares.now.items) c.in-Grown.is at in
     let open_at = open_top c.args.order c.args.block c.in-Grown.low _ c.in-Grown.twig grown in
@@ -100,3 +100,20 @@ returns-else-len-order c at =
     let zero_is = (subst (IsTopBy c.args.order at.level at.high) (made.outs-Grown c.in-Grown.low c.in-Grown.twig) grown.shaped).0 in
     rw (c.in-Grown.is, made.outs-Grown c.in-Grown.low c.in-Grown.twig)
     (top_kept c.args.order at.level at.high (datum c.args.block c.args.addr c.args.key) c.in-Grown.twig c.put.new.twig c.in-Grown.low zero_is p (e.nodes open_at) (omega arith))
+
+pub returns-then-len-order-clause-spares : goal.returns-then-len-order-clause-spares
+returns-then-len-order-clause-spares c =
+    let at = c.requires.can in
+    let e = rw (c.in-Grown.is, made.outs-Grown c.in-Grown.low c.in-Grown.twig) at c.put.ensures in
+    let grown = subst (CanPutTop c.args.order c.args.block c.args.spares.now.items) c.in-Grown.is at in
+    let open_at = open_top c.args.order c.args.block c.in-Grown.low _ c.in-Grown.twig grown in
+    let spare = e.spares open_at 2 (fewer c.args.order (2 + at.level) (at.level + 2) _ (omega arith) at.enough) in
+    c.raise.ensures.spares c.args.order 0 (c.split-part.ensures.spares 1 spare)
+
+pub returns-else-len-order-clause-spares : goal.returns-else-len-order-clause-spares
+returns-else-len-order-clause-spares c =
+    let at = c.requires.can in
+    let e = rw (c.in-Grown.is, made.outs-Grown c.in-Grown.low c.in-Grown.twig) at c.put.ensures in
+    let grown = subst (CanPutTop c.args.order c.args.block c.args.spares.now.items) c.in-Grown.is at in
+    let open_at = open_top c.args.order c.args.block c.in-Grown.low _ c.in-Grown.twig grown in
+    e.spares open_at 0 (fewer c.args.order (0 + at.level) (at.level + 2) _ (omega arith) at.enough)

@@ -20,8 +20,8 @@ push-requires-2 c =
     let items = c.push.ensures.items ∙ ap (λ xs. xs ++ c.replace-old.result ∷ []) e.1 in
     omega (arith, ap length items, e.2, c.push.ensures.capacity, c.push.new.children.ok.0)
 
-pub returns : goal.returns
-returns c at order spare =
+pub returns-clause-raised : goal.returns-clause-raised
+returns-clause-raised c at order spare =
     let e = c.take_spare-children.ensures order 0 spare in
     let t : Twig-F Child Twig = record { level = c.level_of-level.result + 1; children = c.push-2.new.children } in
     let items = c.push-2.ensures.items ∙ ap (λ xs. xs ++ c.args.part ∷ []) (c.push.ensures.items ∙ ap (λ xs. xs ++ c.replace-old.result ∷ []) e.1) in
@@ -33,3 +33,6 @@ returns c at order spare =
       room = subst (λ (x : Twig-F Child Twig). order < vec_capacity x.children) (sym (out-roll-Twig t)) (omega (arith, e.2, c.push.ensures.capacity, c.push-2.ensures.capacity));
       children = children_of_roll t ∙ items ∙ ap (λ x. x ∷ c.args.part ∷ []) c.replace-old.ensures.value;
     }
+
+pub returns-clause-spares : goal.returns-clause-spares
+returns-clause-spares c order count h = (c.take_spare-children.ensures order count h).0

@@ -65,9 +65,14 @@ pub hold_below-hold_way-requires : goal.hold_below-hold_way-requires
 hold_below-hold_way-requires g t c κs within =
     let at = c.requires.can in
     let w = on_way c.args.order c.args.block c.args.level c.args.high c.place-at.result (children_of c.args.twig.now) c.deref.result.now c.index-child.result.now c.deref.ensures.value c.if-at-eq0.false
-    c.place-at.ensures.within c.place-at.ensures.before c.place-at.ensures.after at.to c.index-child.ensures in
-    (search rules, (within, held_child c.args.order c.args.level c.args.block c.args.high (g.P.Platform.head c.args.platform.now) c.place-at.result c.end_of-end.result c.args.twig.now c.index-child.result.now at w c.if-level-eq0.false
-    (end_is c.args.high c.place-at.result w.at c.end_of-end.result c.deref-2.result.now (children_of c.args.twig.now) c.deref-2.ensures.value w.at_is c.end_of-end.ensures)))
+    c.place-at.ensures.within c.place-at.ensures.before c.place-at.ensures.after at.to c.index-child.ensures in (
+      search rules,
+      (
+        within,
+        held_child c.args.order c.args.level c.args.block c.args.high (g.P.Platform.head c.args.platform.now) c.place-at.result c.end_of-end.result c.args.twig.now c.index-child.result.now at w c.if-level-eq0.false
+            (end_is c.args.high c.place-at.result w.at c.end_of-end.result c.deref-2.result.now (children_of c.args.twig.now) c.deref-2.ensures.value w.at_is c.end_of-end.ensures),
+      ),
+    )
 
 pub hold_below-returns-clause-at_hand : goal.hold_below-returns-clause-at_hand
 hold_below-returns-clause-at_hand g t c =
@@ -109,9 +114,14 @@ held_grown order level block high head low twig at =
     }
 
 pub hold_way-hold_below-requires : goal.hold_way-hold_below-requires
-hold_way-hold_below-requires g t c κs within =
-    (search rules, (within, held_grown c.args.order c.args.level c.args.block c.args.high (g.P.Platform.head c.args.platform.now) c.in-Grown.low c.in-Grown.twig
-    (subst (CanHold c.args.order c.args.level c.args.block c.args.high (g.P.Platform.head c.args.platform.now)) c.in-Grown.is c.requires.can)))
+hold_way-hold_below-requires g t c κs within = (
+  search rules,
+  (
+    within,
+    held_grown c.args.order c.args.level c.args.block c.args.high (g.P.Platform.head c.args.platform.now) c.in-Grown.low c.in-Grown.twig
+        (subst (CanHold c.args.order c.args.level c.args.block c.args.high (g.P.Platform.head c.args.platform.now)) c.in-Grown.is c.requires.can),
+  ),
+)
 
 pub hold_way-read_node-requires-clause-within : goal.hold_way-read_node-requires-clause-within
 hold_way-read_node-requires-clause-within g t c =
@@ -145,10 +155,15 @@ held_read order level block high head low addr key twig at h =
     }
 
 pub hold_way-hold_below-requires-in-Kept : goal.hold_way-hold_below-requires-in-Kept
-hold_way-hold_below-requires-in-Kept g t c κs within =
-    (search rules, (within, subst (λ m. CanHoldBelow c.args.order (c.args.level - 1) c.args.block c.args.high m c.in_ok-twig-in-Kept.twig) (sym c.in_ok-twig-in-Kept.ensures.looks.head)
-    (held_read c.args.order c.args.level c.args.block c.args.high (g.P.Platform.head c.args.platform.now) c.in-Kept.low c.in-Kept.addr c.in-Kept.key c.in_ok-twig-in-Kept.twig
-    (subst (CanHold c.args.order c.args.level c.args.block c.args.high (g.P.Platform.head c.args.platform.now)) c.in-Kept.is c.requires.can) c.in_ok-twig-in-Kept.ensures.fits)))
+hold_way-hold_below-requires-in-Kept g t c κs within = (
+  search rules,
+  (
+    within,
+    subst (λ m. CanHoldBelow c.args.order (c.args.level - 1) c.args.block c.args.high m c.in_ok-twig-in-Kept.twig) (sym c.in_ok-twig-in-Kept.ensures.looks.head)
+        (held_read c.args.order c.args.level c.args.block c.args.high (g.P.Platform.head c.args.platform.now) c.in-Kept.low c.in-Kept.addr c.in-Kept.key c.in_ok-twig-in-Kept.twig
+        (subst (CanHold c.args.order c.args.level c.args.block c.args.high (g.P.Platform.head c.args.platform.now)) c.in-Kept.is c.requires.can) c.in_ok-twig-in-Kept.ensures.fits),
+  ),
+)
 
 pub hold_way-returns-in-Grown-clause-at_hand : goal.hold_way-returns-in-Grown-clause-at_hand
 hold_way-returns-in-Grown-clause-at_hand g t c =
@@ -203,7 +218,7 @@ hold_way-returns-in_ok-hold-in-Kept-clause-reads g t c = λ tells stands.
     let lt = head_of_kept c.args.order c.args.level c.args.block c.args.high (g.P.Platform.head c.args.platform.now) c.in-Kept.low c.in-Kept.addr c.in-Kept.key at in
     let small : c.in-Kept.addr < 2 ^ 64 = omega (arith, lt, g.met.P.Platform.has_room c.args.platform.now, g.met.P.Platform.is_limited c.args.platform.now) in
     let node = subst (λ k. IsNodeOf pages (want_here c.args.order k c.in-Kept.low c.args.high c.in-Kept.addr) c.in-Kept.key twig) at.level_is
-        (subst (λ k. IsNodeOf pages (want_here c.args.order c.args.level c.in-Kept.low c.args.high c.in-Kept.addr) k twig) c.from_bytes-key.ensures (c.in_ok-twig-in-Kept.ensures.reads tells stands)) in
+    (subst (λ k. IsNodeOf pages (want_here c.args.order c.args.level c.in-Kept.low c.args.high c.in-Kept.addr) k twig) c.from_bytes-key.ensures (c.in_ok-twig-in-Kept.ensures.reads tells stands)) in
     let reads = read_as pages c.args.order at.below c.in-Kept.low c.args.high c.in-Kept.addr (c.args.order / 2) c.in-Kept.key twig small node in
     let h = holds_kept Reads c.args.order c.args.block at.below c.args.high c.in-Kept.low c.in-Kept.addr c.in-Kept.key twig c.hold_below-in-Kept.new.held.items c.hold.new.held.items c.in_ok-hold-in-Kept.ensures.held reads shaped bare way in
     subst (λ x. HeldFor Reads c.args.order c.args.block c.args.level c.args.high x c.hold.new.held.items) (sym c.in-Kept.is)

@@ -48,13 +48,14 @@ put_top-requires-clause-can c = can_put c.args.block c.args.self.now c.open_root
 
 pub returns-clause-sound : goal.returns-clause-sound
 returns-clause-sound c =
-    let p = c.put_top.ensures (can_put c.args.block c.args.self.now c.open_root.new.top c.requires.can c.requires.small (c.open_root.ensures.opened (can_open c.args.block c.args.self.now c.requires.can))) in
+    let p = c.put_top.ensures.put (can_put c.args.block c.args.self.now c.open_root.new.top c.requires.can c.requires.small (c.open_root.ensures.opened (can_open c.args.block c.args.self.now c.requires.can))) in
     let l = c.level_of-self.ensures ∙ top_level c.args.self.now.order p.new_level c.args.self.now.blocks c.put_top.new.top p.shaped in
     record {
       least = c.requires.can.sound.least;
       most = c.requires.can.sound.most;
       one = omega (arith, l);
       shaped = subst (λ m. IsRoot c.args.self.now.order m c.args.self.now.blocks c.put_top.new.top) (sym (one_less c.level_of-self.result p.new_level l)) (top_is_root c.args.self.now.order p.new_level c.args.self.now.blocks c.put_top.new.top p.shaped);
+      spares = c.put_top.ensures.spares;
     }
 
 level_by : (level new_level new : ℕ) → 1 ≤ level → (new_level ≡ level - 1) ⊎ (new_level ≡ suc (level - 1)) → new ≡ suc new_level → (new ≡ level) ⊎ (new ≡ level + 1)
@@ -63,13 +64,13 @@ level_by level new_level new one (inr e) is = inr (omega (arith, one, e, is))
 
 pub returns-clause-level : goal.returns-clause-level
 returns-clause-level c =
-    let p = c.put_top.ensures (can_put c.args.block c.args.self.now c.open_root.new.top c.requires.can c.requires.small (c.open_root.ensures.opened (can_open c.args.block c.args.self.now c.requires.can))) in
+    let p = c.put_top.ensures.put (can_put c.args.block c.args.self.now c.open_root.new.top c.requires.can c.requires.small (c.open_root.ensures.opened (can_open c.args.block c.args.self.now c.requires.can))) in
     level_by c.args.self.now.level p.new_level c.level_of-self.result c.requires.can.sound.one p.level_is (c.level_of-self.ensures ∙ top_level c.args.self.now.order p.new_level c.args.self.now.blocks c.put_top.new.top p.shaped)
 
 pub returns-clause-maps : goal.returns-clause-maps
 returns-clause-maps c pages mapped content held m there =
     let can = can_open c.args.block c.args.self.now c.requires.can in
-    let p = c.put_top.ensures (can_put c.args.block c.args.self.now c.open_root.new.top c.requires.can c.requires.small (c.open_root.ensures.opened can)) in
+    let p = c.put_top.ensures.put (can_put c.args.block c.args.self.now c.open_root.new.top c.requires.can c.requires.small (c.open_root.ensures.opened can)) in
     let l = c.level_of-self.ensures ∙ top_level c.args.self.now.order p.new_level c.args.self.now.blocks c.put_top.new.top p.shaped in
     let opened = subst (λ k. Maps pages c.args.self.now.order (stubs k c.args.self.now.blocks c.open_root.new.top) mapped) can.level_is (c.open_root.ensures.maps pages can held mapped m) in
     let r = puts_maps pages c.args.self.now.order 0 c.args.self.now.blocks c.args.block c.args.addr c.bytes.result content _ _ mapped p.puts opened (subst (λ k. IsRecordAt pages c.args.addr k (DataRecord c.args.block content)) (sym c.bytes.ensures.value) there) in
@@ -94,7 +95,7 @@ returns-clause-goes c pages held =
 pub returns-clause-grown : goal.returns-clause-grown
 returns-clause-grown c =
     let can = can_open c.args.block c.args.self.now c.requires.can in
-    let p = c.put_top.ensures (can_put c.args.block c.args.self.now c.open_root.new.top c.requires.can c.requires.small (c.open_root.ensures.opened can)) in
+    let p = c.put_top.ensures.put (can_put c.args.block c.args.self.now c.open_root.new.top c.requires.can c.requires.small (c.open_root.ensures.opened can)) in
     let l = c.level_of-self.ensures ∙ top_level c.args.self.now.order p.new_level c.args.self.now.blocks c.put_top.new.top p.shaped in
     let few = subst (λ k. nodes (suc p.new_level) c.put_top.new.top ≤ nodes k c.open_root.new.top + (c.args.self.now.level - 1 + 2)) (sym can.level_is) p.few in
     let r : nodes (suc p.new_level) c.put_top.new.top ≤ nodes c.args.self.now.level c.args.self.now.top + (2 * c.args.self.now.level + 1)
