@@ -1,0 +1,11 @@
+pub mod ListLaws
+pub mod Children
+pub mod Leaf
+pub mod Nodes
+pub mod Ways
+pub mod Finds
+pub mod Mends
+pub mod Takings
+pub mod Removals
+pub mod Tops
+pub mod Counts

@@ -1,0 +1,210 @@
+use Rattle.std.proofs.Common.{◌≡◌, ℕ, suc, ◌<◌, ◌≤◌, ◌+◌, ◌-◌, ◌/◌, ◌++◌, [], ◌∷◌, List, Option, None, Some, refl, length, take, drop, get_or, sym, ap, subst, ◌∙◌, rules, arith, append_assoc}
+use Rattle.std.specs.List.{AllByRecursion}
+use Rattle.btree_twigs.specs.declared.twigs.Child.{Child}
+use Rattle.btree_twigs.specs.declared.twigs.Child.TheVariants as made
+use Rattle.btree_twigs.specs.declared.twigs.Child.{the_lemmas}
+use Rattle.btree_twigs.specs.declared.twigs.Twig.{Twig, out-Twig}
+use Rattle.btree_twigs.specs.Stubs.{datum, start_by, low_of, children_of, stubs, stubs_below}
+use Rattle.btree_twigs.specs.Updates.{IsPut, IsOpen, IsChildPut, CanPut, CanPutBelow, HasSpares}
+use Rattle.btree_twigs.proofs.Nodes.{stubs_of_grown, low_of_grown}
+use Rattle.btree_twigs.proofs.Ways.{IsWay, way, fewer, child_is_twig, open_is_grown, put_alone, put_two, set_on_way, insert_on_way, twig_put, leaf_put, child_put, child_cut}
+use Rattle.std.specs.Option.{option_to_list}
+use Rattle.std.specs.Vec.{with_item}
+use Rattle.btree_twigs.specs.Stubs.{nodes, sum_by}
+use Rattle.btree_twigs.proofs.Counts.{nodes_grown, leaf_nodes, one_nodes, two_nodes}
+use Rattle.btree_twigs.proofs.putting.+put.Goals as goal
+
+-- below a child in memory
+abbrev below_grown : (order block low : ℕ) (spares : _) (twig : Twig) (at : CanPutBelow order block spares (made.Grown low twig)) → CanPut order block spares twig
+below_grown order block low spares twig at = record {
+  level = at.level;
+  least = order / 2;
+  low = low;
+  high = at.high;
+  shaped = child_is_twig order at.level at.high low twig at.shaped;
+  from = omega (arith, at.from, low_of_grown low twig);
+  to = at.to;
+  is_open = subst (IsOpen block) (stubs_of_grown at.level at.high low twig) at.is_open;
+  enough = fewer order at.level (suc at.level) _ (omega arith) at.enough;
+}
+
+the_way : (order block n : ℕ) (twig : Twig) (spares : _) (ds : List Child) (child : Child) (at : CanPut order block spares twig) → ds ≡ children_of twig →
+    ((out-Twig twig).level ≡ 1 → ⊥) → n ≤ length ds → AllByRecursion (λ d. low_of d ≤ block) (take n ds) →
+    ((high : ℕ) → block < high → block < start_by low_of (drop n ds) high) → child ≡ get_or (children_of twig) (n - 1) child →
+    IsWay order block at.level at.high (children_of twig) n child
+the_way order block n twig spares ds child at same other within before after here =
+    way order block at.level at.least order at.low at.high (out-Twig twig).level n (children_of twig) child at.shaped.level_is other at.shaped.node at.from at.is_open
+    (subst (λ cs. n ≤ length cs) same within) (subst (λ cs. AllByRecursion (λ d. low_of d ≤ block) (take n cs)) same before)
+    (subst (λ cs. block < start_by low_of (drop n cs) at.high) same (after at.high at.to)) here
+
+abbrev below_way : (order block n : ℕ) (twig : Twig) (spares : _) (child : Child) (at : CanPut order block spares twig) → IsWay order block at.level at.high (children_of twig) n child →
+    CanPutBelow order block spares child
+below_way order block n twig spares child at w = record {
+  level = w.below;
+  high = start_by low_of (drop n (children_of twig)) at.high;
+  shaped = w.child;
+  from = w.from;
+  to = w.to;
+  is_open = w.is_open;
+  enough = subst (λ l. HasSpares order l spares) w.level_is at.enough;
+}
+
+pub put-returns-then-twig-eq1-clause-put : goal.put-returns-then-twig-eq1-clause-put
+put-returns-then-twig-eq1-clause-put t c at =
+    leaf_put c.args.order c.args.block at.level at.least at.low at.high (out-Twig c.args.twig.now).level c.args.addr c.args.key c.args.twig.now c.put_datum-old.new.children
+    at.shaped at.shaped.level_is c.if-twig-eq1.true at.from at.to (omega (arith, c.put_datum-old.ensures.capacity, at.shaped.room)) (c.put_datum-old.ensures.put c.args.order at.least c.args.order at.low at.high)
+
+pub put-put_below-requires : goal.put-put_below-requires
+put-put_below-requires t c =
+    let at = c.requires.can in
+    let n = c.place-at.result in
+    let w = the_way c.args.order c.args.block n c.args.twig.now _ c.deref.result.now c.index_mut-child.result.now at c.deref.ensures.value c.if-twig-eq1.false
+    c.place-at.ensures.within c.place-at.ensures.before c.place-at.ensures.after c.index_mut-child.ensures.value in
+    (search (rules, the_lemmas), (c.requires.four, below_way c.args.order c.args.block n c.args.twig.now _ c.index_mut-child.result.now at w))
+
+pub put-returns-in-Some-clause-put : goal.put-returns-in-Some-clause-put
+put-returns-in-Some-clause-put t c at =
+    let n = c.place-at.result in
+    let w = the_way c.args.order c.args.block n c.args.twig.now _ c.deref.result.now c.index_mut-child.result.now at c.deref.ensures.value c.if-twig-eq1.false
+    c.place-at.ensures.within c.place-at.ensures.before c.place-at.ensures.after c.index_mut-child.ensures.value in
+    let p = c.put_below.ensures.put (below_way c.args.order c.args.block n c.args.twig.now _ c.index_mut-child.result.now at w) in
+    let q = subst (λ l. IsChildPut c.args.order l (start_by low_of (drop n (children_of c.args.twig.now)) at.high) (datum c.args.block c.args.addr c.args.key) c.index_mut-child.result.now c.put_below.new.child c.put_below.result) (sym w.level_is) p in
+    let some = subst (IsChildPut c.args.order at.level (start_by low_of (drop n (children_of c.args.twig.now)) at.high) (datum c.args.block c.args.addr c.args.key) c.index_mut-child.result.now c.put_below.new.child) c.in-Some.is q in
+    let r = put_two c.args.order c.args.block at.level at.least at.low at.high n (datum c.args.block c.args.addr c.args.key) (children_of c.args.twig.now) c.index_mut-child.result.now c.put_below.new.child at.shaped.node w c.in-Some.part some in
+    twig_put c.args.order at.level at.least at.low at.high (out-Twig c.args.twig.now).level (datum c.args.block c.args.addr c.args.key) c.args.twig.now c.insert.new.children at.shaped.level_is (omega (arith, c.insert.ensures.capacity, at.shaped.room))
+    (subst (IsPut c.args.order at.level at.least (c.args.order + 1) at.low at.high (datum c.args.block c.args.addr c.args.key) (children_of c.args.twig.now))
+    (sym (c.insert.ensures.items ∙ insert_on_way n w.at (children_of c.args.twig.now) c.put_below.new.child c.in-Some.part w.at_is w.within)) r)
+
+pub put-returns-in-Some-clause-spares : goal.put-returns-in-Some-clause-spares
+put-returns-in-Some-clause-spares t c at count h =
+    let n = c.place-at.result in
+    let w = the_way c.args.order c.args.block n c.args.twig.now _ c.deref.result.now c.index_mut-child.result.now at c.deref.ensures.value c.if-twig-eq1.false
+    c.place-at.ensures.within c.place-at.ensures.before c.place-at.ensures.after c.index_mut-child.ensures.value in
+    c.put_below.ensures.spares (below_way c.args.order c.args.block n c.args.twig.now _ c.index_mut-child.result.now at w) count (subst (λ l. HasSpares c.args.order (count + l) c.args.spares.now.items) w.level_is h)
+
+pub put-returns-in-None-clause-put : goal.put-returns-in-None-clause-put
+put-returns-in-None-clause-put t c at =
+    let n = c.place-at.result in
+    let w = the_way c.args.order c.args.block n c.args.twig.now _ c.deref.result.now c.index_mut-child.result.now at c.deref.ensures.value c.if-twig-eq1.false
+    c.place-at.ensures.within c.place-at.ensures.before c.place-at.ensures.after c.index_mut-child.ensures.value in
+    let p = c.put_below.ensures.put (below_way c.args.order c.args.block n c.args.twig.now _ c.index_mut-child.result.now at w) in
+    let q = subst (λ l. IsChildPut c.args.order l (start_by low_of (drop n (children_of c.args.twig.now)) at.high) (datum c.args.block c.args.addr c.args.key) c.index_mut-child.result.now c.put_below.new.child c.put_below.result) (sym w.level_is) p in
+    let none = subst (IsChildPut c.args.order at.level (start_by low_of (drop n (children_of c.args.twig.now)) at.high) (datum c.args.block c.args.addr c.args.key) c.index_mut-child.result.now c.put_below.new.child) c.in-None.is q in
+    let r = put_alone c.args.order c.args.block at.level at.least at.low at.high n (datum c.args.block c.args.addr c.args.key) (children_of c.args.twig.now) c.index_mut-child.result.now c.put_below.new.child at.shaped.node w none in
+    twig_put c.args.order at.level at.least at.low at.high (out-Twig c.args.twig.now).level (datum c.args.block c.args.addr c.args.key) c.args.twig.now _ at.shaped.level_is at.shaped.room
+    (subst (IsPut c.args.order at.level at.least (c.args.order + 1) at.low at.high (datum c.args.block c.args.addr c.args.key) (children_of c.args.twig.now)) (sym (set_on_way n w.at (children_of c.args.twig.now) c.put_below.new.child w.at_is w.within)) r)
+
+pub put-returns-in-None-clause-spares : goal.put-returns-in-None-clause-spares
+put-returns-in-None-clause-spares t c at count h =
+    let n = c.place-at.result in
+    let w = the_way c.args.order c.args.block n c.args.twig.now _ c.deref.result.now c.index_mut-child.result.now at c.deref.ensures.value c.if-twig-eq1.false
+    c.place-at.ensures.within c.place-at.ensures.before c.place-at.ensures.after c.index_mut-child.ensures.value in
+    c.put_below.ensures.spares (below_way c.args.order c.args.block n c.args.twig.now _ c.index_mut-child.result.now at w) count (subst (λ l. HasSpares c.args.order (count + l) c.args.spares.now.items) w.level_is h)
+
+pub put_below-unreachable-requires : goal.put_below-unreachable-requires
+put_below-unreachable-requires t c =
+    let at = subst (CanPutBelow c.args.order c.args.block c.args.spares.now.items) c.in-Kept.is c.requires.can in
+    open_is_grown c.args.order c.args.block at.level at.high c.in-Kept.low c.in-Kept.addr c.in-Kept.key at.from at.to at.is_open
+
+pub put_below-put-requires : goal.put_below-put-requires
+put_below-put-requires t c = rw (c.in-Grown.is, made.outs-Grown c.in-Grown.low c.in-Grown.twig) (
+  let d = rw c.in-Grown.is at c.decreases in search (rules, the_lemmas, d),
+  (
+    c.requires.four,
+    below_grown c.args.order c.args.block c.in-Grown.low _ c.in-Grown.twig (subst (CanPutBelow c.args.order c.args.block c.args.spares.now.items) c.in-Grown.is c.requires.can),
+  ),
+)
+
+pub put_below-returns-then-len-order-clause-put : goal.put_below-returns-then-len-order-clause-put
+put_below-returns-then-len-order-clause-put t c at =
+    let grown = subst (CanPutBelow c.args.order c.args.block c.args.spares.now.items) c.in-Grown.is at in
+    let open_at = below_grown c.args.order c.args.block c.in-Grown.low _ c.in-Grown.twig grown in
+    let e = rw (c.in-Grown.is, made.outs-Grown c.in-Grown.low c.in-Grown.twig) at c.put.ensures in
+    let q = child_put c.args.order at.level c.in-Grown.low at.high (datum c.args.block c.args.addr c.args.key) c.in-Grown.twig c.put.new.twig (e.put open_at) (omega arith) in
+    rw (c.in-Grown.is, made.outs-Grown c.in-Grown.low c.in-Grown.twig) (rw (made.outs-Grown c.in-Grown.low c.in-Grown.twig) at q)
+
+pub put_below-returns-then-len-order-clause-spares : goal.put_below-returns-then-len-order-clause-spares
+put_below-returns-then-len-order-clause-spares t c at count h =
+    let grown = subst (CanPutBelow c.args.order c.args.block c.args.spares.now.items) c.in-Grown.is at in
+    let open_at = below_grown c.args.order c.args.block c.in-Grown.low _ c.in-Grown.twig grown in
+    let e = rw (c.in-Grown.is, made.outs-Grown c.in-Grown.low c.in-Grown.twig) at c.put.ensures in
+    e.spares open_at count (fewer c.args.order (count + at.level) (count + suc at.level) _ (omega arith) h)
+
+pub put_below-split-requires-clause-long : goal.put_below-split-requires-clause-long
+put_below-split-requires-clause-long t c =
+    let at = c.requires.can in
+    let grown = subst (CanPutBelow c.args.order c.args.block c.args.spares.now.items) c.in-Grown.is at in
+    let open_at = below_grown c.args.order c.args.block c.in-Grown.low _ c.in-Grown.twig grown in
+    let e = rw (c.in-Grown.is, made.outs-Grown c.in-Grown.low c.in-Grown.twig) at c.put.ensures in
+    let p = e.put open_at in
+    omega (arith, p.shaped.node.within)
+
+pub put_below-split-requires-clause-spare : goal.put_below-split-requires-clause-spare
+put_below-split-requires-clause-spare t c =
+    let at = c.requires.can in
+    let grown = subst (CanPutBelow c.args.order c.args.block c.args.spares.now.items) c.in-Grown.is at in
+    let open_at = below_grown c.args.order c.args.block c.in-Grown.low _ c.in-Grown.twig grown in
+    let e = rw (c.in-Grown.is, made.outs-Grown c.in-Grown.low c.in-Grown.twig) at c.put.ensures in
+    e.spares open_at 1 (fewer c.args.order (1 + at.level) (suc at.level) _ (omega arith) at.enough)
+
+pub put_below-returns-clause-put : goal.put_below-returns-clause-put
+put_below-returns-clause-put t c at =
+    let grown = subst (CanPutBelow c.args.order c.args.block c.args.spares.now.items) c.in-Grown.is at in
+    let open_at = below_grown c.args.order c.args.block c.in-Grown.low _ c.in-Grown.twig grown in
+    let e = rw (c.in-Grown.is, made.outs-Grown c.in-Grown.low c.in-Grown.twig) at c.put.ensures in
+    let p = e.put open_at in
+    let q = child_cut c.args.order at.level c.in-Grown.low at.high (datum c.args.block c.args.addr c.args.key) c.in-Grown.twig c.put.new.twig c.split.new.twig c.split.result
+    p (c.split.ensures.split at.level c.in-Grown.low at.high p.shaped) in
+    rw (c.in-Grown.is, made.outs-Grown c.in-Grown.low c.in-Grown.twig) (rw (made.outs-Grown c.in-Grown.low c.in-Grown.twig) at q)
+
+pub put_below-returns-clause-spares : goal.put_below-returns-clause-spares
+put_below-returns-clause-spares t c at count h =
+    let grown = subst (CanPutBelow c.args.order c.args.block c.args.spares.now.items) c.in-Grown.is at in
+    let open_at = below_grown c.args.order c.args.block c.in-Grown.low _ c.in-Grown.twig grown in
+    let e = rw (c.in-Grown.is, made.outs-Grown c.in-Grown.low c.in-Grown.twig) at c.put.ensures in
+    c.split.ensures.spares count (e.spares open_at (count + 1) (fewer c.args.order (count + 1 + at.level) (count + suc at.level) _ (omega arith) h))
+
+pub put-returns-then-twig-eq1-clause-nodes : goal.put-returns-then-twig-eq1-clause-nodes
+put-returns-then-twig-eq1-clause-nodes t c at = leaf_nodes at.level (out-Twig c.args.twig.now).level c.args.twig.now c.put_datum-old.new.children at.shaped.level_is c.if-twig-eq1.true
+
+pub put-returns-in-None-clause-nodes : goal.put-returns-in-None-clause-nodes
+put-returns-in-None-clause-nodes t c at =
+    let n = c.place-at.result in
+    let w = the_way c.args.order c.args.block n c.args.twig.now _ c.deref.result.now c.index_mut-child.result.now at c.deref.ensures.value c.if-twig-eq1.false
+    c.place-at.ensures.within c.place-at.ensures.before c.place-at.ensures.after c.index_mut-child.ensures.value in
+    let k = subst (λ l. nodes l c.put_below.new.child + sum_by (nodes l) (option_to_list c.put_below.result) ≤ nodes l c.index_mut-child.result.now + l) (sym w.level_is)
+    (c.put_below.ensures.nodes (below_way c.args.order c.args.block n c.args.twig.now _ c.index_mut-child.result.now at w)) in
+    one_nodes at.level (out-Twig c.args.twig.now).level n w.at c.args.twig.now c.index_mut-child.result.now c.put_below.new.child
+    (with_item (out-Twig c.args.twig.now).children (n - 1) c.put_below.new.child) w.at_is w.within w.here refl
+    (subst (λ o. nodes at.level c.put_below.new.child + sum_by (nodes at.level) (option_to_list o) ≤ nodes at.level c.index_mut-child.result.now + at.level) c.in-None.is k)
+
+pub put-returns-in-Some-clause-nodes : goal.put-returns-in-Some-clause-nodes
+put-returns-in-Some-clause-nodes t c at =
+    let n = c.place-at.result in
+    let w = the_way c.args.order c.args.block n c.args.twig.now _ c.deref.result.now c.index_mut-child.result.now at c.deref.ensures.value c.if-twig-eq1.false
+    c.place-at.ensures.within c.place-at.ensures.before c.place-at.ensures.after c.index_mut-child.ensures.value in
+    let k = subst (λ l. nodes l c.put_below.new.child + sum_by (nodes l) (option_to_list c.put_below.result) ≤ nodes l c.index_mut-child.result.now + l) (sym w.level_is)
+    (c.put_below.ensures.nodes (below_way c.args.order c.args.block n c.args.twig.now _ c.index_mut-child.result.now at w)) in
+    two_nodes at.level (out-Twig c.args.twig.now).level n w.at c.args.twig.now c.index_mut-child.result.now c.put_below.new.child c.insert.new.children w.at_is w.within w.here c.in-Some.part c.insert.ensures.items
+    (subst (λ o. nodes at.level c.put_below.new.child + sum_by (nodes at.level) (option_to_list o) ≤ nodes at.level c.index_mut-child.result.now + at.level) c.in-Some.is k)
+
+pub put_below-returns-then-len-order-clause-nodes : goal.put_below-returns-then-len-order-clause-nodes
+put_below-returns-then-len-order-clause-nodes t c at =
+    let grown = subst (CanPutBelow c.args.order c.args.block c.args.spares.now.items) c.in-Grown.is at in
+    let open_at = below_grown c.args.order c.args.block c.in-Grown.low _ c.in-Grown.twig grown in
+    let e = rw (c.in-Grown.is, made.outs-Grown c.in-Grown.low c.in-Grown.twig) at c.put.ensures in
+    let a = nodes_grown at.level c.in-Grown.low c.in-Grown.twig in
+    let b = nodes_grown at.level c.in-Grown.low c.put.new.twig in
+    let m = e.nodes open_at in
+    rw (c.in-Grown.is, made.outs-Grown c.in-Grown.low c.in-Grown.twig) (omega (arith, a, b, m))
+
+pub put_below-returns-clause-nodes : goal.put_below-returns-clause-nodes
+put_below-returns-clause-nodes t c at =
+    let grown = subst (CanPutBelow c.args.order c.args.block c.args.spares.now.items) c.in-Grown.is at in
+    let open_at = below_grown c.args.order c.args.block c.in-Grown.low _ c.in-Grown.twig grown in
+    let e = rw (c.in-Grown.is, made.outs-Grown c.in-Grown.low c.in-Grown.twig) at c.put.ensures in
+    let a = nodes_grown at.level c.in-Grown.low c.in-Grown.twig in
+    let b = nodes_grown at.level c.in-Grown.low c.split.new.twig in
+    let m = e.nodes open_at in
+    let p = c.split.ensures.nodes at.level in
+    rw (c.in-Grown.is, made.outs-Grown c.in-Grown.low c.in-Grown.twig) (omega (arith, a, b, m, p))

@@ -1,0 +1,119 @@
+use Rattle.std.proofs.Common.{◌≡◌, ℕ, suc, ◌+◌, ◌<◌, ◌≤◌, ◌/◌, ◌++◌, [], ◌∷◌, List, length, inl, inr, sym, ap, subst, ◌∙◌, arith, rules}
+use Rattle.btree_twigs.specs.declared.twigs.Child.{Child, out-Child}
+use Rattle.btree_twigs.specs.declared.twigs.Child.TheVariants as made
+use Rattle.btree_twigs.specs.declared.twigs.Twig.{Twig, out-Twig}
+use Rattle.btree_twigs.specs.Stubs.{Puts, datum, low_of, level_of, children_of, stubs, stubs_below}
+use Rattle.btree_twigs.specs.Shape.{IsChild, IsTwig}
+use Rattle.btree_twigs.specs.Updates.{IsOpen, CanPut, HasSpares, IsTwigPut, IsSplit}
+use Rattle.btree_twigs.specs.Top.{IsTop, IsTopBy, top_least, level_in, child_level, CanPutTop, CanRaise, IsRaised, IsTopPut}
+use Rattle.btree_twigs.proofs.Ways.{fewer}
+use Rattle.btree_twigs.proofs.Nodes.{stubs_of_grown}
+use Rattle.btree_twigs.proofs.Tops.{top_kept, top_raised}
+use Rattle.btree_twigs.proofs.putting.put_top.Goals as goal
+
+-- below the root
+abbrev open_top : (order block low : ℕ) (spares : _) (twig : Twig) (at : CanPutTop order block spares (made.Grown low twig)) → CanPut order block spares twig
+open_top order block low spares twig at =
+    let h = subst (IsTopBy order at.level at.high) (made.outs-Grown low twig) at.shaped in
+    record {
+      level = at.level;
+      least = top_least at.level;
+      low = 0;
+      high = at.high;
+      shaped = h.1;
+      from = omega arith;
+      to = at.to;
+      is_open = subst (IsOpen block) (stubs_of_grown at.level at.high low twig) at.is_open;
+      enough = fewer order at.level (at.level + 2) _ (omega arith) at.enough;
+    }
+
+pub put-requires-clause-can : goal.put-requires-clause-can
+put-requires-clause-can c = rw (c.in-Grown.is, made.outs-Grown c.in-Grown.low c.in-Grown.twig)
+    (open_top c.args.order c.args.block c.in-Grown.low _ c.in-Grown.twig (subst (CanPutTop c.args.order c.args.block c.args.spares.now.items) c.in-Grown.is c.requires.can))
+
+pub split-part-requires-clause-long : goal.split-part-requires-clause-long
+split-part-requires-clause-long c =
+    let e = rw (c.in-Grown.is, made.outs-Grown c.in-Grown.low c.in-Grown.twig) at c.put.ensures in
+    let p = e.put (open_top c.args.order c.args.block c.in-Grown.low _ c.in-Grown.twig (subst (CanPutTop c.args.order c.args.block c.args.spares.now.items) c.in-Grown.is c.requires.can)) in
+    omega (arith, p.shaped.node.within)
+
+pub split-part-requires-clause-spare : goal.split-part-requires-clause-spare
+split-part-requires-clause-spare c =
+    let at = c.requires.can in
+    let e = rw (c.in-Grown.is, made.outs-Grown c.in-Grown.low c.in-Grown.twig) at c.put.ensures in
+    e.spares (open_top c.args.order c.args.block c.in-Grown.low _ c.in-Grown.twig (subst (CanPutTop c.args.order c.args.block c.args.spares.now.items) c.in-Grown.is at)) 1
+    (fewer c.args.order (1 + at.level) (at.level + 2) _ (omega arith) at.enough)
+
+pub raise-requires : goal.raise-requires
+raise-requires c =
+    let at = c.requires.can in
+    let e = rw (c.in-Grown.is, made.outs-Grown c.in-Grown.low c.in-Grown.twig) at c.put.ensures in
+    let grown = subst (CanPutTop c.args.order c.args.block c.args.spares.now.items) c.in-Grown.is at in
+    let open_at = open_top c.args.order c.args.block c.in-Grown.low _ c.in-Grown.twig grown in
+    let p = e.put open_at in
+    let zero_is = (subst (IsTopBy c.args.order at.level at.high) (made.outs-Grown c.in-Grown.low c.in-Grown.twig) grown.shaped).0 in
+    let full : IsTwig c.args.order at.level (c.args.order / 2) (c.args.order + 1) 0 at.high c.put.new.twig = record {
+      level_is = p.shaped.level_is;
+      room = p.shaped.room;
+      node = record { enough = omega (arith, c.requires.four); within = p.shaped.node.within; begins = p.shaped.node.begins; each = p.shaped.node.each };
+    } in
+    let s = c.split-part.ensures.split at.level 0 at.high full in
+    let spare = e.spares open_at 2 (fewer c.args.order (2 + at.level) (at.level + 2) _ (omega arith) at.enough) in
+    let left = c.split-part.ensures.spares 1 spare in
+    rw (c.in-Grown.is, made.outs-Grown c.in-Grown.low c.in-Grown.twig) (record {
+      can = record {
+        level = at.level;
+        level_is = ap level_in (made.outs-Grown c.in-Grown.low c.split-part.new.twig) ∙ s.left.level_is;
+        small = at.small;
+        order = c.args.order;
+        four = c.requires.four;
+        spare = left;
+      };
+    })
+
+pub returns-then-len-order-clause-put : goal.returns-then-len-order-clause-put
+returns-then-len-order-clause-put c at =
+    let e = rw (c.in-Grown.is, made.outs-Grown c.in-Grown.low c.in-Grown.twig) at c.put.ensures in
+    let grown = subst (CanPutTop c.args.order c.args.block c.args.spares.now.items) c.in-Grown.is at in
+    let open_at = open_top c.args.order c.args.block c.in-Grown.low _ c.in-Grown.twig grown in
+    let p = e.put open_at in
+    let zero_is = (subst (IsTopBy c.args.order at.level at.high) (made.outs-Grown c.in-Grown.low c.in-Grown.twig) grown.shaped).0 in
+    let full : IsTwig c.args.order at.level (c.args.order / 2) (c.args.order + 1) 0 at.high c.put.new.twig = record {
+      level_is = p.shaped.level_is;
+      room = p.shaped.room;
+      node = record { enough = omega (arith, c.requires.four); within = p.shaped.node.within; begins = p.shaped.node.begins; each = p.shaped.node.each };
+    } in
+    let s = c.split-part.ensures.split at.level 0 at.high full in
+    let spare = e.spares open_at 2 (fewer c.args.order (2 + at.level) (at.level + 2) _ (omega arith) at.enough) in
+    let left = c.split-part.ensures.spares 1 spare in
+    let r = rw (c.in-Grown.is, made.outs-Grown c.in-Grown.low c.in-Grown.twig) at c.raise.ensures.raised in
+    let raised = r (record { level = at.level; level_is = ap level_in (made.outs-Grown c.in-Grown.low c.split-part.new.twig) ∙ s.left.level_is; small = at.small; order = c.args.order; four = c.requires.four; spare = left }) c.args.order left in
+    rw c.in-Grown.is (top_raised c.args.order at.level at.high (datum c.args.block c.args.addr c.args.key) c.in-Grown.twig c.put.new.twig c.split-part.new.twig c.in-Grown.low c.split-part.result c.raise.new.top
+    c.requires.four zero_is p (e.nodes open_at) (c.split-part.ensures.nodes at.level) s raised)
+
+pub returns-else-len-order-clause-put : goal.returns-else-len-order-clause-put
+returns-else-len-order-clause-put c at =
+    let e = rw (c.in-Grown.is, made.outs-Grown c.in-Grown.low c.in-Grown.twig) at c.put.ensures in
+    let grown = subst (CanPutTop c.args.order c.args.block c.args.spares.now.items) c.in-Grown.is at in
+    let open_at = open_top c.args.order c.args.block c.in-Grown.low _ c.in-Grown.twig grown in
+    let p = e.put open_at in
+    let zero_is = (subst (IsTopBy c.args.order at.level at.high) (made.outs-Grown c.in-Grown.low c.in-Grown.twig) grown.shaped).0 in
+    rw (c.in-Grown.is, made.outs-Grown c.in-Grown.low c.in-Grown.twig)
+    (top_kept c.args.order at.level at.high (datum c.args.block c.args.addr c.args.key) c.in-Grown.twig c.put.new.twig c.in-Grown.low zero_is p (e.nodes open_at) (omega arith))
+
+pub returns-then-len-order-clause-spares : goal.returns-then-len-order-clause-spares
+returns-then-len-order-clause-spares c =
+    let at = c.requires.can in
+    let e = rw (c.in-Grown.is, made.outs-Grown c.in-Grown.low c.in-Grown.twig) at c.put.ensures in
+    let grown = subst (CanPutTop c.args.order c.args.block c.args.spares.now.items) c.in-Grown.is at in
+    let open_at = open_top c.args.order c.args.block c.in-Grown.low _ c.in-Grown.twig grown in
+    let spare = e.spares open_at 2 (fewer c.args.order (2 + at.level) (at.level + 2) _ (omega arith) at.enough) in
+    c.raise.ensures.spares c.args.order 0 (c.split-part.ensures.spares 1 spare)
+
+pub returns-else-len-order-clause-spares : goal.returns-else-len-order-clause-spares
+returns-else-len-order-clause-spares c =
+    let at = c.requires.can in
+    let e = rw (c.in-Grown.is, made.outs-Grown c.in-Grown.low c.in-Grown.twig) at c.put.ensures in
+    let grown = subst (CanPutTop c.args.order c.args.block c.args.spares.now.items) c.in-Grown.is at in
+    let open_at = open_top c.args.order c.args.block c.in-Grown.low _ c.in-Grown.twig grown in
+    e.spares open_at 0 (fewer c.args.order (0 + at.level) (at.level + 2) _ (omega arith) at.enough)

@@ -1,0 +1,6 @@
+pub mod Stubs
+pub mod Shape
+pub mod Updates
+pub mod Search
+pub mod Removal
+pub mod Top

@@ -1,0 +1,205 @@
+ghost use Rattle.std.specs.Prelude.{◌⊎◌, IsTrue, IsSome, ◌↔◌, ◌-◌, suc, ◌∷◌, [], ◌++◌, ◌≡◌, ℕ, ◌<◌, ◌≤◌, ◌+◌, ◌/◌, length, take, vec_capacity, vec_len};
+ghost use Rattle.btree_twigs.specs.Stubs.{children_of, nodes, level_of as level_in};
+ghost use Rattle.btree_twigs.specs.Updates.{IsNode, OneShort, HasRoom, width_of, CanMend, IsMended};
+ghost use Rattle.std.specs.Option.{option_to_list};
+ghost use Rattle.btree_twigs.specs.Removal.{below_in, IsTaken, MendsAt, AreMended, CanTake, CanTakeBelow, IsTwigTaken, IsChildTaken, CanMendBeside};
+ghost use Rattle.btree_twigs.specs.Top.{CanTakeTop, IsTopTaken, HasOnly};
+ghost use Rattle.btree_twigs.specs.declared.twigs.Child.{out-Child};
+ghost use Rattle.std.specs.Bool.{OnTrue, OnFalse};
+
+use crate::lists::{append, insert, lend_last, push};
+use crate::twigs::{Child, Twig, low_of, place};
+
+/// Takes the data record of a block out of a leaf.
+fn take_datum(children: &mut Vec<Child>, block: u64)
+    ensures take { (order least low high : ℕ) → IsNode order 0 least order low high children.old.items → low ≤ block → block < high
+        → IsTaken order 0 least low high block children.old.items children.new.items }
+    ensures wide { length children.old.items ≤ length children.new.items + 1 }
+    ensures capacity { vec_capacity children.new ≡ vec_capacity children.old }
+{
+    let at = place(children, block);
+    if at == 0 {
+        return;
+    }
+    if low_of(&children[at - 1]) != block {
+        return;
+    }
+    let _child = children.remove(at - 1);
+}
+
+/// Evens out two neighbours of which one has a child fewer than it must have: its neighbour lends it
+/// one, or where that has none to spare the left one takes all. Answers whether there are two still.
+fn even_out(left: &mut Vec<Child>, right: &mut Vec<Child>, order: usize) -> bool
+    requires four { 4 ≤ order }
+    requires room { (order < vec_capacity left.old) × (order < vec_capacity right.old) }
+    requires short { OneShort order (length left.old.items) (length right.old.items) }
+    ensures all { left.new.items ++ right.new.items ≡ left.old.items ++ right.old.items }
+    ensures two { OnTrue result ((order / 2 ≤ length left.new.items) × (length left.new.items ≤ order) × (order / 2 ≤ length right.new.items) × (length right.new.items ≤ order)) }
+    ensures one { OnFalse result ((length right.new.items ≡ 0) × (order / 2 ≤ length left.new.items) × (length left.new.items ≤ order)) }
+    ensures room { (order < vec_capacity left.new) × (order < vec_capacity right.new) }
+    ensures lent { OnTrue result ((order / 2 < length right.old.items → length left.new.items ≡ length left.old.items + 1)
+        × (length right.old.items ≤ order / 2 → length right.new.items ≡ length right.old.items + 1)) }
+    ensures lends { IsTrue result ↔ ((order / 2 < length right.old.items) ⊎ (order / 2 < length left.old.items)) }
+{
+    let half = order / 2;
+    if right.len() > half {
+        push(left, right.remove(0));
+        return true;
+    }
+    if left.len() > half {
+        lend_last(left, right);
+        return true;
+    }
+    append(left, right);
+    false
+}
+
+/// Evens out two nodes. Answers whether there are two still.
+fn even_twigs(left: &mut Twig, right: &mut Twig, order: usize) -> bool
+    requires four { 4 ≤ order }
+    requires room { HasRoom order left.old × HasRoom order right.old }
+    requires short { OneShort order (length (children_of left.old)) (length (children_of right.old)) }
+    ensures all { children_of left.new ++ children_of right.new ≡ children_of left.old ++ children_of right.old }
+    ensures two { OnTrue result ((order / 2 ≤ length (children_of left.new)) × (length (children_of left.new) ≤ order) × (order / 2 ≤ length (children_of right.new)) × (length (children_of right.new) ≤ order)) }
+    ensures one { OnFalse result ((length (children_of right.new) ≡ 0) × (order / 2 ≤ length (children_of left.new)) × (length (children_of left.new) ≤ order)) }
+    ensures room { HasRoom order left.new × HasRoom order right.new }
+    ensures levels { (level_in left.new ≡ level_in left.old) × (level_in right.new ≡ level_in right.old) }
+    ensures lends { ((order / 2 < length (children_of left.old)) ⊎ (order / 2 < length (children_of right.old))) → IsTrue result }
+{
+    even_out(&mut left.children, &mut right.children, order)
+}
+
+/// Mends two neighbours in memory of which one has a child fewer than it must have. Answers what is
+/// left of the right one.
+fn mend_pair(left: &mut Child, right: Child, order: usize) -> Option<Child>
+    requires four { 4 ≤ order }
+    requires can { CanMend order left.old right }
+    ensures mended { (at : CanMend order left.old right) → IsMended order (suc at.level) at.high left.old right (left.new ∷ option_to_list result) }
+    ensures lends { ((order / 2 < width_of left.old) ⊎ (order / 2 < width_of right)) → IsSome result }
+{
+    let Child::Grown {
+        twig: mut right,
+        ..
+    } = right
+    else {
+        unreachable!()
+    };
+    let Child::Grown { twig: left, .. } = left else {
+        unreachable!()
+    };
+    if !even_twigs(left, &mut right, order) {
+        return None;
+    }
+    Some(Child::Grown {
+        low: low_of(&right.children[0]),
+        twig: right,
+    })
+}
+
+/// Mends the neighbours at a place.
+fn mend_at(children: &mut Vec<Child>, left: usize, order: usize)
+    requires four { 4 ≤ order }
+    requires room { vec_len children.old ≤ vec_capacity children.old }
+    requires can { MendsAt order children.old.items left }
+    ensures mended { (m : MendsAt order children.old.items left) → AreMended order children.old.items left m children.new.items }
+    ensures capacity { vec_capacity children.new ≡ vec_capacity children.old }
+{
+    let right = children.remove(left + 1);
+    match mend_pair(&mut children[left], right, order) {
+        None => {}
+        Some(part) => insert(children, left + 1, part),
+    }
+}
+
+/// Mends the child at a place, which has a child fewer than it must have: with the neighbour that
+/// follows, or where it is the last with the one before.
+fn mend(children: &mut Vec<Child>, at: usize, order: usize)
+    requires four { 4 ≤ order }
+    requires room { vec_len children.old ≤ vec_capacity children.old }
+    requires can { CanMendBeside order children.old.items at }
+    ensures next { suc at < length children.old.items → (m : MendsAt order children.old.items at) → AreMended order children.old.items at m children.new.items }
+    ensures last { suc at ≡ length children.old.items → (m : MendsAt order children.old.items (at - 1)) → AreMended order children.old.items (at - 1) m children.new.items }
+    ensures capacity { vec_capacity children.new ≡ vec_capacity children.old }
+{
+    if at + 1 < children.len() {
+        mend_at(children, at, order);
+    } else {
+        mend_at(children, at - 1, order);
+    }
+}
+
+/// Takes the data record of a block out of a node, which may then have one child fewer than it must.
+#[cycle(take)]
+pub fn take(twig: &mut Twig, order: usize, block: u64)
+    requires four { 4 ≤ order }
+    requires can { CanTake order block twig.old }
+    ensures { (at : CanTake order block twig.old) → IsTwigTaken order at.level at.least at.low at.high block at.loses twig.old twig.new }
+{
+    if twig.level == 1 {
+        take_datum(&mut twig.children, block);
+        return;
+    }
+    let at = place(&twig.children, block);
+    if take_below(&mut twig.children[at - 1], order, block) {
+        mend(&mut twig.children, at - 1, order);
+    }
+}
+
+/// Takes the data record of a block out below a child. Answers whether that has a child fewer than it
+/// must have then.
+#[cycle(take)]
+fn take_below(child: &mut Child, order: usize, block: u64) -> bool
+    requires four { 4 ≤ order }
+    requires can { CanTakeBelow order block child.old }
+    ensures taken { (at : CanTakeBelow order block child.old) → IsChildTaken order at.level at.high block at.loses child.old child.new }
+    ensures short { IsTrue result ↔ (width_of child.new < order / 2) }
+{
+    match child {
+        Child::Kept { .. } => unreachable!(),
+        Child::Grown { twig, .. } => {
+            take(twig, order, block);
+            twig.children.len() < order / 2
+        }
+    }
+}
+
+/// Takes the data record of a block out of a tree whose root node is in memory. An inner root that is left with one child
+/// gives way to it.
+pub fn take_top(top: &mut Child, order: usize, block: u64)
+    requires four { 4 ≤ order }
+    requires can { CanTakeTop order block top.old }
+    ensures { (at : CanTakeTop order block top.old) → IsTopTaken order at.level at.high block top.old top.new }
+{
+    if let Child::Grown { twig, .. } = top {
+        take(twig, order, block);
+        if twig.level == 1 {
+            return;
+        }
+        if twig.children.len() < 2 {
+            give_way(top);
+        }
+    }
+}
+
+/// Puts the only child of a node in its place.
+fn give_way(top: &mut Child)
+    requires { HasOnly top.old }
+    ensures { below_in (out-Child top.old) ≡ top.new ∷ [] }
+{
+    let child = match top {
+        Child::Grown { twig, .. } => only(twig),
+        Child::Kept { .. } => unreachable!(),
+    };
+    *top = child;
+}
+
+/// Takes the only child of a node.
+fn only(twig: &mut Twig) -> Child
+    requires { length (children_of twig.old) ≡ 1 }
+    ensures { children_of twig.old ≡ result ∷ [] }
+{
+    match twig.children.pop() {
+        Some(child) => child,
+        None => unreachable!(),
+    }
+}

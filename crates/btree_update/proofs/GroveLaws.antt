@@ -1,0 +1,71 @@
+-- What an update does to a grove, from what it does to its root.
+use Rattle.std.proofs.Common.{◌≡◌, ℕ, zero, suc, ◌+◌, ◌-◌, ◌/◌, ◌<◌, ◌≤◌, List, [], ◌∷◌, ◌++◌, Option, None, Some, refl, sym, ap, subst, ◌∙◌, arith, length, vec_capacity}
+use Rattle.std.specs.List.{AllByRecursion}
+use Rattle.std.specs.declared.vec.Vec.{Vec}
+use Rattle.std.specs.declared.alloc.Global.{Global}
+use Rattle.page_store.specs.Tree.{Mapped}
+use Rattle.btree_twigs.specs.declared.twigs.Child.{Child, Child-F, out-Child}
+use Rattle.btree_twigs.specs.declared.twigs.Child.TheOpen.{Kept, Grown}
+use Rattle.btree_twigs.specs.declared.twigs.Child.TheVariants as made
+use Rattle.btree_twigs.specs.declared.twigs.Twig.{Twig}
+use Rattle.btree_twigs.specs.declared.twigs.Spot.{Spot}
+use Rattle.btree_twigs.specs.Stubs.{Stub, stubs, stubs_in, stubs_below}
+use Rattle.btree_twigs.specs.Shape.{IsTwig}
+use Rattle.btree_twigs.specs.Updates.{IsOpen, HasSpares}
+use Rattle.btree_twigs.specs.Search.{IsAt, IsSpot}
+use Rattle.btree_twigs.specs.Top.{IsTop, IsTopBy, top_least, level_in, child_level}
+use Rattle.btree_twigs.proofs.Nodes.{stubs_of_grown}
+use Rattle.btree_twigs.proofs.Ways.{open_back}
+use Rattle.btree_update.specs.GroveTree.{Maps}
+use Rattle.btree_update.specs.Roots.{IsRoot, IsRootBy, RootMaps, RootMapsBy}
+
+-- where a search ends below a root
+pub spot_at : (order below block high low : ℕ) (twig : Twig) (spot : Spot) → IsTop order below high (made.Grown low twig) → block < high →
+    ((order level least most low : ℕ) → IsTwig order level least most low high twig → low ≤ block → block < high → IsSpot block (stubs_below level high twig) spot) →
+    IsSpot block (stubs (suc below) high (made.Grown low twig)) spot
+spot_at order below block high low twig spot top lt f =
+    let h = subst (IsTopBy order below high) (made.outs-Grown low twig) top in
+    subst (λ ss. IsSpot block ss spot) (sym (stubs_of_grown below high low twig)) (f order below (top_least below) order 0 h.1 (omega arith) lt)
+
+-- on an open way it ends at no place of a node
+pub no_place : (block : ℕ) (ss : List Stub) (s : Stub) → IsAt block ss (s ∷ []) → IsOpen block ss → 1 ≤ s.level → s.low ≤ block → block < s.high → ⊥
+no_place block ss s at h one from to =
+    let back = open_back block at.front (s ∷ at.back) (subst (IsOpen block) at.all h) in
+    omega (arith, back.0 from to, one)
+
+top_level_by : (order level high : ℕ) (x : Child-F Child Twig) → IsTopBy order level high x → level_in x ≡ suc level
+top_level_by order level high (Kept low addr key) h = absurd h
+top_level_by order level high (Grown low twig) h = h.1.level_is
+
+pub top_level : (order level high : ℕ) (c : Child) → IsTop order level high c → child_level c ≡ suc level
+top_level order level high c h = top_level_by order level high (out-Child c) h
+
+top_root_by : (order level high : ℕ) (x : Child-F Child Twig) → IsTopBy order level high x → IsRootBy order level high x
+top_root_by order level high (Kept low addr key) h = absurd h
+top_root_by order level high (Grown low twig) h = h
+
+pub top_is_root : (order level high : ℕ) (c : Child) → IsTop order level high c → IsRoot order level high c
+top_is_root order level high c h = top_root_by order level high (out-Child c) h
+
+top_maps_by : (pages : List (List ℕ)) (order level high : ℕ) (x : Child-F Child Twig) (mapped : List Mapped) → IsTopBy order level high x → Maps pages order (stubs_in (stubs level) (suc level) high x) mapped →
+    RootMapsBy pages order level high x mapped
+top_maps_by pages order level high (Kept low addr key) mapped h m = absurd h
+top_maps_by pages order level high (Grown low twig) mapped h m = m
+
+pub top_maps : (pages : List (List ℕ)) (order level high : ℕ) (c : Child) (mapped : List Mapped) → IsTop order level high c → Maps pages order (stubs (suc level) high c) mapped → RootMaps pages order level high c mapped
+unfolding stubs
+top_maps pages order level high c mapped h m = top_maps_by pages order level high (out-Child c) mapped h m
+
+pub above_it : (level : ℕ) → 1 ≤ level → level ≡ suc (level - 1)
+above_it level one = omega (arith, one)
+
+-- one list more
+pub spares_push : (order : ℕ) (spares : List (Vec Child Global)) (spare : Vec Child Global) → order ≤ 64 → spare.items ≡ [] → 64 < vec_capacity spare → HasSpares order 0 spares → HasSpares order 0 (spares ++ spare ∷ [])
+spares_push order spares spare le empty room h = record { many = omega arith; each = go spares h.each }
+  where
+    go : (xs : List (Vec Child Global)) → AllByRecursion (λ v. (v.items ≡ []) × (order < vec_capacity v)) xs → AllByRecursion (λ v. (v.items ≡ []) × (order < vec_capacity v)) (xs ++ spare ∷ [])
+    go [] h = ((empty, omega (arith, le, room)), tt)
+    go (x ∷ xs) h = (h.0, go xs h.1)
+
+pub spares_many : (order count : ℕ) (spares : List (Vec Child Global)) → count ≤ length spares → HasSpares order 0 spares → HasSpares order count spares
+spares_many order count spares le h = record { many = le; each = h.each }

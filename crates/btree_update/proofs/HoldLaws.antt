@@ -1,0 +1,146 @@
+-- What is held of the way to a block.
+use Rattle.std.proofs.Common.{◌≡◌, ℕ, zero, suc, ◌+◌, ◌-◌, ◌/◌, ◌<◌, ◌≤◌, ◌^◌, List, [], ◌∷◌, ◌++◌, length, take, drop, refl, sym, ap, subst, ◌∙◌, arith, All}
+use Rattle.std.specs.List.{AllByRecursion}
+use Rattle.std.proofs.lemmas.List.Elements.{recursion_from_All}
+use Rattle.node_codec.specs.declared.body.Entry.{Entry}
+use Rattle.node_codec.specs.Record.{NodeRecord, FitsNode}
+use Rattle.page_store.specs.declared.wants.Want.{Want}
+use Rattle.page_store.specs.Places.{IsRecordAt}
+use Rattle.btree_twigs.specs.declared.twigs.Child.{Child, Child-F, out-Child}
+use Rattle.btree_twigs.specs.declared.twigs.Child.TheOpen.{Kept, Grown}
+use Rattle.btree_twigs.specs.declared.twigs.Child.TheVariants as made
+use Rattle.btree_twigs.specs.declared.twigs.Twig.{Twig}
+use Rattle.btree_twigs.specs.Stubs.{Stub, start_by, low_of, children_of, stubs, stubs_in, stubs_below, nodes, nodes_in, nodes_below, sum_by}
+use Rattle.btree_twigs.specs.Shape.{EachBy, IsNodeBy, IsChild, IsTwig}
+use Rattle.btree_twigs.specs.Updates.{IsNode, stubs_under}
+use Rattle.btree_twigs.proofs.ListLaws.{start_append, stubs_append, each_front, each_le}
+use Rattle.btree_twigs.proofs.Nodes.{stubs_of_grown}
+use Rattle.btree_twigs.proofs.Ways.{child_is_twig}
+use Rattle.btree_update.specs.GroveTree.{stubs_at}
+use Rattle.btree_update.specs.Reading.{kept_of, all_kept}
+use Rattle.btree_update.specs.Held.{stub_at, IsReadAs, OnWay, TakesHeld, HeldIn, HeldFor, AnyRead}
+use Rattle.btree_update.specs.Holding.{IsNodeFor, IsNodeOf, AreBelow}
+use Rattle.btree_update.proofs.OpenLaws.{IsOnWay}
+use Rattle.btree_update.proofs.Readings.{kept_stubs, read_is_twig}
+
+starts_before : (order level high : ℕ) (gs es : List Child) (d : Child) → EachBy low_of (IsChild order level) high (gs ++ d ∷ es) → start_by low_of (gs ++ d ∷ es) high ≤ low_of d
+starts_before order level high gs es d each =
+    omega (arith, ap (λ n. n) (start_append low_of gs (d ∷ es) high), each_le low_of (IsChild order level) (low_of d) gs (each_front low_of (IsChild order level) high gs (d ∷ es) each))
+
+-- the way leads to one child alone
+pub same_way : (order level high block : ℕ) (fs gs : List Child) (c d : Child) (bs es : List Child) → EachBy low_of (IsChild order level) high (fs ++ c ∷ bs) → fs ++ c ∷ bs ≡ gs ++ d ∷ es →
+    low_of c ≤ block → block < start_by low_of bs high → low_of d ≤ block → block < start_by low_of es high → (c ≡ d) × (bs ≡ es)
+same_way order level high block [] [] c d bs es each e from to from' to' = (cc, cc)
+same_way order level high block [] (g ∷ gs) c d bs es each e from to from' to' =
+    let rest : bs ≡ gs ++ d ∷ es = cc in
+    let le = starts_before order level high gs es d (subst (EachBy low_of (IsChild order level) high) rest each.2) in
+    let lt = subst (λ xs. block < start_by low_of xs high) rest to in
+    absurd (omega (arith, le, lt, from'))
+same_way order level high block (f ∷ fs) [] c d bs es each e from to from' to' =
+    let rest : fs ++ c ∷ bs ≡ es = cc in
+    let le = starts_before order level high fs bs c each.2 in
+    let lt = subst (λ xs. block < start_by low_of xs high) (sym rest) to' in
+    absurd (omega (arith, le, lt, from))
+same_way order level high block (f ∷ fs) (g ∷ gs) c d bs es each e from to from' to' =
+    let rest : fs ++ c ∷ bs ≡ gs ++ d ∷ es = cc in
+    same_way order level high block fs gs c d bs es each.2 rest from to from' to'
+
+-- nothing is on the way
+pub no_way : (Rest : ℕ → Child → Type 0) (order level least low high block : ℕ) (twig : Twig) → IsTwig order level least order low high twig → block < start_by low_of (children_of twig) high → OnWay block Rest high twig
+no_way Rest order level least low high block twig h lt = λ front back c split from to.
+    let each = subst (EachBy low_of (IsChild order level) high) split h.node.each in
+    let le = starts_before order level high front back c each in
+    absurd (omega (arith, le, subst (λ xs. block < start_by low_of xs high) split lt, from))
+
+pub leaf_way : (Reads : ℕ → Stub → Twig → Type 0) (order block level high : ℕ) (twig : Twig) (held : List Twig) → level ≡ 0 → OnWay block (λ end c. HeldFor Reads order block level end c held) high twig
+unfolding HeldFor
+leaf_way Reads order block zero high twig held is = λ front back c split from to. tt
+leaf_way Reads order block (suc level) high twig held is = absurd (omega (arith, is))
+
+-- what holds of the child on the way holds on the way
+pub one_way : (Rest : ℕ → Child → Type 0) (order level least low high block n end : ℕ) (twig : Twig) (c : Child) → IsTwig order level least order low high twig → (w : IsOnWay order block level high (children_of twig) n c) →
+    Rest (start_by low_of (drop (suc w.at) (children_of twig)) high) c → OnWay block Rest high twig
+one_way Rest order level least low high block n end twig c h w r = λ front back d split from to.
+    let each = subst (EachBy low_of (IsChild order level) high) w.split h.node.each in
+    let same = same_way order level high block (take w.at (children_of twig)) front c d (drop (suc w.at) (children_of twig)) back each (sym w.split ∙ split) w.from w.to from to in
+    subst (λ xs. Rest (start_by low_of xs high) d) same.1 (subst (Rest (start_by low_of (drop (suc w.at) (children_of twig)) high)) same.0 r)
+
+pub below_front : (head : ℕ) (xs ys : List Stub) → AreBelow head (xs ++ ys) → AreBelow head xs
+below_front head [] ys h = tt
+below_front head (x ∷ xs) ys h = (h.0, below_front head xs ys h.1)
+
+pub below_back : (head : ℕ) (xs ys : List Stub) → AreBelow head (xs ++ ys) → AreBelow head ys
+below_back head [] ys h = h
+below_back head (x ∷ xs) ys h = below_back head xs ys h.1
+
+-- the places below the child on the way are among those of the node
+pub below_child : (order level high block n head : ℕ) (twig : Twig) (c : Child) → (w : IsOnWay order block level high (children_of twig) n c) → AreBelow head (stubs_below level high twig) →
+    AreBelow head (stubs level (start_by low_of (drop (suc w.at) (children_of twig)) high) c)
+below_child order level high block n head twig c w h =
+    let cs = children_of twig in
+    let all = subst (AreBelow head) (ap (stubs_under level high) w.split ∙ stubs_append low_of (stubs level) high (take w.at cs) (c ∷ drop (suc w.at) cs)) h in
+    below_front head (stubs level (start_by low_of (drop (suc w.at) cs) high) c) (stubs_under level high (drop (suc w.at) cs)) (below_back head (stubs_under level (low_of c) (take w.at cs)) _ all)
+
+-- a node that was read has no node in memory below it
+kept_nodes_of : (level : ℕ) (e : Entry) → nodes level (kept_of e) ≡ 0
+unfolding nodes
+kept_nodes_of zero e = refl
+kept_nodes_of (suc level) e = ap (nodes_in (nodes level)) (made.outs-Kept e.low e.addr e.key)
+
+kept_nodes : (level : ℕ) (es : List Entry) → sum_by (nodes level) (all_kept es) ≡ 0
+kept_nodes level [] = refl
+kept_nodes level (e ∷ es) = omega (arith, kept_nodes_of level e, kept_nodes level es)
+
+pub bare_of : (level : ℕ) (want : Want) (twig : Twig) → IsNodeFor want twig → nodes_below level twig ≡ 0
+bare_of level want twig h = ap (sum_by (nodes level)) h.children ∙ kept_nodes level h.entries
+
+-- its places have addresses below its own
+entries_below : (level high head : ℕ) (es : List Entry) → AllByRecursion (λ (e : Entry). e.addr < head) es → AreBelow head (stubs_at level high es)
+entries_below zero high head [] h = tt
+entries_below (suc level) high head [] h = tt
+entries_below zero high head (e ∷ es) h = (h.0, entries_below zero high head es h.1)
+entries_below (suc level) high head (e ∷ es) h = (h.0, entries_below (suc level) high head es h.1)
+
+lower : (head head' : ℕ) (ss : List Stub) → head ≤ head' → AreBelow head ss → AreBelow head' ss
+lower head head' [] le h = tt
+lower head head' (s ∷ ss) le h = (omega (arith, h.0, le), lower head head' ss le h.1)
+
+pub read_below : (level high head : ℕ) (want : Want) (twig : Twig) → IsNodeFor want twig → want.addr < head → AreBelow head (stubs_below level high twig)
+read_below level high head want twig h lt =
+    subst (AreBelow head) (sym (ap (stubs_under level high) h.children ∙ kept_stubs level high h.entries))
+    (lower want.addr head _ (omega (arith, lt)) (entries_below level high want.addr h.entries (recursion_from_All (λ (e : Entry). e.addr < want.addr) h.entries h.in_range.below)))
+
+-- a node that was read is a node in memory
+pub node_is_twig : (order level least low high addr : ℕ) (twig : Twig) → order ≤ 64 → (1 ≤ level → 1 ≤ least) → low ≤ high →
+    IsNodeFor (record { addr = addr; level = suc level; low = low; high = high; least = least; most = order }) twig → IsTwig order level least order low high twig
+node_is_twig order level least low high addr twig most some le h =
+    read_is_twig order level least (record { addr = addr; level = suc level; low = low; high = high; least = least; most = order }) h.entries twig some refl refl le h.in_range h.wanted h.level_is (omega (arith, h.room, most)) h.children
+
+pub read_as : (pages : List (List ℕ)) (order level low high addr least : ℕ) (key : List ℕ) (twig : Twig) → addr < 2 ^ 64 →
+    IsNodeOf pages (record { addr = addr; level = suc level; low = low; high = high; least = least; most = order }) key twig → IsReadAs pages order level (stub_at (suc level) low high addr key) twig
+read_as pages order level low high addr least key twig small h = record {
+  small = small;
+  entries = h.entries;
+  here = h.here;
+  same = ap (stubs_under level high) h.children ∙ kept_stubs level high h.entries;
+}
+
+-- a child on the medium whose node is held
+pub holds_kept : (Reads : ℕ → Stub → Twig → Type 0) (order block level high low addr : ℕ) (key : List ℕ) (twig : Twig) (rest held : List Twig) → held ≡ rest ++ twig ∷ [] → Reads level (stub_at (suc level) low high addr key) twig →
+    IsTwig order level (order / 2) order low high twig → nodes_below level twig ≡ 0 → OnWay block (λ end c. HeldFor Reads order block level end c rest) high twig → HeldFor Reads order block (suc level) high (made.Kept low addr key) held
+unfolding HeldFor
+holds_kept Reads order block level high low addr key twig rest held is reads shaped bare way =
+    subst (λ x. HeldIn Reads order block (HeldFor Reads order block level) level high x held) (sym (made.outs-Kept low addr key))
+    (record { rest = rest; twig = twig; is = is; reads = reads; shaped = shaped; bare = bare; on_way = way })
+
+-- a child in memory
+pub holds_grown : (Reads : ℕ → Stub → Twig → Type 0) (order block level high low : ℕ) (twig : Twig) (held : List Twig) → OnWay block (λ end c. HeldFor Reads order block level end c held) high twig →
+    HeldFor Reads order block (suc level) high (made.Grown low twig) held
+unfolding HeldFor
+holds_grown Reads order block level high low twig held way =
+    subst (λ x. HeldIn Reads order block (HeldFor Reads order block level) level high x held) (sym (made.outs-Grown low twig)) way
+
+-- the place of a child on the medium
+pub kept_below : (head level high low addr : ℕ) (key : List ℕ) → AreBelow head (stubs (suc level) high (made.Kept low addr key)) → addr < head
+unfolding stubs
+kept_below head level high low addr key h = (subst (λ x. AreBelow head (stubs_in (stubs level) (suc level) high x)) (made.outs-Kept low addr key) h).0

@@ -1,0 +1,103 @@
+use Rattle.std.proofs.Common.{◌≡◌, ◌⊎◌, ℕ, suc, ◌+◌, ◌-◌, ◌*◌, ◌<◌, ◌≤◌, ◌++◌, List, [], ◌∷◌, inl, inr, sym, ap, subst, ◌∙◌, rules, arith}
+use Rattle.page_store.specs.Tree.{Mapped}
+use Rattle.node_codec.specs.Record.{DataRecord}
+use Rattle.page_store.specs.Places.{IsRecordAt}
+use Rattle.btree_twigs.specs.declared.twigs.Child.{Child}
+use Rattle.btree_twigs.specs.Stubs.{stubs, datum, nodes}
+use Rattle.btree_twigs.specs.Updates.{IsOpen, HasSpares}
+use Rattle.btree_twigs.specs.Top.{IsTop, CanPutTop, IsTopPut}
+use Rattle.btree_update.specs.declared.groves.Grove.{Grove}
+use Rattle.btree_update.specs.GroveTree.{Maps}
+use Rattle.btree_update.specs.Opens.{Opens, GivesWay}
+use Rattle.btree_update.specs.Roots.{IsRoot, RootMaps, CanOpenRoot, IsRootOpened}
+use Rattle.btree_update.specs.Groves.{IsSound, CanInsert, IsAddressOf, LetsGo, Goes}
+use Rattle.btree_update.proofs.Places.{puts_maps}
+use Rattle.btree_update.proofs.GroveLaws.{top_level, top_is_root, top_maps, above_it}
+use Rattle.btree_update.proofs.groves.Grove.insert.Goals as goal
+
+abbrev can_open : (block : ℕ) (grove : Grove) → CanInsert block grove → CanOpenRoot grove.level block grove.held.items grove.top
+can_open block grove can = record {
+  order = grove.order;
+  below = grove.level - 1;
+  level_is = above_it grove.level can.sound.one;
+  high = grove.blocks;
+  shaped = can.sound.shaped;
+  to = can.to;
+  at_hand = can.at_hand;
+}
+
+abbrev can_put : (block : ℕ) (grove : Grove) (top : Child) → CanInsert block grove → grove.level < 255 → IsRootOpened grove.order (grove.level - 1) block grove.blocks top → CanPutTop grove.order block grove.spares.items top
+can_put block grove top can small o = record {
+  level = grove.level - 1;
+  small = omega (arith, small, can.sound.one);
+  high = grove.blocks;
+  shaped = o.shaped;
+  to = can.to;
+  is_open = o.is_open;
+  enough = record { many = omega (arith, can.spares.many, can.sound.one); each = can.spares.each };
+}
+
+one_less : (a b : ℕ) → a ≡ suc b → a - 1 ≡ b
+one_less a b e = omega (arith, e)
+
+pub let_go-requires-clause-gone_room : goal.let_go-requires-clause-gone_room
+let_go-requires-clause-gone_room c = omega (arith, c.requires.can.gone_room, c.open_root.ensures.spare)
+
+pub put_top-requires-clause-can : goal.put_top-requires-clause-can
+put_top-requires-clause-can c = can_put c.args.block c.args.self.now c.open_root.new.top c.requires.can c.requires.small (c.open_root.ensures.opened (can_open c.args.block c.args.self.now c.requires.can))
+
+pub returns-clause-sound : goal.returns-clause-sound
+returns-clause-sound c =
+    let p = c.put_top.ensures.put (can_put c.args.block c.args.self.now c.open_root.new.top c.requires.can c.requires.small (c.open_root.ensures.opened (can_open c.args.block c.args.self.now c.requires.can))) in
+    let l = c.level_of-self.ensures ∙ top_level c.args.self.now.order p.new_level c.args.self.now.blocks c.put_top.new.top p.shaped in
+    record {
+      least = c.requires.can.sound.least;
+      most = c.requires.can.sound.most;
+      one = omega (arith, l);
+      shaped = subst (λ m. IsRoot c.args.self.now.order m c.args.self.now.blocks c.put_top.new.top) (sym (one_less c.level_of-self.result p.new_level l)) (top_is_root c.args.self.now.order p.new_level c.args.self.now.blocks c.put_top.new.top p.shaped);
+      spares = c.put_top.ensures.spares;
+    }
+
+level_by : (level new_level new : ℕ) → 1 ≤ level → (new_level ≡ level - 1) ⊎ (new_level ≡ suc (level - 1)) → new ≡ suc new_level → (new ≡ level) ⊎ (new ≡ level + 1)
+level_by level new_level new one (inl e) is = inl (omega (arith, one, e, is))
+level_by level new_level new one (inr e) is = inr (omega (arith, one, e, is))
+
+pub returns-clause-level : goal.returns-clause-level
+returns-clause-level c =
+    let p = c.put_top.ensures.put (can_put c.args.block c.args.self.now c.open_root.new.top c.requires.can c.requires.small (c.open_root.ensures.opened (can_open c.args.block c.args.self.now c.requires.can))) in
+    level_by c.args.self.now.level p.new_level c.level_of-self.result c.requires.can.sound.one p.level_is (c.level_of-self.ensures ∙ top_level c.args.self.now.order p.new_level c.args.self.now.blocks c.put_top.new.top p.shaped)
+
+pub returns-clause-maps : goal.returns-clause-maps
+returns-clause-maps c pages mapped content held m there =
+    let can = can_open c.args.block c.args.self.now c.requires.can in
+    let p = c.put_top.ensures.put (can_put c.args.block c.args.self.now c.open_root.new.top c.requires.can c.requires.small (c.open_root.ensures.opened can)) in
+    let l = c.level_of-self.ensures ∙ top_level c.args.self.now.order p.new_level c.args.self.now.blocks c.put_top.new.top p.shaped in
+    let opened = subst (λ k. Maps pages c.args.self.now.order (stubs k c.args.self.now.blocks c.open_root.new.top) mapped) can.level_is (c.open_root.ensures.maps pages can held mapped m) in
+    let r = puts_maps pages c.args.self.now.order 0 c.args.self.now.blocks c.args.block c.args.addr c.bytes.result content _ _ mapped p.puts opened (subst (λ k. IsRecordAt pages c.args.addr k (DataRecord c.args.block content)) (sym c.bytes.ensures.value) there) in
+    let root = top_maps pages c.args.self.now.order p.new_level c.args.self.now.blocks c.put_top.new.top r.0 p.shaped r.1 in
+    (r.0, subst (λ k. RootMaps pages c.args.self.now.order k c.args.self.now.blocks c.put_top.new.top r.0) (sym (one_less c.level_of-self.result p.new_level l)) root, rw (sym c.bytes.ensures.value) r.2)
+
+pub returns-clause-goes : goal.returns-clause-goes
+returns-clause-goes c pages held =
+    let can = can_open c.args.block c.args.self.now c.requires.can in
+    let o = c.open_root.ensures.opened can in
+    let g = c.open_root.ensures.gives pages can held in
+    record {
+      opened = stubs c.args.self.now.level c.args.self.now.blocks c.open_root.new.top;
+      addrs = g.addrs;
+      opens = g.opens;
+      replaced = c.address_of-old.result;
+      was = subst (λ k. IsAddressOf c.args.block (stubs k c.args.self.now.blocks c.open_root.new.top) c.address_of-old.result) (sym can.level_is)
+          (c.address_of-old.ensures c.args.self.now.order (c.args.self.now.level - 1) o.shaped c.requires.can.to o.is_open);
+      goes = subst (λ g'. LetsGo c.args.self.now.head c.args.block c.address_of-old.result g' c.let_go.new.gone.items c.args.self.now.never.items c.let_go.new.never.items) g.more_is c.let_go.ensures;
+    }
+
+pub returns-clause-grown : goal.returns-clause-grown
+returns-clause-grown c =
+    let can = can_open c.args.block c.args.self.now c.requires.can in
+    let p = c.put_top.ensures.put (can_put c.args.block c.args.self.now c.open_root.new.top c.requires.can c.requires.small (c.open_root.ensures.opened can)) in
+    let l = c.level_of-self.ensures ∙ top_level c.args.self.now.order p.new_level c.args.self.now.blocks c.put_top.new.top p.shaped in
+    let few = subst (λ k. nodes (suc p.new_level) c.put_top.new.top ≤ nodes k c.open_root.new.top + (c.args.self.now.level - 1 + 2)) (sym can.level_is) p.few in
+    let r : nodes (suc p.new_level) c.put_top.new.top ≤ nodes c.args.self.now.level c.args.self.now.top + (2 * c.args.self.now.level + 1)
+    = omega (arith, few, c.open_root.ensures.nodes can, c.requires.can.sound.one) in
+    subst (λ k. nodes k c.put_top.new.top ≤ nodes c.args.self.now.level c.args.self.now.top + (2 * c.args.self.now.level + 1)) (sym l) r

@@ -1,0 +1,12 @@
+use Rattle.std.proofs.Common.{◌≡◌, ℕ, ◌≤◌, ◌+◌, rules, arith}
+use Rattle.btree_update.proofs.GroveLaws.{spares_many}
+use Rattle.btree_update.proofs.groves.make_spares.Goals as goal
+
+pub loop-alloc-preserved : goal.loop-alloc-preserved
+loop-alloc-preserved c = record { each = λ order le h. c.add_spare.ensures.kept order le (c.loop-alloc.invariant.each order le h) }
+
+pub returns-in_err-add_spare-clause-kept : goal.returns-in_err-add_spare-clause-kept
+returns-in_err-add_spare-clause-kept c = λ order le h. c.add_spare.ensures.kept order le (c.loop-alloc.invariant.each order le h)
+
+pub returns-clause-made : goal.returns-clause-made
+returns-clause-made c = λ order le h. spares_many order (c.args.level + 1) _ (omega (arith, c.len.ensures, c.loop-alloc-test.false)) (c.loop-alloc.invariant.each order le h)

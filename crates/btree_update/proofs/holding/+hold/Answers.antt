@@ -1,0 +1,225 @@
+use Rattle.std.proofs.Common.{◌≡◌, ℕ, zero, suc, ◌<◌, ◌≤◌, ◌+◌, ◌-◌, ◌/◌, ◌^◌, ◌++◌, [], ◌∷◌, List, length, take, drop, get_or, refl, sym, ap, subst, ◌∙◌, rules, arith}
+use Rattle.platform.specs.declared.platforms.Platform.{Ghosts}
+use Rattle.btree_walk.proofs.OnLaws.{IfOk_map}
+use Rattle.btree_twigs.specs.declared.twigs.Child.{Child, out-Child}
+use Rattle.btree_twigs.specs.declared.twigs.Child.TheVariants as made
+use Rattle.btree_twigs.specs.declared.twigs.Twig.{Twig, out-Twig}
+use Rattle.btree_twigs.specs.Stubs.{Stub, start_by, low_of, children_of, stubs, stubs_below}
+use Rattle.btree_twigs.specs.Shape.{IsChild, IsTwig}
+use Rattle.btree_twigs.specs.Updates.{IsNode}
+use Rattle.btree_twigs.proofs.Nodes.{stubs_of_grown, low_of_grown}
+use Rattle.btree_twigs.proofs.Children.{low_of_kept}
+use Rattle.btree_twigs.proofs.Ways.{child_is_twig}
+use Rattle.btree_update.specs.Held.{stub_at, AnyRead, IsReadAs, OnWay, HeldFor}
+use Rattle.page_store.specs.declared.wants.Want.{Want}
+use Rattle.btree_walk.specs.Sights.{StandsOver}
+use Rattle.btree_update.specs.Holding.{CanHold, CanHoldBelow, AreBelow, IsNodeFor, IsNodeOf}
+use Rattle.btree_update.proofs.OpenLaws.{IsOnWay, on_way, child_is}
+use Rattle.btree_update.proofs.HoldLaws.{no_way, leaf_way, one_way, below_child, bare_of, read_below, node_is_twig, read_as, holds_kept, holds_grown, kept_below}
+use Rattle.btree_update.proofs.holding.+hold.Goals as goal
+
+nothing_before : (block high n : ℕ) (ds cs : List Child) → ds ≡ cs → n ≡ 0 → ((high : ℕ) → block < high → block < start_by low_of (drop n ds) high) → block < high → block < start_by low_of cs high
+nothing_before block high n ds cs same zero_is after lt =
+    subst (λ xs. block < start_by low_of xs high) same (subst (λ m. block < start_by low_of (drop m ds) high) zero_is (after high lt))
+
+pub hold_below-returns-then-at-eq0-clause-at_hand : goal.hold_below-returns-then-at-eq0-clause-at_hand
+hold_below-returns-then-at-eq0-clause-at_hand g t c =
+    let at = c.requires.can in
+    no_way (λ end d. HeldFor AnyRead c.args.order c.args.block c.args.level end d c.args.held.now.items) c.args.order c.args.level at.least at.low c.args.high c.args.block c.args.twig.now at.shaped
+    (nothing_before c.args.block c.args.high c.place-at.result _ (children_of c.args.twig.now) c.deref.ensures.value c.if-at-eq0.true c.place-at.ensures.after at.to)
+
+pub hold_below-returns-then-at-eq0-clause-reads : goal.hold_below-returns-then-at-eq0-clause-reads
+hold_below-returns-then-at-eq0-clause-reads g t c = λ tells stands.
+    (let at = c.requires.can in
+    no_way (λ end d. HeldFor (IsReadAs (g.P.Platform.history c.args.platform.now).present.readable c.args.order) c.args.order c.args.block c.args.level end d c.args.held.now.items) c.args.order c.args.level at.least at.low c.args.high c.args.block c.args.twig.now at.shaped
+    (nothing_before c.args.block c.args.high c.place-at.result _ (children_of c.args.twig.now) c.deref.ensures.value c.if-at-eq0.true c.place-at.ensures.after at.to))
+
+pub hold_below-returns-then-level-eq0-clause-at_hand : goal.hold_below-returns-then-level-eq0-clause-at_hand
+hold_below-returns-then-level-eq0-clause-at_hand g t c = leaf_way AnyRead c.args.order c.args.block c.args.level c.args.high c.args.twig.now c.args.held.now.items c.if-level-eq0.true
+
+pub hold_below-returns-then-level-eq0-clause-reads : goal.hold_below-returns-then-level-eq0-clause-reads
+hold_below-returns-then-level-eq0-clause-reads g t c = λ tells stands.
+    leaf_way (IsReadAs (g.P.Platform.history c.args.platform.now).present.readable c.args.order) c.args.order c.args.block c.args.level c.args.high c.args.twig.now c.args.held.now.items c.if-level-eq0.true
+
+above : (n : ℕ) → (n ≡ 0 → ⊥) → n ≡ suc (n - 1)
+above n h = omega (arith, h)
+
+-- the child on the way can be held
+abbrev held_child : (order level block high head n end : ℕ) (twig : Twig) (c : Child) (at : CanHoldBelow order level block high head twig) → (w : IsOnWay order block level high (children_of twig) n c) → (level ≡ 0 → ⊥) →
+    end ≡ start_by low_of (drop (suc w.at) (children_of twig)) high → CanHold order level block end head c
+held_child order level block high head n end twig c at w some is = record {
+  below = level - 1;
+  level_is = above level some;
+  four = at.four;
+  most = at.most;
+  shaped = subst (λ m. IsChild order level m c) (sym is) (child_is order level at.least at.low high block (take w.at (children_of twig)) c (drop (suc w.at) (children_of twig)) (subst (IsNode order level at.least order at.low high) w.split at.shaped.node));
+  from = w.from;
+  to = subst (λ m. block < m) (sym is) w.to;
+  within = subst (λ m. AreBelow head (stubs level m c)) (sym is) (below_child order level high block n head twig c w at.within);
+}
+
+end_is : (high n i end : ℕ) (ds cs : List Child) → ds ≡ cs → suc i ≡ n → end ≡ start_by low_of (drop n ds) high → end ≡ start_by low_of (drop (suc i) cs) high
+end_is high n i end ds cs same is e = e ∙ ap (λ xs. start_by low_of (drop n xs) high) same ∙ ap (λ m. start_by low_of (drop m cs) high) (sym is)
+
+pub hold_below-hold_way-requires : goal.hold_below-hold_way-requires
+hold_below-hold_way-requires g t c κs within =
+    let at = c.requires.can in
+    let w = on_way c.args.order c.args.block c.args.level c.args.high c.place-at.result (children_of c.args.twig.now) c.deref.result.now c.index-child.result.now c.deref.ensures.value c.if-at-eq0.false
+    c.place-at.ensures.within c.place-at.ensures.before c.place-at.ensures.after at.to c.index-child.ensures in (
+      search rules,
+      (
+        within,
+        held_child c.args.order c.args.level c.args.block c.args.high (g.P.Platform.head c.args.platform.now) c.place-at.result c.end_of-end.result c.args.twig.now c.index-child.result.now at w c.if-level-eq0.false
+            (end_is c.args.high c.place-at.result w.at c.end_of-end.result c.deref-2.result.now (children_of c.args.twig.now) c.deref-2.ensures.value w.at_is c.end_of-end.ensures),
+      ),
+    )
+
+pub hold_below-returns-clause-at_hand : goal.hold_below-returns-clause-at_hand
+hold_below-returns-clause-at_hand g t c =
+    let at = c.requires.can in
+    let w = on_way c.args.order c.args.block c.args.level c.args.high c.place-at.result (children_of c.args.twig.now) c.deref.result.now c.index-child.result.now c.deref.ensures.value c.if-at-eq0.false
+    c.place-at.ensures.within c.place-at.ensures.before c.place-at.ensures.after at.to c.index-child.ensures in
+    let e = end_is c.args.high c.place-at.result w.at c.end_of-end.result c.deref-2.result.now (children_of c.args.twig.now) c.deref-2.ensures.value w.at_is c.end_of-end.ensures in
+    IfOk_map _ _ c.hold_way.result
+    (λ b h. one_way (λ end d. HeldFor AnyRead c.args.order c.args.block c.args.level end d c.hold_way.new.held.items) c.args.order c.args.level at.least at.low c.args.high c.args.block c.place-at.result 0 c.args.twig.now c.index-child.result.now at.shaped w
+    (subst (λ m. HeldFor AnyRead c.args.order c.args.block c.args.level m c.index-child.result.now c.hold_way.new.held.items) e h))
+    c.hold_way.ensures.at_hand
+
+pub hold_below-returns-clause-reads : goal.hold_below-returns-clause-reads
+hold_below-returns-clause-reads g t c = λ tells stands.
+    (let at = c.requires.can in
+    let w = on_way c.args.order c.args.block c.args.level c.args.high c.place-at.result (children_of c.args.twig.now) c.deref.result.now c.index-child.result.now c.deref.ensures.value c.if-at-eq0.false
+    c.place-at.ensures.within c.place-at.ensures.before c.place-at.ensures.after at.to c.index-child.ensures in
+    let e = end_is c.args.high c.place-at.result w.at c.end_of-end.result c.deref-2.result.now (children_of c.args.twig.now) c.deref-2.ensures.value w.at_is c.end_of-end.ensures in
+    let pages = (g.P.Platform.history c.args.platform.now).present.readable in
+    IfOk_map _ _ c.hold_way.result
+    (λ b h. one_way (λ end d. HeldFor (IsReadAs pages c.args.order) c.args.order c.args.block c.args.level end d c.hold_way.new.held.items) c.args.order c.args.level at.least at.low c.args.high c.args.block c.place-at.result 0 c.args.twig.now c.index-child.result.now at.shaped w
+    (subst (λ m. HeldFor (IsReadAs pages c.args.order) c.args.order c.args.block c.args.level m c.index-child.result.now c.hold_way.new.held.items) e h))
+    (c.hold_way.ensures.reads tells stands))
+
+-- below a child in memory
+abbrev held_grown : (order level block high head low : ℕ) (twig : Twig) (at : CanHold order level block high head (made.Grown low twig)) → CanHoldBelow order (level - 1) block high head twig
+held_grown order level block high head low twig at =
+    let l : level - 1 ≡ at.below = omega (arith, at.level_is) in
+    let shaped = child_is_twig order at.below high low twig (subst (λ k. IsChild order k high (made.Grown low twig)) at.level_is at.shaped) in
+    record {
+      least = order / 2;
+      low = low;
+      four = at.four;
+      most = at.most;
+      shaped = subst (λ k. IsTwig order k (order / 2) order low high twig) (sym l) shaped;
+      from = omega (arith, at.from, low_of_grown low twig);
+      to = at.to;
+      within = subst (λ k. AreBelow head (stubs_below k high twig)) (sym l) (subst (AreBelow head) (stubs_of_grown at.below high low twig) (subst (λ k. AreBelow head (stubs k high (made.Grown low twig))) at.level_is at.within));
+    }
+
+pub hold_way-hold_below-requires : goal.hold_way-hold_below-requires
+hold_way-hold_below-requires g t c κs within = (
+  search rules,
+  (
+    within,
+    held_grown c.args.order c.args.level c.args.block c.args.high (g.P.Platform.head c.args.platform.now) c.in-Grown.low c.in-Grown.twig
+        (subst (CanHold c.args.order c.args.level c.args.block c.args.high (g.P.Platform.head c.args.platform.now)) c.in-Grown.is c.requires.can),
+  ),
+)
+
+pub hold_way-read_node-requires-clause-within : goal.hold_way-read_node-requires-clause-within
+hold_way-read_node-requires-clause-within g t c =
+    let at = c.requires.can in
+    let kept = subst (λ x. AreBelow (g.P.Platform.head c.args.platform.now) (stubs c.args.level c.args.high x)) c.in-Kept.is at.within in
+    kept_below (g.P.Platform.head c.args.platform.now) at.below c.args.high c.in-Kept.low c.in-Kept.addr c.in-Kept.key (subst (λ k. AreBelow (g.P.Platform.head c.args.platform.now) (stubs k c.args.high (made.Kept c.in-Kept.low c.in-Kept.addr c.in-Kept.key))) at.level_is kept)
+
+abbrev want_here : ℕ → ℕ → ℕ → ℕ → ℕ → Want
+want_here order level low high addr = record { addr = addr; level = level; low = low; high = high; least = order / 2; most = order }
+
+-- the node of a child on the medium
+abbrev shaped_here : (order level block high head low addr : ℕ) (key : List ℕ) (twig : Twig) (at : CanHold order level block high head (made.Kept low addr key)) → IsNodeFor (want_here order level low high addr) twig → IsTwig order at.below (order / 2) order low high twig
+shaped_here order level block high head low addr key twig at h =
+    node_is_twig order at.below (order / 2) low high addr twig at.most (λ _. omega (arith, at.four)) (omega (arith, at.from, at.to, low_of_kept low addr key)) (subst (λ k. IsNodeFor (want_here order k low high addr) twig) at.level_is h)
+
+abbrev head_of_kept : (order level block high head low addr : ℕ) (key : List ℕ) (at : CanHold order level block high head (made.Kept low addr key)) → addr < head
+head_of_kept order level block high head low addr key at = kept_below head at.below high low addr key (subst (λ k. AreBelow head (stubs k high (made.Kept low addr key))) at.level_is at.within)
+
+abbrev held_read : (order level block high head low addr : ℕ) (key : List ℕ) (twig : Twig) (at : CanHold order level block high head (made.Kept low addr key)) → IsNodeFor (want_here order level low high addr) twig → CanHoldBelow order (level - 1) block high head twig
+held_read order level block high head low addr key twig at h =
+    let l : level - 1 ≡ at.below = omega (arith, at.level_is) in
+    record {
+      least = order / 2;
+      low = low;
+      four = at.four;
+      most = at.most;
+      shaped = subst (λ k. IsTwig order k (order / 2) order low high twig) (sym l) (shaped_here order level block high head low addr key twig at h);
+      from = omega (arith, at.from, low_of_kept low addr key);
+      to = at.to;
+      within = read_below (level - 1) high head (want_here order level low high addr) twig h (head_of_kept order level block high head low addr key at);
+    }
+
+pub hold_way-hold_below-requires-in-Kept : goal.hold_way-hold_below-requires-in-Kept
+hold_way-hold_below-requires-in-Kept g t c κs within = (
+  search rules,
+  (
+    within,
+    subst (λ m. CanHoldBelow c.args.order (c.args.level - 1) c.args.block c.args.high m c.in_ok-twig-in-Kept.twig) (sym c.in_ok-twig-in-Kept.ensures.looks.head)
+        (held_read c.args.order c.args.level c.args.block c.args.high (g.P.Platform.head c.args.platform.now) c.in-Kept.low c.in-Kept.addr c.in-Kept.key c.in_ok-twig-in-Kept.twig
+        (subst (CanHold c.args.order c.args.level c.args.block c.args.high (g.P.Platform.head c.args.platform.now)) c.in-Kept.is c.requires.can) c.in_ok-twig-in-Kept.ensures.fits),
+  ),
+)
+
+pub hold_way-returns-in-Grown-clause-at_hand : goal.hold_way-returns-in-Grown-clause-at_hand
+hold_way-returns-in-Grown-clause-at_hand g t c =
+    let at = c.requires.can in
+    let l : c.args.level - 1 ≡ at.below = omega (arith, at.level_is) in
+    IfOk_map _ _ c.hold_below.result
+    (λ b h. subst (λ x. HeldFor AnyRead c.args.order c.args.block c.args.level c.args.high x c.hold_below.new.held.items) (sym c.in-Grown.is)
+    (subst (λ k. HeldFor AnyRead c.args.order c.args.block k c.args.high (made.Grown c.in-Grown.low c.in-Grown.twig) c.hold_below.new.held.items) (sym at.level_is)
+    (holds_grown AnyRead c.args.order c.args.block at.below c.args.high c.in-Grown.low c.in-Grown.twig c.hold_below.new.held.items
+    (subst (λ k. OnWay c.args.block (λ end d. HeldFor AnyRead c.args.order c.args.block k end d c.hold_below.new.held.items) c.args.high c.in-Grown.twig) l h))))
+    c.hold_below.ensures.at_hand
+
+pub hold_way-returns-in-Grown-clause-reads : goal.hold_way-returns-in-Grown-clause-reads
+hold_way-returns-in-Grown-clause-reads g t c = λ tells stands.
+    (let at = c.requires.can in
+    let l : c.args.level - 1 ≡ at.below = omega (arith, at.level_is) in
+    let Reads = IsReadAs (g.P.Platform.history c.args.platform.now).present.readable c.args.order in
+    IfOk_map _ _ c.hold_below.result
+    (λ b h. subst (λ x. HeldFor Reads c.args.order c.args.block c.args.level c.args.high x c.hold_below.new.held.items) (sym c.in-Grown.is)
+    (subst (λ k. HeldFor Reads c.args.order c.args.block k c.args.high (made.Grown c.in-Grown.low c.in-Grown.twig) c.hold_below.new.held.items) (sym at.level_is)
+    (holds_grown Reads c.args.order c.args.block at.below c.args.high c.in-Grown.low c.in-Grown.twig c.hold_below.new.held.items
+    (subst (λ k. OnWay c.args.block (λ end d. HeldFor Reads c.args.order c.args.block k end d c.hold_below.new.held.items) c.args.high c.in-Grown.twig) l h))))
+    (c.hold_below.ensures.reads tells stands))
+
+pub hold_way-returns-in_ok-hold-in-Kept-clause-at_hand : goal.hold_way-returns-in_ok-hold-in-Kept-clause-at_hand
+hold_way-returns-in_ok-hold-in-Kept-clause-at_hand g t c =
+    let at = subst (CanHold c.args.order c.args.level c.args.block c.args.high (g.P.Platform.head c.args.platform.now)) c.in-Kept.is c.requires.can in
+    let fits = c.in_ok-twig-in-Kept.ensures.fits in
+    let twig = c.in_ok-twig-in-Kept.twig in
+    let l : c.args.level - 1 ≡ at.below = omega (arith, at.level_is) in
+    let shaped = shaped_here c.args.order c.args.level c.args.block c.args.high (g.P.Platform.head c.args.platform.now) c.in-Kept.low c.in-Kept.addr c.in-Kept.key twig at fits in
+    let bare = bare_of at.below (want_here c.args.order c.args.level c.in-Kept.low c.args.high c.in-Kept.addr) twig fits in
+    let way = subst (λ k. OnWay c.args.block (λ end d. HeldFor AnyRead c.args.order c.args.block k end d c.hold_below-in-Kept.new.held.items) c.args.high twig) l c.in_ok-is_mapped-in-Kept.ensures.at_hand in
+    let h = holds_kept AnyRead c.args.order c.args.block at.below c.args.high c.in-Kept.low c.in-Kept.addr c.in-Kept.key twig c.hold_below-in-Kept.new.held.items c.hold.new.held.items c.in_ok-hold-in-Kept.ensures.held tt shaped bare way in
+    subst (λ x. HeldFor AnyRead c.args.order c.args.block c.args.level c.args.high x c.hold.new.held.items) (sym c.in-Kept.is)
+    (subst (λ k. HeldFor AnyRead c.args.order c.args.block k c.args.high (made.Kept c.in-Kept.low c.in-Kept.addr c.in-Kept.key) c.hold.new.held.items) (sym at.level_is) h)
+
+pub hold_way-returns-in_ok-hold-in-Kept-clause-reads : goal.hold_way-returns-in_ok-hold-in-Kept-clause-reads
+hold_way-returns-in_ok-hold-in-Kept-clause-reads g t c = λ tells stands.
+    (let at = subst (CanHold c.args.order c.args.level c.args.block c.args.high (g.P.Platform.head c.args.platform.now)) c.in-Kept.is c.requires.can in
+    let fits = c.in_ok-twig-in-Kept.ensures.fits in
+    let twig = c.in_ok-twig-in-Kept.twig in
+    let pages = (g.P.Platform.history c.args.platform.now).present.readable in
+    let Reads = IsReadAs pages c.args.order in
+    let l : c.args.level - 1 ≡ at.below = omega (arith, at.level_is) in
+    let same : (g.P.Platform.history c.read_node.new.platform).present.readable ≡ pages = ap (λ i. i.readable) (c.in_ok-twig-in-Kept.ensures.looks.image tells) in
+    let shaped = shaped_here c.args.order c.args.level c.args.block c.args.high (g.P.Platform.head c.args.platform.now) c.in-Kept.low c.in-Kept.addr c.in-Kept.key twig at fits in
+    let bare = bare_of at.below (want_here c.args.order c.args.level c.in-Kept.low c.args.high c.in-Kept.addr) twig fits in
+    let stands' = subst (λ p. StandsOver p c.read_node.new.cache) (sym same) (c.in_ok-twig-in-Kept.ensures.stands tells stands) in
+    let way0 = subst (λ p. OnWay c.args.block (λ end d. HeldFor (IsReadAs p c.args.order) c.args.order c.args.block (c.args.level - 1) end d c.hold_below-in-Kept.new.held.items) c.args.high twig) same (c.in_ok-is_mapped-in-Kept.ensures.reads tells stands') in
+    let way = subst (λ k. OnWay c.args.block (λ end d. HeldFor Reads c.args.order c.args.block k end d c.hold_below-in-Kept.new.held.items) c.args.high twig) l way0 in
+    let lt = head_of_kept c.args.order c.args.level c.args.block c.args.high (g.P.Platform.head c.args.platform.now) c.in-Kept.low c.in-Kept.addr c.in-Kept.key at in
+    let small : c.in-Kept.addr < 2 ^ 64 = omega (arith, lt, g.met.P.Platform.has_room c.args.platform.now, g.met.P.Platform.is_limited c.args.platform.now) in
+    let node = subst (λ k. IsNodeOf pages (want_here c.args.order k c.in-Kept.low c.args.high c.in-Kept.addr) c.in-Kept.key twig) at.level_is
+    (subst (λ k. IsNodeOf pages (want_here c.args.order c.args.level c.in-Kept.low c.args.high c.in-Kept.addr) k twig) c.from_bytes-key.ensures (c.in_ok-twig-in-Kept.ensures.reads tells stands)) in
+    let reads = read_as pages c.args.order at.below c.in-Kept.low c.args.high c.in-Kept.addr (c.args.order / 2) c.in-Kept.key twig small node in
+    let h = holds_kept Reads c.args.order c.args.block at.below c.args.high c.in-Kept.low c.in-Kept.addr c.in-Kept.key twig c.hold_below-in-Kept.new.held.items c.hold.new.held.items c.in_ok-hold-in-Kept.ensures.held reads shaped bare way in
+    subst (λ x. HeldFor Reads c.args.order c.args.block c.args.level c.args.high x c.hold.new.held.items) (sym c.in-Kept.is)
+    (subst (λ k. HeldFor Reads c.args.order c.args.block k c.args.high (made.Kept c.in-Kept.low c.in-Kept.addr c.in-Kept.key) c.hold.new.held.items) (sym at.level_is) h))

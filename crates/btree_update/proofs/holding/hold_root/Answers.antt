@@ -1,0 +1,75 @@
+use Rattle.std.proofs.Common.{◌≡◌, ℕ, zero, suc, ◌<◌, ◌≤◌, ◌+◌, ◌-◌, ◌/◌, ◌^◌, ◌++◌, [], ◌∷◌, List, refl, sym, ap, subst, ◌∙◌, rules, arith}
+use Rattle.page_store.specs.declared.wants.Want.{Want}
+use Rattle.btree_walk.specs.Sights.{StandsOver}
+use Rattle.btree_walk.proofs.OnLaws.{IfOk_map}
+use Rattle.btree_twigs.specs.declared.twigs.Child.TheVariants as made
+use Rattle.btree_update.specs.Held.{stub_at, AnyRead, IsReadAs, OnWay, HeldFor}
+use Rattle.btree_update.specs.Holding.{CanHoldRoot, CanHoldBelow, IsNodeFor, IsNodeOf}
+use Rattle.btree_update.specs.Roots.{HeldRoot}
+use Rattle.btree_update.proofs.HoldLaws.{read_as}
+use Rattle.btree_update.proofs.RootHolds.{root_grown, root_held_grown, want_root, root_low, root_read, root_held, root_lt}
+use Rattle.btree_update.proofs.holding.hold_root.Goals as goal
+
+above : (level : ℕ) → 1 ≤ level → level ≡ suc (level - 1)
+above level one = omega (arith, one)
+
+pub hold_below-requires : goal.hold_below-requires
+hold_below-requires g c = record {
+  can = root_grown c.args.order c.args.level c.args.block c.args.high (g.P.Platform.head c.args.platform.now) c.in-Grown.low c.in-Grown.twig
+      (subst (CanHoldRoot c.args.order c.args.level c.args.block c.args.high (g.P.Platform.head c.args.platform.now)) c.in-Grown.is c.requires.can);
+}
+
+pub read_node-requires-clause-within : goal.read_node-requires-clause-within
+read_node-requires-clause-within g c =
+    root_lt c.args.order c.args.level c.args.block c.args.high (g.P.Platform.head c.args.platform.now) c.in-Kept.low c.in-Kept.addr c.in-Kept.key
+    (subst (CanHoldRoot c.args.order c.args.level c.args.block c.args.high (g.P.Platform.head c.args.platform.now)) c.in-Kept.is c.requires.can)
+
+pub hold_below-requires-in-Kept : goal.hold_below-requires-in-Kept
+hold_below-requires-in-Kept g c =
+    let at = subst (CanHoldRoot c.args.order c.args.level c.args.block c.args.high (g.P.Platform.head c.args.platform.now)) c.in-Kept.is c.requires.can in
+    record {
+      can = subst (λ m. CanHoldBelow c.args.order (c.args.level - 1) c.args.block c.args.high m c.in_ok-twig-in-Kept.twig) (sym c.in_ok-twig-in-Kept.ensures.looks.head)
+          (root_read c.args.order c.args.level c.args.block c.args.high (g.P.Platform.head c.args.platform.now) c.in-Kept.low c.in-Kept.addr c.least_of_root.result c.in-Kept.key c.in_ok-twig-in-Kept.twig at c.least_of_root.ensures c.in_ok-twig-in-Kept.ensures.fits);
+    }
+
+pub returns-in-Grown-clause-at_hand : goal.returns-in-Grown-clause-at_hand
+returns-in-Grown-clause-at_hand g c =
+    IfOk_map _ _ c.hold_below.result
+    (λ b h. subst (λ x. HeldRoot AnyRead c.args.order c.args.block (c.args.level - 1) c.args.high x c.hold_below.new.held.items) (sym c.in-Grown.is)
+    (root_held_grown AnyRead c.args.order c.args.block (c.args.level - 1) c.args.high c.in-Grown.low c.in-Grown.twig c.hold_below.new.held.items h))
+    c.hold_below.ensures.at_hand
+
+pub returns-in-Grown-clause-reads : goal.returns-in-Grown-clause-reads
+returns-in-Grown-clause-reads g c = λ tells stands.
+    (let Reads = IsReadAs (g.P.Platform.history c.args.platform.now).present.readable c.args.order in
+    IfOk_map _ _ c.hold_below.result
+    (λ b h. subst (λ x. HeldRoot Reads c.args.order c.args.block (c.args.level - 1) c.args.high x c.hold_below.new.held.items) (sym c.in-Grown.is)
+    (root_held_grown Reads c.args.order c.args.block (c.args.level - 1) c.args.high c.in-Grown.low c.in-Grown.twig c.hold_below.new.held.items h))
+    (c.hold_below.ensures.reads tells stands))
+
+pub returns-in_ok-hold-in-Kept-clause-at_hand : goal.returns-in_ok-hold-in-Kept-clause-at_hand
+returns-in_ok-hold-in-Kept-clause-at_hand g c =
+    let at = subst (CanHoldRoot c.args.order c.args.level c.args.block c.args.high (g.P.Platform.head c.args.platform.now)) c.in-Kept.is c.requires.can in
+    let h = root_held c.args.order c.args.level c.args.block c.args.high (g.P.Platform.head c.args.platform.now) c.in-Kept.low c.in-Kept.addr c.least_of_root.result c.in-Kept.key c.in_ok-twig-in-Kept.twig at c.least_of_root.ensures c.in_ok-twig-in-Kept.ensures.fits
+    AnyRead c.hold_below-in-Kept.new.held.items c.hold.new.held.items c.in_ok-hold-in-Kept.ensures.held tt c.in_ok-is_mapped-in-Kept.ensures.at_hand in
+    subst (λ x. HeldRoot AnyRead c.args.order c.args.block (c.args.level - 1) c.args.high x c.hold.new.held.items) (sym c.in-Kept.is) h
+
+pub returns-in_ok-hold-in-Kept-clause-reads : goal.returns-in_ok-hold-in-Kept-clause-reads
+returns-in_ok-hold-in-Kept-clause-reads g c = λ tells stands.
+    (let at = subst (CanHoldRoot c.args.order c.args.level c.args.block c.args.high (g.P.Platform.head c.args.platform.now)) c.in-Kept.is c.requires.can in
+    let twig = c.in_ok-twig-in-Kept.twig in
+    let pages = (g.P.Platform.history c.args.platform.now).present.readable in
+    let Reads = IsReadAs pages c.args.order in
+    let same : (g.P.Platform.history c.read_node.new.platform).present.readable ≡ pages = ap (λ i. i.readable) (c.in_ok-twig-in-Kept.ensures.looks.image tells) in
+    let stands' = subst (λ p. StandsOver p c.read_node.new.cache) (sym same) (c.in_ok-twig-in-Kept.ensures.stands tells stands) in
+    let way = subst (λ p. OnWay c.args.block (λ end d. HeldFor (IsReadAs p c.args.order) c.args.order c.args.block (c.args.level - 1) end d c.hold_below-in-Kept.new.held.items) c.args.high twig) same (c.in_ok-is_mapped-in-Kept.ensures.reads tells stands') in
+    let lt = root_lt c.args.order c.args.level c.args.block c.args.high (g.P.Platform.head c.args.platform.now) c.in-Kept.low c.in-Kept.addr c.in-Kept.key at in
+    let small : c.in-Kept.addr < 2 ^ 64 = omega (arith, lt, g.met.P.Platform.has_room c.args.platform.now, g.met.P.Platform.is_limited c.args.platform.now) in
+    let low_is = root_low c.args.order c.args.level c.args.block c.args.high (g.P.Platform.head c.args.platform.now) c.in-Kept.low c.in-Kept.addr c.least_of_root.result c.in-Kept.key twig at c.least_of_root.ensures c.in_ok-twig-in-Kept.ensures.fits in
+    let node = subst (λ k. IsNodeOf pages (want_root c.args.order k c.in-Kept.low c.args.high c.in-Kept.addr c.least_of_root.result) c.in-Kept.key twig) (above c.args.level at.one)
+    (subst (λ k. IsNodeOf pages (want_root c.args.order c.args.level c.in-Kept.low c.args.high c.in-Kept.addr c.least_of_root.result) k twig) c.from_bytes-key.ensures (c.in_ok-twig-in-Kept.ensures.reads tells stands)) in
+    let reads0 = read_as pages c.args.order (c.args.level - 1) c.in-Kept.low c.args.high c.in-Kept.addr c.least_of_root.result c.in-Kept.key twig small node in
+    let reads = subst (λ l. IsReadAs pages c.args.order (c.args.level - 1) (stub_at (suc (c.args.level - 1)) l c.args.high c.in-Kept.addr c.in-Kept.key) twig) low_is reads0 in
+    let h = root_held c.args.order c.args.level c.args.block c.args.high (g.P.Platform.head c.args.platform.now) c.in-Kept.low c.in-Kept.addr c.least_of_root.result c.in-Kept.key twig at c.least_of_root.ensures c.in_ok-twig-in-Kept.ensures.fits
+    Reads c.hold_below-in-Kept.new.held.items c.hold.new.held.items c.in_ok-hold-in-Kept.ensures.held reads way in
+    subst (λ x. HeldRoot Reads c.args.order c.args.block (c.args.level - 1) c.args.high x c.hold.new.held.items) (sym c.in-Kept.is) h)

@@ -1,0 +1,52 @@
+use Rattle.std.proofs.Common.{◌≡◌, true, ap, refl, sym, subst, inr, ◌∙◌, rules, Option, Bor, Err}
+use Rattle.std.proofs.lemmas.Bool.{false≢true}
+use Rattle.std.specs.Option.{option_copied}
+use Rattle.node_codec.specs.declared.body.Body.{Body}
+use Rattle.node_codec.specs.Record.{value_of}
+use Rattle.page_store.specs.Buffer.{content_of}
+use Rattle.page_store.specs.Places.{FitsAt}
+use Rattle.page_store.specs.declared.refusals.FetchRefusal.TheVariants as fetched
+use Rattle.node_cache.specs.Kept.{Cached, Uses, kept_node, filled}
+use Rattle.btree_walk.specs.Sights.{KeepsOnly}
+use Rattle.btree_walk.proofs.SightLaws.{keeps_filled, keeps_used}
+use Rattle.btree_update.specs.declared.refusals.ReadyRefusal.TheVariants.{BadRecord}
+use Rattle.btree_update.proofs.CacheLaws.{stands_on, kept_is_page, nothing_else}
+use Rattle.btree_update.proofs.reading.read_node.Goals as goal
+
+pub returns-then-not-fits-clause-bad : goal.returns-then-not-fits-clause-bad
+returns-then-not-fits-clause-bad g c = λ tells stands addr is.
+    let same : BadRecord c.args.want.now.addr ≡ BadRecord addr = cc in
+    let addr_is : c.args.want.now.addr ≡ addr = cc in (
+      sym addr_is,
+      nothing_else (g.P.Platform.history c.args.platform.now).present.readable c.args.want.now c.args.key.now c.in-Some.node.now c.requires.small
+          (kept_is_page (g.P.Platform.history c.args.platform.now).present.readable c.args.cache.now c.args.want.now.addr c.args.key.now c.in-Some.node.now stands c.in-Some.ensures.found.here)
+          (λ fits. false≢true (sym c.if-not-fits.true ∙ c.fits.ensures.1 fits)),
+    )
+
+pub returns-then-not-fits-clause-stands : goal.returns-then-not-fits-clause-stands
+returns-then-not-fits-clause-stands g c = λ tells stands.
+    (let uses = subst (λ (r : Option (Bor _)). Uses c.args.cache.now c.args.want.now.addr c.args.key.now (option_copied r) c.get.follows.lender-at-none) c.in-Some.is c.get.follows.holds-at-none in
+    stands_on (g.P.Platform.history c.args.platform.now).present.readable c.args.cache.now c.get.follows.lender-at-none stands
+    (keeps_used (g.P.Platform.history c.args.platform.now).present.readable c.args.cache.now c.get.follows.lender-at-none c.args.want.now.addr c.args.key.now c.in-Some.node.now uses))
+
+pub returns-in-Some-clause-stands : goal.returns-in-Some-clause-stands
+returns-in-Some-clause-stands g c = λ tells stands.
+    (let uses = subst (λ (r : Option (Bor _)). Uses c.args.cache.now c.args.want.now.addr c.args.key.now (option_copied r) c.get.follows.lender-at-none) c.in-Some.is c.get.follows.holds-at-none in
+    stands_on (g.P.Platform.history c.args.platform.now).present.readable c.args.cache.now c.get.follows.lender-at-none stands
+    (keeps_used (g.P.Platform.history c.args.platform.now).present.readable c.args.cache.now c.get.follows.lender-at-none c.args.want.now.addr c.args.key.now c.in-Some.node.now uses))
+
+pub returns-in-Ok-Node-clause-stands : goal.returns-in-Ok-Node-clause-stands
+returns-in-Ok-Node-clause-stands g c = λ tells stands.
+    (let uses = subst (λ (r : Option (Bor _)). Uses c.args.cache.now c.args.want.now.addr c.args.key.now (option_copied r) c.get.follows.lender-at-none) c.in_default.is c.get.follows.holds-at-none in
+    let kept = kept_node c.args.want.now.addr c.args.key.now c.in-Ok-Node.node in
+    let pages = (g.P.Platform.history c.args.platform.now).present.readable in
+    let fits = subst (λ (b : Body). FitsAt pages c.args.want.now c.args.key.now (value_of b (content_of c.fetch.new.buf))) c.in-Ok-Node.field-0-is (c.in-Ok-Node.ensures.fits tells) in
+    let keeps = subst (KeepsOnly pages c.args.cache.now) (sym (c.put.ensures.kept ∙ ap (λ (old : Cached). filled old kept) uses.0)) (keeps_filled pages c.args.cache.now kept (inr fits.0)) in
+    stands_on pages c.args.cache.now c.put.new.self stands keeps)
+
+pub returns-in-Err-BadRecord-clause-bad : goal.returns-in-Err-BadRecord-clause-bad
+returns-in-Err-BadRecord-clause-bad g c = rw c.in-Err-BadRecord.field-0-is (λ tells stands addr is.
+    let same : BadRecord c.in-Err-BadRecord.addr ≡ BadRecord addr = cc in
+    let addr_is : c.in-Err-BadRecord.addr ≡ addr = cc in
+    let told = ap Err c.in-Err-BadRecord.field-0-is in
+    (sym addr_is ∙ c.in-Err-BadRecord.ensures.bad c.in-Err-BadRecord.addr told, c.in-Err-BadRecord.ensures.nothing_fits tells c.in-Err-BadRecord.addr told))

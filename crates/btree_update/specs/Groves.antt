@@ -1,0 +1,80 @@
+-- A device's tree while it is updated: when it is sound, when an update can't fail, and what an update lets go.
+use Rattle.std.specs.Prelude.{◌≡◌, ◌⊎◌, ℕ, suc, ◌+◌, ◌-◌, ◌<◌, ◌≤◌, List, [], ◌∷◌, ◌++◌, Option, None, Some, vec_len, vec_capacity}
+use Rattle.sdbt_base.specs.declared.lists.Unkept.{Unkept}
+use Rattle.page_store.specs.Tree.{Mapped}
+use Rattle.btree_twigs.specs.declared.twigs.Child.{Child}
+use Rattle.btree_twigs.specs.Stubs.{Stub, datum, stubs, nodes}
+use Rattle.btree_twigs.specs.Updates.{HasSpares}
+use Rattle.btree_twigs.specs.Search.{IsAt}
+use Rattle.btree_update.specs.declared.groves.Grove.{Grove}
+use Rattle.btree_update.specs.GroveTree.{Maps}
+use Rattle.btree_update.specs.Held.{AnyRead, IsReadAs}
+use Rattle.btree_update.specs.Opens.{Opens}
+use Rattle.btree_update.specs.Roots.{IsRoot, HeldRoot, RootMaps}
+
+-- the order and the root are as they may be, and the lists for new nodes have room for them
+pub record IsSound (grove : Grove) : Type 0 where
+  pub least : 4 ≤ grove.order
+  pub most : grove.order ≤ 64
+  pub one : 1 ≤ grove.level
+  pub shaped : IsRoot grove.order (grove.level - 1) grove.blocks grove.top
+  pub spares : HasSpares grove.order 0 grove.spares.items
+
+-- the nodes on the way to a block are in memory or held
+abbrev pub IsAtHand : ℕ → Grove → Type 0
+IsAtHand block grove = HeldRoot AnyRead grove.order block (grove.level - 1) grove.blocks grove.top grove.held.items
+
+-- and those that are held are what these pages say
+abbrev pub IsReadFrom : List (List ℕ) → ℕ → Grove → Type 0
+IsReadFrom pages block grove = HeldRoot (IsReadAs pages grove.order) grove.order block (grove.level - 1) grove.blocks grove.top grove.held.items
+
+-- all is at hand that an insertion of this block may need
+pub record CanInsert (block : ℕ) (grove : Grove) : Type 0 where
+  pub sound : IsSound grove
+  pub to : block < grove.blocks
+  pub at_hand : IsAtHand block grove
+  pub spares : HasSpares grove.order (grove.level + 1) grove.spares.items
+  pub gone_room : vec_len grove.gone + vec_len grove.held < vec_capacity grove.gone
+  pub never_room : vec_len grove.never < vec_capacity grove.never
+
+-- the mapped blocks of the tree over these pages, in order
+abbrev pub GroveMaps : List (List ℕ) → Grove → List Mapped → Type 0
+GroveMaps pages grove mapped = RootMaps pages grove.order (grove.level - 1) grove.blocks grove.top mapped
+
+-- the places on the medium, from left to right
+abbrev pub places_of : Grove → List Stub
+places_of grove = stubs grove.level grove.blocks grove.top
+
+-- how many nodes are in memory
+abbrev pub grown_in : Grove → ℕ
+grown_in grove = nodes grove.level grove.top
+
+-- the address of a block's data record among these places, or none
+abbrev pub IsAddressOf : ℕ → List Stub → Option ℕ → Type 0
+IsAddressOf block stubs None = IsAt block stubs []
+IsAddressOf block stubs (Some addr) = (key : List ℕ) × IsAt block stubs (datum block addr key ∷ [])
+
+-- a committed address comes to those that are gone, another one with its block to those that are never committed
+abbrev pub LetsGo : ℕ → ℕ → Option ℕ → List ℕ → List ℕ → List Unkept → List Unkept → Type 0
+LetsGo head block None gone more never most = (more ≡ gone) × (most ≡ never)
+LetsGo head block (Some addr) gone more never most =
+    (addr < head → (more ≡ gone ++ addr ∷ []) × (most ≡ never)) × (head ≤ addr → (more ≡ gone) × (most ≡ never ++ record { block = block; addr = addr } ∷ []))
+
+-- an update of a block opens places, whose nodes are gone, and lets go the block's data record
+pub record Goes (pages : List (List ℕ)) (order head block : ℕ) (old : List Stub) (gone more : List ℕ) (never most : List Unkept) : Type 0 where
+  pub opened : List Stub
+  pub addrs : List ℕ
+  pub opens : Opens pages order addrs old opened
+  pub replaced : Option ℕ
+  pub was : IsAddressOf block opened replaced
+  pub goes : LetsGo head block replaced (gone ++ addrs) more never most
+
+-- the tree and what it let go are the same
+pub record KeepsTree (old new : Grove) : Type 0 where
+  pub order : new.order ≡ old.order
+  pub blocks : new.blocks ≡ old.blocks
+  pub head : new.head ≡ old.head
+  pub level : new.level ≡ old.level
+  pub top : new.top ≡ old.top
+  pub gone : new.gone.items ≡ old.gone.items
+  pub never : new.never.items ≡ old.never.items

@@ -1,0 +1,63 @@
+-- What is read for an update.
+use Rattle.std.specs.Prelude.{◌≡◌, ℕ, suc, ◌-◌, ◌<◌, ◌≤◌, List, vec_capacity}
+use Rattle.std.specs.List.{AllByRecursion}
+use Rattle.node_codec.specs.declared.body.Entry.{Entry}
+use Rattle.node_codec.specs.Record.{NodeRecord, FitsNode}
+use Rattle.page_store.specs.declared.wants.Want.{Want}
+use Rattle.page_store.specs.Places.{IsRecordAt, IsNodeWanted}
+use Rattle.btree_twigs.specs.declared.twigs.Child.{Child}
+use Rattle.btree_twigs.specs.declared.twigs.Twig.{Twig, out-Twig}
+use Rattle.btree_twigs.specs.Stubs.{Stub, low_of, level_of, children_of, stubs, stubs_below}
+use Rattle.btree_twigs.specs.Shape.{IsChild, IsTwig}
+use Rattle.btree_update.specs.Reading.{all_kept}
+use Rattle.btree_update.specs.Roots.{IsRoot}
+
+-- a node in memory that is in range and wanted at a place, with room for one child more than a node may have
+pub record IsNodeFor (want : Want) (twig : Twig) : Type 0 where
+  pub entries : List Entry
+  pub in_range : FitsNode want.addr want.level entries
+  pub wanted : IsNodeWanted want want.level entries
+  pub level_is : level_of twig ≡ want.level
+  pub children : children_of twig ≡ all_kept entries
+  pub room : 64 < vec_capacity (out-Twig twig).children
+
+-- its children are what the page at the place says
+pub record IsNodeOf (pages : List (List ℕ)) (want : Want) (key : List ℕ) (twig : Twig) : Type 0 where
+  pub entries : List Entry
+  pub here : IsRecordAt pages want.addr key (NodeRecord want.level entries)
+  pub children : children_of twig ≡ all_kept entries
+
+-- these places have addresses below the head
+abbrev pub AreBelow : ℕ → List Stub → Type 0
+AreBelow head = AllByRecursion (λ s. s.addr < head)
+
+-- a child over children of some level, on the way to a block
+pub record CanHold (order level block high head : ℕ) (child : Child) : Type 0 where
+  pub below : ℕ
+  pub level_is : level ≡ suc below
+  pub four : 4 ≤ order
+  pub most : order ≤ 64
+  pub shaped : IsChild order level high child
+  pub from : low_of child ≤ block
+  pub to : block < high
+  pub within : AreBelow head (stubs level high child)
+
+-- a node over children of a level, on the way to a block
+pub record CanHoldBelow (order level block high head : ℕ) (twig : Twig) : Type 0 where
+  pub least : ℕ
+  pub low : ℕ
+  pub four : 4 ≤ order
+  pub most : order ≤ 64
+  pub shaped : IsTwig order level least order low high twig
+  pub from : low ≤ block
+  pub to : block < high
+  pub within : AreBelow head (stubs_below level high twig)
+
+-- a root on the way to a block
+pub record CanHoldRoot (order level block high head : ℕ) (top : Child) : Type 0 where
+  pub one : 1 ≤ level
+  pub four : 4 ≤ order
+  pub most : order ≤ 64
+  pub shaped : IsRoot order (level - 1) high top
+  pub to : block < high
+  pub within : AreBelow head (stubs level high top)

@@ -1,0 +1,253 @@
+ghost use Rattle.std.specs.Prelude.{◌≡◌, ◌⊎◌, ◌<◌, ◌≤◌, ◌+◌, ◌-◌, ◌*◌, ℕ, List, [], ◌∷◌, ◌++◌, suc, vec_len, vec_capacity, IfOk, IsErr, IsErrOf};
+ghost use Rattle.root_codec.specs.RootRecord.{FitsRoot};
+ghost use Rattle.node_codec.specs.Record.{DataRecord};
+ghost use Rattle.page_store.specs.Places.{IsRecordAt};
+ghost use Rattle.page_store.specs.Tree.{Mapped};
+ghost use Rattle.btree_twigs.specs.declared.twigs.Child.TheVariants.{Kept};
+ghost use Rattle.btree_twigs.specs.Stubs.{stubs};
+ghost use Rattle.btree_twigs.specs.Updates.{IsOpen, HasSpares};
+ghost use Rattle.btree_twigs.specs.Top.{IsTop};
+ghost use Rattle.btree_update.specs.Maps.{MapPuts};
+ghost use Rattle.sdbt_base.specs.Faults.{Rose};
+ghost use Rattle.std.specs.declared.vec.Vec.{Vec};
+ghost use Rattle.std.specs.declared.alloc.Global.{Global};
+ghost use Rattle.btree_walk.specs.Looks.{Looks};
+ghost use Rattle.btree_walk.specs.Sights.{StandsOver};
+ghost use Rattle.btree_twigs.specs.declared.twigs.Child.{Child};
+ghost use Rattle.btree_update.specs.declared.refusals.ReadyRefusal.{ReadyRefusal};
+ghost use Rattle.btree_update.specs.Holding.{AreBelow};
+ghost use Rattle.btree_update.specs.Groves.{KeepsTree, IsSound, IsReadFrom, CanInsert, GroveMaps, places_of, grown_in, IsAddressOf, LetsGo, Goes};
+
+use crate::holding::hold_root;
+use crate::opening::{note, open_root};
+use crate::refusals::ReadyRefusal;
+use btree_twigs::{Child, Spot, Twig, find, level_of, put_top};
+use node_cache::NodeCache;
+use page_store::Buffers;
+use platform::Platform;
+use root_codec::Root;
+use sdbt_base::{Key, Unkept};
+use std::alloc::Global;
+
+/// A device's tree while it is updated: some of its nodes are in memory, and the others on the medium as the last commit left
+/// them.
+#[derive(Drop)]
+pub struct Grove {
+    order: u16,
+    blocks: u64,
+    head: u64,
+    level: u8,
+    top: Child,
+    gone: Vec<u64>,
+    never: Vec<Unkept>,
+    held: Vec<Twig>,
+    spares: Vec<Vec<Child>>,
+}
+
+impl Grove {
+    /// The tree of a root record, with no node in memory. It takes no memory.
+    pub fn of(alloc: Global, root: &Root) -> Grove
+        requires { FitsRoot root.now }
+        ensures sound { IsSound result }
+        ensures size { (result.order ≡ root.now.order) × (result.blocks ≡ root.now.blocks) × (result.head ≡ root.now.head) × (result.level ≡ root.now.level) }
+        ensures top { result.top ≡ Kept 0 root.now.addr root.now.key }
+        ensures lists { (result.gone.items ≡ []) × (result.never.items ≡ []) }
+    {
+        Grove {
+            order: root.order,
+            blocks: root.blocks,
+            head: root.head,
+            level: root.level,
+            top: Child::Kept {
+                low: 0,
+                addr: root.addr,
+                key: root.key.bytes(),
+            },
+            gone: Vec::new(alloc),
+            never: Vec::new(alloc),
+            held: Vec::new(alloc),
+            spares: Vec::new(alloc),
+        }
+    }
+
+    /// The root.
+    pub fn top(&self) -> &Child
+        ensures { result.now ≡ self.now.top }
+    {
+        &self.top
+    }
+
+    /// The committed addresses that were replaced or trimmed, and those of the committed nodes that are in memory now.
+    pub fn gone(&self) -> &[u64]
+        ensures { result.now ≡ self.now.gone.items }
+    {
+        &self.gone
+    }
+
+    /// The data pages that were written since the last commit, and replaced or trimmed.
+    pub fn never(&self) -> &[Unkept]
+        ensures { result.now ≡ self.now.never.items }
+    {
+        &self.never
+    }
+
+    /// The level of the root.
+    pub fn level(&self) -> u8
+        ensures { result ≡ self.now.level }
+    {
+        self.level
+    }
+
+    /// Reads what an update of a block may need, through the cache, and takes all memory that it may take; the tree is the same.
+    /// Answers whether the block is mapped. `BadRecord` names a node on the way to the block that does not fit.
+    pub fn ready<P: Platform>(
+        &mut self,
+        alloc: Global,
+        block: u64,
+        platform: &mut P,
+        cache: &mut NodeCache,
+        buf: &mut Buffers,
+    ) -> Result<bool, ReadyRefusal>
+        requires sound { IsSound self.old }
+        requires to { block < self.old.blocks }
+        requires within { AreBelow (P.head platform.old) (places_of self.old) }
+        ensures can { IfOk result (λ _. CanInsert block self.new) }
+        ensures reads { P.tells → StandsOver (P.history platform.old).present.readable cache.old → IfOk result (λ _. IsReadFrom (P.history platform.old).present.readable block self.new) }
+        ensures sound { IsSound self.new }
+        ensures tree { KeepsTree self.old self.new }
+        ensures stands { P.tells → StandsOver (P.history platform.old).present.readable cache.old → StandsOver (P.history platform.old).present.readable cache.new }
+        ensures looks { Looks P.Platform self.old.level platform.old platform.new }
+        ensures cause { IsErrOf result ReadyRefusal.PlatformFault → Rose (P.faults platform.old) (P.faults platform.new) }
+    {
+        self.held.clear();
+        let is_mapped = hold_root(
+            alloc,
+            platform,
+            cache,
+            buf,
+            self.order,
+            block,
+            &self.top,
+            self.level,
+            self.blocks,
+            &mut self.held,
+        )?;
+        make_spares(alloc, self.level, &mut self.spares)?;
+        make_room(self.held.len(), &mut self.gone, &mut self.never)?;
+        Ok(is_mapped)
+    }
+
+    /// Maps a block to a data record, once all is at hand that this may need. The address of the record that it had is gone, where it
+    /// was committed, and else never committed.
+    pub fn insert(&mut self, block: u64, addr: u64, key: Key)
+        requires can { CanInsert block self.old }
+        requires small { self.old.level < 255 }
+        ensures sound { IsSound self.new }
+        ensures size { (self.new.order ≡ self.old.order) × (self.new.blocks ≡ self.old.blocks) × (self.new.head ≡ self.old.head) }
+        ensures level { (self.new.level ≡ self.old.level) ⊎ (self.new.level ≡ self.old.level + 1) }
+        ensures maps { (pages : List (List ℕ)) (mapped : List Mapped) (content : List ℕ) → IsReadFrom pages block self.old → GroveMaps pages self.old mapped
+            → IsRecordAt pages addr key (DataRecord block content)
+            → (after : List Mapped) × GroveMaps pages self.new after × MapPuts (record { block = block; addr = addr; key = key; content = content }) mapped after }
+        ensures goes { (pages : List (List ℕ)) → IsReadFrom pages block self.old
+            → Goes pages self.old.order self.old.head block (places_of self.old) self.old.gone.items self.new.gone.items self.old.never.items self.new.never.items }
+        ensures grown { grown_in self.new ≤ grown_in self.old + (2 * self.old.level + 1) }
+    {
+        open_root(
+            &mut self.top,
+            self.level,
+            block,
+            &mut self.held,
+            &mut self.gone,
+        );
+        let old = address_of(&self.top, block, self.blocks);
+        let_go(self.head, block, old, &mut self.gone, &mut self.never);
+        put_top(
+            &mut self.top,
+            self.order as usize,
+            block,
+            addr,
+            key.bytes(),
+            &mut self.spares,
+        );
+        self.level = level_of(&self.top);
+    }
+}
+
+/// The address of a block's data record below a root in memory whose way to the block is in memory, or `None`.
+fn address_of(top: &Child, block: u64, high: u64) -> Option<u64>
+    ensures { (order below : ℕ) → IsTop order below high top.now → block < high → IsOpen block (stubs (suc below) high top.now)
+        → IsAddressOf block (stubs (suc below) high top.now) result }
+{
+    match top {
+        Child::Kept { .. } => None,
+        Child::Grown { twig, .. } => match find(twig, block, high) {
+            Spot::Found { addr, .. } => Some(addr),
+            Spot::Absent => None,
+            Spot::Below { .. } => None,
+        },
+    }
+}
+
+/// Lets go the address that a block had, where there is room.
+fn let_go(head: u64, block: u64, old: Option<u64>, gone: &mut Vec<u64>, never: &mut Vec<Unkept>)
+    requires gone_room { vec_len gone.old < vec_capacity gone.old }
+    requires never_room { vec_len never.old < vec_capacity never.old }
+    ensures { LetsGo head block old gone.old.items gone.new.items never.old.items never.new.items }
+{
+    match old {
+        None => {}
+        Some(addr) => {
+            if addr < head {
+                note(gone, addr);
+            } else {
+                let _room = never.push(Unkept { block, addr });
+            }
+        }
+    }
+}
+
+/// Makes empty lists for new nodes, one more than there are levels, with room for one child more than a node may have.
+fn make_spares(alloc: Global, level: u8, spares: &mut Vec<Vec<Child>>) -> Result<(), ReadyRefusal>
+    ensures made { (order : ℕ) → order ≤ 64 → HasSpares order 0 spares.old.items → IfOk result (λ _. HasSpares order (level + 1) spares.new.items) }
+    ensures kept { (order : ℕ) → order ≤ 64 → HasSpares order 0 spares.old.items → HasSpares order 0 spares.new.items }
+    ensures memory { (e : ReadyRefusal) → IsErrOf result e → e ≡ ReadyRefusal.Memory }
+{
+    while spares.len() <= level as usize {
+        add_spare(alloc, spares)?;
+    }
+    Ok(())
+}
+
+/// Makes one such list.
+fn add_spare(alloc: Global, spares: &mut Vec<Vec<Child>>) -> Result<(), ReadyRefusal>
+    ensures count { IfOk result (λ _. vec_len spares.new ≡ vec_len spares.old + 1) }
+    ensures kept { (order : ℕ) → order ≤ 64 → HasSpares order 0 spares.old.items → HasSpares order 0 spares.new.items }
+    ensures memory { (e : ReadyRefusal) → IsErrOf result e → e ≡ ReadyRefusal.Memory }
+{
+    match Vec::with_capacity(alloc, 65) {
+        Ok(spare) => match spares.push(spare) {
+            Ok(_) => Ok(()),
+            Err(_) => Err(ReadyRefusal::Memory),
+        },
+        Err(_) => Err(ReadyRefusal::Memory),
+    }
+}
+
+/// Makes room for what an update may let go: so many nodes, and a data record.
+fn make_room(nodes: usize, gone: &mut Vec<u64>, never: &mut Vec<Unkept>) -> Result<(), ReadyRefusal>
+    ensures gone { IfOk result (λ _. vec_len gone.new + nodes < vec_capacity gone.new) }
+    ensures never { IfOk result (λ _. vec_len never.new < vec_capacity never.new) }
+    ensures kept { (gone.new.items ≡ gone.old.items) × (never.new.items ≡ never.old.items) }
+    ensures memory { (e : ReadyRefusal) → IsErrOf result e → e ≡ ReadyRefusal.Memory }
+{
+    let Some(more) = nodes.checked_add(1) else {
+        return Err(ReadyRefusal::Memory);
+    };
+    if gone.reserve(more).is_err() {
+        return Err(ReadyRefusal::Memory);
+    }
+    if never.reserve(1).is_err() {
+        return Err(ReadyRefusal::Memory);
+    }
+    Ok(())
+}

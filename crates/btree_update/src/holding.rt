@@ -1,0 +1,202 @@
+ghost use Rattle.std.specs.Prelude.{◌≡◌, ◌<◌, ◌≤◌, ◌+◌, ◌-◌, ℕ, List, [], ◌∷◌, ◌++◌, IfOk, IsErrOf};
+ghost use Rattle.btree_update.specs.declared.refusals.ReadyRefusal.{ReadyRefusal};
+ghost use Rattle.sdbt_base.specs.Faults.{Rose};
+ghost use Rattle.btree_walk.specs.Looks.{Looks};
+ghost use Rattle.btree_walk.specs.Sights.{StandsOver};
+ghost use Rattle.btree_update.specs.Held.{AnyRead, IsReadAs, OnWay, HeldFor};
+ghost use Rattle.btree_twigs.specs.Top.{top_least};
+ghost use Rattle.btree_update.specs.Roots.{HeldRoot};
+ghost use Rattle.btree_update.specs.Holding.{CanHold, CanHoldBelow, CanHoldRoot};
+
+use crate::reading::read_node;
+use crate::refusals::ReadyRefusal;
+use btree_twigs::{Child, Twig, end_of, low_of, place};
+use node_cache::NodeCache;
+use page_store::{Buffers, Want};
+use platform::Platform;
+use sdbt_base::Key;
+use std::alloc::Global;
+
+/// Reads the nodes on the way to a block that aren't in memory, from a child down, and holds them, the topmost last. Answers
+/// whether the block is mapped.
+#[cycle(hold)]
+pub(crate) fn hold_way<P: Platform>(
+    alloc: Global,
+    platform: &mut P,
+    cache: &mut NodeCache,
+    buf: &mut Buffers,
+    order: u16,
+    block: u64,
+    child: &Child,
+    level: u8,
+    high: u64,
+    held: &mut Vec<Twig>,
+) -> Result<bool, ReadyRefusal>
+    requires can { CanHold order level block high (P.head platform.old) child.now }
+    ensures at_hand { IfOk result (λ _. HeldFor AnyRead order block level high child.now held.new.items) }
+    ensures reads { P.tells → StandsOver (P.history platform.old).present.readable cache.old →
+        IfOk result (λ _. HeldFor (IsReadAs (P.history platform.old).present.readable order) order block level high child.now held.new.items) }
+    ensures stands { P.tells → StandsOver (P.history platform.old).present.readable cache.old → StandsOver (P.history platform.old).present.readable cache.new }
+    ensures looks { Looks P.Platform level platform.old platform.new }
+    ensures cause { IsErrOf result ReadyRefusal.PlatformFault → Rose (P.faults platform.old) (P.faults platform.new) }
+{
+    match child {
+        Child::Grown { twig, .. } => hold_below(
+            alloc,
+            platform,
+            cache,
+            buf,
+            order,
+            block,
+            twig,
+            level - 1,
+            high,
+            held,
+        ),
+        Child::Kept { low, addr, key } => {
+            let want = Want {
+                addr: *addr,
+                level,
+                low: *low,
+                high,
+                least: order / 2,
+                most: order,
+            };
+            let key = Key::from_bytes(*key);
+            let twig = read_node(alloc, platform, cache, &want, &key, buf)?;
+            let is_mapped = hold_below(
+                alloc,
+                platform,
+                cache,
+                buf,
+                order,
+                block,
+                &twig,
+                level - 1,
+                high,
+                held,
+            )?;
+            hold(twig, held)?;
+            Ok(is_mapped)
+        }
+    }
+}
+
+/// Reads the nodes on the way to a block below a node, over children of a level.
+#[cycle(hold)]
+pub(crate) fn hold_below<P: Platform>(
+    alloc: Global,
+    platform: &mut P,
+    cache: &mut NodeCache,
+    buf: &mut Buffers,
+    order: u16,
+    block: u64,
+    twig: &Twig,
+    level: u8,
+    high: u64,
+    held: &mut Vec<Twig>,
+) -> Result<bool, ReadyRefusal>
+    requires can { CanHoldBelow order level block high (P.head platform.old) twig.now }
+    ensures at_hand { IfOk result (λ _. OnWay block (λ end c. HeldFor AnyRead order block level end c held.new.items) high twig.now) }
+    ensures reads { P.tells → StandsOver (P.history platform.old).present.readable cache.old →
+        IfOk result (λ _. OnWay block (λ end c. HeldFor (IsReadAs (P.history platform.old).present.readable order) order block level end c held.new.items) high twig.now) }
+    ensures stands { P.tells → StandsOver (P.history platform.old).present.readable cache.old → StandsOver (P.history platform.old).present.readable cache.new }
+    ensures looks { Looks P.Platform level platform.old platform.new }
+    ensures cause { IsErrOf result ReadyRefusal.PlatformFault → Rose (P.faults platform.old) (P.faults platform.new) }
+{
+    let at = place(&twig.children, block);
+    if at == 0 {
+        return Ok(false);
+    }
+    let child = &twig.children[at - 1];
+    if level == 0 {
+        return Ok(low_of(child) == block);
+    }
+    let end = end_of(&twig.children, at, high);
+    hold_way(
+        alloc, platform, cache, buf, order, block, child, level, end, held,
+    )
+}
+
+/// Reads the root and the nodes on the way to a block that aren't in memory, and holds them, the root last. Answers whether the
+/// block is mapped.
+pub(crate) fn hold_root<P: Platform>(
+    alloc: Global,
+    platform: &mut P,
+    cache: &mut NodeCache,
+    buf: &mut Buffers,
+    order: u16,
+    block: u64,
+    top: &Child,
+    level: u8,
+    high: u64,
+    held: &mut Vec<Twig>,
+) -> Result<bool, ReadyRefusal>
+    requires can { CanHoldRoot order level block high (P.head platform.old) top.now }
+    ensures at_hand { IfOk result (λ _. HeldRoot AnyRead order block (level - 1) high top.now held.new.items) }
+    ensures reads { P.tells → StandsOver (P.history platform.old).present.readable cache.old →
+        IfOk result (λ _. HeldRoot (IsReadAs (P.history platform.old).present.readable order) order block (level - 1) high top.now held.new.items) }
+    ensures stands { P.tells → StandsOver (P.history platform.old).present.readable cache.old → StandsOver (P.history platform.old).present.readable cache.new }
+    ensures looks { Looks P.Platform level platform.old platform.new }
+    ensures cause { IsErrOf result ReadyRefusal.PlatformFault → Rose (P.faults platform.old) (P.faults platform.new) }
+{
+    match top {
+        Child::Grown { twig, .. } => hold_below(
+            alloc,
+            platform,
+            cache,
+            buf,
+            order,
+            block,
+            twig,
+            level - 1,
+            high,
+            held,
+        ),
+        Child::Kept { low, addr, key } => {
+            let want = Want {
+                addr: *addr,
+                level,
+                low: *low,
+                high,
+                least: least_of_root(level),
+                most: order,
+            };
+            let key = Key::from_bytes(*key);
+            let twig = read_node(alloc, platform, cache, &want, &key, buf)?;
+            let is_mapped = hold_below(
+                alloc,
+                platform,
+                cache,
+                buf,
+                order,
+                block,
+                &twig,
+                level - 1,
+                high,
+                held,
+            )?;
+            hold(twig, held)?;
+            Ok(is_mapped)
+        }
+    }
+}
+
+/// The least number of children of a root.
+fn least_of_root(level: u8) -> u16
+    requires { 1 ≤ level }
+    ensures { result ≡ top_least (level - 1) }
+{
+    if level == 1 { 0 } else { 2 }
+}
+
+/// Holds a node.
+fn hold(twig: Twig, held: &mut Vec<Twig>) -> Result<(), ReadyRefusal>
+    ensures held { IfOk result (λ _. held.new.items ≡ held.old.items ++ twig ∷ []) }
+    ensures memory { (e : ReadyRefusal) → IsErrOf result e → e ≡ ReadyRefusal.Memory }
+{
+    match held.push(twig) {
+        Ok(_) => Ok(()),
+        Err(_) => Err(ReadyRefusal::Memory),
+    }
+}

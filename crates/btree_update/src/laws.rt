@@ -1,0 +1,38 @@
+//! Laws of trees that are partly in memory. The functions do nothing: each has its law as its contract.
+ghost use Rattle.std.specs.Prelude.{◌≡◌, ℕ, List, suc, ◌<◌, ◌^◌};
+ghost use Rattle.node_codec.specs.declared.body.Entry.{Entry};
+ghost use Rattle.node_codec.specs.Record.{DataRecord, NodeRecord};
+ghost use Rattle.page_store.specs.declared.wants.Want.{Want};
+ghost use Rattle.page_store.specs.Places.{IsRecordAt, FitsAt};
+ghost use Rattle.page_store.specs.Tree.{Parts, Mapped, Subtree, joined, node_parts};
+ghost use Rattle.btree_twigs.specs.Stubs.{Stub, Puts, datum};
+ghost use Rattle.btree_update.specs.GroveTree.{HasEach, Maps, stubs_at};
+ghost use Rattle.btree_update.specs.Maps.{MapPuts};
+ghost use Rattle.btree_update.specs.Opens.{Opens};
+
+/// What is put among the places below the nodes in memory is put into what they map.
+pub fn put_maps()
+    ensures { (pages : List (List ℕ)) (order low high block addr : ℕ) (key content : List ℕ) (old new : List Stub) (mapped : List Mapped) →
+        Puts low high (datum block addr key) old new → Maps pages order old mapped → IsRecordAt pages addr key (DataRecord block content) →
+        (after : List Mapped) × Maps pages order new after × MapPuts (record { block = block; addr = addr; key = key; content = content }) mapped after }
+{}
+
+/// The places below a node that was read from its page map what the node maps.
+pub fn read_maps()
+    ensures { (pages : List (List ℕ)) (order level : ℕ) (want : Want) (key : List ℕ) (parts : Parts) (entries : List Entry) → want.addr < 2 ^ 64 →
+        Subtree pages order (suc level) want key parts → IsRecordAt pages want.addr key (NodeRecord (suc level) entries) →
+        Maps pages order (stubs_at level want.high entries) parts.mapped }
+{}
+
+/// A node that was sealed over places is a place of a tree, and maps what they map.
+pub fn sealed_is()
+    ensures { (pages : List (List ℕ)) (order level : ℕ) (want : Want) (key : List ℕ) (entries : List Entry) (parts : List Parts) →
+        FitsAt pages want key (NodeRecord (suc level) entries) → HasEach pages order (stubs_at level want.high entries) parts →
+        Subtree pages order (suc level) want key (node_parts want.addr key entries (joined parts)) }
+{}
+
+/// What is opened maps what it mapped.
+pub fn opened_maps()
+    ensures { (pages : List (List ℕ)) (order : ℕ) (addrs : List ℕ) (old new : List Stub) (mapped : List Mapped) →
+        Opens pages order addrs old new → Maps pages order old mapped → Maps pages order new mapped }
+{}

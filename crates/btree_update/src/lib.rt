@@ -1,0 +1,14 @@
+//! Trees that are partly in memory, over pages: what they map, and how the way of an update is brought into memory.
+#![tactic(auto)]
+
+mod groves;
+mod holding;
+mod laws;
+mod opening;
+mod reading;
+mod refusals;
+
+pub use groves::Grove;
+pub use laws::{opened_maps, put_maps, read_maps, sealed_is};
+pub use opening::open_way;
+pub use refusals::ReadyRefusal;

@@ -1,0 +1,127 @@
+ghost use Rattle.std.specs.Prelude.{◌≡◌, ℕ, List, [], ◌∷◌, ◌++◌, ◌+◌, ◌<◌, ◌≤◌, suc, vec_len, vec_capacity};
+ghost use Rattle.btree_twigs.specs.Stubs.{stubs, stubs_below, nodes, nodes_below};
+ghost use Rattle.btree_twigs.specs.declared.twigs.Child.{out-Child};
+ghost use Rattle.btree_twigs.specs.declared.twigs.Child.TheOpen.{Grown};
+ghost use Rattle.btree_twigs.specs.declared.twigs.Twig.{Twig};
+ghost use Rattle.btree_update.specs.Held.{IsReadAs, HeldFor, OnWay, CanOpen, IsOpened, IsTakenUp, IsNoted, IsAtHand, CanOpenBelow, IsOpenedBelow};
+ghost use Rattle.btree_update.specs.Opens.{GivesWay};
+ghost use Rattle.btree_update.specs.Roots.{CanOpenRoot, IsRootOpened, HeldRoot, RootMaps};
+ghost use Rattle.btree_update.specs.GroveTree.{Maps};
+ghost use Rattle.page_store.specs.Tree.{Mapped};
+
+use btree_twigs::{Child, Twig, addr_of, low_of, place};
+
+/// Takes the nodes on the way to a block into the tree, from those that are held for it, the topmost last. The addresses
+/// of their pages are gone then.
+#[cycle(open)]
+pub fn open_way(child: &mut Child, level: u8, block: u64, held: &mut Vec<Twig>, gone: &mut Vec<u64>)
+    requires can { CanOpen level block held.old.items child.old }
+    requires room { vec_len gone.old + vec_len held.old ≤ vec_capacity gone.old }
+    ensures opened { (at : CanOpen level block held.old.items child.old) → IsOpened at.order level block at.high child.old child.new }
+    ensures gives { (pages : List (List ℕ)) (at : CanOpen level block held.old.items child.old)
+        → HeldFor (IsReadAs pages at.order) at.order block level at.high child.old held.old.items
+        → GivesWay pages at.order (stubs level at.high child.old) (stubs level at.high child.new) gone.old.items gone.new.items }
+    ensures room { vec_len gone.new + vec_len held.new ≤ vec_capacity gone.new }
+    ensures spare { vec_len gone.new + vec_len held.new + vec_capacity gone.old ≤ vec_len gone.old + vec_len held.old + vec_capacity gone.new }
+    ensures nodes { (at : CanOpen level block held.old.items child.old) → nodes level child.new ≤ nodes level child.old + level }
+{
+    if level == 0 {
+        return;
+    }
+    take_held(child, held, gone);
+    match child {
+        Child::Kept { .. } => unreachable!(),
+        Child::Grown { twig, .. } => open_below(twig, level - 1, block, held, gone),
+    }
+}
+
+/// Opens the way below a node, over children of a level.
+#[cycle(open)]
+pub(crate) fn open_below(
+    twig: &mut Twig,
+    level: u8,
+    block: u64,
+    held: &mut Vec<Twig>,
+    gone: &mut Vec<u64>,
+)
+    requires can { CanOpenBelow level block held.old.items twig.old }
+    requires room { vec_len gone.old + vec_len held.old ≤ vec_capacity gone.old }
+    ensures opened { (at : CanOpenBelow level block held.old.items twig.old) → IsOpenedBelow at.order level at.least at.low at.high block twig.old twig.new }
+    ensures gives { (pages : List (List ℕ)) (at : CanOpenBelow level block held.old.items twig.old)
+        → OnWay block (λ high c. HeldFor (IsReadAs pages at.order) at.order block level high c held.old.items) at.high twig.old
+        → GivesWay pages at.order (stubs_below level at.high twig.old) (stubs_below level at.high twig.new) gone.old.items gone.new.items }
+    ensures room { vec_len gone.new + vec_len held.new ≤ vec_capacity gone.new }
+    ensures spare { vec_len gone.new + vec_len held.new + vec_capacity gone.old ≤ vec_len gone.old + vec_len held.old + vec_capacity gone.new }
+    ensures nodes { (at : CanOpenBelow level block held.old.items twig.old) → nodes_below level twig.new ≤ nodes_below level twig.old + level }
+{
+    let at = place(&twig.children, block);
+    if at == 0 {
+        return;
+    }
+    open_way(&mut twig.children[at - 1], level, block, held, gone);
+}
+
+/// Takes the root and the nodes on the way to a block into the tree, from those that are held for it.
+pub(crate) fn open_root(
+    top: &mut Child,
+    level: u8,
+    block: u64,
+    held: &mut Vec<Twig>,
+    gone: &mut Vec<u64>,
+)
+    requires can { CanOpenRoot level block held.old.items top.old }
+    requires room { vec_len gone.old + vec_len held.old ≤ vec_capacity gone.old }
+    ensures opened { (at : CanOpenRoot level block held.old.items top.old) → IsRootOpened at.order at.below block at.high top.new }
+    ensures gives { (pages : List (List ℕ)) (at : CanOpenRoot level block held.old.items top.old)
+        → HeldRoot (IsReadAs pages at.order) at.order block at.below at.high top.old held.old.items
+        → GivesWay pages at.order (stubs level at.high top.old) (stubs level at.high top.new) gone.old.items gone.new.items }
+    ensures maps { (pages : List (List ℕ)) (at : CanOpenRoot level block held.old.items top.old)
+        → HeldRoot (IsReadAs pages at.order) at.order block at.below at.high top.old held.old.items
+        → (mapped : List Mapped) → RootMaps pages at.order at.below at.high top.old mapped → Maps pages at.order (stubs level at.high top.new) mapped }
+    ensures room { vec_len gone.new + vec_len held.new ≤ vec_capacity gone.new }
+    ensures spare { vec_len gone.new + vec_len held.new + vec_capacity gone.old ≤ vec_len gone.old + vec_len held.old + vec_capacity gone.new }
+    ensures nodes { (at : CanOpenRoot level block held.old.items top.old) → nodes level top.new ≤ nodes level top.old + level }
+{
+    take_held(top, held, gone);
+    match top {
+        Child::Kept { .. } => unreachable!(),
+        Child::Grown { twig, .. } => open_below(twig, level - 1, block, held, gone),
+    }
+}
+
+/// Takes the node that is held last for a child that isn't in memory.
+pub(crate) fn take_held(child: &mut Child, held: &mut Vec<Twig>, gone: &mut Vec<u64>)
+    requires at_hand { IsAtHand (out-Child child.old) held.old.items }
+    requires room { vec_len gone.old + vec_len held.old ≤ vec_capacity gone.old }
+    ensures taken { IsTakenUp (out-Child child.old) child.new held.old.items held.new.items }
+    ensures noted { IsNoted (out-Child child.old) gone.old.items gone.new.items }
+    ensures room { vec_len gone.new + vec_len held.new ≤ vec_capacity gone.new }
+    ensures spare { vec_len gone.new + vec_len held.new + vec_capacity gone.old ≤ vec_len gone.old + vec_len held.old + vec_capacity gone.new }
+{
+    let low = low_of(child);
+    if let Some(addr) = addr_of(child) {
+        take_up(child, low, held);
+        note(gone, addr);
+    }
+}
+
+/// Puts the node that is held last in the place of a child.
+fn take_up(child: &mut Child, low: u64, held: &mut Vec<Twig>)
+    requires { 0 < vec_len held.old }
+    ensures taken { (twig : Twig) × (held.old.items ≡ held.new.items ++ twig ∷ []) × (out-Child child.new ≡ Grown low twig) }
+    ensures room { vec_len held.new + 1 ≡ vec_len held.old }
+{
+    match held.pop() {
+        Some(twig) => *child = Child::Grown { low, twig },
+        None => unreachable!(),
+    }
+}
+
+/// Notes an address where there is room.
+pub(crate) fn note(gone: &mut Vec<u64>, addr: u64)
+    requires { vec_len gone.old < vec_capacity gone.old }
+    ensures items { gone.new.items ≡ gone.old.items ++ addr ∷ [] }
+    ensures capacity { vec_capacity gone.old ≤ vec_capacity gone.new }
+{
+    let _room = gone.push(addr);
+}
