@@ -3,3 +3,4 @@ pub mod OpenedLaws
 pub mod WorkLaws
 pub mod SearchLaws
 pub mod LooksLaws
+pub mod CountLaws

@@ -9,6 +9,7 @@
 #![tactic(auto)]
 
 mod index;
+mod laws;
 mod opened;
 mod paging;
 mod refusals;
@@ -16,8 +17,12 @@ mod report;
 mod seizing;
 mod work;
 
+pub use laws::counted_by_address;
 pub use opened::{Opened, OpenedList};
 pub use paging::{seize_pages, seize_pages_all};
 pub use refusals::SeizeRefusal;
 pub use report::Report;
 pub use seizing::{seize, seize_all};
+
+#[cfg(test)]
+mod tests;
