@@ -1,7 +1,7 @@
 -- What a tree maps a block to, and what a listing of it has.
 use Rattle.std.specs.Prelude.{◌≡◌, ◌≢◌, ◌<◌, ◌≤◌, ℕ, List, Option, None, Some, Bool, true, false, All, Contains, map}
 use Rattle.std.specs.List.{filter}
-use Rattle.key_graph.specs.Trace.{TraceEntry, DataOf, NodeOver}
+use Rattle.sdbt_base.specs.Traces.{TraceEntry, DataOf, NodeOver}
 use Rattle.node_codec.specs.declared.body.Entry.{Entry}
 use Rattle.page_store.specs.Tree.{Place, Mapped}
 
