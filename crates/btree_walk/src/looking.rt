@@ -50,6 +50,32 @@ pub(crate) fn look<P: Platform>(
             Err(FetchRefusal::BadRecord { addr: want.addr })
         };
     }
+    look_at_page(platform, cache, want, key, block, buf)
+}
+
+/// Looks at the page of a place for a block, and has the cache keep its node. Apart from `look`, so that a look at a kept
+/// node needs no room for another one.
+fn look_at_page<P: Platform>(
+    platform: &mut P,
+    cache: &mut NodeCache,
+    want: &Want,
+    key: &Key,
+    block: u64,
+    buf: &mut Buffers,
+) -> Result<Turn, FetchRefusal>
+    requires within { want.now.addr < P.head platform.old }
+    requires asks { AsksFor want.now block }
+
+    ensures seen { P.tells → IfOk result (SeesTurn cache.old.kept (P.history platform.old).present.readable want.now key.now block) }
+    ensures fits { IfOk result (FitsTurn want.now block) }
+    ensures bad { P.tells → (addr : ℕ) → IsErrOf result (FetchRefusal.BadRecord addr) →
+        StopsHere (Misses cache.old.kept (P.history platform.old).present.readable) addr want.now key.now }
+
+    ensures used { IfOk result (λ _. UsesPlace want.now.addr cache.old cache.new) }
+    ensures keeps { P.tells → KeepsOnly (P.history platform.old).present.readable cache.old cache.new }
+    ensures looks { Looks P.Platform 1 platform.old platform.new }
+    ensures cause { IsErrOf result FetchRefusal.PlatformFault → Rose (P.faults platform.old) (P.faults platform.new) }
+{
     match fetch(platform, want, key, buf)? {
         Body::Node { node } => {
             let turn = turn_at(want, &node, block);
