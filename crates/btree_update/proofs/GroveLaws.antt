@@ -9,7 +9,7 @@ use Rattle.btree_twigs.specs.declared.twigs.Child.TheOpen.{Kept, Grown}
 use Rattle.btree_twigs.specs.declared.twigs.Child.TheVariants as made
 use Rattle.btree_twigs.specs.declared.twigs.Twig.{Twig}
 use Rattle.btree_twigs.specs.declared.twigs.Spot.{Spot}
-use Rattle.btree_twigs.specs.Stubs.{Stub, stubs, stubs_in, stubs_below}
+use Rattle.btree_twigs.specs.Stubs.{Stub, Puts, datum, stubs, stubs_in, stubs_below}
 use Rattle.btree_twigs.specs.Shape.{IsTwig}
 use Rattle.btree_twigs.specs.Updates.{IsOpen, HasSpares}
 use Rattle.btree_twigs.specs.Search.{IsAt, IsSpot}
@@ -17,6 +17,8 @@ use Rattle.btree_twigs.specs.Top.{IsTop, IsTopBy, top_least, level_in, child_lev
 use Rattle.btree_twigs.proofs.Nodes.{stubs_of_grown}
 use Rattle.btree_twigs.proofs.Ways.{open_back}
 use Rattle.btree_update.specs.GroveTree.{Maps}
+use Rattle.btree_update.specs.Held.{AreBelow}
+use Rattle.btree_update.proofs.OpenLaws.{below_front, below_back, below_append}
 use Rattle.btree_update.specs.Roots.{IsRoot, IsRootBy, RootMaps, RootMapsBy}
 
 -- where a search ends below a root
@@ -69,3 +71,13 @@ spares_push order spares spare le empty room h = record { many = omega arith; ea
 
 pub spares_many : (order count : ℕ) (spares : List (Vec Child Global)) → count ≤ length spares → HasSpares order 0 spares → HasSpares order count spares
 spares_many order count spares le h = record { many = le; each = h.each }
+
+pub puts_below : (low high block addr head : ℕ) (key : List ℕ) (old new : List Stub) → Puts low high (datum block addr key) old new → AreBelow head old → addr < head → AreBelow head new
+puts_below low high block addr head key old new p h lt =
+    let all = subst (AreBelow head) p.was h in
+    subst (AreBelow head) (sym p.now) (below_append head p.front (datum block addr key ∷ p.back) (below_front head p.front (p.mid ++ p.back) all) (lt, below_back head p.mid p.back (below_back head p.front (p.mid ++ p.back) all)))
+
+pub kept_place : (level high low addr head : ℕ) (key : List ℕ) → 1 ≤ level → addr < head → AreBelow head (stubs level high (made.Kept low addr key))
+unfolding stubs
+kept_place zero high low addr head key one lt = absurd (omega (arith, one))
+kept_place (suc level) high low addr head key one lt = subst (λ x. AreBelow head (stubs_in (stubs level) (suc level) high x)) (sym (made.outs-Kept low addr key)) (lt, tt)

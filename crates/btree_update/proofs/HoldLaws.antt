@@ -19,8 +19,9 @@ use Rattle.btree_twigs.proofs.Ways.{child_is_twig}
 use Rattle.btree_update.specs.GroveTree.{stubs_at}
 use Rattle.btree_update.specs.Reading.{kept_of, all_kept}
 use Rattle.btree_update.specs.Held.{stub_at, IsReadAs, OnWay, TakesHeld, HeldIn, HeldFor, AnyRead}
-use Rattle.btree_update.specs.Holding.{IsNodeFor, IsNodeOf, AreBelow}
-use Rattle.btree_update.proofs.OpenLaws.{IsOnWay}
+use Rattle.btree_update.specs.Holding.{IsNodeFor, IsNodeOf}
+use Rattle.btree_update.specs.Held.{AreBelow}
+use Rattle.btree_update.proofs.OpenLaws.{IsOnWay, below_front, below_back, lower}
 use Rattle.btree_update.proofs.Readings.{kept_stubs, read_is_twig}
 
 starts_before : (order level high : ℕ) (gs es : List Child) (d : Child) → EachBy low_of (IsChild order level) high (gs ++ d ∷ es) → start_by low_of (gs ++ d ∷ es) high ≤ low_of d
@@ -65,14 +66,6 @@ one_way Rest order level least low high block n end twig c h w r = λ front back
     let same = same_way order level high block (take w.at (children_of twig)) front c d (drop (suc w.at) (children_of twig)) back each (sym w.split ∙ split) w.from w.to from to in
     subst (λ xs. Rest (start_by low_of xs high) d) same.1 (subst (Rest (start_by low_of (drop (suc w.at) (children_of twig)) high)) same.0 r)
 
-pub below_front : (head : ℕ) (xs ys : List Stub) → AreBelow head (xs ++ ys) → AreBelow head xs
-below_front head [] ys h = tt
-below_front head (x ∷ xs) ys h = (h.0, below_front head xs ys h.1)
-
-pub below_back : (head : ℕ) (xs ys : List Stub) → AreBelow head (xs ++ ys) → AreBelow head ys
-below_back head [] ys h = h
-below_back head (x ∷ xs) ys h = below_back head xs ys h.1
-
 -- the places below the child on the way are among those of the node
 pub below_child : (order level high block n head : ℕ) (twig : Twig) (c : Child) → (w : IsOnWay order block level high (children_of twig) n c) → AreBelow head (stubs_below level high twig) →
     AreBelow head (stubs level (start_by low_of (drop (suc w.at) (children_of twig)) high) c)
@@ -101,14 +94,15 @@ entries_below (suc level) high head [] h = tt
 entries_below zero high head (e ∷ es) h = (h.0, entries_below zero high head es h.1)
 entries_below (suc level) high head (e ∷ es) h = (h.0, entries_below (suc level) high head es h.1)
 
-lower : (head head' : ℕ) (ss : List Stub) → head ≤ head' → AreBelow head ss → AreBelow head' ss
-lower head head' [] le h = tt
-lower head head' (s ∷ ss) le h = (omega (arith, h.0, le), lower head head' ss le h.1)
-
 pub read_below : (level high head : ℕ) (want : Want) (twig : Twig) → IsNodeFor want twig → want.addr < head → AreBelow head (stubs_below level high twig)
 read_below level high head want twig h lt =
     subst (AreBelow head) (sym (ap (stubs_under level high) h.children ∙ kept_stubs level high h.entries))
     (lower want.addr head _ (omega (arith, lt)) (entries_below level high want.addr h.entries (recursion_from_All (λ (e : Entry). e.addr < want.addr) h.entries h.in_range.below)))
+
+pub read_lower : (level high : ℕ) (want : Want) (twig : Twig) → IsNodeFor want twig → AreBelow want.addr (stubs_below level high twig)
+read_lower level high want twig h =
+    subst (AreBelow want.addr) (sym (ap (stubs_under level high) h.children ∙ kept_stubs level high h.entries))
+    (entries_below level high want.addr h.entries (recursion_from_All (λ (e : Entry). e.addr < want.addr) h.entries h.in_range.below))
 
 -- a node that was read is a node in memory
 pub node_is_twig : (order level least low high addr : ℕ) (twig : Twig) → order ≤ 64 → (1 ≤ level → 1 ≤ least) → low ≤ high →
@@ -127,11 +121,11 @@ read_as pages order level low high addr least key twig small h = record {
 
 -- a child on the medium whose node is held
 pub holds_kept : (Reads : ℕ → Stub → Twig → Type 0) (order block level high low addr : ℕ) (key : List ℕ) (twig : Twig) (rest held : List Twig) → held ≡ rest ++ twig ∷ [] → Reads level (stub_at (suc level) low high addr key) twig →
-    IsTwig order level (order / 2) order low high twig → nodes_below level twig ≡ 0 → OnWay block (λ end c. HeldFor Reads order block level end c rest) high twig → HeldFor Reads order block (suc level) high (made.Kept low addr key) held
+    IsTwig order level (order / 2) order low high twig → nodes_below level twig ≡ 0 → AreBelow addr (stubs_below level high twig) → OnWay block (λ end c. HeldFor Reads order block level end c rest) high twig → HeldFor Reads order block (suc level) high (made.Kept low addr key) held
 unfolding HeldFor
-holds_kept Reads order block level high low addr key twig rest held is reads shaped bare way =
+holds_kept Reads order block level high low addr key twig rest held is reads shaped bare lowers way =
     subst (λ x. HeldIn Reads order block (HeldFor Reads order block level) level high x held) (sym (made.outs-Kept low addr key))
-    (record { rest = rest; twig = twig; is = is; reads = reads; shaped = shaped; bare = bare; on_way = way })
+    (record { rest = rest; twig = twig; is = is; reads = reads; shaped = shaped; bare = bare; lower = lowers; on_way = way })
 
 -- a child in memory
 pub holds_grown : (Reads : ℕ → Stub → Twig → Type 0) (order block level high low : ℕ) (twig : Twig) (held : List Twig) → OnWay block (λ end c. HeldFor Reads order block level end c held) high twig →

@@ -10,9 +10,10 @@ use Rattle.btree_twigs.specs.Shape.{IsTwig}
 use Rattle.btree_twigs.specs.Top.{top_least}
 use Rattle.btree_twigs.proofs.Nodes.{stubs_of_grown}
 use Rattle.btree_update.specs.Held.{stub_at, OnWay, HeldFor}
-use Rattle.btree_update.specs.Holding.{CanHoldRoot, CanHoldBelow, AreBelow, IsNodeFor}
+use Rattle.btree_update.specs.Holding.{CanHoldRoot, CanHoldBelow, IsNodeFor}
+use Rattle.btree_update.specs.Held.{AreBelow}
 use Rattle.btree_update.specs.Roots.{IsRootBy, HeldRootBy, HeldRoot}
-use Rattle.btree_update.proofs.HoldLaws.{bare_of, read_below, node_is_twig, kept_below}
+use Rattle.btree_update.proofs.HoldLaws.{bare_of, read_below, read_lower, node_is_twig, kept_below}
 
 above_root : (level : ℕ) → 1 ≤ level → level ≡ suc (level - 1)
 above_root level one = omega (arith, one)
@@ -73,7 +74,7 @@ module _ (order level block high head low addr least : ℕ) (key : List ℕ) (tw
   pub root_held : (Reads : ℕ → Stub → Twig → Type 0) (rest held : List Twig) → held ≡ rest ++ twig ∷ [] → Reads (level - 1) (stub_at (suc (level - 1)) 0 high addr key) twig →
       OnWay block (λ end c. HeldFor Reads order block (level - 1) end c rest) high twig → HeldRoot Reads order block (level - 1) high (made.Kept low addr key) held
   root_held Reads rest held is reads way = subst (λ x. HeldRootBy Reads order block (level - 1) high x held) (sym (made.outs-Kept low addr key))
-      (record { rest = rest; twig = twig; is = is; reads = reads; shaped = root_shaped; bare = root_bare; on_way = way })
+      (record { rest = rest; twig = twig; is = is; reads = reads; shaped = root_shaped; bare = root_bare; lower = read_lower (level - 1) high (want_root order level low high addr least) twig h; on_way = way })
 
 pub root_lt : (order level block high head low addr : ℕ) (key : List ℕ) → CanHoldRoot order level block high head (made.Kept low addr key) → addr < head
 root_lt order level block high head low addr key at = kept_below head (level - 1) high low addr key (subst (λ k. AreBelow head (stubs k high (made.Kept low addr key))) (above_root level at.one) at.within)

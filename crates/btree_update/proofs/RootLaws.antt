@@ -9,11 +9,11 @@ use Rattle.btree_twigs.specs.Stubs.{Stub, stubs, stubs_in, stubs_below, nodes, n
 use Rattle.btree_twigs.specs.Shape.{IsTwig}
 use Rattle.btree_twigs.specs.Top.{top_least}
 use Rattle.btree_update.specs.GroveTree.{Maps, top_want}
-use Rattle.btree_update.specs.Held.{stub_at, IsReadAs, OnWay, HeldFor, AnyRead, IsTakenUp, IsNoted, IsAtHand, CanOpenBelow}
+use Rattle.btree_update.specs.Held.{stub_at, AreBelow, IsReadAs, OnWay, HeldFor, AnyRead, IsTakenUp, IsNoted, IsAtHand, CanOpenBelow}
 use Rattle.btree_update.specs.Opens.{Opens, Same, Here, Within, Then, GivesWay}
 use Rattle.btree_update.specs.Roots.{IsRootBy, TakesRoot, HeldRootBy, RootMapsBy}
 use Rattle.btree_update.proofs.Places.{read_maps}
-use Rattle.btree_update.proofs.OpenLaws.{gives_none}
+use Rattle.btree_update.proofs.OpenLaws.{gives_none, lower}
 
 pub root_at_hand : (Reads : ℕ → Stub → Twig → Type 0) (order block below high : ℕ) (x : Child-F Child Twig) (held : List Twig) → HeldRootBy Reads order block below high x held → IsAtHand x held
 root_at_hand Reads order block below high (Kept low addr key) held h = omega (arith, ap length h.is, length-append h.rest (h.twig ∷ []))
@@ -91,6 +91,23 @@ root_maps pages order block below high (Grown low' twig') new held rest low twig
     let grown : grown_of low' twig' ≡ grown_of low twig = sym t.0 ∙ is in
     let twigs : twig' ≡ twig = cc in
     subst (λ w. Maps pages order (stubs_below below high w) mapped) twigs m
+
+pub root_below_by : (order block below high head : ℕ) (x : Child-F Child Twig) (new : Child) (held rest : List Twig) (low : ℕ) (twig : Twig) →
+    HeldRootBy AnyRead order block below high x held → IsTakenUp x new held rest → out-Child new ≡ Grown low twig → AreBelow head (stubs_in (stubs below) (suc below) high x) → AreBelow head (stubs_below below high twig)
+root_below_by order block below high head (Kept low' addr key) new held rest low twig h t is b =
+    let same = same_from_push h.rest rest h.twig t.0 (sym h.is ∙ t.1) in
+    let grown : grown_of low' t.0 ≡ grown_of low twig = sym t.2 ∙ is in
+    let twigs : t.0 ≡ twig = cc in
+    subst (λ w. AreBelow head (stubs_below below high w)) (same.1 ∙ twigs) (lower addr head _ (omega (arith, b.0)) h.lower)
+root_below_by order block below high head (Grown low' twig') new held rest low twig h t is b =
+    let grown : grown_of low' twig' ≡ grown_of low twig = sym t.0 ∙ is in
+    let twigs : twig' ≡ twig = cc in
+    subst (λ w. AreBelow head (stubs_below below high w)) twigs b
+
+pub root_below : (order block below high head : ℕ) (top new : Child) (held rest : List Twig) (low : ℕ) (twig : Twig) →
+    HeldRootBy AnyRead order block below high (out-Child top) held → IsTakenUp (out-Child top) new held rest → out-Child new ≡ Grown low twig → AreBelow head (stubs (suc below) high top) → AreBelow head (stubs_below below high twig)
+unfolding stubs
+root_below order block below high head top new held rest low twig h t is b = root_below_by order block below high head (out-Child top) new held rest low twig h t is b
 
 abbrev pub below_root : (order block below level high low : ℕ) (x : Child-F Child Twig) (twig : Twig) (held : List Twig) → level ≡ below → block < high → IsRootUp AnyRead order block below high x low twig held → CanOpenBelow level block held twig
 below_root order block below level high low x twig held is to u = record {

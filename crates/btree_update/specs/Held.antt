@@ -1,5 +1,6 @@
 -- Nodes that were read for an update and are held beside the tree, and what the update makes of the way when it takes them.
 use Rattle.std.specs.Prelude.{◌≡◌, ℕ, zero, suc, ◌/◌, ◌^◌, ◌<◌, ◌≤◌, List, [], ◌∷◌, ◌++◌, length}
+use Rattle.std.specs.List.{AllByRecursion}
 use Rattle.node_codec.specs.declared.body.Entry.{Entry}
 use Rattle.node_codec.specs.Record.{NodeRecord}
 use Rattle.page_store.specs.Places.{IsRecordAt}
@@ -14,6 +15,10 @@ use Rattle.btree_update.specs.GroveTree.{stubs_at}
 -- a place at a level, and a node over children of the level below
 abbrev pub stub_at : ℕ → ℕ → ℕ → ℕ → List ℕ → Stub
 stub_at level low high addr key = record { level = level; low = low; high = high; addr = addr; key = key }
+
+-- these places have addresses below this one
+abbrev pub AreBelow : ℕ → List Stub → Type 0
+AreBelow head = AllByRecursion (λ s. s.addr < head)
 
 -- the node in memory is what the page at its place says
 pub record IsReadAs (pages : List (List ℕ)) (order below : ℕ) (stub : Stub) (twig : Twig) : Type 0 where
@@ -35,6 +40,7 @@ pub record TakesHeld (Reads : ℕ → Stub → Twig → Type 0) (order block : �
   pub reads : Reads below (stub_at (suc below) low high addr key) twig
   pub shaped : IsTwig order below (order / 2) order low high twig
   pub bare : nodes_below below twig ≡ 0
+  pub lower : AreBelow addr (stubs_below below high twig)
   pub on_way : OnWay block (λ high c. Rest high c rest) high twig
 
 abbrev pub HeldIn : (ℕ → Stub → Twig → Type 0) → ℕ → ℕ → (ℕ → Child → List Twig → Type 0) → ℕ → ℕ → Child-F Child Twig → List Twig → Type 0

@@ -1,6 +1,5 @@
 -- What is read for an update.
 use Rattle.std.specs.Prelude.{◌≡◌, ℕ, suc, ◌-◌, ◌<◌, ◌≤◌, List, vec_capacity}
-use Rattle.std.specs.List.{AllByRecursion}
 use Rattle.node_codec.specs.declared.body.Entry.{Entry}
 use Rattle.node_codec.specs.Record.{NodeRecord, FitsNode}
 use Rattle.page_store.specs.declared.wants.Want.{Want}
@@ -10,6 +9,7 @@ use Rattle.btree_twigs.specs.declared.twigs.Twig.{Twig, out-Twig}
 use Rattle.btree_twigs.specs.Stubs.{Stub, low_of, level_of, children_of, stubs, stubs_below}
 use Rattle.btree_twigs.specs.Shape.{IsChild, IsTwig}
 use Rattle.btree_update.specs.Reading.{all_kept}
+use Rattle.btree_update.specs.Held.{AreBelow}
 use Rattle.btree_update.specs.Roots.{IsRoot}
 
 -- a node in memory that is in range and wanted at a place, with room for one child more than a node may have
@@ -26,10 +26,6 @@ pub record IsNodeOf (pages : List (List ℕ)) (want : Want) (key : List ℕ) (tw
   pub entries : List Entry
   pub here : IsRecordAt pages want.addr key (NodeRecord want.level entries)
   pub children : children_of twig ≡ all_kept entries
-
--- these places have addresses below the head
-abbrev pub AreBelow : ℕ → List Stub → Type 0
-AreBelow head = AllByRecursion (λ s. s.addr < head)
 
 -- a child over children of some level, on the way to a block
 pub record CanHold (order level block high head : ℕ) (child : Child) : Type 0 where

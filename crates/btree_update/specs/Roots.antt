@@ -9,7 +9,7 @@ use Rattle.btree_twigs.specs.Shape.{IsTwig}
 use Rattle.btree_twigs.specs.Updates.{IsOpen}
 use Rattle.btree_twigs.specs.Top.{IsTop, top_least}
 use Rattle.btree_update.specs.GroveTree.{Maps, top_want}
-use Rattle.btree_update.specs.Held.{stub_at, OnWay, HeldFor, AnyRead}
+use Rattle.btree_update.specs.Held.{stub_at, AreBelow, OnWay, HeldFor, AnyRead}
 
 -- a root begins at 0; in memory it may have as few children as a root
 abbrev pub IsRootBy : ℕ → ℕ → ℕ → Child-F Child Twig → Type 0
@@ -28,6 +28,7 @@ pub record TakesRoot (Reads : ℕ → Stub → Twig → Type 0) (order block bel
   pub reads : Reads below (stub_at (suc below) 0 high addr key) twig
   pub shaped : IsTwig order below (top_least below) order 0 high twig
   pub bare : nodes_below below twig ≡ 0
+  pub lower : AreBelow addr (stubs_below below high twig)
   pub on_way : OnWay block (λ high c. HeldFor Reads order block below high c rest) high twig
 
 abbrev pub HeldRootBy : (ℕ → Stub → Twig → Type 0) → ℕ → ℕ → ℕ → ℕ → Child-F Child Twig → List Twig → Type 0

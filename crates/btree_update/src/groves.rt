@@ -15,7 +15,7 @@ ghost use Rattle.btree_walk.specs.Looks.{Looks};
 ghost use Rattle.btree_walk.specs.Sights.{StandsOver};
 ghost use Rattle.btree_twigs.specs.declared.twigs.Child.{Child};
 ghost use Rattle.btree_update.specs.declared.refusals.ReadyRefusal.{ReadyRefusal};
-ghost use Rattle.btree_update.specs.Holding.{AreBelow};
+ghost use Rattle.btree_update.specs.Held.{AreBelow};
 ghost use Rattle.btree_update.specs.Groves.{KeepsTree, IsSound, IsReadFrom, CanInsert, GroveMaps, places_of, grown_in, IsAddressOf, LetsGo, Goes};
 
 use crate::holding::hold_root;
@@ -52,6 +52,7 @@ impl Grove {
         ensures size { (result.order ≡ root.now.order) × (result.blocks ≡ root.now.blocks) × (result.head ≡ root.now.head) × (result.level ≡ root.now.level) }
         ensures top { result.top ≡ Kept 0 root.now.addr root.now.key }
         ensures lists { (result.gone.items ≡ []) × (result.never.items ≡ []) }
+        ensures below { (head : ℕ) → root.now.addr < head → AreBelow head (places_of result) }
     {
         Grove {
             order: root.order,
@@ -150,6 +151,7 @@ impl Grove {
             → (after : List Mapped) × GroveMaps pages self.new after × MapPuts (record { block = block; addr = addr; key = key; content = content }) mapped after }
         ensures goes { (pages : List (List ℕ)) → IsReadFrom pages block self.old
             → Goes pages self.old.order self.old.head block (places_of self.old) self.old.gone.items self.new.gone.items self.old.never.items self.new.never.items }
+        ensures below { (head : ℕ) → AreBelow head (places_of self.old) → addr < head → AreBelow head (places_of self.new) }
         ensures grown { grown_in self.new ≤ grown_in self.old + (2 * self.old.level + 1) }
     {
         open_root(

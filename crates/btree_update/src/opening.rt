@@ -3,7 +3,7 @@ ghost use Rattle.btree_twigs.specs.Stubs.{stubs, stubs_below, nodes, nodes_below
 ghost use Rattle.btree_twigs.specs.declared.twigs.Child.{out-Child};
 ghost use Rattle.btree_twigs.specs.declared.twigs.Child.TheOpen.{Grown};
 ghost use Rattle.btree_twigs.specs.declared.twigs.Twig.{Twig};
-ghost use Rattle.btree_update.specs.Held.{IsReadAs, HeldFor, OnWay, CanOpen, IsOpened, IsTakenUp, IsNoted, IsAtHand, CanOpenBelow, IsOpenedBelow};
+ghost use Rattle.btree_update.specs.Held.{AreBelow, IsReadAs, HeldFor, OnWay, CanOpen, IsOpened, IsTakenUp, IsNoted, IsAtHand, CanOpenBelow, IsOpenedBelow};
 ghost use Rattle.btree_update.specs.Opens.{GivesWay};
 ghost use Rattle.btree_update.specs.Roots.{CanOpenRoot, IsRootOpened, HeldRoot, RootMaps};
 ghost use Rattle.btree_update.specs.GroveTree.{Maps};
@@ -23,6 +23,7 @@ pub fn open_way(child: &mut Child, level: u8, block: u64, held: &mut Vec<Twig>, 
         → GivesWay pages at.order (stubs level at.high child.old) (stubs level at.high child.new) gone.old.items gone.new.items }
     ensures room { vec_len gone.new + vec_len held.new ≤ vec_capacity gone.new }
     ensures spare { vec_len gone.new + vec_len held.new + vec_capacity gone.old ≤ vec_len gone.old + vec_len held.old + vec_capacity gone.new }
+    ensures below { (head : ℕ) (at : CanOpen level block held.old.items child.old) → AreBelow head (stubs level at.high child.old) → AreBelow head (stubs level at.high child.new) }
     ensures nodes { (at : CanOpen level block held.old.items child.old) → nodes level child.new ≤ nodes level child.old + level }
 {
     if level == 0 {
@@ -52,6 +53,7 @@ pub(crate) fn open_below(
         → GivesWay pages at.order (stubs_below level at.high twig.old) (stubs_below level at.high twig.new) gone.old.items gone.new.items }
     ensures room { vec_len gone.new + vec_len held.new ≤ vec_capacity gone.new }
     ensures spare { vec_len gone.new + vec_len held.new + vec_capacity gone.old ≤ vec_len gone.old + vec_len held.old + vec_capacity gone.new }
+    ensures below { (head : ℕ) (at : CanOpenBelow level block held.old.items twig.old) → AreBelow head (stubs_below level at.high twig.old) → AreBelow head (stubs_below level at.high twig.new) }
     ensures nodes { (at : CanOpenBelow level block held.old.items twig.old) → nodes_below level twig.new ≤ nodes_below level twig.old + level }
 {
     let at = place(&twig.children, block);
@@ -80,6 +82,7 @@ pub(crate) fn open_root(
         → (mapped : List Mapped) → RootMaps pages at.order at.below at.high top.old mapped → Maps pages at.order (stubs level at.high top.new) mapped }
     ensures room { vec_len gone.new + vec_len held.new ≤ vec_capacity gone.new }
     ensures spare { vec_len gone.new + vec_len held.new + vec_capacity gone.old ≤ vec_len gone.old + vec_len held.old + vec_capacity gone.new }
+    ensures below { (head : ℕ) (at : CanOpenRoot level block held.old.items top.old) → AreBelow head (stubs level at.high top.old) → AreBelow head (stubs level at.high top.new) }
     ensures nodes { (at : CanOpenRoot level block held.old.items top.old) → nodes level top.new ≤ nodes level top.old + level }
 {
     take_held(top, held, gone);

@@ -13,9 +13,10 @@ use Rattle.btree_twigs.proofs.Ways.{child_is_twig}
 use Rattle.btree_update.specs.Held.{stub_at, AnyRead, IsReadAs, OnWay, HeldFor}
 use Rattle.page_store.specs.declared.wants.Want.{Want}
 use Rattle.btree_walk.specs.Sights.{StandsOver}
-use Rattle.btree_update.specs.Holding.{CanHold, CanHoldBelow, AreBelow, IsNodeFor, IsNodeOf}
+use Rattle.btree_update.specs.Holding.{CanHold, CanHoldBelow, IsNodeFor, IsNodeOf}
+use Rattle.btree_update.specs.Held.{AreBelow}
 use Rattle.btree_update.proofs.OpenLaws.{IsOnWay, on_way, child_is}
-use Rattle.btree_update.proofs.HoldLaws.{no_way, leaf_way, one_way, below_child, bare_of, read_below, node_is_twig, read_as, holds_kept, holds_grown, kept_below}
+use Rattle.btree_update.proofs.HoldLaws.{no_way, leaf_way, one_way, below_child, bare_of, read_below, read_lower, node_is_twig, read_as, holds_kept, holds_grown, kept_below}
 use Rattle.btree_update.proofs.holding.+hold.Goals as goal
 
 nothing_before : (block high n : ℕ) (ds cs : List Child) → ds ≡ cs → n ≡ 0 → ((high : ℕ) → block < high → block < start_by low_of (drop n ds) high) → block < high → block < start_by low_of cs high
@@ -197,7 +198,7 @@ hold_way-returns-in_ok-hold-in-Kept-clause-at_hand g t c =
     let shaped = shaped_here c.args.order c.args.level c.args.block c.args.high (g.P.Platform.head c.args.platform.now) c.in-Kept.low c.in-Kept.addr c.in-Kept.key twig at fits in
     let bare = bare_of at.below (want_here c.args.order c.args.level c.in-Kept.low c.args.high c.in-Kept.addr) twig fits in
     let way = subst (λ k. OnWay c.args.block (λ end d. HeldFor AnyRead c.args.order c.args.block k end d c.hold_below-in-Kept.new.held.items) c.args.high twig) l c.in_ok-is_mapped-in-Kept.ensures.at_hand in
-    let h = holds_kept AnyRead c.args.order c.args.block at.below c.args.high c.in-Kept.low c.in-Kept.addr c.in-Kept.key twig c.hold_below-in-Kept.new.held.items c.hold.new.held.items c.in_ok-hold-in-Kept.ensures.held tt shaped bare way in
+    let h = holds_kept AnyRead c.args.order c.args.block at.below c.args.high c.in-Kept.low c.in-Kept.addr c.in-Kept.key twig c.hold_below-in-Kept.new.held.items c.hold.new.held.items c.in_ok-hold-in-Kept.ensures.held tt shaped bare (read_lower at.below c.args.high (want_here c.args.order c.args.level c.in-Kept.low c.args.high c.in-Kept.addr) twig fits) way in
     subst (λ x. HeldFor AnyRead c.args.order c.args.block c.args.level c.args.high x c.hold.new.held.items) (sym c.in-Kept.is)
     (subst (λ k. HeldFor AnyRead c.args.order c.args.block k c.args.high (made.Kept c.in-Kept.low c.in-Kept.addr c.in-Kept.key) c.hold.new.held.items) (sym at.level_is) h)
 
@@ -220,6 +221,6 @@ hold_way-returns-in_ok-hold-in-Kept-clause-reads g t c = λ tells stands.
     let node = subst (λ k. IsNodeOf pages (want_here c.args.order k c.in-Kept.low c.args.high c.in-Kept.addr) c.in-Kept.key twig) at.level_is
     (subst (λ k. IsNodeOf pages (want_here c.args.order c.args.level c.in-Kept.low c.args.high c.in-Kept.addr) k twig) c.from_bytes-key.ensures (c.in_ok-twig-in-Kept.ensures.reads tells stands)) in
     let reads = read_as pages c.args.order at.below c.in-Kept.low c.args.high c.in-Kept.addr (c.args.order / 2) c.in-Kept.key twig small node in
-    let h = holds_kept Reads c.args.order c.args.block at.below c.args.high c.in-Kept.low c.in-Kept.addr c.in-Kept.key twig c.hold_below-in-Kept.new.held.items c.hold.new.held.items c.in_ok-hold-in-Kept.ensures.held reads shaped bare way in
+    let h = holds_kept Reads c.args.order c.args.block at.below c.args.high c.in-Kept.low c.in-Kept.addr c.in-Kept.key twig c.hold_below-in-Kept.new.held.items c.hold.new.held.items c.in_ok-hold-in-Kept.ensures.held reads shaped bare (read_lower at.below c.args.high (want_here c.args.order c.args.level c.in-Kept.low c.args.high c.in-Kept.addr) twig fits) way in
     subst (λ x. HeldFor Reads c.args.order c.args.block c.args.level c.args.high x c.hold.new.held.items) (sym c.in-Kept.is)
     (subst (λ k. HeldFor Reads c.args.order c.args.block k c.args.high (made.Kept c.in-Kept.low c.in-Kept.addr c.in-Kept.key) c.hold.new.held.items) (sym at.level_is) h))

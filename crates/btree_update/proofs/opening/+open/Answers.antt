@@ -11,8 +11,8 @@ use Rattle.btree_twigs.specs.Updates.{IsNode, IsOpen, stubs_under}
 use Rattle.btree_twigs.proofs.Nodes.{twig_of, children_of_roll, low_of_grown, stubs_of_grown, grown_is_child}
 use Rattle.btree_update.specs.Opens.{Opens, GivesWay}
 use Rattle.btree_twigs.proofs.Counts.{one_nodes, nodes_grown}
-use Rattle.btree_update.specs.Held.{IsReadAs, OnWay, HeldFor, AnyRead, CanOpen, IsOpened, CanOpenBelow, IsOpenedBelow}
-use Rattle.btree_update.proofs.OpenLaws.{open_first, child_is, opened, still_opens, IsOnWay, on_way, at_hand, IsUp, up, up_gives, gives_none, gives_then, nodes_is, data_open, twig_opened, twig_gives}
+use Rattle.btree_update.specs.Held.{AreBelow, IsReadAs, OnWay, HeldFor, AnyRead, CanOpen, IsOpened, CanOpenBelow, IsOpenedBelow}
+use Rattle.btree_update.proofs.OpenLaws.{open_first, child_is, opened, still_opens, still_below, up_below, IsOnWay, on_way, at_hand, IsUp, up, up_gives, gives_none, gives_then, nodes_is, data_open, twig_opened, twig_gives}
 use Rattle.btree_update.proofs.opening.+open.Goals as goal
 
 pub open_below-returns-then-at-eq0-clause-opened : goal.open_below-returns-then-at-eq0-clause-opened
@@ -91,6 +91,19 @@ open_below-returns-clause-gives t c pages at held =
     let from_old = subst (λ xs. Opens pages at.order g.addrs (stubs_under c.args.level at.high xs) (stubs_under c.args.level at.high (take w.at cs ++ c.open_way.new.child ∷ drop (suc w.at) cs))) (sym w.split) o in
     let to_new = subst (λ xs. Opens pages at.order g.addrs (stubs_under c.args.level at.high cs) (stubs_under c.args.level at.high xs)) (sym same) from_old in
     twig_gives pages at.order c.args.level at.high (out-Twig c.args.twig.now).level _ (with_item (out-Twig c.args.twig.now).children (c.place-at.result - 1) c.open_way.new.child) _ _ (record { addrs = g.addrs; opens = to_new; more_is = g.more_is })
+
+pub open_below-returns-clause-below : goal.open_below-returns-clause-below
+open_below-returns-clause-below t c head at below =
+    let w = on_way at.order c.args.block c.args.level at.high c.place-at.result (children_of c.args.twig.now) c.deref.result.now c.index_mut.result.now c.deref.ensures.value c.if-at-eq0.false
+    c.place-at.ensures.within c.place-at.ensures.before c.place-at.ensures.after at.to c.index_mut.ensures.value in
+    let cs = children_of c.args.twig.now in
+    let can = below_at at.order c.args.level c.args.block c.place-at.result at.least at.low at.high c.args.held.now.items c.args.twig.now c.index_mut.result.now at.shaped at.at_hand w in
+    let same = set_is c.place-at.result w.at cs c.open_way.new.child w.at_is w.within in
+    let r = still_below at.order c.args.level at.least at.low at.high c.args.block (take w.at cs) c.index_mut.result.now (drop (suc w.at) cs) (subst (IsNode at.order c.args.level at.least at.order at.low at.high) w.split at.shaped.node)
+    head c.open_way.new.child (c.open_way.ensures.opened can).low_is (c.open_way.ensures.below head can)
+    (subst (λ xs. AreBelow head (stubs_under c.args.level at.high xs)) w.split below) in
+    subst (λ xs. AreBelow head (stubs_under c.args.level at.high xs)) (sym (children_of_roll (record { level = (out-Twig c.args.twig.now).level; children = with_item (out-Twig c.args.twig.now).children (c.place-at.result - 1) c.open_way.new.child })))
+    (subst (λ xs. AreBelow head (stubs_under c.args.level at.high xs)) (sym same) r)
 
 pub open_below-returns-clause-nodes : goal.open_below-returns-clause-nodes
 open_below-returns-clause-nodes t c at =
@@ -184,3 +197,19 @@ open_way-returns-clause-nodes t c at =
     let new = made.Grown c.in-Grown.low c.open_below.new.twig in
     let r : nodes (suc l) new ≤ nodes (suc l) c.args.child.now + suc l = omega (arith, le, u.few, nodes_is l c.args.child.now, nodes_grown l c.in-Grown.low c.open_below.new.twig) in
     rw (c.in-Grown.is, made.outs-Grown c.in-Grown.low c.in-Grown.twig) (subst (λ k. nodes k new ≤ nodes k c.args.child.now + k) (sym level_is) r)
+
+pub open_way-returns-clause-below : goal.open_way-returns-clause-below
+open_way-returns-clause-below t c head at below =
+    let is = ap out-Child c.in-Grown.is ∙ made.outs-Grown c.in-Grown.low c.in-Grown.twig in
+    let l = c.args.level - 1 in
+    let level_is : c.args.level ≡ suc l = above c.args.level c.if-level-eq0.false in
+    let shaped = subst (λ m. IsChild at.order m at.high c.args.child.now) level_is at.shaped in
+    let at_hand_is = subst (λ m. HeldFor AnyRead at.order c.args.block m at.high c.args.child.now c.args.held.now.items) level_is at.at_hand in
+    let u = up AnyRead at.order c.args.block l at.high c.args.child.now c.take_held.new.child c.args.held.now.items c.take_held.new.held.items c.in-Grown.low c.in-Grown.twig shaped at_hand_is c.take_held.ensures.taken is in
+    let e = rw (c.in-Grown.is, made.outs-Grown c.in-Grown.low c.in-Grown.twig) at c.open_below.ensures in
+    let first = up_below at.order c.args.block l at.high head c.args.child.now c.take_held.new.child c.args.held.now.items c.take_held.new.held.items c.in-Grown.low c.in-Grown.twig at_hand_is c.take_held.ensures.taken is
+    (subst (λ k. AreBelow head (stubs k at.high c.args.child.now)) level_is below) in
+    let second = e.below head (below_up at.order c.args.block l at.high c.args.child.now c.in-Grown.low c.in-Grown.twig c.take_held.new.held.items at.from at.to u) first in
+    let new = made.Grown c.in-Grown.low c.open_below.new.twig in
+    rw (c.in-Grown.is, made.outs-Grown c.in-Grown.low c.in-Grown.twig)
+    (subst (λ k. AreBelow head (stubs k at.high new)) (sym level_is) (subst (AreBelow head) (sym (stubs_of_grown l at.high c.in-Grown.low c.open_below.new.twig)) second))

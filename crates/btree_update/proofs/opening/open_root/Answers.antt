@@ -10,12 +10,12 @@ use Rattle.btree_twigs.specs.Top.{IsTop, IsTopBy, top_least}
 use Rattle.btree_twigs.proofs.Nodes.{stubs_of_grown}
 use Rattle.btree_twigs.proofs.Counts.{nodes_grown}
 use Rattle.btree_update.specs.GroveTree.{Maps}
-use Rattle.btree_update.specs.Held.{IsReadAs, AnyRead, OnWay, HeldFor}
+use Rattle.btree_update.specs.Held.{AreBelow, IsReadAs, AnyRead, OnWay, HeldFor}
 use Rattle.btree_update.specs.Opens.{GivesWay}
 use Rattle.btree_update.specs.Roots.{IsRootOpened}
 use Rattle.btree_update.proofs.OpenLaws.{gives_then, nodes_is}
 use Rattle.btree_update.proofs.OpenMaps.{opened_maps}
-use Rattle.btree_update.proofs.RootLaws.{root_at_hand, root_up, root_gives, root_maps, below_root}
+use Rattle.btree_update.proofs.RootLaws.{root_at_hand, root_up, root_gives, root_maps, root_below, below_root}
 use Rattle.btree_update.proofs.opening.open_root.Goals as goal
 
 pub take_held-requires-clause-at_hand : goal.take_held-requires-clause-at_hand
@@ -92,3 +92,18 @@ returns-clause-nodes c at =
     let new = made.Grown c.in-Grown.low c.open_below.new.twig in
     let r : nodes (suc at.below) new ≤ nodes (suc at.below) c.args.top.now + suc at.below = omega (arith, le, u.few, nodes_is at.below c.args.top.now, nodes_grown at.below c.in-Grown.low c.open_below.new.twig) in
     rw (c.in-Grown.is, made.outs-Grown c.in-Grown.low c.in-Grown.twig) (subst (λ k. nodes k new ≤ nodes k c.args.top.now + k) (sym at.level_is) r)
+
+pub returns-clause-below : goal.returns-clause-below
+returns-clause-below c head at below =
+    let is = ap out-Child c.in-Grown.is ∙ made.outs-Grown c.in-Grown.low c.in-Grown.twig in
+    let l = below_is c.args.level at.below at.level_is in
+    let u = root_up AnyRead at.order c.args.block at.below at.high (out-Child c.args.top.now) c.take_held.new.child c.args.held.now.items c.take_held.new.held.items c.in-Grown.low c.in-Grown.twig at.shaped at.at_hand c.take_held.ensures.taken is in
+    let e = rw (c.in-Grown.is, made.outs-Grown c.in-Grown.low c.in-Grown.twig) at c.open_below.ensures in
+    let first = root_below at.order c.args.block at.below at.high head c.args.top.now c.take_held.new.child c.args.held.now.items c.take_held.new.held.items c.in-Grown.low c.in-Grown.twig at.at_hand c.take_held.ensures.taken is
+    (subst (λ k. AreBelow head (stubs k at.high c.args.top.now)) at.level_is below) in
+    let second = subst (λ m. AreBelow head (stubs_below m at.high c.open_below.new.twig)) l
+    (e.below head (below_root at.order c.args.block at.below (c.args.level - 1) at.high c.in-Grown.low (out-Child c.args.top.now) c.in-Grown.twig c.take_held.new.held.items l at.to u)
+    (subst (λ m. AreBelow head (stubs_below m at.high c.in-Grown.twig)) (sym l) first)) in
+    let new = made.Grown c.in-Grown.low c.open_below.new.twig in
+    rw (c.in-Grown.is, made.outs-Grown c.in-Grown.low c.in-Grown.twig)
+    (subst (λ k. AreBelow head (stubs k at.high new)) (sym at.level_is) (subst (AreBelow head) (sym (stubs_of_grown at.below at.high c.in-Grown.low c.open_below.new.twig)) second))

@@ -8,11 +8,12 @@ use Rattle.btree_twigs.specs.Updates.{IsOpen, HasSpares}
 use Rattle.btree_twigs.specs.Top.{IsTop, CanPutTop, IsTopPut}
 use Rattle.btree_update.specs.declared.groves.Grove.{Grove}
 use Rattle.btree_update.specs.GroveTree.{Maps}
+use Rattle.btree_update.specs.Held.{AreBelow}
 use Rattle.btree_update.specs.Opens.{Opens, GivesWay}
 use Rattle.btree_update.specs.Roots.{IsRoot, RootMaps, CanOpenRoot, IsRootOpened}
 use Rattle.btree_update.specs.Groves.{IsSound, CanInsert, IsAddressOf, LetsGo, Goes}
 use Rattle.btree_update.proofs.Places.{puts_maps}
-use Rattle.btree_update.proofs.GroveLaws.{top_level, top_is_root, top_maps, above_it}
+use Rattle.btree_update.proofs.GroveLaws.{top_level, top_is_root, top_maps, above_it, puts_below}
 use Rattle.btree_update.proofs.groves.Grove.insert.Goals as goal
 
 abbrev can_open : (block : ℕ) (grove : Grove) → CanInsert block grove → CanOpenRoot grove.level block grove.held.items grove.top
@@ -101,3 +102,11 @@ returns-clause-grown c =
     let r : nodes (suc p.new_level) c.put_top.new.top ≤ nodes c.args.self.now.level c.args.self.now.top + (2 * c.args.self.now.level + 1)
     = omega (arith, few, c.open_root.ensures.nodes can, c.requires.can.sound.one) in
     subst (λ k. nodes k c.put_top.new.top ≤ nodes c.args.self.now.level c.args.self.now.top + (2 * c.args.self.now.level + 1)) (sym l) r
+
+pub returns-clause-below : goal.returns-clause-below
+returns-clause-below c head below lt =
+    let can = can_open c.args.block c.args.self.now c.requires.can in
+    let p = c.put_top.ensures.put (can_put c.args.block c.args.self.now c.open_root.new.top c.requires.can c.requires.small (c.open_root.ensures.opened can)) in
+    let l = c.level_of-self.ensures ∙ top_level c.args.self.now.order p.new_level c.args.self.now.blocks c.put_top.new.top p.shaped in
+    let opened = subst (λ k. AreBelow head (stubs k c.args.self.now.blocks c.open_root.new.top)) can.level_is (c.open_root.ensures.below head can below) in
+    subst (λ k. AreBelow head (stubs k c.args.self.now.blocks c.put_top.new.top)) (sym l) (puts_below 0 c.args.self.now.blocks c.args.block c.args.addr head _ _ _ p.puts opened lt)

@@ -1,0 +1,9 @@
+use Rattle.std.proofs.Common.{◌≡◌, ℕ, ◌<◌, ◌≤◌, rules, subst, sym}
+use Rattle.btree_twigs.specs.declared.twigs.Child.TheVariants as made
+use Rattle.btree_twigs.specs.Stubs.{stubs}
+use Rattle.btree_update.specs.Held.{AreBelow}
+use Rattle.btree_update.proofs.GroveLaws.{kept_place}
+use Rattle.btree_update.proofs.groves.Grove.of.Goals as goal
+
+pub returns-clause-below : goal.returns-clause-below
+returns-clause-below c head lt = kept_place c.args.root.now.level c.args.root.now.blocks 0 c.args.root.now.addr head _ c.requires.level_least lt
