@@ -33,7 +33,7 @@ use words::are_run_words;
 /// Serves what the words ask for, and answers the exit status.
 ///
 /// With no words, or `run`, it serves the script that `input` gives: each whole line before more input is
-/// taken, one reply for each line, put to `output` in one put. Statuses: 0, the input was served to its end;
+/// taken, and one reply put to `output` for each line. Statuses: 0, the input was served to its end;
 /// 2, other words; 3 to 7, `input`, `output`, the platform, the tape or `ledger` failed; 8, the root cell is full and
 /// its root record can't be served; 9, a record was not what the tree wants there; 11, no memory;
 /// 12, the limit of 2^32 bytes of input was reached. Nothing is put to `ledger` yet.

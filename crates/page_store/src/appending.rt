@@ -19,7 +19,7 @@ use seal_record::seal;
 pub struct Placed {
     /// The address of its page.
     pub addr: u64,
-    /// Its key, which sealed no other record.
+    /// Its key, which was drawn for it.
     pub key: Key,
 }
 

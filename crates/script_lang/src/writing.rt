@@ -19,7 +19,7 @@ pub const LINE: usize = 8300;
 /// Room for the hex digits of a block.
 const DIGITS: usize = 8192;
 
-/// Puts the line of a reply, with its line feed, in one put. At a fault a first part of it was put.
+/// Puts the line of a reply, with its line feed. At a fault a first part of it was put.
 pub fn write_reply<O: Sink>(reply: &Reply, sink: &mut O) -> Result<(), SinkFault>
     requires { CanWrite reply.now }
     ensures put { OnOk result (Got (O.written sink.old) (line_of reply.now) (O.written sink.new)) }
