@@ -2,15 +2,14 @@
 use Rattle.std.proofs.Common.{◌≡◌, inl, inr, ℕ, List, [], ◌∷◌, ◌++◌, Bool, true, false, ◌+◌, Option, None, Some, length, refl, sym, ◌∙◌, subst, ap}
 use Rattle.platform.specs.Image.{Image}
 use Rattle.platform.specs.History.{History, Extends, During, Turns}
-use Rattle.platform.specs.Runs.{Passes}
-use Rattle.platform.proofs.Moments.{During-now, During-turns, LeavesOnly-now, Turns-not}
-use Rattle.platform.proofs.RunLaws.{Passes-start, Passes-during, Passes-turns, Turns-cases}
+use Rattle.platform.proofs.Moments.{During-now, LeavesOnly-now}
+use Rattle.platform.proofs.RunLaws.{Turns-cases}
 use Rattle.sdbt_base.specs.Arrays.{State, closed, session_on, Device, Blocks, committed_with}
 use Rattle.page_store.specs.Stands.{Stands, IsSound}
 use Rattle.page_store.specs.Kept.{Kept}
 use Rattle.page_store.specs.Keeping.{KeepsKeys}
 use Rattle.page_store.specs.Floors.{Forgets}
-use Rattle.page_store.proofs.StandsLaws.{one_device, stands_during, stands_leaves}
+use Rattle.page_store.proofs.StandsLaws.{stands_during}
 use Rattle.page_store.proofs.KeptLaws.{same_during}
 use Rattle.page_store.proofs.KeepingLaws.{keeps_idle, keeps_still, keeps_from}
 use Rattle.page_store.proofs.FloorLaws.{deleted_call, forgets_still}
@@ -24,10 +23,11 @@ use Rattle.device_core.specs.Replies.{device_after}
 use Rattle.device_core.specs.declared.refusals.CommitReply.{CommitReply}
 use Rattle.device_core.specs.declared.session.Session.{Session}
 use Rattle.device_core.proofs.ServedLaws.{serves_still}
-use Rattle.device_course.specs.Marks.{Leaves, HasMark, last_mark}
+use Rattle.device_course.specs.Marks.{Leaves}
 use Rattle.device_course.specs.States.{Outside, Represents, IsAt, IsListed, IsLater, mounted, committed_if}
-use Rattle.device_course.specs.Course.{Course, Stopped}
-use Rattle.device_course.proofs.KeysLaws.{sound_of, on_call}
+use Rattle.device_course.specs.Course.{Made, Course, Stopped}
+use Rattle.device_course.proofs.KeysLaws.{sound_of}
+use Rattle.device_course.proofs.MadeLaws.{made_none, made_one, stayed}
 use Rattle.device_core.proofs.HoldLaws.{held_stands}
 
 -- what a call tells beside the devices that a loss of power leaves
@@ -40,13 +40,9 @@ pub record Calls (tells : Type 0) (old new : Outside) (before after : Option Ses
   pub forgets : (keys : List (List ℕ)) → IsListed before old.history.present keys → Forgets old.history new.history
 
 course_of : (tells : Type 0) (old new : Outside) (before after : Option Session) (entry exit : State) (marks : List (Option Device)) → Calls tells old new before after entry
-    → Passes old.history new.history (HasMark entry.device marks) (length marks) → exit.device ≡ last_mark entry.device marks → Represents new.history.present after exit
-    → Course old new before after entry marks exit
-course_of tells old new before after entry exit marks c passes last there = record {
-  passes = passes;
-  last = last;
-  exits = record { there = there; served = During-now old.history new.history IsServedImage c.serves };
-  serves = c.serves;
+    → Made old.history new.history after entry marks exit → Course old new before after entry marks exit
+course_of tells old new before after entry exit marks c made = record {
+  made = made;
   later = c.later;
   on = record {
     keys = record {
@@ -57,6 +53,7 @@ course_of tells old new before after entry exit marks c passes last there = reco
       keeps = λ yes keys kept h. c.keys.keeps c.told keys kept h;
     };
     deleted = λ yes keys kept h. deleted_call old.history new.history (c.forgets keys h);
+    serves = λ yes served. c.serves;
   };
 }
 
@@ -68,60 +65,40 @@ opens image session device array touched holds is = record {
   session = (holds, is);
 }
 
--- without a session
-shut : (image : Image) (device : Option Device) → Stands image device → Represents image None (closed device)
-shut image device stands = record { device = stands; session = tt }
+-- the state at the end of a call
+at_end : (tells : Type 0) (old new : Outside) (before after : Option Session) (entry exit : State) → Calls tells old new before after entry
+    → Represents new.history.present after exit → IsAt new.history.present after exit
+at_end tells old new before after entry exit c there = record { there = there; served = During-now old.history new.history IsServedImage c.serves }
 
 -- a call at whose moments the device stays
 pub stays : (tells : Type 0) (old new : Outside) (before after : Option Session) (entry exit : State) → Calls tells old new before after entry
     → During old.history new.history (Leaves entry.device) → exit.device ≡ entry.device → Represents new.history.present after exit → Course old new before after entry [] exit
 stays tells old new before after entry exit c during same there =
-    let d : Option Device = entry.device in
     course_of tells old new before after entry exit [] c
-    (Passes-during old.history old.history new.history (HasMark d []) 0 (Passes-start old.history (HasMark d []) 0 (stands_leaves old.history.present d c.at.there.device)) during)
-    same there
+    (made_none old.history new.history after entry exit c.at.there.device during same (at_end tells old new before after entry exit c there))
 
 -- a call that may come to another device, and at whose end the image stands for this one
-made : (old new : History) (d next here : Option Device) → Turns old new (Leaves d) (Leaves next) → Stands new.present here → Turns old new (Leaves d) (Leaves here)
-made old new d next here turns stands = elim (Turns-cases old new (Leaves d) (Leaves next) turns) as (λ e. Turns old new (Leaves d) (Leaves here)) [
-  | inl during ↦ Turns-not old new (Leaves d) (Leaves here) during
-  | inr come ↦
-      let same : next ≡ here = one_device new.present next here (LeavesOnly-now new (λ left. Stands left next) come) stands in
-      subst (λ (x : Option Device). Turns old new (Leaves d) (Leaves x)) same turns
-]
-
 pub makes : (tells : Type 0) (old new : Outside) (before after : Option Session) (entry exit : State) (next : Option Device) → Calls tells old new before after entry
     → Turns old.history new.history (Leaves entry.device) (Leaves next) → Represents new.history.present after exit → Course old new before after entry (exit.device ∷ []) exit
 makes tells old new before after entry exit next c turns there =
-    let d : Option Device = entry.device in
-    let marks : List (Option Device) = exit.device ∷ [] in
-    let stands = there.device in
-    course_of tells old new before after entry exit marks c
-    (Passes-turns old.history old.history new.history (HasMark d marks) 0 (Passes-start old.history (HasMark d marks) 0 (stands_leaves old.history.present d c.at.there.device))
-    (made old.history new.history d next exit.device turns stands))
-    refl there
-
--- at the end of which the image stands for the device that there was
-pub stayed : (old new : History) (d next : Option Device) → Turns old new (Leaves d) (Leaves next) → Stands new.present d → During old new (Leaves d)
-stayed old new d next turns stands =
-    let either = During-turns old new (Leaves d) (Leaves d) (made old new d next d turns stands) in
-    record { extends = either.extends; each = λ i from to. elim (either.each i from to) [ inl one ↦ one | inr other ↦ other ] }
+    course_of tells old new before after entry exit (exit.device ∷ []) c
+    (made_one old.history new.history after entry exit next c.at.there.device turns (at_end tells old new before after entry exit c there))
 
 -- a call that stopped on its way to another device
-pub stops : (tells : Type 0) (old new : Outside) (before : Option Session) (entry : State) (next : Option Device)
+pub stops : (tells : Type 0) (old new : Outside) (before : Option Session) (entry : State) (next : Option Device) → Stands old.history.present entry.device
     → ((device : Option Device) → Stands new.history.present device → Calls tells old new before None entry)
     → Turns old.history new.history (Leaves entry.device) (Leaves next)
     → Stopped old new before None entry next (closed entry.device) (closed next)
-stops tells old new before entry next c turns =
+stops tells old new before entry next stands c turns =
     let d : Option Device = entry.device in
     let n = new.history in
     elim (Turns-cases old.history n (Leaves d) (Leaves next) turns) as (λ e. Stopped old new before None entry next (closed d) (closed next)) [
       | inl during ↦
-          let stands = LeavesOnly-now n (λ left. Stands left d) (During-now old.history n (Leaves d) during) in
-          inl (stays tells old new before None entry (closed d) (c d stands) during refl (shut new.history.present d stands))
+          let stands_now = LeavesOnly-now n (λ left. Stands left d) (During-now old.history n (Leaves d) during) in
+          inl (stays tells old new before None entry (closed d) (c d stands_now) during refl (record { device = stands_now; session = tt }))
       | inr come ↦
-          let stands = LeavesOnly-now n (λ left. Stands left next) come in
-          inr (makes tells old new before None entry (closed next) next (c next stands) turns (shut new.history.present next stands))
+          let stands_now = LeavesOnly-now n (λ left. Stands left next) come in
+          inr (makes tells old new before None entry (closed next) next (c next stands_now) turns (record { device = stands_now; session = tt }))
     ]
 
 -- ---- what each call has of `Calls`
@@ -282,7 +259,7 @@ commit_refused tells old new session now device array touched reply needed free 
 pub commit_stop : (tells : Type 0) (old new : Outside) (session : Session) (device : Device) (array : Blocks) (touched : Bool) (Then : List (List ℕ) → Type 0) → Commits tells old new session device array touched Then
     → Stopped old new (Some session) None (mounted device (record { contents = array; touched = touched })) (Some (committed_with device array)) (closed (Some device)) (closed (Some (committed_with device array)))
 commit_stop tells old new session device array touched Then c =
-    stops tells old new (Some session) (mounted device (record { contents = array; touched = touched })) (Some (committed_with device array))
+    stops tells old new (Some session) (mounted device (record { contents = array; touched = touched })) (Some (committed_with device array)) c.at.there.device
     (λ left stands. commit_calls tells old new session None device array touched Then c (λ keys then'. (left, stands))) c.time
 
 -- a format or an erasure
@@ -307,11 +284,11 @@ remake_calls tells old new before entry next device c stands = record {
 
 pub remake_course : (tells : Type 0) (old new : Outside) (before : Option Session) (entry : State) (next : Option Device) → Remakes tells old new before entry next → Stands new.history.present next → Course old new before None entry (next ∷ []) (closed next)
 remake_course tells old new before entry next c stands =
-    makes tells old new before None entry (closed next) next (remake_calls tells old new before entry next next c stands) (c.time c.told entry.device c.at.there.device) (shut new.history.present next stands)
+    makes tells old new before None entry (closed next) next (remake_calls tells old new before entry next next c stands) (c.time c.told entry.device c.at.there.device) (record { device = stands; session = tt })
 
 pub remake_stop : (tells : Type 0) (old new : Outside) (before : Option Session) (entry : State) (next : Option Device) → Remakes tells old new before entry next → Stopped old new before None entry next (closed entry.device) (closed next)
 remake_stop tells old new before entry next c =
-    stops tells old new before entry next (λ left stands. remake_calls tells old new before entry next left c stands) (c.time c.told entry.device c.at.there.device)
+    stops tells old new before entry next c.at.there.device (λ left stands. remake_calls tells old new before entry next left c stands) (c.time c.told entry.device c.at.there.device)
 
 -- the keys of an erasure, which draws none and adds no page
 pub erase_keys : (tells : Type 0) (drawn : Option (List (List ℕ))) (old new : History) → (tells → Extends old new) → (tells → length new.present.recorded ≡ length old.present.recorded) → (tells → (keys : List (List ℕ)) → Kept keys old.present → During old new (Kept keys))
@@ -326,4 +303,4 @@ mount_refused tells told old new device at later drawn image time =
     let keys = look_keys tells old.drawn old.history new.history None None image time (λ told keys kept h. subst IsSound (sym (image told)) h) in
     course_still tells told old new None None (closed device) (closed device) at (time told) later
     (subst (λ (d : Option (List (List ℕ))). KeepsKeys tells old.drawn d old.history new.history (λ keys. IsSound old.history.present) (λ keys. IsSound new.history.present)) (sym drawn) keys) refl
-    (shut new.history.present device (subst (λ (i : Image). Stands i device) (sym (image told)) at.there.device))
+    (record { device = subst (λ (i : Image). Stands i device) (sym (image told)) at.there.device; session = tt })

@@ -4,7 +4,7 @@ use Rattle.sdbt_base.specs.Arrays.{Device}
 use Rattle.root_codec.specs.RootRecord.{root_bytes}
 use Rattle.platform.specs.Image.{Image}
 use Rattle.platform.specs.History.{History, Extends, During}
-use Rattle.platform.proofs.Moments.{During-start, During-now}
+use Rattle.platform.proofs.Moments.{During-start, During-now, During-then}
 use Rattle.page_store.specs.Stands.{Stands, IsSound}
 use Rattle.page_store.specs.Kept.{Kept}
 use Rattle.page_store.specs.Keeping.{KeepsKeys}
@@ -14,6 +14,8 @@ use Rattle.page_store.proofs.KeepingLaws.{keeps_idle, keeps_then, keeps_from, ke
 use Rattle.page_store.proofs.FloorLaws.{deleted_start, deleted_call, deleted_then, forgets_still}
 use Rattle.device_core.specs.Knowing.{HoldsListed}
 use Rattle.device_core.specs.declared.session.Session.{Session}
+use Rattle.device_core.specs.Leaf.{IsServedImage}
+use Rattle.device_core.proofs.ServedLaws.{serves_still}
 use Rattle.device_core.proofs.KeyLaws.{listed_sound, listed_same, listed_grown}
 use Rattle.device_course.specs.States.{IsListed}
 use Rattle.device_course.specs.Keys.{KeepsOn}
@@ -30,6 +32,7 @@ pub on_start : (tells : Type 0) (drawn : Option (List (List ℕ))) (session : Op
 on_start tells drawn session history = record {
   keys = keeps_idle tells drawn drawn history history (IsListed session history.present) (IsListed session history.present) refl (λ told. During-start history (λ image. image ≡ history.present) refl) (λ told keys kept h. h);
   deleted = λ told keys kept h. deleted_start history (sound_of session history.present keys h);
+  serves = λ told served. During-start history IsServedImage served;
 }
 
 -- a call that leaves the image as it was
@@ -37,13 +40,15 @@ pub on_look : (tells : Type 0) (drawn : Option (List (List ℕ))) (session : Opt
 on_look tells drawn session old new Done same cell done = record {
   keys = keeps_idle tells drawn drawn old new (IsListed session old.present) Done refl (λ told. same_during old new (same told) (cell told)) done;
   deleted = λ told keys kept h. deleted_call old new (forgets_still old new (sound_of session old.present keys h) (cell told));
+  serves = λ told served. serves_still old new (cell told) served;
 }
 
 -- a call that may draw
-pub on_call : (tells : Type 0) (drawn drawn_now : Option (List (List ℕ))) (session : Option Session) (old new : History) (Ready Then Done : List (List ℕ) → Type 0) → KeepsKeys tells drawn drawn_now old new Ready Then → (tells → (keys : List (List ℕ)) → IsListed session old.present keys → Ready keys) → (tells → (keys : List (List ℕ)) → IsListed session old.present keys → Forgets old new) → (tells → (keys more : List (List ℕ)) → IsListed session old.present keys → Then (keys ++ more) → Done (keys ++ more)) → KeepsOn tells drawn drawn_now session old new Done
-on_call tells drawn drawn_now session old new Ready Then Done k ready forgets done = record {
+pub on_call : (tells : Type 0) (drawn drawn_now : Option (List (List ℕ))) (session : Option Session) (old new : History) (Ready Then Done : List (List ℕ) → Type 0) → KeepsKeys tells drawn drawn_now old new Ready Then → (tells → (keys : List (List ℕ)) → IsListed session old.present keys → Ready keys) → (tells → (keys : List (List ℕ)) → IsListed session old.present keys → Forgets old new) → (tells → (keys more : List (List ℕ)) → IsListed session old.present keys → Then (keys ++ more) → Done (keys ++ more)) → (tells → IsServedImage old.present → During old new IsServedImage) → KeepsOn tells drawn drawn_now session old new Done
+on_call tells drawn drawn_now session old new Ready Then Done k ready forgets done serves = record {
   keys = keeps_from tells drawn drawn_now old new Ready (IsListed session old.present) Then Done k ready done;
   deleted = λ told keys kept h. deleted_call old new (forgets told keys h);
+  serves = serves;
 }
 
 -- a weaker end
@@ -51,6 +56,21 @@ pub on_done : (tells : Type 0) (drawn drawn_now : Option (List (List ℕ))) (ses
 on_done tells drawn drawn_now session old new Then Done on done = record {
   keys = keeps_from tells drawn drawn_now old new (IsListed session old.present) (IsListed session old.present) Then Done on.keys (λ told keys h. h) (λ told keys more h then'. done (keys ++ more) then');
   deleted = on.deleted;
+  serves = on.serves;
+}
+
+-- where the platform tells
+pub on_told : (tells : Type 0) (told : tells) (drawn drawn_now : Option (List (List ℕ))) (session : Option Session) (old new : History) (Done : List (List ℕ) → Type 0) → KeepsOn tells drawn drawn_now session old new Done → KeepsOn (Unit {0}) drawn drawn_now session old new Done
+on_told tells told drawn drawn_now session old new Done on = record {
+  keys = record {
+    grew = on.keys.grew;
+    drew = on.keys.drew;
+    extends = λ yes. on.keys.extends told;
+    handed = λ yes. on.keys.handed told;
+    keeps = λ yes. on.keys.keeps told;
+  };
+  deleted = λ yes. on.deleted told;
+  serves = λ yes. on.serves told;
 }
 
 -- one part after another
@@ -61,6 +81,9 @@ on_then tells drawn mid drawn_now session between first second third Done one tw
       let a = one.keys.keeps told keys kept h in
       let all = keys ++ one.keys.grew in
       deleted_then first second third (one.deleted told keys kept h) (two.deleted told all (During-now first second (Kept all) a.kept) a.done);
+  serves = λ told served.
+      let first_part = one.serves told served in
+      During-then first second third IsServedImage first_part (two.serves told (During-now first second IsServedImage first_part));
 }
 
 -- ---- calls of a session
@@ -92,8 +115,9 @@ listed_keys (Some session) image other keys more same h =
     (listed_grown session.root session.mapped session.is_loaded session.is_touched session.entries.items image keys more h)
 
 -- a call that draws none and adds no page
-pub on_kept : (tells : Type 0) (drawn : Option (List (List ℕ))) (session : Option Session) (old new : History) (Done : List (List ℕ) → Type 0) → (tells → Extends old new) → (tells → length new.present.recorded ≡ length old.present.recorded) → (tells → (keys : List (List ℕ)) → Kept keys old.present → During old new (Kept keys)) → (tells → IsSound old.present → Forgets old new) → (tells → (keys : List (List ℕ)) → IsListed session old.present keys → Done keys) → KeepsOn tells drawn drawn session old new Done
-on_kept tells drawn session old new Done extends size kept forgets done = record {
+pub on_kept : (tells : Type 0) (drawn : Option (List (List ℕ))) (session : Option Session) (old new : History) (Done : List (List ℕ) → Type 0) → (tells → Extends old new) → (tells → length new.present.recorded ≡ length old.present.recorded) → (tells → (keys : List (List ℕ)) → Kept keys old.present → During old new (Kept keys)) → (tells → IsSound old.present → Forgets old new) → (tells → (keys : List (List ℕ)) → IsListed session old.present keys → Done keys) → (tells → IsServedImage old.present → During old new IsServedImage) → KeepsOn tells drawn drawn session old new Done
+on_kept tells drawn session old new Done extends size kept forgets done serves = record {
   keys = keeps_still tells drawn drawn old new (IsListed session old.present) Done refl extends size (λ told keys k h. kept told keys k) done;
   deleted = λ told keys k h. deleted_call old new (forgets told (sound_of session old.present keys h));
+  serves = serves;
 }

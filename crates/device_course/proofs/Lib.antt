@@ -1,4 +1,5 @@
 pub mod MarkLaws
+pub mod MadeLaws
 pub mod CourseLaws
 pub mod CallCourses
 pub mod KeysLaws

@@ -1,6 +1,6 @@
 -- What is promised of every part of a run over a device, whoever it serves.
 use Rattle.std.specs.Prelude.{◌≡◌, ℕ, List, ◌⊎◌, [], ◌∷◌, Option, length}
-use Rattle.platform.specs.History.{During}
+use Rattle.platform.specs.History.{History, During}
 use Rattle.platform.specs.Runs.{Passes}
 use Rattle.sdbt_base.specs.Arrays.{Device, State}
 use Rattle.page_store.specs.Stands.{Stands}
@@ -13,16 +13,18 @@ use Rattle.device_course.specs.Marks.{HasMark, last_mark}
 use Rattle.device_course.specs.Keys.{KeepsOn}
 use Rattle.device_course.specs.States.{Outside, IsAt, IsListed, IsLater}
 
--- a part of a run that began with this session in the state `entry`, and ended with that one in the state `exit`: it made these devices
-pub record Course (old new : Outside) (before after : Option Session) (entry : State) (marks : List (Option Device)) (exit : State) : Type 0 where
-  -- at each moment a loss of power leaves the device at the start or one that was made, in their order, and at the end the last
-  pub passes : Passes old.history new.history (HasMark entry.device marks) (length marks)
+-- from the state `entry` these devices were made: at each moment a loss of power leaves the device at the start or one of them, in their order, and at
+-- the end the last; and the session is in the state `exit` then
+pub record Made (old new : History) (after : Option Session) (entry : State) (marks : List (Option Device)) (exit : State) : Type 0 where
+  pub passes : Passes old new (HasMark entry.device marks) (length marks)
   pub last : exit.device ≡ last_mark entry.device marks
-  pub exits : IsAt new.history.present after exit
-  -- a cell that can be served is there at each moment, and pages are only added
-  pub serves : During old.history new.history IsServedImage
+  pub exits : IsAt new.present after exit
+
+-- a part of a run that began with this session in the state `entry`, and ended with that one in the state `exit`: it made these devices, added pages
+-- only, and kept what is to be kept
+pub record Course (old new : Outside) (before after : Option Session) (entry : State) (marks : List (Option Device)) (exit : State) : Type 0 where
+  pub made : Made old.history new.history after entry marks exit
   pub later : IsLater old new
-  -- each moment keeps what the image from before kept, with the keys that were drawn; and what was deleted stays so
   pub on : KeepsOn (Unit {0}) old.drawn new.drawn before old.history new.history (IsListed after new.history.present)
 
 -- a call that stopped: nothing of it came to be, or the device that it was to make

@@ -1,14 +1,16 @@
--- What a part of a run does to the keys that an image keeps, and to what is deleted.
+-- What a part of a run keeps of an image: its keys, what is deleted, and that its cell can be served.
 use Rattle.std.specs.Prelude.{ℕ, List, Option}
-use Rattle.platform.specs.History.{History}
+use Rattle.platform.specs.History.{History, During}
 use Rattle.page_store.specs.Kept.{Kept}
 use Rattle.page_store.specs.Keeping.{KeepsKeys}
 use Rattle.page_store.specs.Floors.{KeepsDeleted}
+use Rattle.device_core.specs.Leaf.{IsServedImage}
 use Rattle.device_core.specs.declared.session.Session.{Session}
 use Rattle.device_course.specs.States.{IsListed}
 
 -- a part of a run that began with this session: on any image each page that was handed over is a record sealed under a key that was drawn; each
--- moment keeps what the image from before kept, with these keys; and what was deleted stays so
+-- moment keeps what the image from before kept, with these keys; what was deleted stays so; and a cell that can be served is one at each moment
 pub record KeepsOn (tells : Type 0) (drawn drawn_now : Option (List (List ℕ))) (session : Option Session) (old new : History) (Done : List (List ℕ) → Type 0) : Type 0 where
   pub keys : KeepsKeys tells drawn drawn_now old new (IsListed session old.present) Done
   pub deleted : tells → (keys : List (List ℕ)) → Kept keys old.present → IsListed session old.present keys → KeepsDeleted old new
+  pub serves : tells → IsServedImage old.present → During old new IsServedImage
