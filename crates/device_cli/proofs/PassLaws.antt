@@ -1,18 +1,19 @@
--- How the marks that runs pass compose.
-use Rattle.std.proofs.Common.{◌≡◌, ℕ, suc, ◌+◌, ◌≤◌, List, [], ◌∷◌, ◌++◌, Option, length, take, refl, sym, ap, subst, arith, length-append}
+-- How the devices that replies pass compose, and what follows of those that a run made.
+use Rattle.std.proofs.Common.{◌≡◌, ℕ, zero, suc, ◌+◌, ◌-◌, ◌≤◌, List, [], ◌∷◌, ◌++◌, Option, inl, inr, length, take, refl, sym, ◌∙◌, ap, subst, arith, length-append}
 use Rattle.std.proofs.lemmas.List.{take-append-le}
+use Rattle.std.proofs.lemmas.Bool.{cases_lt}
 use Rattle.platform.specs.Image.{Image}
-use Rattle.platform.specs.History.{History, During, Turns}
+use Rattle.platform.specs.History.{History}
 use Rattle.platform.specs.Runs.{Passes}
-use Rattle.platform.proofs.RunLaws.{Passes-start, Passes-during, Passes-turns, Passes-then, Passes-same}
-use Rattle.page_store.proofs.StandsLaws.{stands_leaves}
 use Rattle.sdbt_base.specs.Arrays.{State, Device}
 use Rattle.script_lang.specs.Answers.{Turn, Answers, IsMark}
 use Rattle.script_lang.proofs.AnswerLaws.{Answers-append, Answers-longer}
 use Rattle.script_lang.specs.declared.replies.Reply.{Reply}
-use Rattle.device_course.specs.Marks.{Leaves}
+use Rattle.device_course.specs.Marks as course
+use Rattle.device_course.specs.Marks.{mark_at, last_mark}
+use Rattle.device_course.proofs.MarkLaws.{mark_at-last, mark_at-front, mark_at-behind}
 use Rattle.device_cli.specs.Represents.{StandsFor}
-use Rattle.device_cli.specs.Replied.{HasMark}
+use Rattle.device_cli.specs.Replied.{HasMark, AreMarks, ExitsAt}
 
 -- the first n of some replies, where more come behind them
 take_front : (n : ℕ) (replies more : List Reply) → n ≤ length replies → take n (replies ++ more) ≡ take n replies
@@ -53,51 +54,73 @@ IsMark-none entry lines replies = (omega arith, entry, refl, refl)
 pub IsMark-one : (entry now : State) (line : List ℕ) (reply : Reply) → Turn entry line reply now → IsMark entry (line ∷ []) (reply ∷ []) 1 now.device
 IsMark-one entry now line reply turn = (omega arith, now, (now, turn, refl), refl)
 
--- an image that stands for the device at entry has the first mark
-pub HasMark-none : (entry : State) (lines : List (List ℕ)) (replies : List Reply) (image : Image) → StandsFor image entry.device → HasMark entry lines replies 0 image
-HasMark-none entry lines replies image stands = (entry.device, IsMark-none entry lines replies, stands_leaves image _ stands)
+-- ---- the devices that replies pass
 
--- no time passed
-pub Passes-nothing : (history : History) (entry : State) (lines : List (List ℕ)) (replies : List Reply) → StandsFor history.present entry.device
-    → Passes history history (HasMark entry lines replies) 0
-Passes-nothing history entry lines replies stands = Passes-start history (HasMark entry lines replies) 0 (HasMark-none entry lines replies history.present stands)
+pub AreMarks-none : (entry : State) (lines : List (List ℕ)) → AreMarks entry lines [] []
+AreMarks-none entry lines = record { many = refl; each = λ k within. let none : k ≡ 0 = omega (arith, within) in rw none (IsMark-none entry lines []) }
 
--- a line that left the device as it was
-pub Passes-stay : (old new : History) (entry : State) (lines : List (List ℕ)) (replies : List Reply) → StandsFor old.present entry.device
-    → During old new (Leaves entry.device) → Passes old new (HasMark entry lines replies) 0
-Passes-stay old new entry lines replies stands during =
-    Passes-during old old new (HasMark entry lines replies) 0 (Passes-nothing old entry lines replies stands)
-    record { extends = during.extends; each = λ i start end. (entry.device, IsMark-none entry lines replies, during.each i start end) }
+pub AreMarks-one : (entry now : State) (line : List ℕ) (reply : Reply) → Turn entry line reply now → AreMarks entry (line ∷ []) (reply ∷ []) (now.device ∷ [])
+AreMarks-one entry now line reply turn = record { many = refl; each = each }
+  where
+    each : (k : ℕ) → k ≤ length (reply ∷ []) → IsMark entry (line ∷ []) (reply ∷ []) k (mark_at entry.device (now.device ∷ []) k)
+    each zero within = IsMark-none entry (line ∷ []) (reply ∷ [])
+    each (suc zero) within = IsMark-one entry now line reply turn
+    each (suc (suc k)) within = absurd (omega (arith, within))
 
--- a line that may have changed it
-pub Passes-line : (old new : History) (entry now : State) (line : List ℕ) (reply : Reply) → StandsFor old.present entry.device → Turn entry line reply now
-    → Turns old new (Leaves entry.device) (Leaves now.device) → Passes old new (HasMark entry (line ∷ []) (reply ∷ [])) 1
-Passes-line old new entry now line reply stands turn turns =
-    Passes-turns old old new (HasMark entry (line ∷ []) (reply ∷ [])) 0 (Passes-nothing old entry (line ∷ []) (reply ∷ []) stands)
-    record {
-      extends = turns.extends;
-      turn = turns.turn;
-      before = λ i start end early. (entry.device, IsMark-none entry (line ∷ []) (reply ∷ []), turns.before i start end early);
-      after = λ i start end late. (now.device, IsMark-one entry now line reply turn, turns.after i start end late);
-    }
-
--- the lines of one run, and then those of another
-pub Passes-lines : (first second third : History) (entry mid : State) (lines more : List (List ℕ)) (replies others : List Reply) (last : ℕ)
-    → length replies ≡ length lines → Answers entry lines replies mid
-    → Passes first second (HasMark entry lines replies) (length replies) → Passes second third (HasMark mid more others) last
-    → Passes first third (HasMark entry (lines ++ more) (replies ++ others)) (length replies + last)
-Passes-lines first second third entry mid lines more replies others last same answers one two =
-    Passes-then first second third (HasMark entry lines replies) (HasMark mid more others) (HasMark entry (lines ++ more) (replies ++ others)) (length replies) last
-    (λ k image within has. (has.0, IsMark-front entry lines more replies others k has.0 has.1, has.2))
-    (λ k image has. (has.0, IsMark-behind entry mid lines more replies others k has.0 same answers has.1, has.2))
-    one two
+-- some lines with their replies, and then more
+pub AreMarks-then : (entry mid : State) (lines more : List (List ℕ)) (replies others : List Reply) (one two : List (Option Device))
+    → length replies ≡ length lines → Answers entry lines replies mid → mid.device ≡ last_mark entry.device one
+    → AreMarks entry lines replies one → AreMarks mid more others two → AreMarks entry (lines ++ more) (replies ++ others) (one ++ two)
+AreMarks-then entry mid lines more replies others one two same answers last a b = record {
+  many = omega (arith, a.many, b.many, length-append one two, length-append replies others);
+  each = λ k within. elim (cases_lt (length replies) k) [
+    | inr early ↦
+        let few : k ≤ length one = omega (arith, early, a.many) in
+        subst (λ (d : Option Device). IsMark entry (lines ++ more) (replies ++ others) k d) (sym (mark_at-front entry.device one two k few))
+        (IsMark-front entry lines more replies others k (mark_at entry.device one k) (a.each k early))
+    | inl late ↦
+        let j : ℕ = k - length replies in
+        let at : k ≡ length replies + j = omega (arith, late) in
+        let rest : j ≤ length others = omega (arith, at, within, length-append replies others) in
+        let there : mark_at entry.device (one ++ two) (length replies + j) ≡ mark_at mid.device two j =
+        ap (λ (n : ℕ). mark_at entry.device (one ++ two) (n + j)) (sym a.many) ∙ mark_at-behind entry.device one two j ∙ ap (λ (d : Option Device). mark_at d two j) (sym last) in
+        subst (λ (n : ℕ). IsMark entry (lines ++ more) (replies ++ others) n (mark_at entry.device (one ++ two) n)) (sym at)
+        (subst (λ (d : Option Device). IsMark entry (lines ++ more) (replies ++ others) (length replies + j) d) (sym there)
+        (IsMark-behind entry mid lines more replies others j (mark_at mid.device two j) same answers (b.each j rest)))
+  ];
+}
 
 -- lines may be left over
-pub Passes-longer : (old new : History) (entry : State) (lines more : List (List ℕ)) (replies : List Reply) (last : ℕ)
-    → Passes old new (HasMark entry lines replies) last → Passes old new (HasMark entry (lines ++ more) replies) last
-Passes-longer old new entry lines more replies last p =
-    Passes-same old new (HasMark entry lines replies) (HasMark entry (lines ++ more) replies) last
-    (λ k image has. (has.0, IsMark-longer k has.0 has.1, has.2)) p
-  where
-    IsMark-longer : (k : ℕ) (device : Option Device) → IsMark entry lines replies k device → IsMark entry (lines ++ more) replies k device
-    IsMark-longer k device (within, new, answers, is) = (within, new, Answers-longer entry new lines more (take k replies) answers, is)
+pub AreMarks-longer : (entry : State) (lines more : List (List ℕ)) (replies : List Reply) (marks : List (Option Device)) → AreMarks entry lines replies marks
+    → AreMarks entry (lines ++ more) replies marks
+AreMarks-longer entry lines more replies marks a = record {
+  many = a.many;
+  each = λ k within. let m = a.each k within in (m.0, m.1, Answers-longer entry m.1 lines more (take k replies) m.2, m.3);
+}
+
+-- ---- from the devices that a run made to the replies that passed them
+
+pub passes_of : (old new : History) (entry : State) (lines : List (List ℕ)) (replies : List Reply) (marks : List (Option Device)) → AreMarks entry lines replies marks
+    → Passes old new (course.HasMark entry.device marks) (length marks) → Passes old new (HasMark entry lines replies) (length replies)
+passes_of old new entry lines replies marks are p = record {
+  extends = p.extends;
+  mark = p.mark;
+  rises = p.rises;
+  within = λ i. let w = p.within i in omega (arith, w, are.many);
+  each = λ i from to.
+      let few : p.mark i ≤ length replies = (let w = p.within i in omega (arith, w, are.many)) in
+      (mark_at entry.device marks (p.mark i), are.each (p.mark i) few, p.each i from to);
+}
+
+-- at the end the image stands for the last of them
+pub exits_of : (image : Image) (entry : State) (lines : List (List ℕ)) (replies ahead : List Reply) (marks : List (Option Device)) → AreMarks entry lines (replies ++ ahead) marks
+    → StandsFor image (last_mark entry.device marks) → ExitsAt image entry lines replies ahead
+exits_of image entry lines replies ahead marks are stands = record {
+  mark = length (replies ++ ahead);
+  from = omega (arith, length-append replies ahead);
+  there = last_mark entry.device marks;
+  is_mark = subst (λ (d : Option Device). IsMark entry lines (replies ++ ahead) (length (replies ++ ahead)) d)
+      (ap (λ (n : ℕ). mark_at entry.device marks n) (sym are.many) ∙ mark_at-last entry.device marks)
+      (are.each (length (replies ++ ahead)) (omega arith));
+  stands = stands;
+}

@@ -11,8 +11,8 @@ use Rattle.platform.specs.History.{During}
 use Rattle.device_cli.specs.World.{World, IsLater}
 use Rattle.device_course.specs.Marks.{Leaves}
 use Rattle.device_cli.specs.Represents.{Stood}
-use Rattle.device_cli.proofs.RepliedLaws.{Replied-idle, Handled-then, count-then}
-use Rattle.device_cli.proofs.PassLaws.{IsMark-none, Passes-stay}
+use Rattle.device_cli.proofs.RepliedLaws.{made_idle, Replied-idle, Handled-then, count-then}
+use Rattle.device_cli.proofs.PassLaws.{AreMarks-none}
 use Rattle.script_lang.specs.declared.replies.Reply.{Reply}
 use Rattle.device_cli.specs.Run.{TookUntil, Took, status_of}
 use Rattle.device_cli.specs.Replied.{Ending, IsBehind, IsDamageAt, IsAhead, IsSound, Answered, no_line, damage_line}
@@ -72,7 +72,7 @@ Ran-other tells old new ending left left_now a b other r = let p = r.handled.rep
 Answered-part : (old new : World) (stop : DeviceStop) (entry : State) (lines : List (List ℕ)) (replies : List Reply) (part other : List ℕ)
     → Answered old new (Err (stops.Device stop)) entry lines replies part → Answered old new (Err (stops.Device stop)) entry lines replies other
 Answered-part old new stop entry lines replies part other f =
-    record { now = f.now; pages = f.pages; answers = f.answers; ends = f.ends; near = f.near; ahead = f.ahead; is_ahead = f.is_ahead; passes = f.passes; exits = f.exits }
+    record { now = f.now; pages = f.pages; answers = f.answers; ends = f.ends; near = f.near; ahead = f.ahead; is_ahead = f.is_ahead; marks = f.marks; are = f.are; made = f.made }
 
 -- a stop of the device, and then its last line
 pub Ran-last : (tells : Type 0) (old new : World) (stop : DeviceStop) (left left_now a b c : Option (List ℕ))
@@ -161,8 +161,9 @@ Ran-refused tells old new stop left written which later same still sound = recor
         near = none_added stop which;
         ahead = [];
         is_ahead = none_ahead stop which;
-        passes = let both = still told entry rep in Passes-stay old.history new.history entry [] [] rep.there.device both.1;
-        exits = let both = still told entry rep in record { mark = 0; from = omega arith; there = entry.device; is_mark = IsMark-none entry [] []; stands = both.0.there.device };
+        marks = [];
+        are = AreMarks-none entry [];
+        made = made_idle old new entry rep (still told entry rep);
       };
     };
   };

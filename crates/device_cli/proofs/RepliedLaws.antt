@@ -1,38 +1,37 @@
 -- How runs compose.
-use Rattle.std.proofs.Common.{◌≡◌, ℕ, ◌≤◌, ◌+◌, List, [], ◌∷◌, ◌++◌, Option, Ok, Err, length, take, inl, inr, refl, sym, ◌∙◌, subst, arith, append_assoc, length-append}
+use Rattle.std.proofs.Common.{◌≡◌, ℕ, ◌≤◌, ◌+◌, List, [], ◌∷◌, ◌++◌, Option, None, Ok, Err, length, take, inl, inr, refl, sym, ◌∙◌, subst, ap, arith, append_assoc, length-append}
 use Rattle.std.specs.Prelude.{All}
 use Rattle.std.proofs.lemmas.Grind.{flat_map-append, common_steps}
 use Rattle.std.proofs.lemmas.List.{append-nil}
 use Rattle.std.proofs.lemmas.List.Elements.{All-nil, All-cons, All-append, All-weaker}
 use Rattle.platform.specs.Image.{Image}
 use Rattle.platform.specs.History.{During, Turns}
-use Rattle.platform.specs.Runs.{Passes}
 use Rattle.platform.proofs.Moments.{LeavesOnly-now, During-now, During-start, Turns-not}
-use Rattle.page_store.proofs.StandsLaws.{stands_leaves}
-use Rattle.platform.proofs.RunLaws.{Turns-cases}
+use Rattle.page_store.proofs.StandsLaws.{one_device, stands_leaves}
 use Rattle.sdbt_base.proofs.ToldLaws.{Got-nothing, Got-then}
 use Rattle.script_lang.specs.Grammar.{Spells, IsBad}
 use Rattle.script_lang.specs.Replies.{line_of}
 use Rattle.script_lang.specs.declared.commands.Command.{Command}
-use Rattle.sdbt_base.specs.Arrays.{State}
-use Rattle.script_lang.specs.Answers.{Answers, Turn, IsMark, answer}
-use Rattle.script_lang.proofs.AnswerLaws.{Answers-longer}
+use Rattle.sdbt_base.specs.Arrays.{State, Device, closed}
+use Rattle.script_lang.specs.Answers.{Turn, answer}
 use Rattle.script_lang.specs.declared.replies.Reply.{Reply}
 use Rattle.script_lang.specs.declared.replies.Reply.TheVariants.{Full, Bad}
 use Rattle.device_core.specs.Leaf.{IsServedImage}
 use Rattle.device_cli.specs.Run.{IsOfLine}
 use Rattle.device_cli.specs.World.{World, is_full, IsLater}
-use Rattle.device_course.specs.Marks.{Leaves}
+use Rattle.device_course.specs.Marks.{Leaves, last_mark}
+use Rattle.device_course.specs.Course.{Made}
+use Rattle.device_course.proofs.MadeLaws.{shut, made_none, made_one, made_stopped, made_then, made_closed}
 use Rattle.device_cli.specs.Represents.{Stood, StandsFor}
 use Rattle.device_cli.specs.Added.{HasAdded}
 use Rattle.device_cli.specs.Pages.{pages_after, TurnIf, AnswersOn}
-use Rattle.device_cli.specs.Replied.{no_line, Ending, AreMany, IfNext, IsDamageAt, IsAhead, HasMark, ExitsAt, EndsIn, Answered, Replied, Handled, AsksForBlock, IsSound, IsOfBlock, IsWrongPage, Halts, Serves, HasPut}
+use Rattle.device_cli.specs.Replied.{no_line, Ending, AreMany, IfNext, IsDamageAt, IsAhead, AreMarks, EndsIn, Answered, Replied, Handled, AsksForBlock, IsSound, IsOfBlock, IsWrongPage, Halts, Serves, HasPut}
 use Rattle.device_cli.specs.declared.stop.Stop.{Stop}
 use Rattle.device_cli.specs.declared.stop.Stop.TheVariants as stops
 use Rattle.device_cli.specs.declared.stop.DeviceStop.{DeviceStop}
 use Rattle.device_cli.specs.declared.stop.DeviceStop.TheVariants as device
 use Rattle.device_cli.proofs.PageLaws.{turn_of, one_page, answers_of, AnswersOn-append, AnswersOn-longer}
-use Rattle.device_cli.proofs.PassLaws.{IsMark-none, IsMark-one, IsMark-behind, Passes-stay, Passes-line, Passes-lines, Passes-longer}
+use Rattle.device_cli.proofs.PassLaws.{AreMarks-none, AreMarks-one, AreMarks-then, AreMarks-longer}
 
 -- from one world to itself, and on from one to the next
 pub IsLater-refl : (w : World) → w.head ≤ w.capacity → IsLater w w
@@ -44,6 +43,12 @@ IsLater-then a b c p q = record { capacity = q.capacity ∙ p.capacity; rises = 
 -- what was full stays so
 full_later : (old new : World) → IsLater old new → old.head ≡ old.capacity → new.head ≡ new.capacity
 full_later old new later full = omega (arith, later.capacity, later.rises, later.within, full)
+
+-- no device was made
+pub made_idle : (old new : World) (entry : State) → Stood old entry → Stood new entry × During old.history new.history (Leaves entry.device)
+    → Made old.history new.history None entry [] (closed entry.device)
+made_idle old new entry rep (there, during) =
+    made_none old.history new.history None entry (closed entry.device) rep.there.device during refl (shut new.history.present entry.device there.there.device there.served)
 
 -- no lines, and nothing put, while the platform stood still
 pub Replied-idle : (tells : Type 0) (old new : World) (last : DeviceStop → List ℕ) → IsLater old new → new.head ≡ old.head
@@ -66,8 +71,9 @@ Replied-idle tells old new last later same still = record {
     near = (omega arith, omega arith);
     ahead = [];
     is_ahead = refl;
-    passes = Passes-stay old.history new.history entry [] [] rep.there.device both.1;
-    exits = record { mark = 0; from = omega arith; there = entry.device; is_mark = IsMark-none entry [] []; stands = both.0.there.device };
+    marks = [];
+    are = AreMarks-none entry [];
+    made = made_idle old new entry rep both;
   };
 }
 
@@ -83,6 +89,13 @@ Replied-nothing tells w last fits = Replied-idle tells w w last (IsLater-refl w 
 abbrev pub Turned : World → World → State → List ℕ → Reply → Type 0
 Turned old new entry line reply =
     (now : State) × TurnIf (is_full old) entry old.head line reply now new.head × Stood new now × Turns old.history new.history (Leaves entry.device) (Leaves now.device)
+
+-- the device after it was made
+made_turned : (old new : World) (entry now : State) → Stood old entry → Stood new now → Turns old.history new.history (Leaves entry.device) (Leaves now.device)
+    → Made old.history new.history None entry (now.device ∷ []) (closed now.device)
+made_turned old new entry now rep there turns =
+    made_closed old.history new.history new.session entry now (now.device ∷ [])
+    (made_one old.history new.history new.session entry now now.device rep.there.device turns there)
 
 -- a line with its reply
 pub Replied-line : (tells : Type 0) (old new : World) (last : DeviceStop → List ℕ) (line : List ℕ) (reply : Reply)
@@ -108,8 +121,9 @@ Replied-line tells old new last line reply later full turned = record {
         near = (omega arith, omega arith);
         ahead = [];
         is_ahead = refl;
-        passes = Passes-line old.history new.history entry t.0 line reply rep.there.device turn t.3;
-        exits = record { mark = 1; from = omega arith; there = t.0.device; is_mark = IsMark-one entry t.0 line reply turn; stands = t.2.there.device };
+        marks = t.0.device ∷ [];
+        are = AreMarks-one entry t.0 line reply turn;
+        made = made_turned old new entry t.0 rep t.2 t.3;
       };
 }
 
@@ -137,77 +151,57 @@ Replied-part tells old new last line reply n later turned = record {
         near = (later.rises, one_page (is_full old) entry old.head line reply t.0 new.head t.1);
         ahead = reply ∷ [];
         is_ahead = omega arith;
-        passes = Passes-line old.history new.history entry t.0 line reply rep.there.device turn t.3;
-        exits = record { mark = 1; from = omega arith; there = t.0.device; is_mark = IsMark-one entry t.0 line reply turn; stands = t.2.there.device };
+        marks = t.0.device ∷ [];
+        are = AreMarks-one entry t.0 line reply turn;
+        made = made_turned old new entry t.0 rep t.2 t.3;
       };
 }
 
 -- what a stop at a line left
-record Halted (new : World) (old : World) (entry : State) (line : List ℕ) (stop : DeviceStop) : Type 0 where
+record Halted (old new : World) (entry : State) (line : List ℕ) (stop : DeviceStop) : Type 0 where
   sound : IsSound stop
   ahead : List Reply
   is_ahead : IsAhead (Err (stops.Device stop)) ahead
-  passes : Passes old.history new.history (HasMark entry (line ∷ []) ahead) (0 + length ahead)
-  exits : ExitsAt new.history.present entry (line ∷ []) [] ahead
+  marks : List (Option Device)
+  are : AreMarks entry (line ∷ []) ahead marks
+  made : Made old.history new.history None entry marks (closed (last_mark entry.device marks))
 
-halted_still : (old new : World) (entry : State) (line : List ℕ) (stop : DeviceStop) → IsSound stop → IsAhead (Err (stops.Device stop)) [] → StandsFor old.history.present entry.device
-    → During old.history new.history (Leaves entry.device) → Halted new old entry line stop
-halted_still old new entry line stop sound none stands during = record {
+halted_still : (old new : World) (entry : State) (line : List ℕ) (stop : DeviceStop) → IsSound stop → IsAhead (Err (stops.Device stop)) [] → Stood old entry → IsServedImage new.history.present
+    → During old.history new.history (Leaves entry.device) → Halted old new entry line stop
+halted_still old new entry line stop sound none rep served during = record {
   sound = sound;
   ahead = [];
   is_ahead = none;
-  passes = Passes-stay old.history new.history entry (line ∷ []) [] stands during;
-  exits = record {
-    mark = 0;
-    from = omega arith;
-    there = entry.device;
-    is_mark = IsMark-none entry (line ∷ []) [];
-    stands = LeavesOnly-now new.history (λ left. StandsFor left entry.device) (During-now old.history new.history (Leaves entry.device) during);
-  };
+  marks = [];
+  are = AreMarks-none entry (line ∷ []);
+  made = made_none old.history new.history None entry (closed entry.device) rep.there.device during refl
+      (shut new.history.present entry.device (LeavesOnly-now new.history (λ left. StandsFor left entry.device) (During-now old.history new.history (Leaves entry.device) during)) served);
 }
 
-halted_turned : (old new : World) (entry now : State) (line : List ℕ) (reply : Reply) → Turn entry line reply now → StandsFor old.history.present entry.device
-    → Turns old.history new.history (Leaves entry.device) (Leaves now.device) → Halted new old entry line device.Platform
-halted_turned old new entry now line reply turn stands turns = record {
-  sound = tt;
-  ahead = reply ∷ [];
-  is_ahead = omega arith;
-  passes = Passes-line old.history new.history entry now line reply stands turn turns;
-  exits = elim (Turns-cases old.history new.history (Leaves entry.device) (Leaves now.device) turns) [
-    | inl during ↦ record {
-      mark = 0;
-      from = omega arith;
-      there = entry.device;
-      is_mark = IsMark-none entry (line ∷ []) (reply ∷ []);
-      stands = LeavesOnly-now new.history (λ left. StandsFor left entry.device) (During-now old.history new.history (Leaves entry.device) during);
-    }
-    | inr left ↦ record {
-      mark = 1;
-      from = omega arith;
-      there = now.device;
-      is_mark = IsMark-one entry now line reply turn;
-      stands = LeavesOnly-now new.history (λ image. StandsFor image now.device) left;
-    }
-  ];
-}
+halted_turned : (old new : World) (entry now : State) (line : List ℕ) (reply : Reply) → Turn entry line reply now → Stood old entry → IsServedImage new.history.present
+    → Turns old.history new.history (Leaves entry.device) (Leaves now.device) → Halted old new entry line device.Platform
+halted_turned old new entry now line reply turn rep served turns = elim (made_stopped old.history new.history entry now.device rep.there.device served turns) [
+  | inl none ↦ record { sound = tt; ahead = []; is_ahead = omega arith; marks = []; are = AreMarks-none entry (line ∷ []); made = none }
+  | inr one ↦ record { sound = tt; ahead = reply ∷ []; is_ahead = omega arith; marks = now.device ∷ []; are = AreMarks-one entry now line reply turn; made = one }
+]
 
-halted : (old new : World) (entry : State) (line : List ℕ) (command : Command) (stop : DeviceStop) → Spells line command → StandsFor old.history.present entry.device
-    → Halts old new entry command stop → Halted new old entry line stop
-halted old new entry line command device.Platform spells stands h =
+halted : (old new : World) (entry : State) (line : List ℕ) (command : Command) (stop : DeviceStop) → Spells line command → Stood old entry → IsServedImage new.history.present
+    → Halts old new entry command stop → Halted old new entry line stop
+halted old new entry line command device.Platform spells rep served h =
     let next = answer (is_full old) entry command in
-    halted_turned old new entry next.1 line next.0 (inl (command, spells, is_full old, refl)) stands h
-halted old new entry line command device.Tape spells stands h = halted_still old new entry line device.Tape tt refl stands h
-halted old new entry line command device.Ledger spells stands h = halted_still old new entry line device.Ledger tt refl stands h
-halted old new entry line command device.Memory spells stands h = halted_still old new entry line device.Memory tt refl stands h
-halted old new entry line command device.BadRoot spells stands h = absurd h
-halted old new entry line command (device.BadRecord addr) spells stands h = absurd h
+    halted_turned old new entry next.1 line next.0 (inl (command, spells, is_full old, refl)) rep served h
+halted old new entry line command device.Tape spells rep served h = halted_still old new entry line device.Tape tt refl rep served h
+halted old new entry line command device.Ledger spells rep served h = halted_still old new entry line device.Ledger tt refl rep served h
+halted old new entry line command device.Memory spells rep served h = halted_still old new entry line device.Memory tt refl rep served h
+halted old new entry line command device.BadRoot spells rep served h = absurd h
+halted old new entry line command (device.BadRecord addr) spells rep served h = absurd h
 
 -- a line that the device stopped at
 pub Replied-stop : (tells : Type 0) (old new : World) (line : List ℕ) (command : Command) (stop : DeviceStop) → Spells line command → IsLater old new → HasAdded stop old.head new.head
     → IsDamageAt tells new.history.present [] (line ∷ []) (Err (stops.Device stop))
-    → (tells → (entry : State) → Stood old entry → Halts old new entry command stop)
+    → (tells → IsServedImage new.history.present) → (tells → (entry : State) → Stood old entry → Halts old new entry command stop)
     → Replied tells old new no_line (Err (stops.Device stop)) (line ∷ []) []
-Replied-stop tells old new line command stop spells later added damage halts = record {
+Replied-stop tells old new line command stop spells later added damage served halts = record {
   replies = [];
   part = [];
   put_is = refl;
@@ -217,7 +211,7 @@ Replied-stop tells old new line command stop spells later added damage halts = r
   later = later;
   full = All-nil (λ (r : Reply). r ≡ Full → new.head ≡ new.capacity);
   answered = λ told entry rep.
-      let h = halted old new entry line command stop spells rep.there.device (halts told entry rep) in
+      let h = halted old new entry line command stop spells rep (served told) (halts told entry rep) in
       record {
         now = entry;
         pages = old.head;
@@ -226,8 +220,9 @@ Replied-stop tells old new line command stop spells later added damage halts = r
         near = added;
         ahead = h.ahead;
         is_ahead = h.is_ahead;
-        passes = h.passes;
-        exits = h.exits;
+        marks = h.marks;
+        are = h.are;
+        made = h.made;
       };
 }
 
@@ -291,38 +286,20 @@ EndsIn-then old middle new (Err stops.Sink) entry mid now lines more replies oth
 )
 
 -- no reply is ahead
-Passes-none : (first second : World) (entry : State) (lines : List (List ℕ)) (replies ahead : List Reply) → ahead ≡ []
-    → Passes first.history second.history (HasMark entry lines (replies ++ ahead)) (length replies + length ahead)
-    → Passes first.history second.history (HasMark entry lines replies) (length replies)
-Passes-none first second entry lines replies [] none p =
-    let e : length replies + length {A = Reply} [] ≡ length replies = omega arith in
-    subst (λ (n : ℕ). Passes first.history second.history (HasMark entry lines replies) n) e
-    (subst (λ (all : List Reply). Passes first.history second.history (HasMark entry lines all) (length replies + length {A = Reply} [])) (append-nil replies) p)
-Passes-none first second entry lines replies (reply ∷ ahead) none p = absurd cc
+AreMarks-all : (entry : State) (lines : List (List ℕ)) (replies ahead : List Reply) (marks : List (Option Device)) → ahead ≡ []
+    → AreMarks entry lines (replies ++ ahead) marks → AreMarks entry lines replies marks
+AreMarks-all entry lines replies ahead marks none are =
+    subst (λ (all : List Reply). AreMarks entry lines all marks) (ap (λ (more : List Reply). replies ++ more) none ∙ append-nil replies) are
 
-Passes-ahead : (first second third : World) (entry mid : State) (lines more : List (List ℕ)) (replies others ahead : List Reply)
-    → length replies ≡ length lines → Answers entry lines replies mid
-    → Passes first.history second.history (HasMark entry lines replies) (length replies)
-    → Passes second.history third.history (HasMark mid more (others ++ ahead)) (length others + length ahead)
-    → Passes first.history third.history (HasMark entry (lines ++ more) ((replies ++ others) ++ ahead)) (length (replies ++ others) + length ahead)
-Passes-ahead first second third entry mid lines more replies others ahead same answers one two =
-    let all : (replies ++ others) ++ ahead ≡ replies ++ (others ++ ahead) = append_assoc replies others ahead in
-    let n : length replies + (length others + length ahead) ≡ length (replies ++ others) + length ahead = omega (arith, length-append replies others) in
-    subst (λ (k : ℕ). Passes first.history third.history (HasMark entry (lines ++ more) ((replies ++ others) ++ ahead)) k) n
-    (subst (λ (r : List Reply). Passes first.history third.history (HasMark entry (lines ++ more) r) (length replies + (length others + length ahead))) (sym all)
-    (Passes-lines first.history second.history third.history entry mid lines more replies (others ++ ahead) (length others + length ahead) same answers one two))
-
-ExitsAt-then : (image : Image) (entry mid : State) (lines more : List (List ℕ)) (replies others ahead : List Reply)
-    → length replies ≡ length lines → Answers entry lines replies mid → ExitsAt image mid more others ahead
-    → ExitsAt image entry (lines ++ more) (replies ++ others) ahead
-ExitsAt-then image entry mid lines more replies others ahead same answers x = record {
-  mark = length replies + x.mark;
-  from = omega (arith, x.from, length-append replies others);
-  there = x.there;
-  is_mark = subst (λ (r : List Reply). IsMark entry (lines ++ more) r (length replies + x.mark) x.there) (sym (append_assoc replies others ahead))
-      (IsMark-behind entry mid lines more replies (others ++ ahead) x.mark x.there same answers x.is_mark);
-  stands = x.stands;
-}
+-- the devices of some lines, which led to this state, and of more lines from there on
+Made-then : (first second third : World) (entry mid : State) (one two : List (Option Device)) → Stood second mid
+    → Made first.history second.history None entry one (closed (last_mark entry.device one)) → Made second.history third.history None mid two (closed (last_mark mid.device two))
+    → (mid.device ≡ last_mark entry.device one) × Made first.history third.history None entry (one ++ two) (closed (last_mark entry.device (one ++ two)))
+Made-then first second third entry mid one two stood a b =
+    let last : mid.device ≡ last_mark entry.device one = one_device second.history.present mid.device (last_mark entry.device one) stood.there.device a.exits.there.device in
+    let there : Made first.history second.history second.session entry one mid = record { passes = a.passes; last = last; exits = stood } in
+    let all = made_then first.history second.history third.history second.session None entry mid (closed (last_mark mid.device two)) one two there b in
+    (last, subst (λ (d : Option Device). Made first.history third.history None entry (one ++ two) (closed d)) all.last all)
 
 -- what the first of two runs answered, and then the second from where it ended
 Answered-then : (old mid new : World) (ending : Ending) (entry : State) (lines more : List (List ℕ)) (replies others : List Reply) (none part : List ℕ)
@@ -330,6 +307,7 @@ Answered-then : (old mid new : World) (ending : Ending) (entry : State) (lines m
     → Answered old new ending entry (lines ++ more) (replies ++ others) part
 Answered-then old mid new ending entry lines more replies others none part later same p q =
     let answers = answers_of old.capacity entry old.head lines replies p.now p.pages p.answers in
+    let made = Made-then old mid new entry p.now p.marks q.marks p.ends.0 p.made q.made in
     let more_answers = AnswersOn-moved old mid p.now q.now p.pages q.pages more others later.capacity p.ends.1 q.answers in
     record {
       now = q.now;
@@ -339,8 +317,10 @@ Answered-then old mid new ending entry lines more replies others none part later
       ends = EndsIn-then old mid new ending entry p.now q.now lines more replies others part p.pages q.pages later.capacity p.ends.1 same p.answers q.ends;
       ahead = q.ahead;
       is_ahead = q.is_ahead;
-      passes = Passes-ahead old mid new entry p.now lines more replies others q.ahead same answers (Passes-none old mid entry lines replies p.ahead p.is_ahead p.passes) q.passes;
-      exits = ExitsAt-then new.history.present entry p.now lines more replies others q.ahead same answers q.exits;
+      marks = p.marks ++ q.marks;
+      are = subst (λ (all : List Reply). AreMarks entry (lines ++ more) all (p.marks ++ q.marks)) (sym (append_assoc replies others q.ahead))
+          (AreMarks-then entry p.now lines more replies (others ++ q.ahead) p.marks q.marks same answers made.0 (AreMarks-all entry lines replies p.ahead p.marks p.is_ahead p.are) q.are);
+      made = made.1;
     }
 
 -- one run after another, which answered all its lines
@@ -389,16 +369,6 @@ EndsIn-longer old new (stops.Device stop) entry now lines more replies part page
 EndsIn-longer old new stops.Sink entry now lines more replies part pages (reply, next, answers, cut, stands) =
     (reply, next, AnswersOn-longer old.capacity entry old.head next new.head lines more (replies ++ reply ∷ []) answers, cut, stands)
 
-ExitsAt-longer : (image : Image) (entry : State) (lines more : List (List ℕ)) (replies ahead : List Reply) → ExitsAt image entry lines replies ahead
-    → ExitsAt image entry (lines ++ more) replies ahead
-ExitsAt-longer image entry lines more replies ahead x = record {
-  mark = x.mark;
-  from = x.from;
-  there = x.there;
-  is_mark = let m = x.is_mark in (m.0, m.1, Answers-longer entry m.1 lines more (take x.mark (replies ++ ahead)) m.2, m.3);
-  stands = x.stands;
-}
-
 -- a run that stopped at a line may have had more of them
 pub Replied-longer : (tells : Type 0) (old new : World) (last : DeviceStop → List ℕ) (stop : Stop) (lines more : List (List ℕ)) (put : List ℕ)
     → IsOfLine stop → Replied tells old new last (Err stop) lines put → Replied tells old new last (Err stop) (lines ++ more) put
@@ -419,8 +389,9 @@ Replied-longer tells old new last stop lines more put line p = record {
     ends = EndsIn-longer old new stop entry first.now lines more p.replies p.part first.pages first.ends;
     ahead = first.ahead;
     is_ahead = first.is_ahead;
-    passes = Passes-longer old.history new.history entry lines more (p.replies ++ first.ahead) (length p.replies + length first.ahead) first.passes;
-    exits = ExitsAt-longer new.history.present entry lines more p.replies first.ahead first.exits;
+    marks = first.marks;
+    are = AreMarks-longer entry lines more (p.replies ++ first.ahead) first.marks first.are;
+    made = first.made;
   };
 }
 
@@ -455,7 +426,7 @@ Replied-cut tells old new last lines put p = (
     later = p.later;
     full = p.full;
     answered = λ told entry rep. let f = p.answered told entry rep in
-        record { now = f.now; pages = f.pages; answers = f.answers; ends = f.ends; near = f.near; ahead = f.ahead; is_ahead = f.is_ahead; passes = f.passes; exits = f.exits };
+        record { now = f.now; pages = f.pages; answers = f.answers; ends = f.ends; near = f.near; ahead = f.ahead; is_ahead = f.is_ahead; marks = f.marks; are = f.are; made = f.made };
   },
   record {
     replies = p.replies;
@@ -467,7 +438,7 @@ Replied-cut tells old new last lines put p = (
     later = p.later;
     full = p.full;
     answered = λ told entry rep. let f = p.answered told entry rep in
-        record { now = f.now; pages = f.pages; answers = f.answers; ends = f.ends; near = f.near; ahead = f.ahead; is_ahead = f.is_ahead; passes = f.passes; exits = f.exits };
+        record { now = f.now; pages = f.pages; answers = f.answers; ends = f.ends; near = f.near; ahead = f.ahead; is_ahead = f.is_ahead; marks = f.marks; are = f.are; made = f.made };
   },
 )
 
@@ -507,12 +478,12 @@ turned_command old new entry line command reply spells served pages (now, is, re
 -- a line that the device stopped at
 pub Handled-stop : (tells : Type 0) (old new : World) (line : List ℕ) (command : Command) (stop : DeviceStop) (written : Option (List ℕ)) → Spells line command
     → IsLater old new → HasAdded stop old.head new.head → ((addr : ℕ) → stop ≡ device.BadRecord addr → IsOfBlock command × (tells → IsWrongPage new.history.present addr))
-    → (tells → (entry : State) → Stood old entry → Halts old new entry command stop)
+    → (tells → IsServedImage new.history.present) → (tells → (entry : State) → Stood old entry → Halts old new entry command stop)
     → Handled tells old new no_line (Err (stops.Device stop)) (line ∷ []) written written
-Handled-stop tells old new line command stop written spells later added met halts = record {
+Handled-stop tells old new line command stop written spells later added met served halts = record {
   put = [];
   got = Got-nothing written;
-  replied = Replied-stop tells old new line command stop spells later added (damage stop met) halts;
+  replied = Replied-stop tells old new line command stop spells later added (damage stop met) served halts;
 }
   where
     damage : (s : DeviceStop) → ((addr : ℕ) → s ≡ device.BadRecord addr → IsOfBlock command × (tells → IsWrongPage new.history.present addr))

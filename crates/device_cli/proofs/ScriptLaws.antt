@@ -1,5 +1,5 @@
 -- From how a run ends to its exit status.
-use Rattle.std.proofs.Common.{◌≡◌, ◌≢◌, ℕ, ◌≤◌, List, [], ◌∷◌, Option, None, Ok, Err, length, ◌⊎◌, inl, inr, refl, sym, subst, arith}
+use Rattle.std.proofs.Common.{◌≡◌, ◌≢◌, ℕ, ◌≤◌, List, [], ◌∷◌, ◌++◌, Option, None, Ok, Err, length, ◌⊎◌, inl, inr, refl, sym, subst, arith, length-append}
 use Rattle.std.proofs.lemmas.List.Elements.{All-nil}
 use Rattle.platform.specs.Image.{Image}
 use Rattle.sdbt_base.specs.Told.{Got, IsAtEnd}
@@ -9,12 +9,14 @@ use Rattle.script_lang.specs.Replies.{line_of}
 use Rattle.sdbt_base.specs.Arrays.{State, Device, closed}
 use Rattle.script_lang.specs.declared.replies.Reply.{Reply}
 use Rattle.script_lang.specs.declared.replies.Reply.TheVariants.{Full}
+use Rattle.device_core.specs.Leaf.{IsServedImage}
 use Rattle.device_core.specs.declared.session.Session.{Session}
 use Rattle.platform.specs.History.{History}
 use Rattle.device_cli.specs.World.{World, world}
 use Rattle.device_course.specs.States.{IsSessionOf}
 use Rattle.device_cli.specs.Represents.{StandsFor, Represents}
-use Rattle.device_cli.specs.Replied.{Ending, IsBehind, AreMany, IsDamageAt, IfNext, AsksForBlock, IsWrongPage, IsFirstPart, IsAhead, EndsIn, Answered, damage_line}
+use Rattle.platform.specs.Runs.{Passes}
+use Rattle.device_cli.specs.Replied.{HasMark, Ending, IsBehind, AreMany, IsDamageAt, IfNext, AsksForBlock, IsWrongPage, IsFirstPart, IsAhead, EndsIn, Answered, damage_line}
 use Rattle.device_cli.specs.Added.{IsNear}
 use Rattle.device_cli.specs.Pages.{IsOneMore}
 use Rattle.device_cli.specs.Ran.{Ran, AreLines, HaveCome, AnswersFrom, AnswersScript}
@@ -22,7 +24,10 @@ use Rattle.device_cli.specs.declared.stop.Stop.TheVariants as stops
 use Rattle.device_cli.specs.declared.stop.DeviceStop.{DeviceStop}
 use Rattle.device_cli.specs.declared.stop.DeviceStop.TheVariants as device
 use Rattle.device_cli.proofs.RanLaws.{exit_of}
-use Rattle.device_cli.proofs.PassLaws.{IsMark-none, Passes-nothing}
+use Rattle.device_cli.proofs.PassLaws.{AreMarks-none, passes_of, exits_of}
+use Rattle.device_course.specs.Course.{Made}
+use Rattle.device_course.specs.Marks.{last_mark}
+use Rattle.device_course.proofs.MadeLaws.{shut, made_start}
 
 -- an image that stands for a device, on which no session is open
 pub alone_on : (w : World) (there : Option Device) → w.session ≡ None → StandsFor w.history.present there → Represents w (closed there)
@@ -245,8 +250,9 @@ answers_from old new ending entry lines replies part f = record {
   ahead = f.ahead;
   one_ahead = one_ahead ending f.ahead f.is_ahead;
   none_ahead = none_ahead ending f.ahead f.is_ahead;
-  passes = f.passes;
-  exits = f.exits;
+  passes = subst (λ (n : ℕ). Passes old.history new.history (HasMark entry lines (replies ++ f.ahead)) n) (length-append replies f.ahead)
+      (passes_of old.history new.history entry lines (replies ++ f.ahead) f.marks f.are f.made.passes);
+  exits = exits_of new.history.present entry lines replies f.ahead f.marks f.are f.made.exits.there.device;
 }
 
 -- what is said of a run's end says nothing of its session
@@ -295,6 +301,15 @@ answers_script tells old session history head capacity ending left left_now writ
       (p.answered told (closed there) (record { there = alone_on old there alone stands; served = served })));
 }
 
+-- which devices a run made, whatever session it ends with
+pub made_by : (tells : Type 0) (old : World) (session : Option Session) (history : History) (head capacity : ℕ) (ending : Ending) (left left_now written written_now : Option (List ℕ))
+    → old.session ≡ None → Ran tells old (world session history head capacity) damage_line ending left left_now written written_now
+    → tells → (there : Option Device) → StandsFor old.history.present there → IsServedImage old.history.present
+    → (marks : List (Option Device)) × Made old.history history None (closed there) marks (closed (last_mark there marks))
+made_by tells old session history head capacity ending left left_now written written_now alone r told there stands served =
+    let f = r.handled.replied.answered told (closed there) (record { there = alone_on old there alone stands; served = served }) in
+    (f.marks, f.made)
+
 -- other words: nothing is taken, nothing put, and nothing done
 pub answers_nothing : (tells : Type 0) (w : World) (left written : Option (List ℕ)) → AnswersScript tells w w 2 left left written written
 unfolding whole_lines_of
@@ -327,7 +342,8 @@ answers_nothing tells w left written = record {
     ahead = [];
     one_ahead = omega arith;
     none_ahead = λ p q. refl;
-    passes = Passes-nothing w.history (closed there) [] [] stands;
-    exits = record { mark = 0; from = omega arith; there = there; is_mark = IsMark-none (closed there) [] []; stands = stands };
+    passes = passes_of w.history w.history (closed there) [] [] [] (AreMarks-none (closed there) [])
+        (made_start w.history None (closed there) (shut w.history.present there stands served)).passes;
+    exits = exits_of w.history.present (closed there) [] [] [] [] (AreMarks-none (closed there) []) stands;
   };
 }

@@ -1,23 +1,23 @@
 -- What a run that handled some lines put, and which replies belong to them.
-use Rattle.std.specs.Prelude.{◌≡◌, ℕ, ◌+◌, ◌≤◌, ◌⊎◌, List, [], ◌∷◌, ◌++◌, All, Option, Some, Result, Ok, Err, take, length, codes, flat_map}
+use Rattle.std.specs.Prelude.{◌≡◌, ℕ, ◌+◌, ◌≤◌, ◌⊎◌, List, [], ◌∷◌, ◌++◌, All, Option, None, Some, Result, Ok, Err, take, length, codes, flat_map}
 use Rattle.std.specs.Fmt.{decimal}
 use Rattle.platform.specs.Image.{Image}
 use Rattle.platform.specs.History.{During, Turns}
-use Rattle.platform.specs.Runs.{Passes}
 use Rattle.root_codec.specs.declared.root.Root.{Root}
 use Rattle.root_codec.specs.RootRecord.{FitsRoot, root_bytes}
 use Rattle.device_core.specs.Damage.{IsDamaged}
 use Rattle.sdbt_base.specs.Told.{Got, GotPart}
 use Rattle.script_lang.specs.Grammar.{Spells}
 use Rattle.script_lang.specs.Replies.{line_of}
-use Rattle.sdbt_base.specs.Arrays.{State, Device}
+use Rattle.sdbt_base.specs.Arrays.{State, Device, closed}
 use Rattle.script_lang.specs.Answers.{IsMark, answer}
 use Rattle.script_lang.specs.declared.commands.Command.{Command}
 use Rattle.script_lang.specs.declared.commands.Command.TheVariants as commands
 use Rattle.script_lang.specs.declared.replies.Reply.{Reply}
 use Rattle.script_lang.specs.declared.replies.Reply.TheVariants.{Full}
 use Rattle.device_cli.specs.World.{World, is_full, IsLater}
-use Rattle.device_course.specs.Marks.{Leaves}
+use Rattle.device_course.specs.Marks.{Leaves, mark_at, last_mark}
+use Rattle.device_course.specs.Course.{Made}
 use Rattle.device_cli.specs.Represents.{Represents, Stood, StandsFor}
 use Rattle.device_cli.specs.Pages.{AnswersOn}
 use Rattle.device_cli.specs.Added.{IsNear}
@@ -140,8 +140,13 @@ pub record ExitsAt (image : Image) (entry : State) (lines : List (List ℕ)) (re
   pub is_mark : IsMark entry lines (replies ++ ahead) mark there
   pub stands : StandsFor image there
 
--- the replies are those of the array, from the state at entry on, and at each moment a loss of power leaves a device that
--- they passed, in their order
+-- the k-th of these devices is the one after the first k replies
+pub record AreMarks (entry : State) (lines : List (List ℕ)) (replies : List Reply) (marks : List (Option Device)) : Type 0 where
+  pub many : length marks ≡ length replies
+  pub each : (k : ℕ) → k ≤ length replies → IsMark entry lines replies k (mark_at entry.device marks k)
+
+-- the replies are those of the array, from the state at entry on; and the devices that they passed, with the one of a reply ahead, were made in their
+-- order
 pub record Answered (old new : World) (ending : Ending) (entry : State) (lines : List (List ℕ)) (replies : List Reply) (part : List ℕ) : Type 0 where
   pub now : State
   pub pages : ℕ
@@ -150,8 +155,9 @@ pub record Answered (old new : World) (ending : Ending) (entry : State) (lines :
   pub near : IsNear ending pages new.head
   pub ahead : List Reply
   pub is_ahead : IsAhead ending ahead
-  pub passes : Passes old.history new.history (HasMark entry lines (replies ++ ahead)) (length replies + length ahead)
-  pub exits : ExitsAt new.history.present entry lines replies ahead
+  pub marks : List (Option Device)
+  pub are : AreMarks entry lines (replies ++ ahead) marks
+  pub made : Made old.history new.history None entry marks (closed (last_mark entry.device marks))
 
 -- a run that handled these lines: what it put is the lines of its replies, and perhaps a part behind them. From each
 -- state that the start stood for, the replies are those of the array

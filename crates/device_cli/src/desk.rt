@@ -57,7 +57,6 @@ impl Desk {
     ) -> Result<Reply, DeviceStop>
         requires { Before P.Platform self.old platform.old }
         ensures after { After P.Platform self.new platform.old platform.new result }
-        ensures cell { P.tells → During (P.history platform.old) (P.history platform.new) IsServedImage }
         ensures blame { IsBlamed (counts (P.faults platform.old) (T.faults tape.old) 0 0 (L.faults ledger.old))
             (counts (P.faults platform.new) (T.faults tape.new) 0 0 (L.faults ledger.new)) result }
         ensures unput { L.written ledger.new ≡ L.written ledger.old }
@@ -67,7 +66,7 @@ impl Desk {
         ensures pages { P.tells → (entry : State)
             → Represents (world self.old.session (P.history platform.old) (P.head platform.old) (P.capacity platform.old)) entry
             → IfOk result (λ reply. P.head platform.new ≡ pages_after entry command.now reply (P.head platform.old)) }
-        // Each moment keeps the keys that the image kept before, with those that were drawn, and what was deleted stays so.
+        // Each moment keeps the keys that the image kept before, with those that were drawn, what was deleted stays so, and the cell can be served.
         ensures keeps { KeepsOn P.tells (T.drawn tape.old) (T.drawn tape.new) self.old.session
             (P.history platform.old) (P.history platform.new)
             (λ keys. OnOk result (IsListed self.new.session (P.history platform.new).present keys)) }
@@ -103,7 +102,6 @@ impl Desk {
     ) -> Result<Reply, DeviceStop>
         requires { Before P.Platform self.old platform.old }
         ensures after { After P.Platform self.new platform.old platform.new result }
-        ensures cell { P.tells → During (P.history platform.old) (P.history platform.new) IsServedImage }
         ensures blame { IsBlamed (counts (P.faults platform.old) (T.faults tape.old) 0 0 (L.faults ledger.old))
             (counts (P.faults platform.new) (T.faults tape.new) 0 0 (L.faults ledger.new)) result }
         ensures unput { L.written ledger.new ≡ L.written ledger.old }
@@ -111,7 +109,7 @@ impl Desk {
         ensures pages { P.tells → (entry : State)
             → Represents (world self.old.session (P.history platform.old) (P.head platform.old) (P.capacity platform.old)) entry
             → IfOk result (λ reply. P.head platform.new ≡ pages_after entry (Command.Format blocks order) reply (P.head platform.old)) }
-        // Each moment keeps the keys that the image kept before, with those that were drawn, and what was deleted stays so.
+        // Each moment keeps the keys that the image kept before, with those that were drawn, what was deleted stays so, and the cell can be served.
         ensures keeps { KeepsOn P.tells (T.drawn tape.old) (T.drawn tape.new) self.old.session
             (P.history platform.old) (P.history platform.new)
             (λ keys. OnOk result (IsListed self.new.session (P.history platform.new).present keys)) }
@@ -138,13 +136,12 @@ impl Desk {
     fn mount<P: Platform>(&mut self, platform: &mut P) -> Result<Reply, DeviceStop>
         requires { Before P.Platform self.old platform.old }
         ensures after { After P.Platform self.new platform.old platform.new result }
-        ensures cell { P.tells → During (P.history platform.old) (P.history platform.new) IsServedImage }
         ensures blame { IsBlamed (counts (P.faults platform.old) 0 0 0 0) (counts (P.faults platform.new) 0 0 0 0) result }
         ensures damage { (addr : ℕ) → IsErrOf result (DeviceStop.BadRecord addr) → ⊥ }
         ensures pages { P.tells → (entry : State)
             → Represents (world self.old.session (P.history platform.old) (P.head platform.old) (P.capacity platform.old)) entry
             → IfOk result (λ reply. P.head platform.new ≡ pages_after entry Command.Mount reply (P.head platform.old)) }
-        // Each moment keeps the keys that the image kept before, and what was deleted stays so.
+        // Each moment keeps the keys that the image kept before, what was deleted stays so, and the cell can be served.
         ensures keeps { (drawn : Option (List (List ℕ))) → KeepsOn P.tells drawn drawn self.old.session
             (P.history platform.old) (P.history platform.new)
             (λ keys. OnOk result (IsListed self.new.session (P.history platform.new).present keys)) }
@@ -172,14 +169,13 @@ impl Desk {
     fn read<P: Platform>(&mut self, platform: &mut P, block: u64) -> Result<Reply, DeviceStop>
         requires { Before P.Platform self.old platform.old }
         ensures after { After P.Platform self.new platform.old platform.new result }
-        ensures cell { P.tells → During (P.history platform.old) (P.history platform.new) IsServedImage }
         ensures blame { IsBlamed (counts (P.faults platform.old) 0 0 0 0) (counts (P.faults platform.new) 0 0 0 0) result }
         ensures damage { P.tells → (addr : ℕ) → IsErrOf result (DeviceStop.BadRecord addr)
             → IsWrongPage (P.history platform.new).present addr }
         ensures pages { P.tells → (entry : State)
             → Represents (world self.old.session (P.history platform.old) (P.head platform.old) (P.capacity platform.old)) entry
             → IfOk result (λ reply. P.head platform.new ≡ pages_after entry (Command.Read block) reply (P.head platform.old)) }
-        // Each moment keeps the keys that the image kept before, and what was deleted stays so.
+        // Each moment keeps the keys that the image kept before, what was deleted stays so, and the cell can be served.
         ensures keeps { (drawn : Option (List (List ℕ))) → KeepsOn P.tells drawn drawn self.old.session
             (P.history platform.old) (P.history platform.new)
             (λ keys. OnOk result (IsListed self.new.session (P.history platform.new).present keys)) }
@@ -211,7 +207,6 @@ impl Desk {
         requires size { length content.now ≤ 4096 }
         requires before { Before P.Platform self.old platform.old }
         ensures after { After P.Platform self.new platform.old platform.new result }
-        ensures cell { P.tells → During (P.history platform.old) (P.history platform.new) IsServedImage }
         ensures blame { IsBlamed (counts (P.faults platform.old) (T.faults tape.old) 0 0 0)
             (counts (P.faults platform.new) (T.faults tape.new) 0 0 0) result }
         ensures damage { P.tells → (addr : ℕ) → IsErrOf result (DeviceStop.BadRecord addr)
@@ -220,7 +215,7 @@ impl Desk {
             → Represents (world self.old.session (P.history platform.old) (P.head platform.old) (P.capacity platform.old)) entry
             → (bytes : Bytes ℕ)
             → IfOk result (λ reply. P.head platform.new ≡ pages_after entry (Command.Write block bytes) reply (P.head platform.old)) }
-        // Each moment keeps the keys that the image kept before, with those that were drawn, and what was deleted stays so.
+        // Each moment keeps the keys that the image kept before, with those that were drawn, what was deleted stays so, and the cell can be served.
         ensures keeps { KeepsOn P.tells (T.drawn tape.old) (T.drawn tape.new) self.old.session
             (P.history platform.old) (P.history platform.new)
             (λ keys. OnOk result (IsListed self.new.session (P.history platform.new).present keys)) }
@@ -248,14 +243,13 @@ impl Desk {
     fn trim<P: Platform>(&mut self, platform: &mut P, block: u64) -> Result<Reply, DeviceStop>
         requires { Before P.Platform self.old platform.old }
         ensures after { After P.Platform self.new platform.old platform.new result }
-        ensures cell { P.tells → During (P.history platform.old) (P.history platform.new) IsServedImage }
         ensures blame { IsBlamed (counts (P.faults platform.old) 0 0 0 0) (counts (P.faults platform.new) 0 0 0 0) result }
         ensures damage { P.tells → (addr : ℕ) → IsErrOf result (DeviceStop.BadRecord addr)
             → IsWrongPage (P.history platform.new).present addr }
         ensures pages { P.tells → (entry : State)
             → Represents (world self.old.session (P.history platform.old) (P.head platform.old) (P.capacity platform.old)) entry
             → IfOk result (λ reply. P.head platform.new ≡ pages_after entry (Command.Trim block) reply (P.head platform.old)) }
-        // Each moment keeps the keys that the image kept before, and what was deleted stays so.
+        // Each moment keeps the keys that the image kept before, what was deleted stays so, and the cell can be served.
         ensures keeps { (drawn : Option (List (List ℕ))) → KeepsOn P.tells drawn drawn self.old.session
             (P.history platform.old) (P.history platform.new)
             (λ keys. OnOk result (IsListed self.new.session (P.history platform.new).present keys)) }
@@ -285,7 +279,6 @@ impl Desk {
     ) -> Result<Reply, DeviceStop>
         requires { Before P.Platform self.old platform.old }
         ensures after { After P.Platform self.new platform.old platform.new result }
-        ensures cell { P.tells → During (P.history platform.old) (P.history platform.new) IsServedImage }
         ensures blame { IsBlamed (counts (P.faults platform.old) (T.faults tape.old) 0 0 (L.faults ledger.old))
             (counts (P.faults platform.new) (T.faults tape.new) 0 0 (L.faults ledger.new)) result }
         ensures unput { L.written ledger.new ≡ L.written ledger.old }
@@ -293,7 +286,7 @@ impl Desk {
         ensures pages { P.tells → (entry : State)
             → Represents (world self.old.session (P.history platform.old) (P.head platform.old) (P.capacity platform.old)) entry
             → IfOk result (λ reply. P.head platform.new ≡ pages_after entry Command.Commit reply (P.head platform.old)) }
-        // Each moment keeps the keys that the image kept before, with those that were drawn, and what was deleted stays so.
+        // Each moment keeps the keys that the image kept before, with those that were drawn, what was deleted stays so, and the cell can be served.
         ensures keeps { KeepsOn P.tells (T.drawn tape.old) (T.drawn tape.new) self.old.session
             (P.history platform.old) (P.history platform.new)
             (λ keys. OnOk result (IsListed self.new.session (P.history platform.new).present keys)) }
@@ -342,13 +335,12 @@ impl Desk {
     fn erase<P: Platform>(&mut self, platform: &mut P) -> Result<Reply, DeviceStop>
         requires { Before P.Platform self.old platform.old }
         ensures after { After P.Platform self.new platform.old platform.new result }
-        ensures cell { P.tells → During (P.history platform.old) (P.history platform.new) IsServedImage }
         ensures blame { IsBlamed (counts (P.faults platform.old) 0 0 0 0) (counts (P.faults platform.new) 0 0 0 0) result }
         ensures damage { (addr : ℕ) → IsErrOf result (DeviceStop.BadRecord addr) → ⊥ }
         ensures pages { P.tells → (entry : State)
             → Represents (world self.old.session (P.history platform.old) (P.head platform.old) (P.capacity platform.old)) entry
             → IfOk result (λ reply. P.head platform.new ≡ pages_after entry Command.Erase reply (P.head platform.old)) }
-        // Each moment keeps the keys that the image kept before, and what was deleted stays so.
+        // Each moment keeps the keys that the image kept before, what was deleted stays so, and the cell can be served.
         ensures keeps { (drawn : Option (List (List ℕ))) → KeepsOn P.tells drawn drawn self.old.session
             (P.history platform.old) (P.history platform.new)
             (λ keys. OnOk result (IsListed self.new.session (P.history platform.new).present keys)) }

@@ -51,8 +51,6 @@ pub(crate) fn run<P: Platform, T: Tape, I: Source, O: Sink, L: Sink>(
     ensures blame { IsBlamedOn
         (counts (P.faults platform.old) (T.faults tape.old) (I.faults input.old) (O.faults output.old) (L.faults ledger.old))
         (counts (P.faults platform.new) (T.faults tape.new) (I.faults input.new) (O.faults output.new) (L.faults ledger.new)) result }
-    ensures cell { P.tells → IsServedImage (P.history platform.old).present
-        → During (P.history platform.old) (P.history platform.new) IsServedImage }
     ensures unput { L.written ledger.new ≡ L.written ledger.old }
     ensures ran { (session : Option Session)
         × Ran P.tells (world None (P.history platform.old) (P.head platform.old) (P.capacity platform.old))
@@ -89,7 +87,6 @@ fn serve_input<P: Platform, T: Tape, I: Source, O: Sink, L: Sink>(
     ensures blame { IsBlamedOn
         (counts (P.faults platform.old) (T.faults tape.old) (I.faults input.old) (O.faults output.old) (L.faults ledger.old))
         (counts (P.faults platform.new) (T.faults tape.new) (I.faults input.new) (O.faults output.new) (L.faults ledger.new)) result }
-    ensures cell { P.tells → During (P.history platform.old) (P.history platform.new) IsServedImage }
     ensures unput { L.written ledger.new ≡ L.written ledger.old }
     ensures ran { Ran P.tells (world desk.old.session (P.history platform.old) (P.head platform.old) (P.capacity platform.old))
         (world desk.new.session (P.history platform.new) (P.head platform.new) (P.capacity platform.new))
@@ -135,7 +132,6 @@ fn serve_piece<P: Platform, T: Tape, O: Sink, L: Sink>(
 ) -> Result<(), Stop>
     requires { Before P.Platform desk.old platform.old }
     ensures after { AfterLine P.Platform desk.new platform.new result }
-    ensures cell { P.tells → During (P.history platform.old) (P.history platform.new) IsServedImage }
     ensures unput { L.written ledger.new ≡ L.written ledger.old }
     ensures keeps { KeepsOn P.tells (T.drawn tape.old) (T.drawn tape.new) desk.old.session (P.history platform.old) (P.history platform.new)
         (λ keys. OnOk result (IsListed desk.new.session (P.history platform.new).present keys)) }
@@ -181,7 +177,6 @@ fn serve_end<P: Platform, T: Tape, O: Sink, L: Sink>(
 ) -> Result<(), Stop>
     requires { Before P.Platform desk.old platform.old }
     ensures after { AfterLine P.Platform desk.new platform.new result }
-    ensures cell { P.tells → During (P.history platform.old) (P.history platform.new) IsServedImage }
     ensures unput { L.written ledger.new ≡ L.written ledger.old }
     ensures keeps { KeepsOn P.tells (T.drawn tape.old) (T.drawn tape.new) desk.old.session (P.history platform.old) (P.history platform.new)
         (λ keys. OnOk result (IsListed desk.new.session (P.history platform.new).present keys)) }
@@ -209,7 +204,6 @@ fn answer<P: Platform, T: Tape, O: Sink, L: Sink>(
 ) -> Result<(), Stop>
     requires { Before P.Platform desk.old platform.old }
     ensures after { AfterLine P.Platform desk.new platform.new result }
-    ensures cell { P.tells → During (P.history platform.old) (P.history platform.new) IsServedImage }
     ensures unput { L.written ledger.new ≡ L.written ledger.old }
     ensures keeps { KeepsOn P.tells (T.drawn tape.old) (T.drawn tape.new) desk.old.session (P.history platform.old) (P.history platform.new)
         (λ keys. OnOk result (IsListed desk.new.session (P.history platform.new).present keys)) }

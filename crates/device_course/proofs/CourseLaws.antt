@@ -11,7 +11,7 @@ use Rattle.device_course.specs.States.{Outside, IsAt, IsLater, IsListed}
 use Rattle.device_course.specs.Keys.{KeepsOn}
 use Rattle.device_course.specs.Course.{Made, Course, Promised}
 use Rattle.device_course.proofs.MadeLaws.{made_start, made_then, made_closed, made_stands}
-use Rattle.device_course.proofs.KeysLaws.{sound_of, on_start, on_then, on_done, on_told}
+use Rattle.device_course.proofs.KeysLaws.{sound_of, on_start, on_then, on_done}
 
 -- nothing happened
 pub course_start : (old : Outside) (session : Option Session) (entry : State) → old.head ≤ old.capacity → IsAt old.history.present session entry → Course old old session session entry [] entry
@@ -39,13 +39,22 @@ course_closed old new before after entry exit marks c = record {
 }
 
 -- a run that ended without a session, from what it kept on any image and what it made from this one
-pub course_ended : (tells : Type 0) (told : tells) (old new : Outside) (before : Option Session) (entry exit : State) (marks : List (Option Device)) (Done : List (List ℕ) → Type 0)
+unfoldable pub course_ended : (tells : Type 0) (told : tells) (old new : Outside) (before : Option Session) (entry exit : State) (marks : List (Option Device)) (Done : List (List ℕ) → Type 0)
     → Made old.history new.history None entry marks exit → IsLater old new → KeepsOn tells old.drawn new.drawn before old.history new.history Done → Course old new before None entry marks exit
 course_ended tells told old new before entry exit marks Done made later on = record {
   made = made;
   later = later;
-  on = on_told tells told old.drawn new.drawn before old.history new.history (IsListed None new.history.present)
-      (on_done tells old.drawn new.drawn before old.history new.history Done (IsListed None new.history.present) on (λ keys h. (exit.device, made.exits.there.device)));
+  on = record {
+    keys = record {
+      grew = on.keys.grew;
+      drew = on.keys.drew;
+      extends = λ yes. on.keys.extends told;
+      handed = λ yes. on.keys.handed told;
+      keeps = λ yes keys kept h. record { kept = (on.keys.keeps told keys kept h).kept; done = (exit.device, made.exits.there.device) };
+    };
+    deleted = λ yes. on.deleted told;
+    serves = λ yes. on.serves told;
+  };
 }
 
 -- what the pages of a course disclose

@@ -59,20 +59,6 @@ on_done tells drawn drawn_now session old new Then Done on done = record {
   serves = on.serves;
 }
 
--- where the platform tells
-pub on_told : (tells : Type 0) (told : tells) (drawn drawn_now : Option (List (List ℕ))) (session : Option Session) (old new : History) (Done : List (List ℕ) → Type 0) → KeepsOn tells drawn drawn_now session old new Done → KeepsOn (Unit {0}) drawn drawn_now session old new Done
-on_told tells told drawn drawn_now session old new Done on = record {
-  keys = record {
-    grew = on.keys.grew;
-    drew = on.keys.drew;
-    extends = λ yes. on.keys.extends told;
-    handed = λ yes. on.keys.handed told;
-    keeps = λ yes. on.keys.keeps told;
-  };
-  deleted = λ yes. on.deleted told;
-  serves = λ yes. on.serves told;
-}
-
 -- one part after another
 pub on_then : (tells : Type 0) (drawn mid drawn_now : Option (List (List ℕ))) (session between : Option Session) (first second third : History) (Done : List (List ℕ) → Type 0) → KeepsOn tells drawn mid session first second (IsListed between second.present) → KeepsOn tells mid drawn_now between second third Done → KeepsOn tells drawn drawn_now session first third Done
 on_then tells drawn mid drawn_now session between first second third Done one two = record {

@@ -1,13 +1,15 @@
-use Rattle.std.proofs.Common.{◌≡◌, ◌⊎◌, Ok, Err, None, ℕ, refl, sym, subst}
+use Rattle.std.proofs.Common.{◌≡◌, ◌⊎◌, [], Ok, Err, None, ℕ, refl, sym, subst, arith}
 use Rattle.sdbt_base.specs.Arrays.{closed}
 use Rattle.device_cli.specs.World.{World, world}
 use Rattle.device_cli.specs.Ran.{AnswersScript}
-use Rattle.device_cli.proofs.ScriptLaws.{answers_script, answers_nothing}
+use Rattle.device_cli.proofs.ScriptLaws.{answers_script, answers_nothing, made_by}
 use Rattle.device_cli.specs.Ran.{IsComplete}
 use Rattle.device_cli.specs.Run.{counts}
 use Rattle.device_cli.proofs.CompleteLaws.{complete_ending}
 use Rattle.device_course.proofs.KeysLaws.{on_start}
-use Rattle.device_cli.proofs.ReachingLaws.{discloses, passed_stands}
+use Rattle.device_cli.proofs.ReachingLaws.{discloses}
+use Rattle.device_course.specs.States.{around}
+use Rattle.device_course.proofs.MadeLaws.{shut, made_start}
 use Rattle.device_cli.proofs.run_main.Goals as goal
 
 pub returns-then-not-are_run_words-clause-answers : goal.returns-then-not-are_run_words-clause-answers
@@ -70,18 +72,29 @@ returns-in-Err-clause-complete g c told there stands served words text ample qui
 
 pub returns-then-not-are_run_words-clause-discloses : goal.returns-then-not-are_run_words-clause-discloses
 returns-then-not-are_run_words-clause-discloses g c =
-    let history = g.P.Platform.history c.args.platform.now in
-    discloses _ _ _ history history _ (on_start _ _ None history)
-    (λ told device stands served. let passes = ((returns-then-not-are_run_words-clause-answers g c).answered told device stands served).passes in passed_stands history history _ _ _ _ passes)
+    let P = g.P.Platform in
+    let here = around P g.T.Tape c.args.platform.now c.args.tape.now in
+    discloses P.tells here here _ (record { capacity = refl; rises = omega arith; within = g.met.P.Platform.has_room c.args.platform.now }) (on_start _ _ None here.history)
+    (λ told device stands served. ([], made_start here.history None (closed device) (shut here.history.present device stands served)))
 
 pub returns-in-Ok-clause-discloses : goal.returns-in-Ok-clause-discloses
 returns-in-Ok-clause-discloses g c =
-    let history = g.P.Platform.history in
-    discloses _ _ _ (history c.args.platform.now) (history c.run.new.platform) _ c.run.ensures.keeps
-    (λ told device stands served. let passes = ((returns-in-Ok-clause-answers g c).answered told device stands served).passes in passed_stands (history c.args.platform.now) (history c.run.new.platform) _ _ _ _ passes)
+    let P = g.P.Platform in
+    let old = around P g.T.Tape c.args.platform.now c.args.tape.now in
+    let new = around P g.T.Tape c.run.new.platform c.run.new.tape in
+    let ran = c.in-Ok.ensures.ran in
+    let later = ran.1.handled.replied.later in
+    discloses P.tells old new _ (record { capacity = later.capacity; rises = later.rises; within = later.within }) c.run.ensures.keeps
+    (made_by P.tells (world None old.history old.head old.capacity) ran.0 new.history new.head new.capacity (Ok tt) (g.I.Source.left c.args.input.now) (g.I.Source.left c.run.new.input)
+    (g.O.Sink.written c.args.output.now) (g.O.Sink.written c.run.new.output) refl ran.1)
 
 pub returns-in-Err-clause-discloses : goal.returns-in-Err-clause-discloses
 returns-in-Err-clause-discloses g c =
-    let history = g.P.Platform.history in
-    discloses _ _ _ (history c.args.platform.now) (history c.run.new.platform) _ c.run.ensures.keeps
-    (λ told device stands served. let passes = ((returns-in-Err-clause-answers g c).answered told device stands served).passes in passed_stands (history c.args.platform.now) (history c.run.new.platform) _ _ _ _ passes)
+    let P = g.P.Platform in
+    let old = around P g.T.Tape c.args.platform.now c.args.tape.now in
+    let new = around P g.T.Tape c.run.new.platform c.run.new.tape in
+    let ran = c.in-Err.ensures.ran in
+    let later = ran.1.handled.replied.later in
+    discloses P.tells old new _ (record { capacity = later.capacity; rises = later.rises; within = later.within }) c.run.ensures.keeps
+    (made_by P.tells (world None old.history old.head old.capacity) ran.0 new.history new.head new.capacity (Err c.in-Err.stop) (g.I.Source.left c.args.input.now) (g.I.Source.left c.run.new.input)
+    (g.O.Sink.written c.args.output.now) (g.O.Sink.written c.run.new.output) refl ran.1)

@@ -2,9 +2,7 @@ use Rattle.script_lang.specs.declared.replies.Reply.TheVariants.{Bad}
 use Rattle.device_cli.specs.World.{World, IsLater, world}
 use Rattle.device_cli.specs.Replied.{no_line}
 use Rattle.device_cli.proofs.RepliedLaws.{IsLater-refl, Handled-line, Handled-stop, turned_bad, turned_command}
-use Rattle.platform.proofs.Moments.{During-now}
-use Rattle.device_core.specs.Leaf.{IsServedImage}
-use Rattle.device_cli.proofs.CellLaws.{serves_now}
+use Rattle.device_cli.proofs.CellLaws.{served_at}
 use Rattle.device_course.proofs.KeysLaws.{on_start, on_done}
 use Rattle.device_cli.proofs.ReachingLaws.{on_ok}
 use Rattle.device_cli.proofs.run.answer.Goals as goal
@@ -28,7 +26,7 @@ returns-in-Ok-clause-handled g c text kept =
     Handled-line P.tells old new no_line text c.in-Ok.reply c.put_reply-in-Ok.result (written c.args.output.now) (written c.put_reply-in-Ok.new.output)
     later c.in-Ok.ensures.after.full
     (λ told entry rep. turned_command old new entry text c.in-Some.command c.in-Ok.reply (c.in-Some.ensures.found text kept)
-    (During-now (P.history c.args.platform.now) (P.history c.serve.new.platform) IsServedImage (c.serve.ensures.cell told)) (c.in-Ok.ensures.pages told entry rep.there) (c.in-Ok.ensures.answered told entry rep.there))
+    (served_at _ _ (c.serve.ensures.keeps.serves told (c.requires.cell told))) (c.in-Ok.ensures.pages told entry rep.there) (c.in-Ok.ensures.answered told entry rep.there))
     c.put_reply-in-Ok.ensures.put
 
 pub returns-in-Err-clause-handled : goal.returns-in-Err-clause-handled
@@ -39,10 +37,7 @@ returns-in-Err-clause-handled g c text kept =
     let later : IsLater old new = record { capacity = c.serve.ensures.after.capacity; rises = c.serve.ensures.after.rises; within = g.met.P.Platform.has_room c.serve.new.platform } in
     Handled-stop P.tells old new text c.in-Some.command c.in-Err.stop (g.O.Sink.written c.args.output.now) (c.in-Some.ensures.found text kept) later c.in-Err.ensures.after.added
     (λ addr e. (c.in-Err.ensures.of_block addr (cc), λ told. c.in-Err.ensures.damage told addr (cc)))
-    (λ told entry rep. c.in-Err.ensures.answered told entry rep.there)
-
-pub returns-in_default-clause-cell : goal.returns-in_default-clause-cell
-returns-in_default-clause-cell g c = λ told. serves_now _ (c.requires.cell told)
+    (λ told. served_at _ _ (c.serve.ensures.keeps.serves told (c.requires.cell told))) (λ told entry rep. c.in-Err.ensures.answered told entry rep.there)
 
 pub returns-in_default-clause-keeps : goal.returns-in_default-clause-keeps
 returns-in_default-clause-keeps g c = on_done _ _ _ c.args.desk.now.session _ _ _ _ (on_start _ _ c.args.desk.now.session _) (λ keys h. on_ok c.put_reply.result _ h)

@@ -7,7 +7,6 @@ use Rattle.device_cli.specs.declared.stop.DeviceStop.TheVariants as device
 use Rattle.device_cli.specs.declared.stop.Stop.TheVariants as stops
 use Rattle.device_cli.proofs.RanLaws.{Ran-refused, Ran-ended, Ran-other, Ran-after, sound_of}
 use Rattle.device_cli.proofs.StillLaws.{still_after}
-use Rattle.device_cli.proofs.CellLaws.{serves_looked, serves_then}
 use Rattle.device_course.specs.States.{IsListed}
 use Rattle.device_course.proofs.KeysLaws.{on_look, on_done, on_then, listed_none, listed_image}
 use Rattle.device_core.proofs.MomentLaws.{one_look}
@@ -91,18 +90,6 @@ returns-in_default-clause-ran g c =
           (λ told entry rep. still_after old mid entry c.new-desk.ensures.session (c.check_cell.ensures.image told) (c.check_cell.ensures.time told) c.check_cell.ensures.head rep)
           c.in_default.ensures.ran),
     )
-
-pub returns-in-Err-clause-cell : goal.returns-in-Err-clause-cell
-returns-in-Err-clause-cell g c = λ told served. serves_looked _ _ (c.check_cell.ensures.time told) (c.check_cell.ensures.image told) served
-
-pub returns-in-Device-clause-cell : goal.returns-in-Device-clause-cell
-returns-in-Device-clause-cell g c = λ told served. serves_then _ _ _ (serves_looked _ _ (c.check_cell.ensures.time told) (c.check_cell.ensures.image told) served) (c.serve_input.ensures.cell told)
-
-pub returns-clause-cell : goal.returns-clause-cell
-returns-clause-cell g c = λ told served. serves_then _ _ _ (serves_looked _ _ (c.check_cell.ensures.time told) (c.check_cell.ensures.image told) served) (c.serve_input.ensures.cell told)
-
-pub returns-in_default-clause-cell : goal.returns-in_default-clause-cell
-returns-in_default-clause-cell g c = λ told served. serves_then _ _ _ (serves_looked _ _ (c.check_cell.ensures.time told) (c.check_cell.ensures.image told) served) (c.serve_input.ensures.cell told)
 
 pub returns-in-Err-clause-keeps : goal.returns-in-Err-clause-keeps
 returns-in-Err-clause-keeps g c = on_look _ _ None _ _ _ c.check_cell.ensures.image (λ told. one_look _ _ (c.check_cell.ensures.time told) (c.check_cell.ensures.image told)) (λ told keys kept h. tt)

@@ -3,7 +3,6 @@ use Rattle.script_lang.specs.Lines.{last_line as line_at_end}
 use Rattle.device_cli.specs.Replied.{Handled, no_line}
 use Rattle.device_cli.specs.World.{World, world}
 use Rattle.device_cli.proofs.RepliedLaws.{Handled-nothing}
-use Rattle.device_cli.proofs.CellLaws.{serves_now}
 use Rattle.device_course.proofs.KeysLaws.{on_start}
 use Rattle.device_cli.proofs.run.serve_end.Goals as goal
 
@@ -15,9 +14,6 @@ returns-then-is_empty-clause-handled g c rest pending =
     let empty : rest ≡ [] = (c.is_empty.ensures rest pending.is_kept).0 (search rules) in
     subst (λ (line : List ℕ). Handled P.tells old old no_line (Ok tt) (line_at_end line) written written) (sym empty)
     (Handled-nothing P.tells old no_line written (g.met.P.Platform.has_room c.args.platform.now))
-
-pub returns-then-is_empty-clause-cell : goal.returns-then-is_empty-clause-cell
-returns-then-is_empty-clause-cell g c = λ told. serves_now _ (c.requires.cell told)
 
 pub returns-then-is_empty-clause-keeps : goal.returns-then-is_empty-clause-keeps
 returns-then-is_empty-clause-keeps g c = on_start _ _ c.args.desk.now.session _

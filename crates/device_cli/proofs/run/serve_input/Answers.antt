@@ -6,7 +6,7 @@ use Rattle.sdbt_base.specs.Told.{Gave, IsAtEnd}
 use Rattle.script_lang.specs.Lines.{rest_of}
 use Rattle.device_cli.specs.World.{World, world}
 use Rattle.device_cli.proofs.Reading.{IsReading, IsReading-start, IsReading-more, IsReading-stop, IsReading-end, IsReading-failed, IsReading-limit}
-use Rattle.device_cli.proofs.CellLaws.{serves_now, served_at, serves_then}
+use Rattle.device_cli.proofs.CellLaws.{served_at}
 use Rattle.device_course.proofs.KeysLaws.{on_start, on_done, on_then}
 use Rattle.device_cli.proofs.run.serve_input.Goals as goal
 
@@ -29,7 +29,6 @@ loop-left-init g c =
     let P = g.P.Platform in
     record {
       ready = c.requires.ready;
-      cell = λ told. serves_now _ (c.requires.cell told);
       mounted = c.requires.mounted;
       keeps = on_start _ _ c.args.desk.now.session _;
       unput = refl;
@@ -108,7 +107,6 @@ loop-left-preserved g c =
     let less : c.loop-left.left ≡ length piece + (c.loop-left.left - c.in-Ok.count) = omega (arith, length-take c.in-Ok.count (into ++ behind), length-append into behind) in
     record {
       ready = c.in-Ok-serve_piece.ensures.after.ready;
-      cell = λ told. serves_then _ _ _ (c.loop-left.invariant.cell told) (c.in-Ok-serve_piece.ensures.cell told);
       mounted = c.in-Ok-serve_piece.ensures.after.mounted;
       keeps = on_then _ _ _ _ c.args.desk.now.session c.loop-left.desk.session _ _ _ _ c.loop-left.invariant.keeps c.in-Ok-serve_piece.ensures.keeps;
       unput = c.serve_piece.ensures.unput ∙ c.loop-left.invariant.unput;
@@ -126,23 +124,17 @@ returns-clause-ran g c =
     IsReading-limit P.tells old mid (g.I.Source.left c.args.input.now) (g.I.Source.left c.loop-left.input) (g.O.Sink.written c.args.output.now) (g.O.Sink.written c.loop-left.output)
     c.loop-left.pending c.loop-left.left c.loop-left.invariant.reading (let none = c.loop-left-test.false in omega arith)
 
-pub returns-in-Err-clause-cell : goal.returns-in-Err-clause-cell
-returns-in-Err-clause-cell g c = λ told. serves_then _ _ _ (c.loop-left.invariant.cell told) (c.serve_piece.ensures.cell told)
-
-pub returns-then-count-eq0-clause-cell : goal.returns-then-count-eq0-clause-cell
-returns-then-count-eq0-clause-cell g c = λ told. serves_then _ _ _ (c.loop-left.invariant.cell told) (c.serve_end.ensures.cell told)
-
 pub serve_end-requires : goal.serve_end-requires
 serve_end-requires g c = record {
   ready = c.loop-left.invariant.ready;
-  cell = λ told. served_at _ _ (c.loop-left.invariant.cell told);
+  cell = λ told. served_at _ _ (c.loop-left.invariant.keeps.serves told (c.requires.cell told));
   mounted = c.loop-left.invariant.mounted;
 }
 
 pub serve_piece-requires : goal.serve_piece-requires
 serve_piece-requires g c = record {
   ready = c.loop-left.invariant.ready;
-  cell = λ told. served_at _ _ (c.loop-left.invariant.cell told);
+  cell = λ told. served_at _ _ (c.loop-left.invariant.keeps.serves told (c.requires.cell told));
   mounted = c.loop-left.invariant.mounted;
 }
 

@@ -5,7 +5,7 @@ use Rattle.std.specs.Prelude.{Option}
 use Rattle.device_cli.specs.Kept.{IsKept}
 use Rattle.device_cli.specs.World.{World, world}
 use Rattle.device_cli.proofs.Serving.{IsServing-start, IsServing-line, IsServing-stop, IsServing-end}
-use Rattle.device_cli.proofs.CellLaws.{serves_now, served_at, serves_then}
+use Rattle.device_cli.proofs.CellLaws.{served_at}
 use Rattle.device_course.proofs.KeysLaws.{on_start, on_done, on_then}
 use Rattle.device_cli.proofs.run.serve_piece.Goals as goal
 
@@ -14,7 +14,6 @@ loop-front-init g c =
     let P = g.P.Platform in
     record {
       ready = c.requires.ready;
-      cell = λ told. serves_now _ (c.requires.cell told);
       mounted = c.requires.mounted;
       keeps = on_start _ _ c.args.desk.now.session _;
       unput = refl;
@@ -32,7 +31,6 @@ loop-front-preserved g c =
     let new : World = world c.answer.new.desk.session (P.history c.answer.new.platform) (P.head c.answer.new.platform) (P.capacity c.answer.new.platform) in
     record {
       ready = c.in_default-answer.ensures.after.ready;
-      cell = λ told. serves_then _ _ _ (c.loop-front.invariant.cell told) (c.in_default-answer.ensures.cell told);
       mounted = c.in_default-answer.ensures.after.mounted;
       keeps = on_then _ _ _ _ c.args.desk.now.session c.loop-front.desk.session _ _ _ _ c.loop-front.invariant.keeps c.in_default-answer.ensures.keeps;
       unput = c.in_default-answer.ensures.unput ∙ c.loop-front.invariant.unput;
@@ -77,13 +75,10 @@ returns-clause-handled g c rest pending =
     (g.O.Sink.written c.args.output.now) (g.O.Sink.written c.loop-front.output) (rest ++ c.args.piece.now) c.loop-front.pending c.loop-front.rest.now
     so_far c.in_default.ensures.none).0
 
-pub returns-in-Err-clause-cell : goal.returns-in-Err-clause-cell
-returns-in-Err-clause-cell g c = λ told. serves_then _ _ _ (c.loop-front.invariant.cell told) (c.answer.ensures.cell told)
-
 pub answer-requires : goal.answer-requires
 answer-requires g c = record {
   ready = c.loop-front.invariant.ready;
-  cell = λ told. served_at _ _ (c.loop-front.invariant.cell told);
+  cell = λ told. served_at _ _ (c.loop-front.invariant.keeps.serves told (c.requires.cell told));
   mounted = c.loop-front.invariant.mounted;
 }
 

@@ -1,7 +1,5 @@
 use Rattle.std.proofs.Common.{◌≡◌, ℕ, List, ◌++◌, length}
 use Rattle.std.specs.Prelude.{IfSome}
-use Rattle.platform.specs.History.{During}
-use Rattle.device_core.specs.Leaf.{IsServedImage}
 use Rattle.device_cli.specs.Desk.{IsReady, IsMounted}
 use Rattle.device_cli.specs.Run.{counts, NoneFell}
 use Rattle.device_cli.specs.Kept.{IsPending}
@@ -19,7 +17,6 @@ invariant-loop-front g l =
     let L = g.L.Sink in
     record {
       ready : IsReady l.desk (P.head l.platform);
-      cell : P.tells → During (P.history l.fn.platform) (P.history l.platform) IsServedImage;
       mounted : P.tells → IfSome l.desk.session (IsMounted (P.history l.platform).present);
       keeps : KeepsOn P.tells (T.drawn l.fn.tape) (T.drawn l.tape) l.fn.desk.session (P.history l.fn.platform) (P.history l.platform) (IsListed l.desk.session (P.history l.platform).present);
       unput : L.written l.ledger ≡ L.written l.fn.ledger;

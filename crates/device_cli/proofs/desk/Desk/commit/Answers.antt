@@ -5,7 +5,6 @@ use Rattle.device_cli.specs.World.{World, world}
 use Rattle.script_lang.specs.declared.commands.Command.TheVariants.{Commit}
 use Rattle.device_cli.proofs.ServedLaws.{halts_still, gives_unmounted_commit}
 use Rattle.device_cli.proofs.ServingLaws.{serves_unmounted, serves_committed, serves_commit_full, halts_commit, keeps_same}
-use Rattle.device_cli.proofs.CellLaws.{serves_now}
 use Rattle.device_course.proofs.KeysLaws.{on_start, on_call, on_done, listed_some, listed_none}
 use Rattle.device_core.specs.Publishing.{IsCommitCause}
 use Rattle.device_cli.proofs.desk.Desk.commit.Goals as goal
@@ -74,38 +73,35 @@ returns-in-Err-PlatformFault-clause-answered g c told entry rep =
     (λ e f. let ok = (c.commit.ensures.full e f).4 in grind (arith, common_steps, ok))
     (λ d t holds. c.commit.ensures.time told d t.contents holds) rep
 
-pub returns-in_default-clause-cell : goal.returns-in_default-clause-cell
-returns-in_default-clause-cell g c = λ told. serves_now _ (c.requires.cell told)
-
 pub returns-in_default-clause-keeps : goal.returns-in_default-clause-keeps
 returns-in_default-clause-keeps g c = on_done _ _ _ c.args.self.now.session _ _ _ _ (on_start _ _ c.args.self.now.session _) (λ keys h. listed_none c.args.self.now.session c.take.new.self _ keys c.take.ensures.after h)
 
 pub returns-in-Committed-clause-keeps : goal.returns-in-Committed-clause-keeps
 returns-in-Committed-clause-keeps g c =
     let taken : c.args.self.now.session ≡ Some c.in-Some.session = cc (c.take.ensures.value, c.in-Some.is) in
-    on_call _ _ _ c.args.self.now.session _ _ _ _ _ c.in-Ok.ensures.discloses.keys (λ told keys h. listed_some _ c.in-Some.session _ keys taken h) (λ told keys h. c.commit.ensures.discloses.forgets told keys (listed_some _ c.in-Some.session _ keys taken h)) (λ told keys more h done. done)
+    on_call _ _ _ c.args.self.now.session _ _ _ _ _ c.in-Ok.ensures.discloses.keys (λ told keys h. listed_some _ c.in-Some.session _ keys taken h) (λ told keys h. c.commit.ensures.discloses.forgets told keys (listed_some _ c.in-Some.session _ keys taken h)) (λ told keys more h done. done) c.commit.ensures.discloses.serves
 
 pub returns-in-Full-clause-keeps : goal.returns-in-Full-clause-keeps
 returns-in-Full-clause-keeps g c =
     let taken : c.args.self.now.session ≡ Some c.in-Some.session = cc (c.take.ensures.value, c.in-Some.is) in
-    on_call _ _ _ c.args.self.now.session _ _ _ _ _ c.in-Ok.ensures.discloses.keys (λ told keys h. listed_some _ c.in-Some.session _ keys taken h) (λ told keys h. c.commit.ensures.discloses.forgets told keys (listed_some _ c.in-Some.session _ keys taken h)) (λ told keys more h done. done)
+    on_call _ _ _ c.args.self.now.session _ _ _ _ _ c.in-Ok.ensures.discloses.keys (λ told keys h. listed_some _ c.in-Some.session _ keys taken h) (λ told keys h. c.commit.ensures.discloses.forgets told keys (listed_some _ c.in-Some.session _ keys taken h)) (λ told keys more h done. done) c.commit.ensures.discloses.serves
 
 pub returns-in-Err-Memory-clause-keeps : goal.returns-in-Err-Memory-clause-keeps
 returns-in-Err-Memory-clause-keeps g c =
     let taken : c.args.self.now.session ≡ Some c.in-Some.session = cc (c.take.ensures.value, c.in-Some.is) in
-    on_call _ _ _ c.args.self.now.session _ _ _ _ _ c.commit.ensures.discloses.keys (λ told keys h. listed_some _ c.in-Some.session _ keys taken h) (λ told keys h. c.commit.ensures.discloses.forgets told keys (listed_some _ c.in-Some.session _ keys taken h)) (λ told keys more h done. tt)
+    on_call _ _ _ c.args.self.now.session _ _ _ _ _ c.commit.ensures.discloses.keys (λ told keys h. listed_some _ c.in-Some.session _ keys taken h) (λ told keys h. c.commit.ensures.discloses.forgets told keys (listed_some _ c.in-Some.session _ keys taken h)) (λ told keys more h done. tt) c.commit.ensures.discloses.serves
 
 pub returns-in-Err-TapeFault-clause-keeps : goal.returns-in-Err-TapeFault-clause-keeps
 returns-in-Err-TapeFault-clause-keeps g c =
     let taken : c.args.self.now.session ≡ Some c.in-Some.session = cc (c.take.ensures.value, c.in-Some.is) in
-    on_call _ _ _ c.args.self.now.session _ _ _ _ _ c.commit.ensures.discloses.keys (λ told keys h. listed_some _ c.in-Some.session _ keys taken h) (λ told keys h. c.commit.ensures.discloses.forgets told keys (listed_some _ c.in-Some.session _ keys taken h)) (λ told keys more h done. tt)
+    on_call _ _ _ c.args.self.now.session _ _ _ _ _ c.commit.ensures.discloses.keys (λ told keys h. listed_some _ c.in-Some.session _ keys taken h) (λ told keys h. c.commit.ensures.discloses.forgets told keys (listed_some _ c.in-Some.session _ keys taken h)) (λ told keys more h done. tt) c.commit.ensures.discloses.serves
 
 pub returns-in-Err-LedgerFault-clause-keeps : goal.returns-in-Err-LedgerFault-clause-keeps
 returns-in-Err-LedgerFault-clause-keeps g c =
     let taken : c.args.self.now.session ≡ Some c.in-Some.session = cc (c.take.ensures.value, c.in-Some.is) in
-    on_call _ _ _ c.args.self.now.session _ _ _ _ _ c.commit.ensures.discloses.keys (λ told keys h. listed_some _ c.in-Some.session _ keys taken h) (λ told keys h. c.commit.ensures.discloses.forgets told keys (listed_some _ c.in-Some.session _ keys taken h)) (λ told keys more h done. tt)
+    on_call _ _ _ c.args.self.now.session _ _ _ _ _ c.commit.ensures.discloses.keys (λ told keys h. listed_some _ c.in-Some.session _ keys taken h) (λ told keys h. c.commit.ensures.discloses.forgets told keys (listed_some _ c.in-Some.session _ keys taken h)) (λ told keys more h done. tt) c.commit.ensures.discloses.serves
 
 pub returns-in-Err-PlatformFault-clause-keeps : goal.returns-in-Err-PlatformFault-clause-keeps
 returns-in-Err-PlatformFault-clause-keeps g c =
     let taken : c.args.self.now.session ≡ Some c.in-Some.session = cc (c.take.ensures.value, c.in-Some.is) in
-    on_call _ _ _ c.args.self.now.session _ _ _ _ _ c.commit.ensures.discloses.keys (λ told keys h. listed_some _ c.in-Some.session _ keys taken h) (λ told keys h. c.commit.ensures.discloses.forgets told keys (listed_some _ c.in-Some.session _ keys taken h)) (λ told keys more h done. tt)
+    on_call _ _ _ c.args.self.now.session _ _ _ _ _ c.commit.ensures.discloses.keys (λ told keys h. listed_some _ c.in-Some.session _ keys taken h) (λ told keys h. c.commit.ensures.discloses.forgets told keys (listed_some _ c.in-Some.session _ keys taken h)) (λ told keys more h done. tt) c.commit.ensures.discloses.serves

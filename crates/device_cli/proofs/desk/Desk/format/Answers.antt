@@ -17,7 +17,6 @@ use Rattle.script_lang.specs.Answers.{answer}
 use Rattle.sdbt_base.specs.Arrays.{Session as OpenSession}
 use Rattle.device_cli.proofs.ServedLaws.{on, halts_still, gives_format_range, gives_format_unbuilt}
 use Rattle.device_cli.proofs.ServingLaws.{KeepsCell, serves_formatted, serves_format_full, serves_not_empty, serves_refused, halts_format}
-use Rattle.device_core.proofs.ServedLaws.{serves_still as serves_while_cell}
 use Rattle.device_course.proofs.KeysLaws.{on_look, on_call, sound_of, listed_image, listed_keys, format_listed}
 use Rattle.device_cli.proofs.ReachingLaws.{on_ok}
 use Rattle.device_core.specs.Publishing.{IsFormatCause}
@@ -120,29 +119,26 @@ returns-in-Some-clause-answered g c told entry rep =
     (λ e. c.in-Some.ensures.range (ap (λ (r : Reply). Some r) e)) (λ e. c.in-Some.ensures.unbuilt (ap (λ (r : Reply). Some r) e)))
     refl rep
 
-pub returns-in-Some-clause-cell : goal.returns-in-Some-clause-cell
-returns-in-Some-clause-cell g c = λ told. serves_while_cell _ _ (c.refuse_format.ensures.time told) (c.requires.cell told)
-
 pub returns-in-Ok-clause-keeps : goal.returns-in-Ok-clause-keeps
-returns-in-Ok-clause-keeps g c = on_call _ _ _ c.args.self.now.session _ _ _ _ _ c.format.ensures.discloses.keys (λ told keys h. sound_of _ _ keys h) (λ told keys h. c.format.ensures.discloses.forgets told keys (sound_of _ _ keys h)) (λ told keys more h done. format_listed _ _ _ keys _ _ (c.in-Ok.ensures.cause.0 told) (c.in-Ok.ensures.made told).0 h)
+returns-in-Ok-clause-keeps g c = on_call _ _ _ c.args.self.now.session _ _ _ _ _ c.format.ensures.discloses.keys (λ told keys h. sound_of _ _ keys h) (λ told keys h. c.format.ensures.discloses.forgets told keys (sound_of _ _ keys h)) (λ told keys more h done. format_listed _ _ _ keys _ _ (c.in-Ok.ensures.cause.0 told) (c.in-Ok.ensures.made told).0 h) c.format.ensures.discloses.serves
 
 pub returns-in-Err-NotEmpty-clause-keeps : goal.returns-in-Err-NotEmpty-clause-keeps
-returns-in-Err-NotEmpty-clause-keeps g c = on_call _ _ _ c.args.self.now.session _ _ _ _ _ c.format.ensures.discloses.keys (λ told keys h. sound_of _ _ keys h) (λ told keys h. c.format.ensures.discloses.forgets told keys (sound_of _ _ keys h)) (λ told keys more h done. listed_keys _ _ _ keys more ((rw c.in-Err-NotEmpty.field-0-is at c.in-Err-NotEmpty.ensures.cause).1.0.image told) h)
+returns-in-Err-NotEmpty-clause-keeps g c = on_call _ _ _ c.args.self.now.session _ _ _ _ _ c.format.ensures.discloses.keys (λ told keys h. sound_of _ _ keys h) (λ told keys h. c.format.ensures.discloses.forgets told keys (sound_of _ _ keys h)) (λ told keys more h done. listed_keys _ _ _ keys more ((rw c.in-Err-NotEmpty.field-0-is at c.in-Err-NotEmpty.ensures.cause).1.0.image told) h) c.format.ensures.discloses.serves
 
 pub returns-in-Err-Full-clause-keeps : goal.returns-in-Err-Full-clause-keeps
-returns-in-Err-Full-clause-keeps g c = on_call _ _ _ c.args.self.now.session _ _ _ _ _ c.format.ensures.discloses.keys (λ told keys h. sound_of _ _ keys h) (λ told keys h. c.format.ensures.discloses.forgets told keys (sound_of _ _ keys h)) (λ told keys more h done. listed_keys _ _ _ keys more ((rw c.in-Err-Full.field-0-is at c.in-Err-Full.ensures.cause).2.0.image told) h)
+returns-in-Err-Full-clause-keeps g c = on_call _ _ _ c.args.self.now.session _ _ _ _ _ c.format.ensures.discloses.keys (λ told keys h. sound_of _ _ keys h) (λ told keys h. c.format.ensures.discloses.forgets told keys (sound_of _ _ keys h)) (λ told keys more h done. listed_keys _ _ _ keys more ((rw c.in-Err-Full.field-0-is at c.in-Err-Full.ensures.cause).2.0.image told) h) c.format.ensures.discloses.serves
 
 pub returns-in-Err-Memory-clause-keeps : goal.returns-in-Err-Memory-clause-keeps
-returns-in-Err-Memory-clause-keeps g c = on_call _ _ _ c.args.self.now.session _ _ _ _ _ c.format.ensures.discloses.keys (λ told keys h. sound_of _ _ keys h) (λ told keys h. c.format.ensures.discloses.forgets told keys (sound_of _ _ keys h)) (λ told keys more h done. tt)
+returns-in-Err-Memory-clause-keeps g c = on_call _ _ _ c.args.self.now.session _ _ _ _ _ c.format.ensures.discloses.keys (λ told keys h. sound_of _ _ keys h) (λ told keys h. c.format.ensures.discloses.forgets told keys (sound_of _ _ keys h)) (λ told keys more h done. tt) c.format.ensures.discloses.serves
 
 pub returns-in-Err-TapeFault-clause-keeps : goal.returns-in-Err-TapeFault-clause-keeps
-returns-in-Err-TapeFault-clause-keeps g c = on_call _ _ _ c.args.self.now.session _ _ _ _ _ c.format.ensures.discloses.keys (λ told keys h. sound_of _ _ keys h) (λ told keys h. c.format.ensures.discloses.forgets told keys (sound_of _ _ keys h)) (λ told keys more h done. tt)
+returns-in-Err-TapeFault-clause-keeps g c = on_call _ _ _ c.args.self.now.session _ _ _ _ _ c.format.ensures.discloses.keys (λ told keys h. sound_of _ _ keys h) (λ told keys h. c.format.ensures.discloses.forgets told keys (sound_of _ _ keys h)) (λ told keys more h done. tt) c.format.ensures.discloses.serves
 
 pub returns-in-Err-LedgerFault-clause-keeps : goal.returns-in-Err-LedgerFault-clause-keeps
-returns-in-Err-LedgerFault-clause-keeps g c = on_call _ _ _ c.args.self.now.session _ _ _ _ _ c.format.ensures.discloses.keys (λ told keys h. sound_of _ _ keys h) (λ told keys h. c.format.ensures.discloses.forgets told keys (sound_of _ _ keys h)) (λ told keys more h done. tt)
+returns-in-Err-LedgerFault-clause-keeps g c = on_call _ _ _ c.args.self.now.session _ _ _ _ _ c.format.ensures.discloses.keys (λ told keys h. sound_of _ _ keys h) (λ told keys h. c.format.ensures.discloses.forgets told keys (sound_of _ _ keys h)) (λ told keys more h done. tt) c.format.ensures.discloses.serves
 
 pub returns-in-Err-PlatformFault-clause-keeps : goal.returns-in-Err-PlatformFault-clause-keeps
-returns-in-Err-PlatformFault-clause-keeps g c = on_call _ _ _ c.args.self.now.session _ _ _ _ _ c.format.ensures.discloses.keys (λ told keys h. sound_of _ _ keys h) (λ told keys h. c.format.ensures.discloses.forgets told keys (sound_of _ _ keys h)) (λ told keys more h done. tt)
+returns-in-Err-PlatformFault-clause-keeps g c = on_call _ _ _ c.args.self.now.session _ _ _ _ _ c.format.ensures.discloses.keys (λ told keys h. sound_of _ _ keys h) (λ told keys h. c.format.ensures.discloses.forgets told keys (sound_of _ _ keys h)) (λ told keys more h done. tt) c.format.ensures.discloses.serves
 
 pub returns-in-Some-clause-keeps : goal.returns-in-Some-clause-keeps
 returns-in-Some-clause-keeps g c = on_look _ _ c.args.self.now.session _ _ _ c.refuse_format.ensures.image c.refuse_format.ensures.time (λ told keys kept h. on_ok c.refuse_format.result _ (listed_image _ _ _ keys (c.refuse_format.ensures.image told) h))

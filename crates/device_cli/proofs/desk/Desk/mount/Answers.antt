@@ -10,8 +10,6 @@ use Rattle.std.specs.Prelude.{List}
 use Rattle.device_core.specs.Leaf.{IsServedCell, IsRefusedCell}
 use Rattle.device_cli.proofs.ServedLaws.{halts_still}
 use Rattle.device_cli.proofs.ServingLaws.{serves_already, serves_mounted, serves_no_device}
-use Rattle.device_core.proofs.ServedLaws.{serves_still as serves_while_cell}
-use Rattle.device_cli.proofs.CellLaws.{serves_now}
 use Rattle.device_course.proofs.KeysLaws.{on_start, on_look, listed_image, mount_listed}
 use Rattle.device_core.specs.Causes.{IsMountCause}
 use Rattle.device_cli.proofs.Choices.{some_of}
@@ -68,24 +66,6 @@ returns-in-Err-BadRoot-clause-answered g c told entry rep =
     let old : World = world c.args.self.now.session (P.history c.args.platform.now) (P.head c.args.platform.now) (P.capacity c.args.platform.now) in
     let new : World = world c.args.self.now.session (P.history c.mount.new.platform) (P.head c.mount.new.platform) (P.capacity c.mount.new.platform) in
     absurd {A = Serves old new entry commands.Mount (Err device.BadRoot)} (refused_served old.history.present.cell old.head (subst (λ (n : ℕ). IsServedCell old.history.present.cell n) (g.met.P.Platform.counts_pages told c.args.platform.now) (c.requires.cell told)) ((rw c.in-Err-BadRoot.field-0-is at c.in-Err-BadRoot.ensures.refused) told))
-
-pub returns-then-is_some-clause-cell : goal.returns-then-is_some-clause-cell
-returns-then-is_some-clause-cell g c = λ told. serves_now _ (c.requires.cell told)
-
-pub returns-in-Ok-clause-cell : goal.returns-in-Ok-clause-cell
-returns-in-Ok-clause-cell g c = λ told. serves_while_cell _ _ (c.mount.ensures.looks.time told) (c.requires.cell told)
-
-pub returns-in-Err-NoDevice-clause-cell : goal.returns-in-Err-NoDevice-clause-cell
-returns-in-Err-NoDevice-clause-cell g c = λ told. serves_while_cell _ _ (c.mount.ensures.looks.time told) (c.requires.cell told)
-
-pub returns-in-Err-PlatformFault-clause-cell : goal.returns-in-Err-PlatformFault-clause-cell
-returns-in-Err-PlatformFault-clause-cell g c = λ told. serves_while_cell _ _ (c.mount.ensures.looks.time told) (c.requires.cell told)
-
-pub returns-in-Err-Memory-clause-cell : goal.returns-in-Err-Memory-clause-cell
-returns-in-Err-Memory-clause-cell g c = λ told. serves_while_cell _ _ (c.mount.ensures.looks.time told) (c.requires.cell told)
-
-pub returns-in-Err-BadRoot-clause-cell : goal.returns-in-Err-BadRoot-clause-cell
-returns-in-Err-BadRoot-clause-cell g c = λ told. serves_while_cell _ _ (c.mount.ensures.looks.time told) (c.requires.cell told)
 
 pub returns-then-is_some-clause-keeps : goal.returns-then-is_some-clause-keeps
 returns-then-is_some-clause-keeps g c = λ drawn. on_start _ drawn c.args.self.now.session _

@@ -9,8 +9,7 @@ use Rattle.device_cli.specs.Replied.{Serves}
 use Rattle.script_lang.specs.declared.commands.Command.TheVariants.{Read}
 use Rattle.device_cli.proofs.ServedLaws.{at, with_session, has_session, serves_still, halts_still, gives_unmounted_read, gives_content, gives_read_range}
 use Rattle.device_cli.proofs.ServingLaws.{serves_unmounted}
-use Rattle.device_core.proofs.ServedLaws.{serves_still as serves_while_cell}
-use Rattle.device_cli.proofs.CellLaws.{serves_now, mounted_still}
+use Rattle.device_cli.proofs.CellLaws.{mounted_still}
 use Rattle.device_course.proofs.KeysLaws.{on_start, on_look, listed_some}
 use Rattle.device_core.specs.Causes.{IsReadCause}
 use Rattle.device_core.specs.Reading.{ReadsArray}
@@ -65,21 +64,6 @@ returns-in-Err-PlatformFault-clause-answered g c told entry rep =
     let old : World = world c.args.self.now.session (P.history c.args.platform.now) (P.head c.args.platform.now) (P.capacity c.args.platform.now) in
     let new : World = world (Some c.read.new.self) (P.history c.read.new.platform) (P.head c.read.new.platform) (P.capacity c.read.new.platform) in
     halts_still old new entry (Read c.args.block) device.Platform tt rep (c.read.ensures.looks.time told)
-
-pub returns-in_default-clause-cell : goal.returns-in_default-clause-cell
-returns-in_default-clause-cell g c = λ told. serves_now _ (c.requires.cell told)
-
-pub returns-in-Ok-clause-cell : goal.returns-in-Ok-clause-cell
-returns-in-Ok-clause-cell g c = λ told. serves_while_cell _ _ (c.read.ensures.looks.time told) (c.requires.cell told)
-
-pub returns-in-Err-Range-clause-cell : goal.returns-in-Err-Range-clause-cell
-returns-in-Err-Range-clause-cell g c = λ told. serves_while_cell _ _ (c.read.ensures.looks.time told) (c.requires.cell told)
-
-pub returns-in-Err-BadRecord-clause-cell : goal.returns-in-Err-BadRecord-clause-cell
-returns-in-Err-BadRecord-clause-cell g c = λ told. serves_while_cell _ _ (c.read.ensures.looks.time told) (c.requires.cell told)
-
-pub returns-in-Err-PlatformFault-clause-cell : goal.returns-in-Err-PlatformFault-clause-cell
-returns-in-Err-PlatformFault-clause-cell g c = λ told. serves_while_cell _ _ (c.read.ensures.looks.time told) (c.requires.cell told)
 
 pub returns-in_default-clause-keeps : goal.returns-in_default-clause-keeps
 returns-in_default-clause-keeps g c = λ drawn. on_start _ drawn c.args.self.now.session _

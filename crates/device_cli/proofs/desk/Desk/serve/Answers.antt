@@ -7,7 +7,6 @@ use Rattle.script_lang.specs.declared.replies.Reply.TheVariants as replies
 use Rattle.device_cli.specs.Replied.{Serves}
 use Rattle.script_lang.specs.declared.commands.Command.{Command}
 use Rattle.device_cli.proofs.ServingLaws.{serves_seize}
-use Rattle.device_cli.proofs.CellLaws.{serves_now}
 use Rattle.device_course.proofs.KeysLaws.{on_start, on_done, listed_none}
 use Rattle.device_cli.proofs.ReachingLaws.{on_ok}
 use Rattle.device_cli.proofs.desk.Desk.serve.Goals as goal
@@ -26,15 +25,6 @@ returns-in-Seize-clause-answered g c told entry rep =
     let old : World = world c.args.self.now.session (P.history c.args.platform.now) (P.head c.args.platform.now) (P.capacity c.args.platform.now) in
     subst (λ (command : Command). Serves old old entry command (Ok replies.Unbuilt)) (sym c.in-Seize.is)
     (serves_seize c.args.self.now.session (P.history c.args.platform.now) (P.head c.args.platform.now) (P.capacity c.args.platform.now) entry rep)
-
-pub returns-in-Seize-clause-cell : goal.returns-in-Seize-clause-cell
-returns-in-Seize-clause-cell g c = λ told. serves_now _ (c.requires.cell told)
-
-pub returns-in-Stat-clause-cell : goal.returns-in-Stat-clause-cell
-returns-in-Stat-clause-cell g c = λ told. serves_now _ (c.requires.cell told)
-
-pub returns-in-Drop-clause-cell : goal.returns-in-Drop-clause-cell
-returns-in-Drop-clause-cell g c = λ told. serves_now _ (c.requires.cell told)
 
 pub returns-in-Write-clause-pages : goal.returns-in-Write-clause-pages
 returns-in-Write-clause-pages g c told entry rep =

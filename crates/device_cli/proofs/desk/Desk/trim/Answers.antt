@@ -11,8 +11,7 @@ use Rattle.sdbt_base.specs.Arrays.{unmapped}
 use Rattle.script_lang.specs.declared.commands.Command.TheVariants.{Trim}
 use Rattle.device_cli.proofs.ServedLaws.{at, with_session, has_session, serves_still, halts_still, gives_unmounted_trim, gives_trimmed, gives_trim_range}
 use Rattle.device_cli.proofs.ServingLaws.{serves_unmounted}
-use Rattle.device_core.proofs.ServedLaws.{serves_still as serves_while_cell}
-use Rattle.device_cli.proofs.CellLaws.{serves_now, mounted_still}
+use Rattle.device_cli.proofs.CellLaws.{mounted_still}
 use Rattle.device_course.proofs.KeysLaws.{on_start, on_look, listed_some}
 use Rattle.device_core.specs.Causes.{IsTrimCause}
 use Rattle.device_core.specs.Changes.{TrimsArray}
@@ -74,24 +73,6 @@ returns-in-Err-Memory-clause-answered g c told entry rep =
     let old : World = world c.args.self.now.session (P.history c.args.platform.now) (P.head c.args.platform.now) (P.capacity c.args.platform.now) in
     let new : World = world (Some c.trim.new.self) (P.history c.trim.new.platform) (P.head c.trim.new.platform) (P.capacity c.trim.new.platform) in
     halts_still old new entry (Trim c.args.block) device.Memory tt rep (c.trim.ensures.looks.time told)
-
-pub returns-in_default-clause-cell : goal.returns-in_default-clause-cell
-returns-in_default-clause-cell g c = λ told. serves_now _ (c.requires.cell told)
-
-pub returns-in-Ok-clause-cell : goal.returns-in-Ok-clause-cell
-returns-in-Ok-clause-cell g c = λ told. serves_while_cell _ _ (c.trim.ensures.looks.time told) (c.requires.cell told)
-
-pub returns-in-Err-Range-clause-cell : goal.returns-in-Err-Range-clause-cell
-returns-in-Err-Range-clause-cell g c = λ told. serves_while_cell _ _ (c.trim.ensures.looks.time told) (c.requires.cell told)
-
-pub returns-in-Err-BadRecord-clause-cell : goal.returns-in-Err-BadRecord-clause-cell
-returns-in-Err-BadRecord-clause-cell g c = λ told. serves_while_cell _ _ (c.trim.ensures.looks.time told) (c.requires.cell told)
-
-pub returns-in-Err-PlatformFault-clause-cell : goal.returns-in-Err-PlatformFault-clause-cell
-returns-in-Err-PlatformFault-clause-cell g c = λ told. serves_while_cell _ _ (c.trim.ensures.looks.time told) (c.requires.cell told)
-
-pub returns-in-Err-Memory-clause-cell : goal.returns-in-Err-Memory-clause-cell
-returns-in-Err-Memory-clause-cell g c = λ told. serves_while_cell _ _ (c.trim.ensures.looks.time told) (c.requires.cell told)
 
 pub returns-in_default-clause-keeps : goal.returns-in_default-clause-keeps
 returns-in_default-clause-keeps g c = λ drawn. on_start _ drawn c.args.self.now.session _

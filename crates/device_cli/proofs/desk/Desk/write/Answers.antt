@@ -16,7 +16,7 @@ use Rattle.script_lang.specs.declared.commands.Command.TheVariants.{Write}
 use Rattle.device_cli.proofs.ServedLaws.{at, with_session, has_session, serves_still, halts_still, is_full_true, is_full_false, gives_unmounted_write, gives_written, gives_write_range, gives_write_full}
 use Rattle.device_cli.proofs.ServingLaws.{serves_unmounted}
 use Rattle.device_core.proofs.ServedLaws.{serves_still as serves_while_cell}
-use Rattle.device_cli.proofs.CellLaws.{serves_now, mounted_still}
+use Rattle.device_cli.proofs.CellLaws.{mounted_still}
 use Rattle.page_store.proofs.FloorLaws.{forgets_still}
 use Rattle.device_course.proofs.KeysLaws.{on_start, on_call, sound_of, listed_some}
 use Rattle.device_cli.proofs.desk.Desk.write.Goals as goal
@@ -100,53 +100,29 @@ returns-in-Err-PlatformFault-clause-answered g c told entry rep bytes same =
     let new : World = world (Some c.write.new.self) (P.history c.write.new.platform) (P.head c.write.new.platform) (P.capacity c.write.new.platform) in
     halts_still old new entry (Write c.args.block bytes) device.Platform tt rep (c.write.ensures.time told)
 
-pub returns-in_default-clause-cell : goal.returns-in_default-clause-cell
-returns-in_default-clause-cell g c = λ told. serves_now _ (c.requires.before.cell told)
-
-pub returns-in-Ok-clause-cell : goal.returns-in-Ok-clause-cell
-returns-in-Ok-clause-cell g c = λ told. serves_while_cell _ _ (c.write.ensures.time told) (c.requires.before.cell told)
-
-pub returns-in-Err-Range-clause-cell : goal.returns-in-Err-Range-clause-cell
-returns-in-Err-Range-clause-cell g c = λ told. serves_while_cell _ _ (c.write.ensures.time told) (c.requires.before.cell told)
-
-pub returns-in-Err-Full-clause-cell : goal.returns-in-Err-Full-clause-cell
-returns-in-Err-Full-clause-cell g c = λ told. serves_while_cell _ _ (c.write.ensures.time told) (c.requires.before.cell told)
-
-pub returns-in-Err-BadRecord-clause-cell : goal.returns-in-Err-BadRecord-clause-cell
-returns-in-Err-BadRecord-clause-cell g c = λ told. serves_while_cell _ _ (c.write.ensures.time told) (c.requires.before.cell told)
-
-pub returns-in-Err-Memory-clause-cell : goal.returns-in-Err-Memory-clause-cell
-returns-in-Err-Memory-clause-cell g c = λ told. serves_while_cell _ _ (c.write.ensures.time told) (c.requires.before.cell told)
-
-pub returns-in-Err-TapeFault-clause-cell : goal.returns-in-Err-TapeFault-clause-cell
-returns-in-Err-TapeFault-clause-cell g c = λ told. serves_while_cell _ _ (c.write.ensures.time told) (c.requires.before.cell told)
-
-pub returns-in-Err-PlatformFault-clause-cell : goal.returns-in-Err-PlatformFault-clause-cell
-returns-in-Err-PlatformFault-clause-cell g c = λ told. serves_while_cell _ _ (c.write.ensures.time told) (c.requires.before.cell told)
-
 pub returns-in_default-clause-keeps : goal.returns-in_default-clause-keeps
 returns-in_default-clause-keeps g c = on_start _ _ c.args.self.now.session _
 
 pub returns-in-Ok-clause-keeps : goal.returns-in-Ok-clause-keeps
-returns-in-Ok-clause-keeps g c = on_call _ _ _ c.args.self.now.session _ _ _ _ _ c.write.ensures.keeps (λ told keys h. listed_some _ c.in-Some.session _ keys c.in-Some.is h) (λ told keys h. forgets_still _ _ (sound_of _ _ keys h) (c.write.ensures.time told)) (λ told keys more h done. done)
+returns-in-Ok-clause-keeps g c = on_call _ _ _ c.args.self.now.session _ _ _ _ _ c.write.ensures.keeps (λ told keys h. listed_some _ c.in-Some.session _ keys c.in-Some.is h) (λ told keys h. forgets_still _ _ (sound_of _ _ keys h) (c.write.ensures.time told)) (λ told keys more h done. done) (λ told served. serves_while_cell _ _ (c.write.ensures.time told) served)
 
 pub returns-in-Err-Range-clause-keeps : goal.returns-in-Err-Range-clause-keeps
-returns-in-Err-Range-clause-keeps g c = on_call _ _ _ c.args.self.now.session _ _ _ _ _ c.write.ensures.keeps (λ told keys h. listed_some _ c.in-Some.session _ keys c.in-Some.is h) (λ told keys h. forgets_still _ _ (sound_of _ _ keys h) (c.write.ensures.time told)) (λ told keys more h done. done)
+returns-in-Err-Range-clause-keeps g c = on_call _ _ _ c.args.self.now.session _ _ _ _ _ c.write.ensures.keeps (λ told keys h. listed_some _ c.in-Some.session _ keys c.in-Some.is h) (λ told keys h. forgets_still _ _ (sound_of _ _ keys h) (c.write.ensures.time told)) (λ told keys more h done. done) (λ told served. serves_while_cell _ _ (c.write.ensures.time told) served)
 
 pub returns-in-Err-Full-clause-keeps : goal.returns-in-Err-Full-clause-keeps
-returns-in-Err-Full-clause-keeps g c = on_call _ _ _ c.args.self.now.session _ _ _ _ _ c.write.ensures.keeps (λ told keys h. listed_some _ c.in-Some.session _ keys c.in-Some.is h) (λ told keys h. forgets_still _ _ (sound_of _ _ keys h) (c.write.ensures.time told)) (λ told keys more h done. done)
+returns-in-Err-Full-clause-keeps g c = on_call _ _ _ c.args.self.now.session _ _ _ _ _ c.write.ensures.keeps (λ told keys h. listed_some _ c.in-Some.session _ keys c.in-Some.is h) (λ told keys h. forgets_still _ _ (sound_of _ _ keys h) (c.write.ensures.time told)) (λ told keys more h done. done) (λ told served. serves_while_cell _ _ (c.write.ensures.time told) served)
 
 pub returns-in-Err-Memory-clause-keeps : goal.returns-in-Err-Memory-clause-keeps
-returns-in-Err-Memory-clause-keeps g c = on_call _ _ _ c.args.self.now.session _ _ _ _ _ c.write.ensures.keeps (λ told keys h. listed_some _ c.in-Some.session _ keys c.in-Some.is h) (λ told keys h. forgets_still _ _ (sound_of _ _ keys h) (c.write.ensures.time told)) (λ told keys more h done. tt)
+returns-in-Err-Memory-clause-keeps g c = on_call _ _ _ c.args.self.now.session _ _ _ _ _ c.write.ensures.keeps (λ told keys h. listed_some _ c.in-Some.session _ keys c.in-Some.is h) (λ told keys h. forgets_still _ _ (sound_of _ _ keys h) (c.write.ensures.time told)) (λ told keys more h done. tt) (λ told served. serves_while_cell _ _ (c.write.ensures.time told) served)
 
 pub returns-in-Err-BadRecord-clause-keeps : goal.returns-in-Err-BadRecord-clause-keeps
-returns-in-Err-BadRecord-clause-keeps g c = on_call _ _ _ c.args.self.now.session _ _ _ _ _ c.write.ensures.keeps (λ told keys h. listed_some _ c.in-Some.session _ keys c.in-Some.is h) (λ told keys h. forgets_still _ _ (sound_of _ _ keys h) (c.write.ensures.time told)) (λ told keys more h done. tt)
+returns-in-Err-BadRecord-clause-keeps g c = on_call _ _ _ c.args.self.now.session _ _ _ _ _ c.write.ensures.keeps (λ told keys h. listed_some _ c.in-Some.session _ keys c.in-Some.is h) (λ told keys h. forgets_still _ _ (sound_of _ _ keys h) (c.write.ensures.time told)) (λ told keys more h done. tt) (λ told served. serves_while_cell _ _ (c.write.ensures.time told) served)
 
 pub returns-in-Err-TapeFault-clause-keeps : goal.returns-in-Err-TapeFault-clause-keeps
-returns-in-Err-TapeFault-clause-keeps g c = on_call _ _ _ c.args.self.now.session _ _ _ _ _ c.write.ensures.keeps (λ told keys h. listed_some _ c.in-Some.session _ keys c.in-Some.is h) (λ told keys h. forgets_still _ _ (sound_of _ _ keys h) (c.write.ensures.time told)) (λ told keys more h done. tt)
+returns-in-Err-TapeFault-clause-keeps g c = on_call _ _ _ c.args.self.now.session _ _ _ _ _ c.write.ensures.keeps (λ told keys h. listed_some _ c.in-Some.session _ keys c.in-Some.is h) (λ told keys h. forgets_still _ _ (sound_of _ _ keys h) (c.write.ensures.time told)) (λ told keys more h done. tt) (λ told served. serves_while_cell _ _ (c.write.ensures.time told) served)
 
 pub returns-in-Err-PlatformFault-clause-keeps : goal.returns-in-Err-PlatformFault-clause-keeps
-returns-in-Err-PlatformFault-clause-keeps g c = on_call _ _ _ c.args.self.now.session _ _ _ _ _ c.write.ensures.keeps (λ told keys h. listed_some _ c.in-Some.session _ keys c.in-Some.is h) (λ told keys h. forgets_still _ _ (sound_of _ _ keys h) (c.write.ensures.time told)) (λ told keys more h done. tt)
+returns-in-Err-PlatformFault-clause-keeps g c = on_call _ _ _ c.args.self.now.session _ _ _ _ _ c.write.ensures.keeps (λ told keys h. listed_some _ c.in-Some.session _ keys c.in-Some.is h) (λ told keys h. forgets_still _ _ (sound_of _ _ keys h) (c.write.ensures.time told)) (λ told keys more h done. tt) (λ told served. serves_while_cell _ _ (c.write.ensures.time told) served)
 
 pub returns-in-Ok-clause-after : goal.returns-in-Ok-clause-after
 returns-in-Ok-clause-after g c = record {
