@@ -30,7 +30,7 @@ pub(crate) struct Desk {
 
 impl Desk {
     ghost use Rattle.device_cli.specs.Desk.{IsReady, Before, After};
-    ghost use Rattle.device_cli.specs.World.{world};
+    ghost use Rattle.device_cli.specs.World.{world_of};
     ghost use Rattle.device_cli.specs.Pages.{pages_after};
     ghost use Rattle.device_cli.specs.Represents.{Represents};
     ghost use Rattle.device_course.specs.States.{IsListed};
@@ -63,17 +63,15 @@ impl Desk {
         ensures of_block { (addr : ℕ) → IsErrOf result (DeviceStop.BadRecord addr) → IsOfBlock command.now }
         ensures damage { P.tells → (addr : ℕ) → IsErrOf result (DeviceStop.BadRecord addr)
             → IsWrongPage (P.history platform.new).present addr }
-        ensures pages { P.tells → (entry : State)
-            → Represents (world self.old.session (P.history platform.old) (P.head platform.old) (P.capacity platform.old)) entry
+        ensures pages { P.tells → (entry : State) → Represents (world_of P.Platform self.old.session platform.old) entry
             → IfOk result (λ reply. P.head platform.new ≡ pages_after entry command.now reply (P.head platform.old)) }
         // Each moment keeps the keys that the image kept before, with those that were drawn, what was deleted stays so, and the cell can be served.
         ensures keeps { KeepsOn P.tells (T.drawn tape.old) (T.drawn tape.new) self.old.session
             (P.history platform.old) (P.history platform.new)
             (λ keys. OnOk result (IsListed self.new.session (P.history platform.new).present keys)) }
-        ensures answered { P.tells → (entry : State)
-            → Represents (world self.old.session (P.history platform.old) (P.head platform.old) (P.capacity platform.old)) entry
-            → Serves (world self.old.session (P.history platform.old) (P.head platform.old) (P.capacity platform.old))
-            (world self.new.session (P.history platform.new) (P.head platform.new) (P.capacity platform.new)) entry command.now result }
+        ensures answered { P.tells → (entry : State) → Represents (world_of P.Platform self.old.session platform.old) entry
+            → Serves (world_of P.Platform self.old.session platform.old)
+            (world_of P.Platform self.new.session platform.new) entry command.now result }
     {
         match command {
             Command::Format { blocks, order } => {
@@ -106,17 +104,14 @@ impl Desk {
             (counts (P.faults platform.new) (T.faults tape.new) 0 0 (L.faults ledger.new)) result }
         ensures unput { L.written ledger.new ≡ L.written ledger.old }
         ensures damage { (addr : ℕ) → IsErrOf result (DeviceStop.BadRecord addr) → ⊥ }
-        ensures pages { P.tells → (entry : State)
-            → Represents (world self.old.session (P.history platform.old) (P.head platform.old) (P.capacity platform.old)) entry
+        ensures pages { P.tells → (entry : State) → Represents (world_of P.Platform self.old.session platform.old) entry
             → IfOk result (λ reply. P.head platform.new ≡ pages_after entry (Command.Format blocks order) reply (P.head platform.old)) }
         // Each moment keeps the keys that the image kept before, with those that were drawn, what was deleted stays so, and the cell can be served.
         ensures keeps { KeepsOn P.tells (T.drawn tape.old) (T.drawn tape.new) self.old.session
             (P.history platform.old) (P.history platform.new)
             (λ keys. OnOk result (IsListed self.new.session (P.history platform.new).present keys)) }
-        ensures answered { P.tells → (entry : State)
-            → Represents (world self.old.session (P.history platform.old) (P.head platform.old) (P.capacity platform.old)) entry
-            → Serves (world self.old.session (P.history platform.old) (P.head platform.old) (P.capacity platform.old))
-            (world self.new.session (P.history platform.new) (P.head platform.new) (P.capacity platform.new))
+        ensures answered { P.tells → (entry : State) → Represents (world_of P.Platform self.old.session platform.old) entry
+            → Serves (world_of P.Platform self.old.session platform.old) (world_of P.Platform self.new.session platform.new)
             entry (Command.Format blocks order) result }
     {
         if let Some(reply) = refused_size(blocks, order) {
@@ -138,17 +133,15 @@ impl Desk {
         ensures after { After P.Platform self.new platform.old platform.new result }
         ensures blame { IsBlamed (counts (P.faults platform.old) 0 0 0 0) (counts (P.faults platform.new) 0 0 0 0) result }
         ensures damage { (addr : ℕ) → IsErrOf result (DeviceStop.BadRecord addr) → ⊥ }
-        ensures pages { P.tells → (entry : State)
-            → Represents (world self.old.session (P.history platform.old) (P.head platform.old) (P.capacity platform.old)) entry
+        ensures pages { P.tells → (entry : State) → Represents (world_of P.Platform self.old.session platform.old) entry
             → IfOk result (λ reply. P.head platform.new ≡ pages_after entry Command.Mount reply (P.head platform.old)) }
         // Each moment keeps the keys that the image kept before, what was deleted stays so, and the cell can be served.
         ensures keeps { (drawn : Option (List (List ℕ))) → KeepsOn P.tells drawn drawn self.old.session
             (P.history platform.old) (P.history platform.new)
             (λ keys. OnOk result (IsListed self.new.session (P.history platform.new).present keys)) }
-        ensures answered { P.tells → (entry : State)
-            → Represents (world self.old.session (P.history platform.old) (P.head platform.old) (P.capacity platform.old)) entry
-            → Serves (world self.old.session (P.history platform.old) (P.head platform.old) (P.capacity platform.old))
-            (world self.new.session (P.history platform.new) (P.head platform.new) (P.capacity platform.new)) entry Command.Mount result }
+        ensures answered { P.tells → (entry : State) → Represents (world_of P.Platform self.old.session platform.old) entry
+            → Serves (world_of P.Platform self.old.session platform.old)
+            (world_of P.Platform self.new.session platform.new) entry Command.Mount result }
     {
         if self.session.is_some() {
             return Ok(Reply::AlreadyMounted);
@@ -172,17 +165,14 @@ impl Desk {
         ensures blame { IsBlamed (counts (P.faults platform.old) 0 0 0 0) (counts (P.faults platform.new) 0 0 0 0) result }
         ensures damage { P.tells → (addr : ℕ) → IsErrOf result (DeviceStop.BadRecord addr)
             → IsWrongPage (P.history platform.new).present addr }
-        ensures pages { P.tells → (entry : State)
-            → Represents (world self.old.session (P.history platform.old) (P.head platform.old) (P.capacity platform.old)) entry
+        ensures pages { P.tells → (entry : State) → Represents (world_of P.Platform self.old.session platform.old) entry
             → IfOk result (λ reply. P.head platform.new ≡ pages_after entry (Command.Read block) reply (P.head platform.old)) }
         // Each moment keeps the keys that the image kept before, what was deleted stays so, and the cell can be served.
         ensures keeps { (drawn : Option (List (List ℕ))) → KeepsOn P.tells drawn drawn self.old.session
             (P.history platform.old) (P.history platform.new)
             (λ keys. OnOk result (IsListed self.new.session (P.history platform.new).present keys)) }
-        ensures answered { P.tells → (entry : State)
-            → Represents (world self.old.session (P.history platform.old) (P.head platform.old) (P.capacity platform.old)) entry
-            → Serves (world self.old.session (P.history platform.old) (P.head platform.old) (P.capacity platform.old))
-            (world self.new.session (P.history platform.new) (P.head platform.new) (P.capacity platform.new))
+        ensures answered { P.tells → (entry : State) → Represents (world_of P.Platform self.old.session platform.old) entry
+            → Serves (world_of P.Platform self.old.session platform.old) (world_of P.Platform self.new.session platform.new)
             entry (Command.Read block) result }
     {
         let Some(session) = &mut self.session else {
@@ -211,19 +201,16 @@ impl Desk {
             (counts (P.faults platform.new) (T.faults tape.new) 0 0 0) result }
         ensures damage { P.tells → (addr : ℕ) → IsErrOf result (DeviceStop.BadRecord addr)
             → IsWrongPage (P.history platform.new).present addr }
-        ensures pages { P.tells → (entry : State)
-            → Represents (world self.old.session (P.history platform.old) (P.head platform.old) (P.capacity platform.old)) entry
+        ensures pages { P.tells → (entry : State) → Represents (world_of P.Platform self.old.session platform.old) entry
             → (bytes : Bytes ℕ)
             → IfOk result (λ reply. P.head platform.new ≡ pages_after entry (Command.Write block bytes) reply (P.head platform.old)) }
         // Each moment keeps the keys that the image kept before, with those that were drawn, what was deleted stays so, and the cell can be served.
         ensures keeps { KeepsOn P.tells (T.drawn tape.old) (T.drawn tape.new) self.old.session
             (P.history platform.old) (P.history platform.new)
             (λ keys. OnOk result (IsListed self.new.session (P.history platform.new).present keys)) }
-        ensures answered { P.tells → (entry : State)
-            → Represents (world self.old.session (P.history platform.old) (P.head platform.old) (P.capacity platform.old)) entry
-            → (bytes : Bytes ℕ) → bytes.items ≡ content.now
-            → Serves (world self.old.session (P.history platform.old) (P.head platform.old) (P.capacity platform.old))
-            (world self.new.session (P.history platform.new) (P.head platform.new) (P.capacity platform.new))
+        ensures answered { P.tells → (entry : State) → Represents (world_of P.Platform self.old.session platform.old) entry
+            → (bytes : Bytes ℕ) → bytes.items ≡ content.now → Serves (world_of P.Platform self.old.session platform.old)
+            (world_of P.Platform self.new.session platform.new)
             entry (Command.Write block bytes) result }
     {
         let Some(session) = &mut self.session else {
@@ -246,17 +233,14 @@ impl Desk {
         ensures blame { IsBlamed (counts (P.faults platform.old) 0 0 0 0) (counts (P.faults platform.new) 0 0 0 0) result }
         ensures damage { P.tells → (addr : ℕ) → IsErrOf result (DeviceStop.BadRecord addr)
             → IsWrongPage (P.history platform.new).present addr }
-        ensures pages { P.tells → (entry : State)
-            → Represents (world self.old.session (P.history platform.old) (P.head platform.old) (P.capacity platform.old)) entry
+        ensures pages { P.tells → (entry : State) → Represents (world_of P.Platform self.old.session platform.old) entry
             → IfOk result (λ reply. P.head platform.new ≡ pages_after entry (Command.Trim block) reply (P.head platform.old)) }
         // Each moment keeps the keys that the image kept before, what was deleted stays so, and the cell can be served.
         ensures keeps { (drawn : Option (List (List ℕ))) → KeepsOn P.tells drawn drawn self.old.session
             (P.history platform.old) (P.history platform.new)
             (λ keys. OnOk result (IsListed self.new.session (P.history platform.new).present keys)) }
-        ensures answered { P.tells → (entry : State)
-            → Represents (world self.old.session (P.history platform.old) (P.head platform.old) (P.capacity platform.old)) entry
-            → Serves (world self.old.session (P.history platform.old) (P.head platform.old) (P.capacity platform.old))
-            (world self.new.session (P.history platform.new) (P.head platform.new) (P.capacity platform.new))
+        ensures answered { P.tells → (entry : State) → Represents (world_of P.Platform self.old.session platform.old) entry
+            → Serves (world_of P.Platform self.old.session platform.old) (world_of P.Platform self.new.session platform.new)
             entry (Command.Trim block) result }
     {
         let Some(session) = &mut self.session else {
@@ -283,17 +267,15 @@ impl Desk {
             (counts (P.faults platform.new) (T.faults tape.new) 0 0 (L.faults ledger.new)) result }
         ensures unput { L.written ledger.new ≡ L.written ledger.old }
         ensures damage { (addr : ℕ) → IsErrOf result (DeviceStop.BadRecord addr) → ⊥ }
-        ensures pages { P.tells → (entry : State)
-            → Represents (world self.old.session (P.history platform.old) (P.head platform.old) (P.capacity platform.old)) entry
+        ensures pages { P.tells → (entry : State) → Represents (world_of P.Platform self.old.session platform.old) entry
             → IfOk result (λ reply. P.head platform.new ≡ pages_after entry Command.Commit reply (P.head platform.old)) }
         // Each moment keeps the keys that the image kept before, with those that were drawn, what was deleted stays so, and the cell can be served.
         ensures keeps { KeepsOn P.tells (T.drawn tape.old) (T.drawn tape.new) self.old.session
             (P.history platform.old) (P.history platform.new)
             (λ keys. OnOk result (IsListed self.new.session (P.history platform.new).present keys)) }
-        ensures answered { P.tells → (entry : State)
-            → Represents (world self.old.session (P.history platform.old) (P.head platform.old) (P.capacity platform.old)) entry
-            → Serves (world self.old.session (P.history platform.old) (P.head platform.old) (P.capacity platform.old))
-            (world self.new.session (P.history platform.new) (P.head platform.new) (P.capacity platform.new)) entry Command.Commit result }
+        ensures answered { P.tells → (entry : State) → Represents (world_of P.Platform self.old.session platform.old) entry
+            → Serves (world_of P.Platform self.old.session platform.old)
+            (world_of P.Platform self.new.session platform.new) entry Command.Commit result }
     {
         let Some(session) = self.session.take() else {
             return Ok(Reply::Unmounted);
@@ -319,10 +301,9 @@ impl Desk {
         ensures reply { IfOk result CanWrite }
         ensures full { IfOk result (λ reply. reply ≡ Reply.Full → ⊥) }
         ensures stop { IfErr result (λ stop. ⊥) }
-        ensures answered { P.tells → (entry : State)
-            → Represents (world self.old.session (P.history platform.now) (P.head platform.now) (P.capacity platform.now)) entry
-            → Serves (world self.old.session (P.history platform.now) (P.head platform.now) (P.capacity platform.now))
-            (world self.new.session (P.history platform.now) (P.head platform.now) (P.capacity platform.now)) entry Command.Drop result }
+        ensures answered { P.tells → (entry : State) → Represents (world_of P.Platform self.old.session platform.now) entry
+            → Serves (world_of P.Platform self.old.session platform.now)
+            (world_of P.Platform self.new.session platform.now) entry Command.Drop result }
     {
         let _ = platform;
         if self.session.is_none() {
@@ -337,17 +318,15 @@ impl Desk {
         ensures after { After P.Platform self.new platform.old platform.new result }
         ensures blame { IsBlamed (counts (P.faults platform.old) 0 0 0 0) (counts (P.faults platform.new) 0 0 0 0) result }
         ensures damage { (addr : ℕ) → IsErrOf result (DeviceStop.BadRecord addr) → ⊥ }
-        ensures pages { P.tells → (entry : State)
-            → Represents (world self.old.session (P.history platform.old) (P.head platform.old) (P.capacity platform.old)) entry
+        ensures pages { P.tells → (entry : State) → Represents (world_of P.Platform self.old.session platform.old) entry
             → IfOk result (λ reply. P.head platform.new ≡ pages_after entry Command.Erase reply (P.head platform.old)) }
         // Each moment keeps the keys that the image kept before, what was deleted stays so, and the cell can be served.
         ensures keeps { (drawn : Option (List (List ℕ))) → KeepsOn P.tells drawn drawn self.old.session
             (P.history platform.old) (P.history platform.new)
             (λ keys. OnOk result (IsListed self.new.session (P.history platform.new).present keys)) }
-        ensures answered { P.tells → (entry : State)
-            → Represents (world self.old.session (P.history platform.old) (P.head platform.old) (P.capacity platform.old)) entry
-            → Serves (world self.old.session (P.history platform.old) (P.head platform.old) (P.capacity platform.old))
-            (world self.new.session (P.history platform.new) (P.head platform.new) (P.capacity platform.new)) entry Command.Erase result }
+        ensures answered { P.tells → (entry : State) → Represents (world_of P.Platform self.old.session platform.old) entry
+            → Serves (world_of P.Platform self.old.session platform.old)
+            (world_of P.Platform self.new.session platform.new) entry Command.Erase result }
     {
         match device_core::erase(platform) {
             Ok(()) => {
@@ -373,10 +352,9 @@ impl Desk {
         ensures reply { IfOk result CanWrite }
         ensures full { IfOk result (λ reply. reply ≡ Reply.Full → ⊥) }
         ensures stop { IfErr result (λ stop. ⊥) }
-        ensures answered { P.tells → (entry : State)
-            → Represents (world self.now.session (P.history platform.now) (P.head platform.now) (P.capacity platform.now)) entry
-            → Serves (world self.now.session (P.history platform.now) (P.head platform.now) (P.capacity platform.now))
-            (world self.now.session (P.history platform.now) (P.head platform.now) (P.capacity platform.now)) entry Command.Stat result }
+        ensures answered { P.tells → (entry : State) → Represents (world_of P.Platform self.now.session platform.now) entry
+            → Serves (world_of P.Platform self.now.session platform.now)
+            (world_of P.Platform self.now.session platform.now) entry Command.Stat result }
     {
         let _ = platform;
         match &self.session {

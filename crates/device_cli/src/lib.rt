@@ -10,7 +10,7 @@ ghost use Rattle.device_cli.specs.Words.{AreRunWords};
 ghost use Rattle.platform.specs.History.{During};
 ghost use Rattle.device_core.specs.Leaf.{IsServedImage};
 ghost use Rattle.sdbt_base.specs.Arrays.{Device, closed};
-ghost use Rattle.device_cli.specs.World.{world};
+ghost use Rattle.device_cli.specs.World.{world_of};
 ghost use Rattle.device_cli.specs.Represents.{StandsFor};
 ghost use Rattle.device_cli.specs.Ran.{AnswersScript, IsAmple, IsComplete};
 ghost use Rattle.device_cli.specs.Reaching.{DisclosesTree};
@@ -73,8 +73,7 @@ pub fn run_main<P: Platform, T: Tape, I: Source, O: Sink, L: Sink>(
 
     // The bytes put are the lines of replies, one for each line in turn, and perhaps a part behind them; on a device that
     // stands they are the replies of an array of blocks, and at each moment a loss of power leaves a device that they passed.
-    ensures answers { AnswersScript P.tells (world None (P.history platform.old) (P.head platform.old) (P.capacity platform.old))
-        (world None (P.history platform.new) (P.head platform.new) (P.capacity platform.new))
+    ensures answers { AnswersScript P.tells (world_of P.Platform None platform.old) (world_of P.Platform None platform.new)
         result (I.left input.old) (I.left input.new) (O.written output.old) (O.written output.new) }
 
     // Chains of opening from the root key reach at each moment exactly the device's records, and what was deleted never.

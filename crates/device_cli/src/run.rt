@@ -10,7 +10,7 @@ ghost use Rattle.platform.specs.History.{During};
 ghost use Rattle.device_core.specs.Leaf.{IsServedImage};
 ghost use Rattle.device_core.specs.declared.session.Session.{Session};
 ghost use Rattle.device_cli.specs.Desk.{Before, AfterLine};
-ghost use Rattle.device_cli.specs.World.{world};
+ghost use Rattle.device_cli.specs.World.{world_of};
 ghost use Rattle.device_cli.specs.Run.{counts, IsBlamedOn, IsRefusal, status_of};
 ghost use Rattle.device_cli.specs.Kept.{IsKept, IsPending};
 ghost use Rattle.device_cli.specs.Replied.{Handled, HasPut, IsSound, no_line, damage_line};
@@ -53,8 +53,7 @@ pub(crate) fn run<P: Platform, T: Tape, I: Source, O: Sink, L: Sink>(
         (counts (P.faults platform.new) (T.faults tape.new) (I.faults input.new) (O.faults output.new) (L.faults ledger.new)) result }
     ensures unput { L.written ledger.new ≡ L.written ledger.old }
     ensures ran { (session : Option Session)
-        × Ran P.tells (world None (P.history platform.old) (P.head platform.old) (P.capacity platform.old))
-        (world session (P.history platform.new) (P.head platform.new) (P.capacity platform.new))
+        × Ran P.tells (world_of P.Platform None platform.old) (world_of P.Platform session platform.new)
         damage_line result (I.left input.old) (I.left input.new) (O.written output.old) (O.written output.new) }
 {
     match check_cell(platform) {
@@ -88,8 +87,7 @@ fn serve_input<P: Platform, T: Tape, I: Source, O: Sink, L: Sink>(
         (counts (P.faults platform.old) (T.faults tape.old) (I.faults input.old) (O.faults output.old) (L.faults ledger.old))
         (counts (P.faults platform.new) (T.faults tape.new) (I.faults input.new) (O.faults output.new) (L.faults ledger.new)) result }
     ensures unput { L.written ledger.new ≡ L.written ledger.old }
-    ensures ran { Ran P.tells (world desk.old.session (P.history platform.old) (P.head platform.old) (P.capacity platform.old))
-        (world desk.new.session (P.history platform.new) (P.head platform.new) (P.capacity platform.new))
+    ensures ran { Ran P.tells (world_of P.Platform desk.old.session platform.old) (world_of P.Platform desk.new.session platform.new)
         no_line result (I.left input.old) (I.left input.new) (O.written output.old) (O.written output.new) }
 {
     let mut piece = [0; PIECE];
@@ -138,9 +136,8 @@ fn serve_piece<P: Platform, T: Tape, O: Sink, L: Sink>(
     ensures blame { IsBlamedOn (counts (P.faults platform.old) (T.faults tape.old) 0 (O.faults output.old) (L.faults ledger.old))
         (counts (P.faults platform.new) (T.faults tape.new) 0 (O.faults output.new) (L.faults ledger.new)) result }
     ensures pending { (rest : List ℕ) → IsPending pending.old rest → OnOk result (IsPending pending.new (rest_of (rest ++ piece.now))) }
-    ensures handled { (rest : List ℕ) → IsPending pending.old rest
-        → Handled P.tells (world desk.old.session (P.history platform.old) (P.head platform.old) (P.capacity platform.old))
-        (world desk.new.session (P.history platform.new) (P.head platform.new) (P.capacity platform.new))
+    ensures handled { (rest : List ℕ) → IsPending pending.old rest → Handled P.tells (world_of P.Platform desk.old.session platform.old)
+        (world_of P.Platform desk.new.session platform.new)
         no_line result (whole_lines_of (rest ++ piece.now)) (O.written output.old) (O.written output.new) }
 {
     let mut rest = piece;
@@ -182,9 +179,8 @@ fn serve_end<P: Platform, T: Tape, O: Sink, L: Sink>(
         (λ keys. OnOk result (IsListed desk.new.session (P.history platform.new).present keys)) }
     ensures blame { IsBlamedOn (counts (P.faults platform.old) (T.faults tape.old) 0 (O.faults output.old) (L.faults ledger.old))
         (counts (P.faults platform.new) (T.faults tape.new) 0 (O.faults output.new) (L.faults ledger.new)) result }
-    ensures handled { (rest : List ℕ) → IsPending pending.now rest
-        → Handled P.tells (world desk.old.session (P.history platform.old) (P.head platform.old) (P.capacity platform.old))
-        (world desk.new.session (P.history platform.new) (P.head platform.new) (P.capacity platform.new))
+    ensures handled { (rest : List ℕ) → IsPending pending.now rest → Handled P.tells (world_of P.Platform desk.old.session platform.old)
+        (world_of P.Platform desk.new.session platform.new)
         no_line result (line_at_end rest) (O.written output.old) (O.written output.new) }
 {
     if pending.is_empty() {
@@ -209,9 +205,8 @@ fn answer<P: Platform, T: Tape, O: Sink, L: Sink>(
         (λ keys. OnOk result (IsListed desk.new.session (P.history platform.new).present keys)) }
     ensures blame { IsBlamedOn (counts (P.faults platform.old) (T.faults tape.old) 0 (O.faults output.old) (L.faults ledger.old))
         (counts (P.faults platform.new) (T.faults tape.new) 0 (O.faults output.new) (L.faults ledger.new)) result }
-    ensures handled { (text : List ℕ) → IsKept (option_copied line.entry) text
-        → Handled P.tells (world desk.old.session (P.history platform.old) (P.head platform.old) (P.capacity platform.old))
-        (world desk.new.session (P.history platform.new) (P.head platform.new) (P.capacity platform.new))
+    ensures handled { (text : List ℕ) → IsKept (option_copied line.entry) text → Handled P.tells (world_of P.Platform desk.old.session platform.old)
+        (world_of P.Platform desk.new.session platform.new)
         no_line result (text ∷ []) (O.written output.old) (O.written output.new) }
 {
     let Some(command) = read_line(line) else {

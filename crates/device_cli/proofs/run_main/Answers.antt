@@ -1,6 +1,6 @@
 use Rattle.std.proofs.Common.{◌≡◌, ◌⊎◌, [], Ok, Err, None, ℕ, refl, sym, subst, arith}
 use Rattle.sdbt_base.specs.Arrays.{closed}
-use Rattle.device_cli.specs.World.{World, world}
+use Rattle.device_cli.specs.World.{World, world, world_of}
 use Rattle.device_cli.specs.Ran.{AnswersScript}
 use Rattle.device_cli.proofs.ScriptLaws.{answers_script, answers_nothing, made_by}
 use Rattle.device_cli.specs.Ran.{IsComplete}
@@ -15,14 +15,14 @@ use Rattle.device_cli.proofs.run_main.Goals as goal
 pub returns-then-not-are_run_words-clause-answers : goal.returns-then-not-are_run_words-clause-answers
 returns-then-not-are_run_words-clause-answers g c =
     let P = g.P.Platform in
-    answers_nothing P.tells (world None (P.history c.args.platform.now) (P.head c.args.platform.now) (P.capacity c.args.platform.now)) (g.I.Source.left c.args.input.now) (g.O.Sink.written c.args.output.now)
+    answers_nothing P.tells (world_of P None c.args.platform.now) (g.I.Source.left c.args.input.now) (g.O.Sink.written c.args.output.now)
 
 pub returns-in-Ok-clause-answers : goal.returns-in-Ok-clause-answers
 returns-in-Ok-clause-answers g c =
     let P = g.P.Platform in
     let left = g.I.Source.left in
     let written = g.O.Sink.written in
-    let old : World = world None (P.history c.args.platform.now) (P.head c.args.platform.now) (P.capacity c.args.platform.now) in
+    let old : World = world_of P None c.args.platform.now in
     let ran = c.in-Ok.ensures.ran in
     answers_script P.tells old ran.0 (P.history c.run.new.platform) (P.head c.run.new.platform) (P.capacity c.run.new.platform) (Ok tt) (left c.args.input.now) (left c.run.new.input)
     (written c.args.output.now) (written c.run.new.output) refl ran.1
@@ -32,8 +32,8 @@ returns-in-Err-clause-answers g c =
     let P = g.P.Platform in
     let left = g.I.Source.left in
     let written = g.O.Sink.written in
-    let old : World = world None (P.history c.args.platform.now) (P.head c.args.platform.now) (P.capacity c.args.platform.now) in
-    let new : World = world None (P.history c.run.new.platform) (P.head c.run.new.platform) (P.capacity c.run.new.platform) in
+    let old : World = world_of P None c.args.platform.now in
+    let new : World = world_of P None c.run.new.platform in
     let ran = c.in-Err.ensures.ran in
     subst (λ (status : ℕ). AnswersScript P.tells old new status (left c.args.input.now) (left c.run.new.input) (written c.args.output.now) (written c.run.new.output))
     (sym c.status.ensures)
@@ -45,8 +45,8 @@ returns-in-Ok-clause-complete g c told there stands served words text ample quie
     let P = g.P.Platform in
     let left = g.I.Source.left in
     let written = g.O.Sink.written in
-    let old : World = world None (P.history c.args.platform.now) (P.head c.args.platform.now) (P.capacity c.args.platform.now) in
-    let new : World = world None (P.history c.run.new.platform) (P.head c.run.new.platform) (P.capacity c.run.new.platform) in
+    let old : World = world_of P None c.args.platform.now in
+    let new : World = world_of P None c.run.new.platform in
     let ran = c.in-Ok.ensures.ran.1 in
     complete_ending P.tells old new (Ok tt) (counts (P.faults c.args.platform.now) (g.T.Tape.faults c.args.tape.now) (g.I.Source.faults c.args.input.now) (g.O.Sink.faults c.args.output.now) (g.L.Sink.faults c.args.ledger.now))
     (counts (P.faults c.run.new.platform) (g.T.Tape.faults c.run.new.tape) (g.I.Source.faults c.run.new.input) (g.O.Sink.faults c.run.new.output) (g.L.Sink.faults c.run.new.ledger))
@@ -58,8 +58,8 @@ returns-in-Err-clause-complete g c told there stands served words text ample qui
     let P = g.P.Platform in
     let left = g.I.Source.left in
     let written = g.O.Sink.written in
-    let old : World = world None (P.history c.args.platform.now) (P.head c.args.platform.now) (P.capacity c.args.platform.now) in
-    let new : World = world None (P.history c.run.new.platform) (P.head c.run.new.platform) (P.capacity c.run.new.platform) in
+    let old : World = world_of P None c.args.platform.now in
+    let new : World = world_of P None c.run.new.platform in
     let ran = c.in-Err.ensures.ran.1 in
     let Done : ℕ → Type 0 = λ status. (status ≡ 11) ⊎ ((status ≡ 0) × IsComplete (closed there) text (written c.args.output.now) (written c.run.new.output)) in
     subst Done (sym c.status.ensures)

@@ -1,5 +1,5 @@
 use Rattle.script_lang.specs.declared.replies.Reply.TheVariants.{Bad}
-use Rattle.device_cli.specs.World.{World, IsLater, world}
+use Rattle.device_cli.specs.World.{World, IsLater, world_of}
 use Rattle.device_cli.specs.Replied.{no_line}
 use Rattle.device_cli.proofs.RepliedLaws.{IsLater-refl, Handled-line, Handled-stop, turned_bad, turned_command}
 use Rattle.device_cli.proofs.CellLaws.{served_at}
@@ -11,7 +11,7 @@ pub returns-in_default-clause-handled : goal.returns-in_default-clause-handled
 returns-in_default-clause-handled g c text kept =
     let P = g.P.Platform in
     let written = g.O.Sink.written in
-    let old : World = world c.args.desk.now.session (P.history c.args.platform.now) (P.head c.args.platform.now) (P.capacity c.args.platform.now) in
+    let old : World = world_of P c.args.desk.now.session c.args.platform.now in
     Handled-line P.tells old old no_line text Bad c.put_reply.result (written c.args.output.now) (written c.put_reply.new.output)
     (IsLater-refl old (g.met.P.Platform.has_room c.args.platform.now)) (λ e. absurd cc)
     (λ told entry rep. turned_bad old entry text (c.in_default.ensures.none text kept) rep) c.put_reply.ensures.put
@@ -20,8 +20,8 @@ pub returns-in-Ok-clause-handled : goal.returns-in-Ok-clause-handled
 returns-in-Ok-clause-handled g c text kept =
     let P = g.P.Platform in
     let written = g.O.Sink.written in
-    let old : World = world c.args.desk.now.session (P.history c.args.platform.now) (P.head c.args.platform.now) (P.capacity c.args.platform.now) in
-    let new : World = world c.serve.new.self.session (P.history c.serve.new.platform) (P.head c.serve.new.platform) (P.capacity c.serve.new.platform) in
+    let old : World = world_of P c.args.desk.now.session c.args.platform.now in
+    let new : World = world_of P c.serve.new.self.session c.serve.new.platform in
     let later : IsLater old new = record { capacity = c.serve.ensures.after.capacity; rises = c.serve.ensures.after.rises; within = g.met.P.Platform.has_room c.serve.new.platform } in
     Handled-line P.tells old new no_line text c.in-Ok.reply c.put_reply-in-Ok.result (written c.args.output.now) (written c.put_reply-in-Ok.new.output)
     later c.in-Ok.ensures.after.full
@@ -32,8 +32,8 @@ returns-in-Ok-clause-handled g c text kept =
 pub returns-in-Err-clause-handled : goal.returns-in-Err-clause-handled
 returns-in-Err-clause-handled g c text kept =
     let P = g.P.Platform in
-    let old : World = world c.args.desk.now.session (P.history c.args.platform.now) (P.head c.args.platform.now) (P.capacity c.args.platform.now) in
-    let new : World = world c.serve.new.self.session (P.history c.serve.new.platform) (P.head c.serve.new.platform) (P.capacity c.serve.new.platform) in
+    let old : World = world_of P c.args.desk.now.session c.args.platform.now in
+    let new : World = world_of P c.serve.new.self.session c.serve.new.platform in
     let later : IsLater old new = record { capacity = c.serve.ensures.after.capacity; rises = c.serve.ensures.after.rises; within = g.met.P.Platform.has_room c.serve.new.platform } in
     Handled-stop P.tells old new text c.in-Some.command c.in-Err.stop (g.O.Sink.written c.args.output.now) (c.in-Some.ensures.found text kept) later c.in-Err.ensures.after.added
     (λ addr e. (c.in-Err.ensures.of_block addr (cc), λ told. c.in-Err.ensures.damage told addr (cc)))

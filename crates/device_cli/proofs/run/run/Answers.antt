@@ -1,7 +1,7 @@
 use Rattle.std.proofs.Common.{◌≡◌, ◌⊎◌, inl, inr, None, Ok, Err, refl, arith}
 use Rattle.sdbt_base.specs.Faults.{Rose}
 use Rattle.device_cli.specs.Replied.{no_line}
-use Rattle.device_cli.specs.World.{World, IsLater, world}
+use Rattle.device_cli.specs.World.{World, IsLater, world_of}
 use Rattle.device_cli.specs.declared.stop.DeviceStop.{DeviceStop}
 use Rattle.device_cli.specs.declared.stop.DeviceStop.TheVariants as device
 use Rattle.device_cli.specs.declared.stop.Stop.TheVariants as stops
@@ -22,8 +22,8 @@ returns-in-Err-clause-ran g c =
     let P = g.P.Platform in
     let O = g.O.Sink in
     let written = O.written in
-    let old : World = world None (P.history c.args.platform.now) (P.head c.args.platform.now) (P.capacity c.args.platform.now) in
-    let new : World = world None (P.history c.check_cell.new.platform) (P.head c.check_cell.new.platform) (P.capacity c.check_cell.new.platform) in
+    let old : World = world_of P None c.args.platform.now in
+    let new : World = world_of P None c.check_cell.new.platform in
     let later : IsLater old new = record { capacity = c.check_cell.ensures.capacity; rises = omega (arith, c.check_cell.ensures.head); within = g.met.P.Platform.has_room c.check_cell.new.platform } in
     let stops_at = which (Rose (P.faults c.args.platform.now) (P.faults c.check_cell.new.platform)) c.in-Err.stop c.in-Err.ensures.stops in (
       None,
@@ -41,9 +41,9 @@ returns-in-Device-clause-ran g c =
     let O = g.O.Sink in
     let left = g.I.Source.left in
     let written = O.written in
-    let old : World = world None (P.history c.args.platform.now) (P.head c.args.platform.now) (P.capacity c.args.platform.now) in
-    let mid : World = world c.new-desk.result.session (P.history c.check_cell.new.platform) (P.head c.check_cell.new.platform) (P.capacity c.check_cell.new.platform) in
-    let new : World = world c.serve_input.new.desk.session (P.history c.serve_input.new.platform) (P.head c.serve_input.new.platform) (P.capacity c.serve_input.new.platform) in
+    let old : World = world_of P None c.args.platform.now in
+    let mid : World = world_of P c.new-desk.result.session c.check_cell.new.platform in
+    let new : World = world_of P c.serve_input.new.desk.session c.serve_input.new.platform in
     let later : IsLater old mid = record { capacity = c.check_cell.ensures.capacity; rises = omega (arith, c.check_cell.ensures.head); within = g.met.P.Platform.has_room c.check_cell.new.platform } in (
       c.serve_input.new.desk.session,
       Ran-ended P.tells old new (Rose (O.faults c.serve_input.new.output) (O.faults c.last_line-in-Device.new.output)) c.in-Device.stop c.last_line-in-Device.result
@@ -60,9 +60,9 @@ returns-clause-ran g c =
     let P = g.P.Platform in
     let left = g.I.Source.left in
     let written = g.O.Sink.written in
-    let old : World = world None (P.history c.args.platform.now) (P.head c.args.platform.now) (P.capacity c.args.platform.now) in
-    let mid : World = world c.new-desk.result.session (P.history c.check_cell.new.platform) (P.head c.check_cell.new.platform) (P.capacity c.check_cell.new.platform) in
-    let new : World = world c.serve_input.new.desk.session (P.history c.serve_input.new.platform) (P.head c.serve_input.new.platform) (P.capacity c.serve_input.new.platform) in
+    let old : World = world_of P None c.args.platform.now in
+    let mid : World = world_of P c.new-desk.result.session c.check_cell.new.platform in
+    let new : World = world_of P c.serve_input.new.desk.session c.serve_input.new.platform in
     let later : IsLater old mid = record { capacity = c.check_cell.ensures.capacity; rises = omega (arith, c.check_cell.ensures.head); within = g.met.P.Platform.has_room c.check_cell.new.platform } in (
       c.serve_input.new.desk.session,
       Ran-other P.tells old new (Err c.in-Err-serve_input.stop) (left c.args.input.now) (left c.serve_input.new.input) (written c.args.output.now) (written c.serve_input.new.output)
@@ -78,9 +78,9 @@ returns-in_default-clause-ran g c =
     let P = g.P.Platform in
     let left = g.I.Source.left in
     let written = g.O.Sink.written in
-    let old : World = world None (P.history c.args.platform.now) (P.head c.args.platform.now) (P.capacity c.args.platform.now) in
-    let mid : World = world c.new-desk.result.session (P.history c.check_cell.new.platform) (P.head c.check_cell.new.platform) (P.capacity c.check_cell.new.platform) in
-    let new : World = world c.serve_input.new.desk.session (P.history c.serve_input.new.platform) (P.head c.serve_input.new.platform) (P.capacity c.serve_input.new.platform) in
+    let old : World = world_of P None c.args.platform.now in
+    let mid : World = world_of P c.new-desk.result.session c.check_cell.new.platform in
+    let new : World = world_of P c.serve_input.new.desk.session c.serve_input.new.platform in
     let later : IsLater old mid = record { capacity = c.check_cell.ensures.capacity; rises = omega (arith, c.check_cell.ensures.head); within = g.met.P.Platform.has_room c.check_cell.new.platform } in (
       c.serve_input.new.desk.session,
       Ran-other P.tells old new (Ok tt) (left c.args.input.now) (left c.serve_input.new.input) (written c.args.output.now) (written c.serve_input.new.output)

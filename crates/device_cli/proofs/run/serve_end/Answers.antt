@@ -1,7 +1,7 @@
 use Rattle.std.proofs.Common.{◌≡◌, ℕ, List, [], Ok, sym, subst, rules}
 use Rattle.script_lang.specs.Lines.{last_line as line_at_end}
 use Rattle.device_cli.specs.Replied.{Handled, no_line}
-use Rattle.device_cli.specs.World.{World, world}
+use Rattle.device_cli.specs.World.{World, world_of}
 use Rattle.device_cli.proofs.RepliedLaws.{Handled-nothing}
 use Rattle.device_course.proofs.KeysLaws.{on_start}
 use Rattle.device_cli.proofs.run.serve_end.Goals as goal
@@ -10,7 +10,7 @@ pub returns-then-is_empty-clause-handled : goal.returns-then-is_empty-clause-han
 returns-then-is_empty-clause-handled g c rest pending =
     let P = g.P.Platform in
     let written = g.O.Sink.written c.args.output.now in
-    let old : World = world c.args.desk.now.session (P.history c.args.platform.now) (P.head c.args.platform.now) (P.capacity c.args.platform.now) in
+    let old : World = world_of P c.args.desk.now.session c.args.platform.now in
     let empty : rest ≡ [] = (c.is_empty.ensures rest pending.is_kept).0 (search rules) in
     subst (λ (line : List ℕ). Handled P.tells old old no_line (Ok tt) (line_at_end line) written written) (sym empty)
     (Handled-nothing P.tells old no_line written (g.met.P.Platform.has_room c.args.platform.now))

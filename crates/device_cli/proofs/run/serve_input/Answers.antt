@@ -4,7 +4,7 @@ use Rattle.std.proofs.lemmas.Grind.{common_steps}
 use Rattle.std.specs.Prelude.{◌↔◌, Option, IfSome}
 use Rattle.sdbt_base.specs.Told.{Gave, IsAtEnd}
 use Rattle.script_lang.specs.Lines.{rest_of}
-use Rattle.device_cli.specs.World.{World, world}
+use Rattle.device_cli.specs.World.{World, world_of}
 use Rattle.device_cli.proofs.Reading.{IsReading, IsReading-start, IsReading-more, IsReading-stop, IsReading-end, IsReading-failed, IsReading-limit}
 use Rattle.device_cli.proofs.CellLaws.{served_at}
 use Rattle.device_course.proofs.KeysLaws.{on_start, on_done, on_then}
@@ -33,7 +33,7 @@ loop-left-init g c =
       keeps = on_start _ _ c.args.desk.now.session _;
       unput = refl;
       counts = grind (arith, common_steps);
-      reading = IsReading-start P.tells (world c.args.desk.now.session (P.history c.args.platform.now) (P.head c.args.platform.now) (P.capacity c.args.platform.now)) (g.I.Source.left c.args.input.now)
+      reading = IsReading-start P.tells (world_of P c.args.desk.now.session c.args.platform.now) (g.I.Source.left c.args.input.now)
           (g.O.Sink.written c.args.output.now) c.new-pending.result _ (g.met.P.Platform.has_room c.args.platform.now) c.new-pending.ensures (omega arith);
     }
 
@@ -42,8 +42,8 @@ returns-in_default-clause-ran g c =
     let P = g.P.Platform in
     let left = g.I.Source.left in
     let written = g.O.Sink.written in
-    let old : World = world c.args.desk.now.session (P.history c.args.platform.now) (P.head c.args.platform.now) (P.capacity c.args.platform.now) in
-    let mid : World = world c.loop-left.desk.session (P.history c.loop-left.platform) (P.head c.loop-left.platform) (P.capacity c.loop-left.platform) in
+    let old : World = world_of P c.args.desk.now.session c.args.platform.now in
+    let mid : World = world_of P c.loop-left.desk.session c.loop-left.platform in
     let same : left c.take.new.self ≡ left c.loop-left.input = c.in_default.ensures.nothing_taken in
     IsReading-failed P.tells old mid (left c.args.input.now) (left c.take.new.self) (written c.args.output.now) (written c.loop-left.output) c.loop-left.pending c.loop-left.left
     (subst (λ (l : Option (List ℕ)). IsReading P.tells old mid (left c.args.input.now) l (written c.args.output.now) (written c.loop-left.output) c.loop-left.pending c.loop-left.left)
@@ -55,9 +55,9 @@ returns-then-count-eq0-clause-ran g c =
     let P = g.P.Platform in
     let left = g.I.Source.left in
     let written = g.O.Sink.written in
-    let old : World = world c.args.desk.now.session (P.history c.args.platform.now) (P.head c.args.platform.now) (P.capacity c.args.platform.now) in
-    let mid : World = world c.loop-left.desk.session (P.history c.loop-left.platform) (P.head c.loop-left.platform) (P.capacity c.loop-left.platform) in
-    let new : World = world c.serve_end.new.desk.session (P.history c.serve_end.new.platform) (P.head c.serve_end.new.platform) (P.capacity c.serve_end.new.platform) in
+    let old : World = world_of P c.args.desk.now.session c.args.platform.now in
+    let mid : World = world_of P c.loop-left.desk.session c.loop-left.platform in
+    let new : World = world_of P c.serve_end.new.desk.session c.serve_end.new.platform in
     let into : List ℕ = c.take.new.into in
     let same : left c.loop-left.input ≡ left c.take.new.self = none_given (left c.loop-left.input) (left c.take.new.self) into c.in-Ok.count c.if-count-eq0.true c.in-Ok.ensures.taken in
     let reading = subst (λ (l : Option (List ℕ)). IsReading P.tells old mid (left c.args.input.now) l (written c.args.output.now) (written c.loop-left.output) c.loop-left.pending c.loop-left.left)
@@ -72,9 +72,9 @@ returns-in-Err-clause-ran g c =
     let P = g.P.Platform in
     let left = g.I.Source.left in
     let written = g.O.Sink.written in
-    let old : World = world c.args.desk.now.session (P.history c.args.platform.now) (P.head c.args.platform.now) (P.capacity c.args.platform.now) in
-    let mid : World = world c.loop-left.desk.session (P.history c.loop-left.platform) (P.head c.loop-left.platform) (P.capacity c.loop-left.platform) in
-    let new : World = world c.serve_piece.new.desk.session (P.history c.serve_piece.new.platform) (P.head c.serve_piece.new.platform) (P.capacity c.serve_piece.new.platform) in
+    let old : World = world_of P c.args.desk.now.session c.args.platform.now in
+    let mid : World = world_of P c.loop-left.desk.session c.loop-left.platform in
+    let new : World = world_of P c.serve_piece.new.desk.session c.serve_piece.new.platform in
     let reading = c.loop-left.invariant.reading in
     let into : List ℕ = c.take.new.into in
     let behind : List ℕ = drop c.min-room.result c.loop-left.piece in
@@ -94,9 +94,9 @@ loop-left-preserved g c =
     let P = g.P.Platform in
     let left = g.I.Source.left in
     let written = g.O.Sink.written in
-    let old : World = world c.args.desk.now.session (P.history c.args.platform.now) (P.head c.args.platform.now) (P.capacity c.args.platform.now) in
-    let mid : World = world c.loop-left.desk.session (P.history c.loop-left.platform) (P.head c.loop-left.platform) (P.capacity c.loop-left.platform) in
-    let new : World = world c.serve_piece.new.desk.session (P.history c.serve_piece.new.platform) (P.head c.serve_piece.new.platform) (P.capacity c.serve_piece.new.platform) in
+    let old : World = world_of P c.args.desk.now.session c.args.platform.now in
+    let mid : World = world_of P c.loop-left.desk.session c.loop-left.platform in
+    let new : World = world_of P c.serve_piece.new.desk.session c.serve_piece.new.platform in
     let reading = c.loop-left.invariant.reading in
     let into : List ℕ = c.take.new.into in
     let behind : List ℕ = drop c.min-room.result c.loop-left.piece in
@@ -119,8 +119,8 @@ loop-left-preserved g c =
 pub returns-clause-ran : goal.returns-clause-ran
 returns-clause-ran g c =
     let P = g.P.Platform in
-    let old : World = world c.args.desk.now.session (P.history c.args.platform.now) (P.head c.args.platform.now) (P.capacity c.args.platform.now) in
-    let mid : World = world c.loop-left.desk.session (P.history c.loop-left.platform) (P.head c.loop-left.platform) (P.capacity c.loop-left.platform) in
+    let old : World = world_of P c.args.desk.now.session c.args.platform.now in
+    let mid : World = world_of P c.loop-left.desk.session c.loop-left.platform in
     IsReading-limit P.tells old mid (g.I.Source.left c.args.input.now) (g.I.Source.left c.loop-left.input) (g.O.Sink.written c.args.output.now) (g.O.Sink.written c.loop-left.output)
     c.loop-left.pending c.loop-left.left c.loop-left.invariant.reading (let none = c.loop-left-test.false in omega arith)
 

@@ -2,7 +2,7 @@ use Rattle.std.proofs.Common.{◌≡◌}
 use Rattle.std.specs.Prelude.{IfSome}
 use Rattle.device_cli.specs.Desk.{IsReady, IsMounted}
 use Rattle.device_cli.specs.Run.{counts, NoneFell}
-use Rattle.device_cli.specs.World.{world}
+use Rattle.device_cli.specs.World.{world_of}
 use Rattle.device_course.specs.States.{IsListed}
 use Rattle.device_course.specs.Keys.{KeepsOn}
 use Rattle.device_cli.proofs.Reading.{IsReading}
@@ -21,7 +21,7 @@ invariant-loop-left g l =
       keeps : KeepsOn P.tells (T.drawn l.fn.tape) (T.drawn l.tape) l.fn.desk.session (P.history l.fn.platform) (P.history l.platform) (IsListed l.desk.session (P.history l.platform).present);
       unput : L.written l.ledger ≡ L.written l.fn.ledger;
       counts : NoneFell (counts (P.faults l.fn.platform) (T.faults l.fn.tape) (I.faults l.fn.input) (O.faults l.fn.output) (L.faults l.fn.ledger)) (counts (P.faults l.platform) (T.faults l.tape) (I.faults l.input) (O.faults l.output) (L.faults l.ledger));
-      reading : IsReading P.tells (world l.fn.desk.session (P.history l.fn.platform) (P.head l.fn.platform) (P.capacity l.fn.platform)) (world l.desk.session (P.history l.platform) (P.head l.platform) (P.capacity l.platform))
+      reading : IsReading P.tells (world_of P l.fn.desk.session l.fn.platform) (world_of P l.desk.session l.platform)
           (I.left l.fn.input) (I.left l.input) (O.written l.fn.output) (O.written l.output) l.pending l.left;
     }
 

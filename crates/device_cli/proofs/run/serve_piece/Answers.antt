@@ -3,7 +3,7 @@ use Rattle.std.proofs.lemmas.Grind.{common_steps}
 use Rattle.std.proofs.Common.{arith}
 use Rattle.std.specs.Prelude.{Option}
 use Rattle.device_cli.specs.Kept.{IsKept}
-use Rattle.device_cli.specs.World.{World, world}
+use Rattle.device_cli.specs.World.{World, world_of}
 use Rattle.device_cli.proofs.Serving.{IsServing-start, IsServing-line, IsServing-stop, IsServing-end}
 use Rattle.device_cli.proofs.CellLaws.{served_at}
 use Rattle.device_course.proofs.KeysLaws.{on_start, on_done, on_then}
@@ -18,7 +18,7 @@ loop-front-init g c =
       keeps = on_start _ _ c.args.desk.now.session _;
       unput = refl;
       counts = grind (arith, common_steps);
-      serving = λ rest pending. IsServing-start P.tells (world c.args.desk.now.session (P.history c.args.platform.now) (P.head c.args.platform.now) (P.capacity c.args.platform.now))
+      serving = λ rest pending. IsServing-start P.tells (world_of P c.args.desk.now.session c.args.platform.now)
           (g.O.Sink.written c.args.output.now) c.args.pending.now rest c.args.piece.now (g.met.P.Platform.has_room c.args.platform.now) pending;
     }
 
@@ -26,9 +26,9 @@ pub loop-front-preserved : goal.loop-front-preserved
 loop-front-preserved g c =
     let P = g.P.Platform in
     let written = g.O.Sink.written in
-    let old : World = world c.args.desk.now.session (P.history c.args.platform.now) (P.head c.args.platform.now) (P.capacity c.args.platform.now) in
-    let mid : World = world c.loop-front.desk.session (P.history c.loop-front.platform) (P.head c.loop-front.platform) (P.capacity c.loop-front.platform) in
-    let new : World = world c.answer.new.desk.session (P.history c.answer.new.platform) (P.head c.answer.new.platform) (P.capacity c.answer.new.platform) in
+    let old : World = world_of P c.args.desk.now.session c.args.platform.now in
+    let mid : World = world_of P c.loop-front.desk.session c.loop-front.platform in
+    let new : World = world_of P c.answer.new.desk.session c.answer.new.platform in
     record {
       ready = c.in_default-answer.ensures.after.ready;
       mounted = c.in_default-answer.ensures.after.mounted;
@@ -48,9 +48,9 @@ pub returns-in-Err-clause-handled : goal.returns-in-Err-clause-handled
 returns-in-Err-clause-handled g c rest pending =
     let P = g.P.Platform in
     let written = g.O.Sink.written in
-    let old : World = world c.args.desk.now.session (P.history c.args.platform.now) (P.head c.args.platform.now) (P.capacity c.args.platform.now) in
-    let mid : World = world c.loop-front.desk.session (P.history c.loop-front.platform) (P.head c.loop-front.platform) (P.capacity c.loop-front.platform) in
-    let new : World = world c.answer.new.desk.session (P.history c.answer.new.platform) (P.head c.answer.new.platform) (P.capacity c.answer.new.platform) in
+    let old : World = world_of P c.args.desk.now.session c.args.platform.now in
+    let mid : World = world_of P c.loop-front.desk.session c.loop-front.platform in
+    let new : World = world_of P c.answer.new.desk.session c.answer.new.platform in
     let so_far = c.loop-front.invariant.serving rest pending in
     let line : List ℕ = so_far.line ++ c.in-Some.front.now in
     let kept = subst (λ (k : Option (List ℕ)). IsKept k line) (sym c.line.ensures) (c.push.ensures so_far.line so_far.pending.is_kept) in
@@ -62,7 +62,7 @@ pub returns-clause-pending : goal.returns-clause-pending
 returns-clause-pending g c rest pending =
     let P = g.P.Platform in
     let so_far = c.loop-front.invariant.serving rest pending in
-    let end = IsServing-end P.tells (world c.args.desk.now.session (P.history c.args.platform.now) (P.head c.args.platform.now) (P.capacity c.args.platform.now)) (world c.loop-front.desk.session (P.history c.loop-front.platform) (P.head c.loop-front.platform) (P.capacity c.loop-front.platform))
+    let end = IsServing-end P.tells (world_of P c.args.desk.now.session c.args.platform.now) (world_of P c.loop-front.desk.session c.loop-front.platform)
     (g.O.Sink.written c.args.output.now) (g.O.Sink.written c.loop-front.output) (rest ++ c.args.piece.now) c.loop-front.pending c.loop-front.rest.now
     so_far c.in_default.ensures.none in
     rw end.1 (record { is_kept = c.push-2.ensures so_far.line so_far.pending.is_kept; feedless = end.2 })
@@ -71,7 +71,7 @@ pub returns-clause-handled : goal.returns-clause-handled
 returns-clause-handled g c rest pending =
     let P = g.P.Platform in
     let so_far = c.loop-front.invariant.serving rest pending in
-    (IsServing-end P.tells (world c.args.desk.now.session (P.history c.args.platform.now) (P.head c.args.platform.now) (P.capacity c.args.platform.now)) (world c.loop-front.desk.session (P.history c.loop-front.platform) (P.head c.loop-front.platform) (P.capacity c.loop-front.platform))
+    (IsServing-end P.tells (world_of P c.args.desk.now.session c.args.platform.now) (world_of P c.loop-front.desk.session c.loop-front.platform)
     (g.O.Sink.written c.args.output.now) (g.O.Sink.written c.loop-front.output) (rest ++ c.args.piece.now) c.loop-front.pending c.loop-front.rest.now
     so_far c.in_default.ensures.none).0
 

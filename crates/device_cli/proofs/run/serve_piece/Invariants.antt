@@ -3,7 +3,7 @@ use Rattle.std.specs.Prelude.{IfSome}
 use Rattle.device_cli.specs.Desk.{IsReady, IsMounted}
 use Rattle.device_cli.specs.Run.{counts, NoneFell}
 use Rattle.device_cli.specs.Kept.{IsPending}
-use Rattle.device_cli.specs.World.{world}
+use Rattle.device_cli.specs.World.{world_of}
 use Rattle.device_course.specs.States.{IsListed}
 use Rattle.device_course.specs.Keys.{KeepsOn}
 use Rattle.device_cli.proofs.Serving.{IsServing}
@@ -22,7 +22,7 @@ invariant-loop-front g l =
       unput : L.written l.ledger ≡ L.written l.fn.ledger;
       counts : NoneFell (counts (P.faults l.fn.platform) (T.faults l.fn.tape) 0 (O.faults l.fn.output) (L.faults l.fn.ledger)) (counts (P.faults l.platform) (T.faults l.tape) 0 (O.faults l.output) (L.faults l.ledger));
       serving : (rest : List ℕ) → IsPending l.fn.pending rest
-          → IsServing P.tells (world l.fn.desk.session (P.history l.fn.platform) (P.head l.fn.platform) (P.capacity l.fn.platform)) (world l.desk.session (P.history l.platform) (P.head l.platform) (P.capacity l.platform))
+          → IsServing P.tells (world_of P l.fn.desk.session l.fn.platform) (world_of P l.desk.session l.platform)
           (O.written l.fn.output) (O.written l.output) (rest ++ l.fn.piece) l.pending l.rest;
     }
 

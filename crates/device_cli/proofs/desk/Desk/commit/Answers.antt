@@ -1,7 +1,7 @@
 use Rattle.std.proofs.Common.{◌≡◌, None, Some, refl, ap, arith}
 use Rattle.std.proofs.lemmas.Grind.{common_steps}
 use Rattle.device_cli.specs.declared.stop.DeviceStop.TheVariants as device
-use Rattle.device_cli.specs.World.{World, world}
+use Rattle.device_cli.specs.World.{World, world_of}
 use Rattle.script_lang.specs.declared.commands.Command.TheVariants.{Commit}
 use Rattle.device_cli.proofs.ServedLaws.{halts_still, gives_unmounted_commit}
 use Rattle.device_cli.proofs.ServingLaws.{serves_unmounted, serves_committed, serves_commit_full, halts_commit, keeps_same}
@@ -19,8 +19,8 @@ returns-in_default-clause-answered g c told entry rep =
 pub returns-in-Committed-clause-answered : goal.returns-in-Committed-clause-answered
 returns-in-Committed-clause-answered g c told entry rep =
     let P = g.P.Platform in
-    let old : World = world c.args.self.now.session (P.history c.args.platform.now) (P.head c.args.platform.now) (P.capacity c.args.platform.now) in
-    let new : World = world (Some c.in-Ok.answer.0) (P.history c.commit.new.platform) (P.head c.commit.new.platform) (P.capacity c.commit.new.platform) in
+    let old : World = world_of P c.args.self.now.session c.args.platform.now in
+    let new : World = world_of P (Some c.in-Ok.answer.0) c.commit.new.platform in
     let taken : c.args.self.now.session ≡ Some c.in-Some.session = cc (c.take.ensures.value, c.in-Some.is) in
     serves_committed old new entry c.in-Some.session c.in-Ok.answer.0 c.in-Committed.number c.in-Ok.answer.1 taken refl c.in-Committed.is
     (λ e. let idle = c.in-Ok.ensures.idle e in (idle.3.1, idle.3.0, ap (λ p. (P.history p).present) idle.0, keeps_same old new (ap (λ p. P.history p) idle.0)))
@@ -32,8 +32,8 @@ returns-in-Committed-clause-answered g c told entry rep =
 pub returns-in-Full-clause-answered : goal.returns-in-Full-clause-answered
 returns-in-Full-clause-answered g c told entry rep =
     let P = g.P.Platform in
-    let old : World = world c.args.self.now.session (P.history c.args.platform.now) (P.head c.args.platform.now) (P.capacity c.args.platform.now) in
-    let new : World = world (Some c.in-Ok.answer.0) (P.history c.commit.new.platform) (P.head c.commit.new.platform) (P.capacity c.commit.new.platform) in
+    let old : World = world_of P c.args.self.now.session c.args.platform.now in
+    let new : World = world_of P (Some c.in-Ok.answer.0) c.commit.new.platform in
     let taken : c.args.self.now.session ≡ Some c.in-Some.session = cc (c.take.ensures.value, c.in-Some.is) in
     serves_commit_full old new entry c.in-Some.session c.in-Ok.answer.0 c.in-Full.needed c.in-Full.free c.in-Ok.answer.1 taken refl c.in-Full.is
     (λ e. (c.in-Ok.ensures.idle e).3.1)
@@ -44,29 +44,29 @@ returns-in-Full-clause-answered g c told entry rep =
 pub returns-in-Err-Memory-clause-answered : goal.returns-in-Err-Memory-clause-answered
 returns-in-Err-Memory-clause-answered g c told entry rep =
     let P = g.P.Platform in
-    let old : World = world c.args.self.now.session (P.history c.args.platform.now) (P.head c.args.platform.now) (P.capacity c.args.platform.now) in
-    let new : World = world c.take.new.self (P.history c.commit.new.platform) (P.head c.commit.new.platform) (P.capacity c.commit.new.platform) in
+    let old : World = world_of P c.args.self.now.session c.args.platform.now in
+    let new : World = world_of P c.take.new.self c.commit.new.platform in
     halts_still old new entry Commit device.Memory tt rep (absurd (rw c.in-Err-Memory.field-0-is at c.in-Err-Memory.ensures.cause))
 
 pub returns-in-Err-TapeFault-clause-answered : goal.returns-in-Err-TapeFault-clause-answered
 returns-in-Err-TapeFault-clause-answered g c told entry rep =
     let P = g.P.Platform in
-    let old : World = world c.args.self.now.session (P.history c.args.platform.now) (P.head c.args.platform.now) (P.capacity c.args.platform.now) in
-    let new : World = world c.take.new.self (P.history c.commit.new.platform) (P.head c.commit.new.platform) (P.capacity c.commit.new.platform) in
+    let old : World = world_of P c.args.self.now.session c.args.platform.now in
+    let new : World = world_of P c.take.new.self c.commit.new.platform in
     halts_still old new entry Commit device.Tape tt rep ((rw c.in-Err-TapeFault.field-0-is at c.in-Err-TapeFault.ensures.cause).2 told)
 
 pub returns-in-Err-LedgerFault-clause-answered : goal.returns-in-Err-LedgerFault-clause-answered
 returns-in-Err-LedgerFault-clause-answered g c told entry rep =
     let P = g.P.Platform in
-    let old : World = world c.args.self.now.session (P.history c.args.platform.now) (P.head c.args.platform.now) (P.capacity c.args.platform.now) in
-    let new : World = world c.take.new.self (P.history c.commit.new.platform) (P.head c.commit.new.platform) (P.capacity c.commit.new.platform) in
+    let old : World = world_of P c.args.self.now.session c.args.platform.now in
+    let new : World = world_of P c.take.new.self c.commit.new.platform in
     halts_still old new entry Commit device.Ledger tt rep ((rw c.in-Err-LedgerFault.field-0-is at c.in-Err-LedgerFault.ensures.cause).1 told)
 
 pub returns-in-Err-PlatformFault-clause-answered : goal.returns-in-Err-PlatformFault-clause-answered
 returns-in-Err-PlatformFault-clause-answered g c told entry rep =
     let P = g.P.Platform in
-    let old : World = world c.args.self.now.session (P.history c.args.platform.now) (P.head c.args.platform.now) (P.capacity c.args.platform.now) in
-    let new : World = world c.take.new.self (P.history c.commit.new.platform) (P.head c.commit.new.platform) (P.capacity c.commit.new.platform) in
+    let old : World = world_of P c.args.self.now.session c.args.platform.now in
+    let new : World = world_of P c.take.new.self c.commit.new.platform in
     let taken : c.args.self.now.session ≡ Some c.in-Some.session = cc (c.take.ensures.value, c.in-Some.is) in
     halts_commit old new entry c.in-Some.session taken
     (λ e. let ok = (c.commit.ensures.idle e).4 in grind (arith, common_steps, ok))

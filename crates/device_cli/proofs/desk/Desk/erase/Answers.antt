@@ -2,7 +2,7 @@ use Rattle.std.proofs.Common.{Option, None, refl, sym, ◌∙◌, subst, arith}
 use Rattle.std.proofs.lemmas.Grind.{common_steps}
 use Rattle.device_core.specs.declared.session.Session.{Session}
 use Rattle.device_course.specs.States.{IsListed}
-use Rattle.device_cli.specs.World.{World, world}
+use Rattle.device_cli.specs.World.{World, world_of}
 use Rattle.device_cli.proofs.ServingLaws.{serves_erased, serves_erase_none, halts_erase}
 use Rattle.device_course.proofs.KeysLaws.{on_kept, listed_image}
 use Rattle.device_core.specs.Publishing.{IsEraseCause}
@@ -11,22 +11,22 @@ use Rattle.device_cli.proofs.desk.Desk.erase.Goals as goal
 pub returns-in-Ok-clause-answered : goal.returns-in-Ok-clause-answered
 returns-in-Ok-clause-answered g c told entry rep =
     let P = g.P.Platform in
-    let old : World = world c.args.self.now.session (P.history c.args.platform.now) (P.head c.args.platform.now) (P.capacity c.args.platform.now) in
-    let new : World = world c.close.new.self.session (P.history c.erase.new.platform) (P.head c.erase.new.platform) (P.capacity c.erase.new.platform) in
+    let old : World = world_of P c.args.self.now.session c.args.platform.now in
+    let new : World = world_of P c.close.new.self.session c.erase.new.platform in
     serves_erased old new entry (c.in-Ok.ensures.cause told).0 c.close.ensures (c.in-Ok.ensures.cause told).1 (c.erase.ensures.time told _ rep.device) rep
 
 pub returns-in-Err-NoDevice-clause-answered : goal.returns-in-Err-NoDevice-clause-answered
 returns-in-Err-NoDevice-clause-answered g c told entry rep =
     let P = g.P.Platform in
-    let old : World = world c.args.self.now.session (P.history c.args.platform.now) (P.head c.args.platform.now) (P.capacity c.args.platform.now) in
-    let new : World = world c.args.self.now.session (P.history c.erase.new.platform) (P.head c.erase.new.platform) (P.capacity c.erase.new.platform) in
+    let old : World = world_of P c.args.self.now.session c.args.platform.now in
+    let new : World = world_of P c.args.self.now.session c.erase.new.platform in
     serves_erase_none old new entry ((rw c.in-Err-NoDevice.field-0-is at c.in-Err-NoDevice.ensures.cause) told).0 refl ((rw c.in-Err-NoDevice.field-0-is at c.in-Err-NoDevice.ensures.cause) told).1 ((rw c.in-Err-NoDevice.field-0-is at c.in-Err-NoDevice.ensures.cause) told).2 rep
 
 pub returns-in-Err-PlatformFault-clause-answered : goal.returns-in-Err-PlatformFault-clause-answered
 returns-in-Err-PlatformFault-clause-answered g c told entry rep =
     let P = g.P.Platform in
-    let old : World = world c.args.self.now.session (P.history c.args.platform.now) (P.head c.args.platform.now) (P.capacity c.args.platform.now) in
-    let new : World = world c.args.self.now.session (P.history c.erase.new.platform) (P.head c.erase.new.platform) (P.capacity c.erase.new.platform) in
+    let old : World = world_of P c.args.self.now.session c.args.platform.now in
+    let new : World = world_of P c.args.self.now.session c.erase.new.platform in
     halts_erase old new entry (c.erase.ensures.time told _ rep.device)
 
 pub returns-in-Ok-clause-keeps : goal.returns-in-Ok-clause-keeps

@@ -6,7 +6,7 @@ use Rattle.sdbt_base.specs.Arrays.{State}
 use Rattle.script_lang.specs.declared.replies.Reply.{Reply}
 use Rattle.device_cli.specs.declared.stop.DeviceStop.{DeviceStop}
 use Rattle.device_cli.specs.declared.stop.DeviceStop.TheVariants as device
-use Rattle.device_cli.specs.World.{World, world}
+use Rattle.device_cli.specs.World.{World, world_of}
 use Rattle.script_lang.specs.declared.replies.Reply.TheVariants as replies
 use Rattle.device_cli.specs.Replied.{Serves, Halts}
 use Rattle.device_cli.specs.Represents.{Represents}
@@ -47,8 +47,8 @@ gives_refused blocks order reply (inr e) range unbuilt full there =
 pub returns-in-Ok-clause-answered : goal.returns-in-Ok-clause-answered
 returns-in-Ok-clause-answered g c told entry rep =
     let P = g.P.Platform in
-    let old : World = world c.args.self.now.session (P.history c.args.platform.now) (P.head c.args.platform.now) (P.capacity c.args.platform.now) in
-    let new : World = world c.args.self.now.session (P.history c.format.new.platform) (P.head c.format.new.platform) (P.capacity c.format.new.platform) in
+    let old : World = world_of P c.args.self.now.session c.args.platform.now in
+    let new : World = world_of P c.args.self.now.session c.format.new.platform in
     let size = c.refused_size.ensures.none (search rules) in
     let least : 1 ≤ c.args.blocks = size.0 in
     let most : c.args.blocks ≤ 64 = size.1 in
@@ -60,15 +60,15 @@ returns-in-Ok-clause-answered g c told entry rep =
 pub returns-in-Err-NotEmpty-clause-answered : goal.returns-in-Err-NotEmpty-clause-answered
 returns-in-Err-NotEmpty-clause-answered g c told entry rep =
     let P = g.P.Platform in
-    let old : World = world c.args.self.now.session (P.history c.args.platform.now) (P.head c.args.platform.now) (P.capacity c.args.platform.now) in
-    let new : World = world c.args.self.now.session (P.history c.format.new.platform) (P.head c.format.new.platform) (P.capacity c.format.new.platform) in
+    let old : World = world_of P c.args.self.now.session c.args.platform.now in
+    let new : World = world_of P c.args.self.now.session c.format.new.platform in
     serves_not_empty old new entry c.args.blocks c.args.order ((rw c.in-Err-NotEmpty.field-0-is at c.in-Err-NotEmpty.ensures.cause).0 told) refl ((rw c.in-Err-NotEmpty.field-0-is at c.in-Err-NotEmpty.ensures.cause).1.0.image told) ((rw c.in-Err-NotEmpty.field-0-is at c.in-Err-NotEmpty.ensures.cause).1.1 told) rep
 
 pub returns-in-Err-Full-clause-answered : goal.returns-in-Err-Full-clause-answered
 returns-in-Err-Full-clause-answered g c told entry rep =
     let P = g.P.Platform in
-    let old : World = world c.args.self.now.session (P.history c.args.platform.now) (P.head c.args.platform.now) (P.capacity c.args.platform.now) in
-    let new : World = world c.args.self.now.session (P.history c.format.new.platform) (P.head c.format.new.platform) (P.capacity c.format.new.platform) in
+    let old : World = world_of P c.args.self.now.session c.args.platform.now in
+    let new : World = world_of P c.args.self.now.session c.format.new.platform in
     let size = c.refused_size.ensures.none (search rules) in
     let least : 1 ≤ c.args.blocks = size.0 in
     let most : c.args.blocks ≤ 64 = size.1 in
@@ -78,29 +78,29 @@ returns-in-Err-Full-clause-answered g c told entry rep =
 pub returns-in-Err-Memory-clause-answered : goal.returns-in-Err-Memory-clause-answered
 returns-in-Err-Memory-clause-answered g c told entry rep =
     let P = g.P.Platform in
-    let old : World = world c.args.self.now.session (P.history c.args.platform.now) (P.head c.args.platform.now) (P.capacity c.args.platform.now) in
-    let new : World = world c.args.self.now.session (P.history c.format.new.platform) (P.head c.format.new.platform) (P.capacity c.format.new.platform) in
+    let old : World = world_of P c.args.self.now.session c.args.platform.now in
+    let new : World = world_of P c.args.self.now.session c.format.new.platform in
     halts_still old new entry (Format c.args.blocks c.args.order) device.Memory tt rep ((rw c.in-Err-Memory.field-0-is at c.in-Err-Memory.ensures.cause).1.1 told)
 
 pub returns-in-Err-TapeFault-clause-answered : goal.returns-in-Err-TapeFault-clause-answered
 returns-in-Err-TapeFault-clause-answered g c told entry rep =
     let P = g.P.Platform in
-    let old : World = world c.args.self.now.session (P.history c.args.platform.now) (P.head c.args.platform.now) (P.capacity c.args.platform.now) in
-    let new : World = world c.args.self.now.session (P.history c.format.new.platform) (P.head c.format.new.platform) (P.capacity c.format.new.platform) in
+    let old : World = world_of P c.args.self.now.session c.args.platform.now in
+    let new : World = world_of P c.args.self.now.session c.format.new.platform in
     halts_still old new entry (Format c.args.blocks c.args.order) device.Tape tt rep ((rw c.in-Err-TapeFault.field-0-is at c.in-Err-TapeFault.ensures.cause).2.1 told)
 
 pub returns-in-Err-LedgerFault-clause-answered : goal.returns-in-Err-LedgerFault-clause-answered
 returns-in-Err-LedgerFault-clause-answered g c told entry rep =
     let P = g.P.Platform in
-    let old : World = world c.args.self.now.session (P.history c.args.platform.now) (P.head c.args.platform.now) (P.capacity c.args.platform.now) in
-    let new : World = world c.args.self.now.session (P.history c.format.new.platform) (P.head c.format.new.platform) (P.capacity c.format.new.platform) in
+    let old : World = world_of P c.args.self.now.session c.args.platform.now in
+    let new : World = world_of P c.args.self.now.session c.format.new.platform in
     halts_still old new entry (Format c.args.blocks c.args.order) device.Ledger tt rep ((rw c.in-Err-LedgerFault.field-0-is at c.in-Err-LedgerFault.ensures.cause).2 told)
 
 pub returns-in-Err-PlatformFault-clause-answered : goal.returns-in-Err-PlatformFault-clause-answered
 returns-in-Err-PlatformFault-clause-answered g c told entry rep =
     let P = g.P.Platform in
-    let old : World = world c.args.self.now.session (P.history c.args.platform.now) (P.head c.args.platform.now) (P.capacity c.args.platform.now) in
-    let new : World = world c.args.self.now.session (P.history c.format.new.platform) (P.head c.format.new.platform) (P.capacity c.format.new.platform) in
+    let old : World = world_of P c.args.self.now.session c.args.platform.now in
+    let new : World = world_of P c.args.self.now.session c.format.new.platform in
     let size = c.refused_size.ensures.none (search rules) in
     let least : 1 ≤ c.args.blocks = size.0 in
     let most : c.args.blocks ≤ 64 = size.1 in
@@ -111,8 +111,8 @@ returns-in-Err-PlatformFault-clause-answered g c told entry rep =
 pub returns-in-Some-clause-answered : goal.returns-in-Some-clause-answered
 returns-in-Some-clause-answered g c told entry rep =
     let P = g.P.Platform in
-    let old : World = world c.args.self.now.session (P.history c.args.platform.now) (P.head c.args.platform.now) (P.capacity c.args.platform.now) in
-    let new : World = world c.args.self.now.session (P.history c.refuse_format.new.platform) (P.head c.refuse_format.new.platform) (P.capacity c.refuse_format.new.platform) in
+    let old : World = world_of P c.args.self.now.session c.args.platform.now in
+    let new : World = world_of P c.args.self.now.session c.refuse_format.new.platform in
     refused_result old new entry c.args.blocks c.args.order c.in-Some.reply c.refuse_format.result (Rose (P.faults c.args.platform.now) (P.faults c.refuse_format.new.platform))
     (c.refuse_format.ensures.replies told) c.refuse_format.ensures.cause (c.refuse_format.ensures.image told) (c.refuse_format.ensures.time told)
     (gives_refused c.args.blocks c.args.order c.in-Some.reply c.in-Some.ensures.either

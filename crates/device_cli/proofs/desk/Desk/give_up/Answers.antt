@@ -3,7 +3,7 @@ use Rattle.std.proofs.lemmas.Grind.{common_steps}
 use Rattle.script_lang.specs.declared.commands.Command.TheVariants as commands
 use Rattle.script_lang.specs.declared.replies.Reply.TheVariants as replies
 use Rattle.device_cli.specs.Replied.{Serves}
-use Rattle.device_cli.specs.World.{World, world}
+use Rattle.device_cli.specs.World.{World, world_of}
 use Rattle.device_cli.proofs.ServedLaws.{gives_unmounted_drop}
 use Rattle.device_cli.proofs.ServingLaws.{serves_unmounted, serves_drop}
 use Rattle.device_cli.proofs.Choices.{some_of}
@@ -21,7 +21,7 @@ pub returns-clause-answered : goal.returns-clause-answered
 returns-clause-answered g c told entry rep =
     let P = g.P.Platform in
     let held = c.args.self.now.session in
-    let old : World = world held (P.history c.args.platform.now) (P.head c.args.platform.now) (P.capacity c.args.platform.now) in
-    let new : World = world c.close.new.self.session (P.history c.args.platform.now) (P.head c.args.platform.now) (P.capacity c.args.platform.now) in
+    let old : World = world_of P held c.args.platform.now in
+    let new : World = world_of P c.close.new.self.session c.args.platform.now in
     some_of held (λ none. grind (arith, common_steps, none, c.is_none.ensures, c.if-is_none.false)) (Serves old new entry commands.Drop (Ok replies.Dropped))
     (λ session some. serves_drop held c.close.new.self.session (P.history c.args.platform.now) (P.head c.args.platform.now) (P.capacity c.args.platform.now) entry session some c.close.ensures rep)

@@ -3,7 +3,7 @@ use Rattle.std.proofs.lemmas.Grind.{common_steps}
 use Rattle.script_lang.specs.Arrays.{content_reply}
 use Rattle.script_lang.specs.declared.replies.Reply.{Reply}
 use Rattle.device_cli.specs.declared.stop.DeviceStop.TheVariants as device
-use Rattle.device_cli.specs.World.{World, is_full, world}
+use Rattle.device_cli.specs.World.{World, is_full, world_of}
 use Rattle.script_lang.specs.declared.replies.Reply.TheVariants as replies
 use Rattle.device_cli.specs.Replied.{Serves}
 use Rattle.script_lang.specs.declared.commands.Command.TheVariants.{Read}
@@ -25,8 +25,8 @@ returns-in_default-clause-answered g c told entry rep =
 pub returns-in-Ok-clause-answered : goal.returns-in-Ok-clause-answered
 returns-in-Ok-clause-answered g c told entry rep =
     let P = g.P.Platform in
-    let old : World = world c.args.self.now.session (P.history c.args.platform.now) (P.head c.args.platform.now) (P.capacity c.args.platform.now) in
-    let new : World = world (Some c.read.new.self) (P.history c.read.new.platform) (P.head c.read.new.platform) (P.capacity c.read.new.platform) in
+    let old : World = world_of P c.args.self.now.session c.args.platform.now in
+    let new : World = world_of P (Some c.read.new.self) c.read.new.platform in
     let taken : c.args.self.now.session ≡ Some c.in-Some.session = c.in-Some.is in
     with_session old c.in-Some.session entry taken rep (λ state. Serves old new state (Read c.args.block) (Ok c.reply_with_content.result))
     (λ d t holds touched.
@@ -39,8 +39,8 @@ returns-in-Ok-clause-answered g c told entry rep =
 pub returns-in-Err-Range-clause-answered : goal.returns-in-Err-Range-clause-answered
 returns-in-Err-Range-clause-answered g c told entry rep =
     let P = g.P.Platform in
-    let old : World = world c.args.self.now.session (P.history c.args.platform.now) (P.head c.args.platform.now) (P.capacity c.args.platform.now) in
-    let new : World = world (Some c.read.new.self) (P.history c.read.new.platform) (P.head c.read.new.platform) (P.capacity c.read.new.platform) in
+    let old : World = world_of P c.args.self.now.session c.args.platform.now in
+    let new : World = world_of P (Some c.read.new.self) c.read.new.platform in
     let taken : c.args.self.now.session ≡ Some c.in-Some.session = c.in-Some.is in
     with_session old c.in-Some.session entry taken rep (λ state. Serves old new state (Read c.args.block) (Ok replies.Range))
     (λ d t holds touched.
@@ -52,8 +52,8 @@ returns-in-Err-Range-clause-answered g c told entry rep =
 pub returns-in-Err-BadRecord-clause-answered : goal.returns-in-Err-BadRecord-clause-answered
 returns-in-Err-BadRecord-clause-answered g c told entry rep =
     let P = g.P.Platform in
-    let old : World = world c.args.self.now.session (P.history c.args.platform.now) (P.head c.args.platform.now) (P.capacity c.args.platform.now) in
-    let new : World = world (Some c.read.new.self) (P.history c.read.new.platform) (P.head c.read.new.platform) (P.capacity c.read.new.platform) in
+    let old : World = world_of P c.args.self.now.session c.args.platform.now in
+    let new : World = world_of P (Some c.read.new.self) c.read.new.platform in
     let taken : c.args.self.now.session ≡ Some c.in-Some.session = c.in-Some.is in
     with_session old c.in-Some.session entry taken rep (λ state. Serves old new state (Read c.args.block) (Err (device.BadRecord c.in-Err-BadRecord.addr)))
     (λ d t holds touched. absurd ((rw c.in-Err-BadRecord.field-0-is at c.in-Err-BadRecord.ensures.array) told d t.contents holds).1)
@@ -61,8 +61,8 @@ returns-in-Err-BadRecord-clause-answered g c told entry rep =
 pub returns-in-Err-PlatformFault-clause-answered : goal.returns-in-Err-PlatformFault-clause-answered
 returns-in-Err-PlatformFault-clause-answered g c told entry rep =
     let P = g.P.Platform in
-    let old : World = world c.args.self.now.session (P.history c.args.platform.now) (P.head c.args.platform.now) (P.capacity c.args.platform.now) in
-    let new : World = world (Some c.read.new.self) (P.history c.read.new.platform) (P.head c.read.new.platform) (P.capacity c.read.new.platform) in
+    let old : World = world_of P c.args.self.now.session c.args.platform.now in
+    let new : World = world_of P (Some c.read.new.self) c.read.new.platform in
     halts_still old new entry (Read c.args.block) device.Platform tt rep (c.read.ensures.looks.time told)
 
 pub returns-in_default-clause-keeps : goal.returns-in_default-clause-keeps

@@ -2,7 +2,7 @@ use Rattle.std.specs.Prelude.{IfOk}
 use Rattle.device_cli.specs.Pages.{pages_after}
 use Rattle.std.proofs.Common.{◌≡◌, Ok, sym, subst, arith}
 use Rattle.std.proofs.lemmas.Grind.{common_steps}
-use Rattle.device_cli.specs.World.{World, world}
+use Rattle.device_cli.specs.World.{World, world_of}
 use Rattle.script_lang.specs.declared.replies.Reply.TheVariants as replies
 use Rattle.device_cli.specs.Replied.{Serves}
 use Rattle.script_lang.specs.declared.commands.Command.{Command}
@@ -14,15 +14,15 @@ use Rattle.device_cli.proofs.desk.Desk.serve.Goals as goal
 pub returns-in-Write-clause-answered : goal.returns-in-Write-clause-answered
 returns-in-Write-clause-answered g c told entry rep =
     let P = g.P.Platform in
-    let old : World = world c.args.self.now.session (P.history c.args.platform.now) (P.head c.args.platform.now) (P.capacity c.args.platform.now) in
-    let new : World = world c.write.new.self.session (P.history c.write.new.platform) (P.head c.write.new.platform) (P.capacity c.write.new.platform) in
+    let old : World = world_of P c.args.self.now.session c.args.platform.now in
+    let new : World = world_of P c.write.new.self.session c.write.new.platform in
     subst (λ (command : Command). Serves old new entry command c.write.result) (sym c.in-Write.is)
     (c.write.ensures.answered told entry rep c.in-Write.content (grind (arith, common_steps, c.deref.ensures)))
 
 pub returns-in-Seize-clause-answered : goal.returns-in-Seize-clause-answered
 returns-in-Seize-clause-answered g c told entry rep =
     let P = g.P.Platform in
-    let old : World = world c.args.self.now.session (P.history c.args.platform.now) (P.head c.args.platform.now) (P.capacity c.args.platform.now) in
+    let old : World = world_of P c.args.self.now.session c.args.platform.now in
     subst (λ (command : Command). Serves old old entry command (Ok replies.Unbuilt)) (sym c.in-Seize.is)
     (serves_seize c.args.self.now.session (P.history c.args.platform.now) (P.head c.args.platform.now) (P.capacity c.args.platform.now) entry rep)
 

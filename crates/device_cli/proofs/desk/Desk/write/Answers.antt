@@ -1,7 +1,7 @@
 use Rattle.std.proofs.Common.{◌≡◌, ◌<◌, ◌≤◌, ℕ, None, Some, Ok, Err, refl, sym, rules, ◌∙◌, subst, arith}
 use Rattle.std.proofs.lemmas.Grind.{common_steps}
 use Rattle.device_cli.specs.declared.stop.DeviceStop.TheVariants as device
-use Rattle.device_cli.specs.World.{World, is_full, world}
+use Rattle.device_cli.specs.World.{World, is_full, world_of}
 use Rattle.script_lang.specs.declared.replies.Reply.TheVariants as replies
 use Rattle.device_cli.specs.Replied.{Serves}
 use Rattle.std.specs.Prelude.{List}
@@ -31,8 +31,8 @@ returns-in_default-clause-answered g c told entry rep bytes same =
 pub returns-in-Ok-clause-answered : goal.returns-in-Ok-clause-answered
 returns-in-Ok-clause-answered g c told entry rep bytes same =
     let P = g.P.Platform in
-    let old : World = world c.args.self.now.session (P.history c.args.platform.now) (P.head c.args.platform.now) (P.capacity c.args.platform.now) in
-    let new : World = world (Some c.write.new.self) (P.history c.write.new.platform) (P.head c.write.new.platform) (P.capacity c.write.new.platform) in
+    let old : World = world_of P c.args.self.now.session c.args.platform.now in
+    let new : World = world_of P (Some c.write.new.self) c.write.new.platform in
     let taken : c.args.self.now.session ≡ Some c.in-Some.session = c.in-Some.is in
     with_session old c.in-Some.session entry taken rep (λ state. Serves old new state (Write c.args.block bytes) (Ok replies.Done))
     (λ d t holds touched.
@@ -46,8 +46,8 @@ returns-in-Ok-clause-answered g c told entry rep bytes same =
 pub returns-in-Err-Range-clause-answered : goal.returns-in-Err-Range-clause-answered
 returns-in-Err-Range-clause-answered g c told entry rep bytes same =
     let P = g.P.Platform in
-    let old : World = world c.args.self.now.session (P.history c.args.platform.now) (P.head c.args.platform.now) (P.capacity c.args.platform.now) in
-    let new : World = world (Some c.write.new.self) (P.history c.write.new.platform) (P.head c.write.new.platform) (P.capacity c.write.new.platform) in
+    let old : World = world_of P c.args.self.now.session c.args.platform.now in
+    let new : World = world_of P (Some c.write.new.self) c.write.new.platform in
     let taken : c.args.self.now.session ≡ Some c.in-Some.session = c.in-Some.is in
     with_session old c.in-Some.session entry taken rep (λ state. Serves old new state (Write c.args.block bytes) (Ok replies.Range))
     (λ d t holds touched.
@@ -59,8 +59,8 @@ returns-in-Err-Range-clause-answered g c told entry rep bytes same =
 pub returns-in-Err-Full-clause-answered : goal.returns-in-Err-Full-clause-answered
 returns-in-Err-Full-clause-answered g c told entry rep bytes same =
     let P = g.P.Platform in
-    let old : World = world c.args.self.now.session (P.history c.args.platform.now) (P.head c.args.platform.now) (P.capacity c.args.platform.now) in
-    let new : World = world (Some c.write.new.self) (P.history c.write.new.platform) (P.head c.write.new.platform) (P.capacity c.write.new.platform) in
+    let old : World = world_of P c.args.self.now.session c.args.platform.now in
+    let new : World = world_of P (Some c.write.new.self) c.write.new.platform in
     let taken : c.args.self.now.session ≡ Some c.in-Some.session = c.in-Some.is in
     with_session old c.in-Some.session entry taken rep (λ state. Serves old new state (Write c.args.block bytes) (Ok replies.Full))
     (λ d t holds touched.
@@ -73,8 +73,8 @@ returns-in-Err-Full-clause-answered g c told entry rep bytes same =
 pub returns-in-Err-BadRecord-clause-answered : goal.returns-in-Err-BadRecord-clause-answered
 returns-in-Err-BadRecord-clause-answered g c told entry rep bytes same =
     let P = g.P.Platform in
-    let old : World = world c.args.self.now.session (P.history c.args.platform.now) (P.head c.args.platform.now) (P.capacity c.args.platform.now) in
-    let new : World = world (Some c.write.new.self) (P.history c.write.new.platform) (P.head c.write.new.platform) (P.capacity c.write.new.platform) in
+    let old : World = world_of P c.args.self.now.session c.args.platform.now in
+    let new : World = world_of P (Some c.write.new.self) c.write.new.platform in
     let taken : c.args.self.now.session ≡ Some c.in-Some.session = c.in-Some.is in
     with_session old c.in-Some.session entry taken rep (λ state. Serves old new state (Write c.args.block bytes) (Err (device.BadRecord c.in-Err-BadRecord.addr)))
     (λ d t holds touched. absurd ((rw c.in-Err-BadRecord.field-0-is at c.in-Err-BadRecord.ensures.array) told d t.contents holds))
@@ -82,22 +82,22 @@ returns-in-Err-BadRecord-clause-answered g c told entry rep bytes same =
 pub returns-in-Err-Memory-clause-answered : goal.returns-in-Err-Memory-clause-answered
 returns-in-Err-Memory-clause-answered g c told entry rep bytes same =
     let P = g.P.Platform in
-    let old : World = world c.args.self.now.session (P.history c.args.platform.now) (P.head c.args.platform.now) (P.capacity c.args.platform.now) in
-    let new : World = world (Some c.write.new.self) (P.history c.write.new.platform) (P.head c.write.new.platform) (P.capacity c.write.new.platform) in
+    let old : World = world_of P c.args.self.now.session c.args.platform.now in
+    let new : World = world_of P (Some c.write.new.self) c.write.new.platform in
     halts_still old new entry (Write c.args.block bytes) device.Memory tt rep (c.write.ensures.time told)
 
 pub returns-in-Err-TapeFault-clause-answered : goal.returns-in-Err-TapeFault-clause-answered
 returns-in-Err-TapeFault-clause-answered g c told entry rep bytes same =
     let P = g.P.Platform in
-    let old : World = world c.args.self.now.session (P.history c.args.platform.now) (P.head c.args.platform.now) (P.capacity c.args.platform.now) in
-    let new : World = world (Some c.write.new.self) (P.history c.write.new.platform) (P.head c.write.new.platform) (P.capacity c.write.new.platform) in
+    let old : World = world_of P c.args.self.now.session c.args.platform.now in
+    let new : World = world_of P (Some c.write.new.self) c.write.new.platform in
     halts_still old new entry (Write c.args.block bytes) device.Tape tt rep (c.write.ensures.time told)
 
 pub returns-in-Err-PlatformFault-clause-answered : goal.returns-in-Err-PlatformFault-clause-answered
 returns-in-Err-PlatformFault-clause-answered g c told entry rep bytes same =
     let P = g.P.Platform in
-    let old : World = world c.args.self.now.session (P.history c.args.platform.now) (P.head c.args.platform.now) (P.capacity c.args.platform.now) in
-    let new : World = world (Some c.write.new.self) (P.history c.write.new.platform) (P.head c.write.new.platform) (P.capacity c.write.new.platform) in
+    let old : World = world_of P c.args.self.now.session c.args.platform.now in
+    let new : World = world_of P (Some c.write.new.self) c.write.new.platform in
     halts_still old new entry (Write c.args.block bytes) device.Platform tt rep (c.write.ensures.time told)
 
 pub returns-in_default-clause-keeps : goal.returns-in_default-clause-keeps
