@@ -3,7 +3,7 @@ use Rattle.std.proofs.Common.{◌≡◌, ℕ, ◌+◌, ◌≤◌, ◌==◌, List
 use Rattle.std.proofs.lemmas.Bool.{cases_Bool}
 use Rattle.sdbt_base.specs.Arrays.{State}
 use Rattle.script_lang.specs.Answers.{Turn, Answers}
-use Rattle.script_lang.specs.declared.replies.Reply.{Reply}
+use Rattle.script_lang.specs.Replies.{Reply}
 use Rattle.std.specs.Prelude.{Bool}
 use Rattle.device_cli.specs.Pages.{adds_page, TurnIf, AnswersOn}
 

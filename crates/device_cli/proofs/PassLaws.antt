@@ -8,7 +8,7 @@ use Rattle.platform.specs.Runs.{Passes}
 use Rattle.sdbt_base.specs.Arrays.{State, Device}
 use Rattle.script_lang.specs.Answers.{Turn, Answers, IsMark}
 use Rattle.script_lang.proofs.AnswerLaws.{Answers-append, Answers-longer}
-use Rattle.script_lang.specs.declared.replies.Reply.{Reply}
+use Rattle.script_lang.specs.Replies.{Reply}
 use Rattle.device_course.specs.Marks as course
 use Rattle.device_course.specs.Marks.{mark_at, last_mark}
 use Rattle.device_course.proofs.MarkLaws.{mark_at-last, mark_at-front, mark_at-behind}

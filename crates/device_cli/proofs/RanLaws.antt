@@ -5,7 +5,7 @@ use Rattle.sdbt_base.specs.Told.{Got, GotPart}
 use Rattle.sdbt_base.proofs.ToldLaws.{Gave-nothing, Got-nothing, Got-then}
 use Rattle.script_lang.specs.Lines.{whole_lines_of}
 use Rattle.sdbt_base.specs.Arrays.{State}
-use Rattle.script_lang.specs.declared.replies.Reply.TheVariants.{Full}
+use Rattle.script_lang.specs.Replies.{Full}
 use Rattle.std.proofs.lemmas.List.Elements.{All-nil}
 use Rattle.platform.specs.History.{During}
 use Rattle.device_cli.specs.World.{World, IsLater}
@@ -13,7 +13,7 @@ use Rattle.device_course.specs.Marks.{Leaves}
 use Rattle.device_cli.specs.Represents.{Stood}
 use Rattle.device_cli.proofs.RepliedLaws.{made_idle, Replied-idle, Handled-then, count-then}
 use Rattle.device_cli.proofs.PassLaws.{AreMarks-none}
-use Rattle.script_lang.specs.declared.replies.Reply.{Reply}
+use Rattle.script_lang.specs.Replies.{Reply}
 use Rattle.device_cli.specs.Run.{TookUntil, Took, status_of}
 use Rattle.device_cli.specs.Replied.{Ending, IsBehind, IsDamageAt, IsAhead, IsSound, Answered, no_line, damage_line}
 use Rattle.device_cli.specs.Added.{HasAdded}

@@ -11,11 +11,11 @@ use Rattle.page_store.proofs.StandsLaws.{one_device, stands_leaves}
 use Rattle.sdbt_base.proofs.ToldLaws.{Got-nothing, Got-then}
 use Rattle.script_lang.specs.Grammar.{Spells, IsBad}
 use Rattle.script_lang.specs.Replies.{line_of}
-use Rattle.script_lang.specs.declared.commands.Command.{Command}
+use Rattle.script_lang.specs.Commands.{Command}
 use Rattle.sdbt_base.specs.Arrays.{State, Device, closed}
 use Rattle.script_lang.specs.Answers.{Turn, answer}
-use Rattle.script_lang.specs.declared.replies.Reply.{Reply}
-use Rattle.script_lang.specs.declared.replies.Reply.TheVariants.{Full, Bad}
+use Rattle.script_lang.specs.Replies.{Reply}
+use Rattle.script_lang.specs.Replies.{Full, Bad}
 use Rattle.device_core.specs.Leaf.{IsServedImage}
 use Rattle.device_cli.specs.Run.{IsOfLine}
 use Rattle.device_cli.specs.World.{World, is_full, IsLater}

@@ -7,8 +7,8 @@ use Rattle.sdbt_base.proofs.ToldLaws.{Gave-nothing, Got-nothing}
 use Rattle.script_lang.specs.Lines.{whole_lines_of, lines_of}
 use Rattle.script_lang.specs.Replies.{line_of}
 use Rattle.sdbt_base.specs.Arrays.{State, Device, closed}
-use Rattle.script_lang.specs.declared.replies.Reply.{Reply}
-use Rattle.script_lang.specs.declared.replies.Reply.TheVariants.{Full}
+use Rattle.script_lang.specs.Replies.{Reply}
+use Rattle.script_lang.specs.Replies.{Full}
 use Rattle.device_core.specs.Leaf.{IsServedImage}
 use Rattle.device_core.specs.declared.session.Session.{Session}
 use Rattle.platform.specs.History.{History}

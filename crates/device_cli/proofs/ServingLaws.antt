@@ -14,12 +14,12 @@ use Rattle.device_core.specs.Replies.{device_after}
 use Rattle.device_core.specs.declared.session.Session.{Session}
 use Rattle.device_core.specs.declared.refusals.CommitReply.{CommitReply}
 use Rattle.device_core.specs.declared.refusals.CommitReply.TheVariants as commits
-use Rattle.script_lang.specs.declared.commands.Command.{Command}
-use Rattle.script_lang.specs.declared.commands.Command.TheVariants.{Format, Mount, Read, Write, Trim, Commit, Drop, Erase, Seize}
-use Rattle.script_lang.specs.declared.commands.Command.TheVariants as commands
-use Rattle.script_lang.specs.declared.replies.Reply.{Reply}
-use Rattle.script_lang.specs.declared.replies.Reply.TheVariants.{Formatted, Mounted, Done, Committed, Dropped, Erased, Unmounted, AlreadyMounted, NotEmpty, NoDevice, Range, Full, Unbuilt}
-use Rattle.script_lang.specs.declared.replies.Reply.TheVariants as replies
+use Rattle.script_lang.specs.Commands.{Command}
+use Rattle.script_lang.specs.Commands.{Format, Mount, Read, Write, Trim, Commit, Drop, Erase, Seize}
+use Rattle.script_lang.specs.Commands as commands
+use Rattle.script_lang.specs.Replies.{Reply}
+use Rattle.script_lang.specs.Replies.{Formatted, Mounted, Done, Committed, Dropped, Erased, Unmounted, AlreadyMounted, NotEmpty, NoDevice, Range, Full, Unbuilt}
+use Rattle.script_lang.specs.Replies as replies
 use Rattle.sdbt_base.specs.Arrays.{Device, Session as OpenSession, State, new_device, session_on, committed, closed}
 use Rattle.script_lang.specs.Answers.{answer}
 use Rattle.device_cli.specs.World.{World, is_full, world}

@@ -4,8 +4,8 @@ use Rattle.platform.specs.Image.{Image}
 use Rattle.platform.specs.declared.platforms.Platform.{Ghosts}
 use Rattle.device_core.specs.Leaf.{IsServedImage}
 use Rattle.script_lang.specs.Replies.{CanWrite}
-use Rattle.script_lang.specs.declared.replies.Reply.{Reply}
-use Rattle.script_lang.specs.declared.replies.Reply.TheVariants as replies
+use Rattle.script_lang.specs.Replies.{Reply}
+use Rattle.script_lang.specs.Replies as replies
 use Rattle.device_cli.specs.Added.{HasAdded}
 use Rattle.device_cli.specs.Run.{IsOfLine}
 use Rattle.device_cli.specs.declared.stop.Stop.{Stop}

@@ -11,10 +11,10 @@ use Rattle.script_lang.specs.Grammar.{Spells}
 use Rattle.script_lang.specs.Replies.{line_of}
 use Rattle.sdbt_base.specs.Arrays.{State, Device, closed}
 use Rattle.script_lang.specs.Answers.{IsMark, answer}
-use Rattle.script_lang.specs.declared.commands.Command.{Command}
-use Rattle.script_lang.specs.declared.commands.Command.TheVariants as commands
-use Rattle.script_lang.specs.declared.replies.Reply.{Reply}
-use Rattle.script_lang.specs.declared.replies.Reply.TheVariants.{Full}
+use Rattle.script_lang.specs.Commands.{Command}
+use Rattle.script_lang.specs.Commands as commands
+use Rattle.script_lang.specs.Replies.{Reply}
+use Rattle.script_lang.specs.Replies.{Full}
 use Rattle.device_cli.specs.World.{World, is_full, IsLater}
 use Rattle.device_course.specs.Marks.{Leaves, mark_at, last_mark}
 use Rattle.device_course.specs.Course.{Made}

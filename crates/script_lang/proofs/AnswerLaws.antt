@@ -3,9 +3,9 @@ use Rattle.std.proofs.Common.{◌≡◌, ℕ, Bool, List, [], ◌∷◌, ◌++�
 use Rattle.script_lang.specs.Grammar.{Spells, IsBad}
 use Rattle.sdbt_base.specs.Arrays.{State}
 use Rattle.script_lang.specs.Answers.{Turn, Answers, answer}
-use Rattle.script_lang.specs.declared.commands.Command.{Command}
-use Rattle.script_lang.specs.declared.replies.Reply.{Reply}
-use Rattle.script_lang.specs.declared.replies.Reply.TheVariants.{Bad}
+use Rattle.script_lang.specs.Commands.{Command}
+use Rattle.script_lang.specs.Replies.{Reply}
+use Rattle.script_lang.specs.Replies.{Bad}
 
 -- a command's line
 pub turn_of_command : (old new : State) (line : List ℕ) (command : Command) (full : Bool) (reply : Reply) → Spells line command

@@ -5,8 +5,8 @@ use Rattle.std.specs.Result.{result_unwrap_or}
 use Rattle.std.specs.Str.Parse.{digits_value}
 use Rattle.hex.specs.Hex.{decode_of}
 use Rattle.script_lang.specs.Grammar.{Spells, IsNumber}
-use Rattle.script_lang.specs.declared.commands.Command.{Command}
-use Rattle.script_lang.specs.declared.commands.Command.TheVariants.{Format, Mount, Read, Write, Trim, Commit, Drop, Erase, Stat, Seize}
+use Rattle.script_lang.specs.Commands.{Command}
+use Rattle.script_lang.specs.Commands.{Format, Mount, Read, Write, Trim, Commit, Drop, Erase, Stat, Seize}
 use Rattle.script_lang.proofs.Numbers.{number_is_numeral}
 use Rattle.script_lang.proofs.Spaces.{no_space}
 use Rattle.script_lang.proofs.ReplyLaws.{before_space, behind_space, before-space, behind-space}
@@ -22,7 +22,7 @@ command_of line =
     (cond (begins line == begins (codes "mount")) Mount
     (cond (begins line == begins (codes "read ")) (Read (digits_value 10 (drop 5 line)))
     (cond (begins line == begins (codes "write ")) (Write (digits_value 10 (before_space (drop 6 line)))
-    (record { items = result_unwrap_or (decode_of (behind_space (drop 6 line))) [] }))
+    (result_unwrap_or (decode_of (behind_space (drop 6 line))) []))
     (cond (begins line == begins (codes "trim ")) (Trim (digits_value 10 (drop 5 line)))
     (cond (begins line == begins (codes "commit")) Commit
     (cond (begins line == begins (codes "drop")) Drop
@@ -41,9 +41,9 @@ command_back line (Format blocks order) (a, b, m, n, e) = ap command_of e
 command_back line Mount e = ap command_of e
 command_back line (Read block) (a, m, e) = ap command_of e ∙ ap Read (value a block m)
 command_back line (Write block content) (a, b, m, n, e) = ap command_of e
-    ∙ ap (λ (text : List ℕ). Write (digits_value 10 text) (record { items = result_unwrap_or (decode_of (behind_space (a ++ 32 ∷ b))) [] })) (before-space a b (no_space a block m))
-    ∙ ap (λ (text : List ℕ). Write (digits_value 10 a) (record { items = result_unwrap_or (decode_of text) [] })) (behind-space a b (no_space a block m))
-    ∙ ap (λ (k : ℕ). Write k (record { items = result_unwrap_or (decode_of b) [] })) (value a block m)
+    ∙ ap (λ (text : List ℕ). Write (digits_value 10 text) (result_unwrap_or (decode_of (behind_space (a ++ 32 ∷ b))) [])) (before-space a b (no_space a block m))
+    ∙ ap (λ (text : List ℕ). Write (digits_value 10 a) (result_unwrap_or (decode_of text) [])) (behind-space a b (no_space a block m))
+    ∙ ap (λ (k : ℕ). Write k (result_unwrap_or (decode_of b) [])) (value a block m)
     ∙ rw n.0 refl
 command_back line (Trim block) (a, m, e) = ap command_of e ∙ ap Trim (value a block m)
 command_back line Commit e = ap command_of e

@@ -10,8 +10,8 @@ use Rattle.hex.specs.Hex.{decode_of, encode_lower, encode_with, lower_digits}
 use Rattle.hex.proofs.HexLemmas.{decode_of-encode_lower}
 use Rattle.script_lang.specs.Grammar.{HasNone}
 use Rattle.script_lang.specs.Replies.{text_of, line_of, hex_or_dash, IsReply, IsFront}
-use Rattle.script_lang.specs.declared.replies.Reply.{Reply}
-use Rattle.script_lang.specs.declared.replies.Reply.TheVariants.{Formatted, Mounted, Content, Done, Committed, Dropped, Erased, Stat, Seized, Bad, Unmounted, AlreadyMounted, NotEmpty, NoDevice, Range, Full, Unbuilt}
+use Rattle.script_lang.specs.Replies.{Reply}
+use Rattle.script_lang.specs.Replies.{Formatted, Mounted, Content, Done, Committed, Dropped, Erased, Stat, Seized, Bad, Unmounted, AlreadyMounted, NotEmpty, NoDevice, Range, Full, Unbuilt}
 use Rattle.script_lang.proofs.Spaces.{split_once, no_space}
 use Rattle.script_lang.proofs.Numbers.{number_has_none}
 use Rattle.std.proofs.lemmas.Bool.{cases_Bool, eqb-false}
@@ -38,7 +38,7 @@ abbrev reply_of : List ℕ → Reply
 reply_of text =
     cond (begins text == begins (codes "formatted")) Formatted
     (cond (begins text == begins (codes "mounted ")) (Mounted (number_at 8 text))
-    (cond (begins text == begins (codes "data ")) (Content (record { items = result_unwrap_or (decode_of (drop 5 text)) [] }))
+    (cond (begins text == begins (codes "data ")) (Content (result_unwrap_or (decode_of (drop 5 text)) []))
     (cond (begins text == begins (codes "ok")) Done
     (cond (begins text == begins (codes "committed ")) (Committed (number_at 10 text))
     (cond (begins text == begins (codes "dropped")) Dropped
@@ -81,7 +81,7 @@ reply_back : (reply : Reply) → IsReply reply → reply_of (text_of reply) ≡ 
 unfolding text_of
 reply_back Formatted is = refl
 reply_back (Mounted number) is = ap Mounted (digits_back number is)
-reply_back (Content bytes) is = ap (λ (items : List ℕ). Content (record { items = items })) (hex_back bytes.items is)
+reply_back (Content bytes) is = ap (λ (items : List ℕ). Content items) (hex_back bytes is)
 reply_back Done is = refl
 reply_back (Committed number) is = ap Committed (digits_back number is)
 reply_back Dropped is = refl
@@ -157,7 +157,7 @@ pub text_has_no_feed : (reply : Reply) → IsReply reply → HasNone 10 (text_of
 unfolding text_of
 text_has_no_feed Formatted is = none_from_test 10 (codes "formatted") refl
 text_has_no_feed (Mounted number) is = none_in_both 10 (codes "mounted ") (decimal number) (none_from_test 10 (codes "mounted ") refl) (no_feed_in_number number is)
-text_has_no_feed (Content bytes) is = none_in_both 10 (codes "data ") (hex_or_dash bytes.items) (none_from_test 10 (codes "data ") refl) (no_feed_in_content bytes.items)
+text_has_no_feed (Content bytes) is = none_in_both 10 (codes "data ") (hex_or_dash bytes) (none_from_test 10 (codes "data ") refl) (no_feed_in_content bytes)
 text_has_no_feed Done is = none_from_test 10 (codes "ok") refl
 text_has_no_feed (Committed number) is = none_in_both 10 (codes "committed ") (decimal number) (none_from_test 10 (codes "committed ") refl) (no_feed_in_number number is)
 text_has_no_feed Dropped is = none_from_test 10 (codes "dropped") refl

@@ -3,10 +3,10 @@ use Rattle.std.proofs.Common.{◌≡◌, Bool, true, false, cond, ◌&&◌, ◌+
 use Rattle.script_lang.specs.Arrays.{content_reply, in_limits, with_session, step, step_if}
 use Rattle.sdbt_base.specs.Arrays.{State, content_of, new_device, written, unmapped, committed, session_on, Device, Session}
 use Rattle.script_lang.specs.Replies.{CanWrite}
-use Rattle.script_lang.specs.declared.commands.Command.{Command}
-use Rattle.script_lang.specs.declared.commands.Command.TheVariants.{Format, Mount, Read, Write, Trim, Commit, Drop, Erase, Stat, Seize}
-use Rattle.script_lang.specs.declared.replies.Reply.{Reply}
-use Rattle.script_lang.specs.declared.replies.Reply.TheVariants.{Formatted, Done, Committed, Range, Full}
+use Rattle.script_lang.specs.Commands.{Command}
+use Rattle.script_lang.specs.Commands.{Format, Mount, Read, Write, Trim, Commit, Drop, Erase, Stat, Seize}
+use Rattle.script_lang.specs.Replies.{Reply}
+use Rattle.script_lang.specs.Replies.{Formatted, Done, Committed, Range, Full}
 use Rattle.script_lang.proofs.Trims.{trimmed_is_trimmed}
 
 either : (b : Bool) (x y : Reply × State) → CanWrite x.0 → CanWrite y.0 → CanWrite (cond b x y).0
@@ -33,7 +33,7 @@ can_write_at full (Some device) None (Write block content) = tt
 can_write_at full (Some device) (Some session) (Write block content) =
     let state : State = record { device = Some device; session = Some session } in
     either (nat_lt block device.blocks && full) (Full, state) (step state (Write block content)) tt
-    (either (nat_lt block device.blocks) (Done, with_session state (written session block content.items)) (Range, state) tt tt)
+    (either (nat_lt block device.blocks) (Done, with_session state (written session block content)) (Range, state) tt tt)
 can_write_at full None session (Trim block) = tt
 can_write_at full (Some device) None (Trim block) = tt
 can_write_at full (Some device) (Some session) (Trim block) =

@@ -1,9 +1,9 @@
 -- Which replies belong to the lines of a script.
 use Rattle.std.specs.Prelude.{◌≡◌, ℕ, Bool, true, false, not, ◌&&◌, ◌||◌, ◌==◌, nat_lt, if◌then◌else◌, List, [], ◌∷◌, ◌⊎◌, Option, ◌≤◌, length, take}
-use Rattle.script_lang.specs.declared.commands.Command.{Command}
-use Rattle.script_lang.specs.declared.commands.Command.TheVariants.{Format, Mount, Read, Write, Trim, Commit, Drop, Erase, Stat, Seize}
-use Rattle.script_lang.specs.declared.replies.Reply.{Reply}
-use Rattle.script_lang.specs.declared.replies.Reply.TheVariants.{Bad, Unbuilt}
+use Rattle.script_lang.specs.Commands.{Command}
+use Rattle.script_lang.specs.Commands.{Format, Mount, Read, Write, Trim, Commit, Drop, Erase, Stat, Seize}
+use Rattle.script_lang.specs.Replies.{Reply}
+use Rattle.script_lang.specs.Replies.{Bad, Unbuilt}
 use Rattle.sdbt_base.specs.Arrays.{Device, State}
 use Rattle.script_lang.specs.Grammar.{Spells, IsBad}
 use Rattle.script_lang.specs.Arrays.{needs_room, step_if}

@@ -1,11 +1,11 @@
 -- The array machine: which reply belongs to a command, and which state follows.
-use Rattle.std.specs.Prelude.{ℕ, ◌+◌, ◌-◌, ◌%◌, Bool, false, ◌&&◌, ◌==◌, nat_lt, nat_le, if◌then◌else◌, List, [], ◌∷◌, Option, Some, None}
+use Rattle.std.specs.Prelude.{ℕ, ◌+◌, ◌%◌, Bool, false, ◌&&◌, ◌==◌, nat_lt, nat_le, if◌then◌else◌, List, [], ◌∷◌, Option, Some, None}
 use Rattle.std.specs.FinMap as map
-use Rattle.script_lang.specs.declared.commands.Command.{Command}
-use Rattle.script_lang.specs.declared.commands.Command.TheVariants.{Format, Mount, Read, Write, Trim, Commit, Drop, Erase, Stat, Seize}
-use Rattle.script_lang.specs.declared.replies.Reply.{Reply}
-use Rattle.script_lang.specs.declared.replies.Reply.TheVariants.{Formatted, Mounted, Content, Done, Committed, Dropped, Erased, Unmounted, AlreadyMounted, NotEmpty, NoDevice, Range, Full, Unbuilt}
-use Rattle.script_lang.specs.declared.replies.Reply.TheVariants as replies
+use Rattle.script_lang.specs.Commands.{Command}
+use Rattle.script_lang.specs.Commands.{Format, Mount, Read, Write, Trim, Commit, Drop, Erase, Stat, Seize}
+use Rattle.script_lang.specs.Replies.{Reply}
+use Rattle.script_lang.specs.Replies.{Formatted, Mounted, Content, Done, Committed, Dropped, Erased, Unmounted, AlreadyMounted, NotEmpty, NoDevice, Range, Full, Unbuilt}
+use Rattle.script_lang.specs.Replies as replies
 use Rattle.sdbt_base.specs.Arrays.{Device, Session, State, content_of, new_device, session_on, committed, written, unmapped}
 
 -- a byte before bytes that have no trailing zeros: a zero before nothing is a trailing one
@@ -20,7 +20,7 @@ trimmed (byte ∷ bytes) = before_trimmed byte (trimmed bytes)
 
 -- the reply that gives a block's content
 abbrev pub content_reply : List ℕ → Reply
-content_reply content = Content (record { items = trimmed content })
+content_reply content = Content (trimmed content)
 
 -- a device may have 1 to 1,048,576 blocks, and an even order from 4 to 64
 abbrev pub in_limits : ℕ → ℕ → Bool
@@ -57,7 +57,7 @@ step state Mount = on_session state.session
 step state (Read block) = in_session state.device state.session (Unmounted, state) (λ device session.
     if nat_lt block device.blocks then (content_reply (content_of session.contents block), state) else (Range, state))
 step state (Write block content) = in_session state.device state.session (Unmounted, state) (λ device session.
-    if nat_lt block device.blocks then (Done, with_session state (written session block content.items)) else (Range, state))
+    if nat_lt block device.blocks then (Done, with_session state (written session block content)) else (Range, state))
 step state (Trim block) = in_session state.device state.session (Unmounted, state) (λ device session.
     if nat_lt block device.blocks then (Done, with_session state (unmapped session block)) else (Range, state))
 step state Commit = in_session state.device state.session (Unmounted, state) (λ device session.

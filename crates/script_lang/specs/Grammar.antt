@@ -3,8 +3,8 @@ use Rattle.std.specs.Prelude.{◌≡◌, ◌≢◌, ℕ, ◌<◌, ◌≤◌, ◌
 use Rattle.std.specs.List.{AllByRecursion}
 use Rattle.std.specs.Fmt.{decimal}
 use Rattle.hex.specs.Hex.{decode_of}
-use Rattle.script_lang.specs.declared.commands.Command.{Command}
-use Rattle.script_lang.specs.declared.commands.Command.TheVariants.{Format, Mount, Read, Write, Trim, Commit, Drop, Erase, Stat, Seize}
+use Rattle.script_lang.specs.Commands.{Command}
+use Rattle.script_lang.specs.Commands.{Format, Mount, Read, Write, Trim, Commit, Drop, Erase, Stat, Seize}
 
 -- a number's only text: its decimal digits
 abbrev pub IsNumber : List ℕ → ℕ → Type 0
@@ -23,7 +23,7 @@ abbrev pub Spells : List ℕ → Command → Type 0
 Spells line (Format blocks order) = (a b : List ℕ) × IsNumber a blocks × IsNumber b order × (line ≡ codes "format " ++ (a ++ 32 ∷ b))
 Spells line Mount = line ≡ codes "mount"
 Spells line (Read block) = (a : List ℕ) × IsNumber a block × (line ≡ codes "read " ++ a)
-Spells line (Write block content) = (a b : List ℕ) × IsNumber a block × IsHex b content.items × (line ≡ codes "write " ++ (a ++ 32 ∷ b))
+Spells line (Write block content) = (a b : List ℕ) × IsNumber a block × IsHex b content × (line ≡ codes "write " ++ (a ++ 32 ∷ b))
 Spells line (Trim block) = (a : List ℕ) × IsNumber a block × (line ≡ codes "trim " ++ a)
 Spells line Commit = line ≡ codes "commit"
 Spells line Drop = line ≡ codes "drop"

@@ -1,3 +1,4 @@
+pub mod Commands
 pub mod Grammar
 pub mod Replies
 pub mod Lines

@@ -1,10 +1,54 @@
--- The text of each reply.
-use Rattle.std.specs.Prelude.{◌≢◌, ℕ, ◌<◌, ◌≤◌, ◌^◌, List, [], ◌∷◌, ◌++◌, length, codes}
+-- What is answered to a line, and the text of each reply.
+use Rattle.std.specs.Prelude.{◌≢◌, ℕ, ◌<◌, ◌≤◌, ◌^◌, List, [], ◌∷◌, ◌++◌, length, take, codes}
 use Rattle.std.specs.List.{AllByRecursion}
 use Rattle.std.specs.Fmt.{decimal}
 use Rattle.hex.specs.Hex.{encode_lower}
-use Rattle.script_lang.specs.declared.replies.Reply.{Reply}
-use Rattle.script_lang.specs.declared.replies.Reply.TheVariants.{Formatted, Mounted, Content, Done, Committed, Dropped, Erased, Stat, Seized, Bad, Unmounted, AlreadyMounted, NotEmpty, NoDevice, Range, Full, Unbuilt}
+use Rattle.script_lang.specs.declared.replies.Reply.{Reply as Given}
+use Rattle.script_lang.specs.declared.replies.Reply.TheVariants as given
+
+pub data Reply : Type 0 where
+  Formatted : Reply
+  Mounted : (number : ℕ) → Reply
+  Content : (bytes : List ℕ) → Reply
+  Done : Reply
+  Committed : (number : ℕ) → Reply
+  Dropped : Reply
+  Erased : Reply
+  Stat : (mapped number : ℕ) → Reply
+  Seized : (pages nodes blocks : ℕ) → Reply
+  Bad : Reply
+  Unmounted : Reply
+  AlreadyMounted : Reply
+  NotEmpty : Reply
+  NoDevice : Reply
+  Range : Reply
+  Full : Reply
+  Unbuilt : Reply
+
+-- the reply that was given, whose bytes stand at the front of a buffer
+abbrev pub said : Given → List ℕ → Reply
+said given.Formatted buffer = Formatted
+said (given.Mounted number) buffer = Mounted number
+said (given.Content count) buffer = Content (take count buffer)
+said given.Done buffer = Done
+said (given.Committed number) buffer = Committed number
+said given.Dropped buffer = Dropped
+said given.Erased buffer = Erased
+said (given.Stat mapped number) buffer = Stat mapped number
+said (given.Seized pages nodes blocks) buffer = Seized pages nodes blocks
+said given.Bad buffer = Bad
+said given.Unmounted buffer = Unmounted
+said given.AlreadyMounted buffer = AlreadyMounted
+said given.NotEmpty buffer = NotEmpty
+said given.NoDevice buffer = NoDevice
+said given.Range buffer = Range
+said given.Full buffer = Full
+said given.Unbuilt buffer = Unbuilt
+
+-- its bytes are those of a block at most
+abbrev pub FitsBlock : Given → Type 0
+FitsBlock (given.Content count) = count ≤ 4096
+FitsBlock _ = Unit {0}
 
 -- the bytes of a block's front in hex; a dash where there is none
 abbrev pub hex_or_dash : List ℕ → List ℕ
@@ -15,7 +59,7 @@ hex_or_dash (byte ∷ bytes) = encode_lower (byte ∷ bytes)
 unfoldable pub text_of : Reply → List ℕ
 text_of Formatted = codes "formatted"
 text_of (Mounted number) = codes "mounted " ++ decimal number
-text_of (Content bytes) = codes "data " ++ hex_or_dash bytes.items
+text_of (Content bytes) = codes "data " ++ hex_or_dash bytes
 text_of Done = codes "ok"
 text_of (Committed number) = codes "committed " ++ decimal number
 text_of Dropped = codes "dropped"
@@ -48,7 +92,7 @@ pub record IsFront (bytes : List ℕ) : Type 0 where
 -- a reply that can be given: its numbers have 64 bits, and its bytes are a block's front
 abbrev pub IsReply : Reply → Type 0
 IsReply (Mounted number) = number < 2 ^ 64
-IsReply (Content bytes) = IsFront bytes.items
+IsReply (Content bytes) = IsFront bytes
 IsReply (Committed number) = number < 2 ^ 64
 IsReply (Stat mapped number) = (mapped < 2 ^ 64) × (number < 2 ^ 64)
 IsReply (Seized pages nodes blocks) = (pages < 2 ^ 64) × (nodes < 2 ^ 64) × (blocks < 2 ^ 64)
@@ -67,5 +111,5 @@ IsReply Unbuilt = Unit {0}
 
 -- a block's content in a reply is given without its trailing zeros
 abbrev pub CanWrite : Reply → Type 0
-CanWrite (Content bytes) = IsTrimmed bytes.items
+CanWrite (Content bytes) = IsTrimmed bytes
 CanWrite _ = Unit {0}

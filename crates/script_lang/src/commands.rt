@@ -1,37 +1,27 @@
 //! The commands of a script, and the grammar of their lines.
 
 ghost use Rattle.std.specs.Prelude.{◌≡◌, ◌<◌, ℕ, List, ◌++◌, length, IfSome, IfNone};
-ghost use Rattle.arrayvec.specs.ArrayVec.{ArrayVec as Bytes};
+ghost use Rattle.script_lang.specs.Commands as commands;
+ghost use Rattle.script_lang.specs.Commands.{Command as Asked, FitsBlock, asked};
 ghost use Rattle.script_lang.specs.Grammar.{Spells, IsBad, HasNone};
 ghost use Rattle.script_lang.specs.Lines.{whole_lines_of, rest_of, lines_of, last_line};
 
 use crate::words::{number_before, parse_hex, parse_number};
-use arrayvec::ArrayVec;
 use sdbt_base::BLOCK;
 
-/// A line of a script, read.
-#[derive(Clone, Debug, PartialEq, Eq, Drop)]
+/// A line of a script, read. What a write writes stands apart, at the front of a buffer.
+#[derive(Clone, Copy, Debug, PartialEq, Eq)]
 pub enum Command {
     /// Makes a device of so many blocks, with nodes of at most `order` entries.
-    Format {
-        blocks: u64,
-        order: u64,
-    },
+    Format { blocks: u64, order: u64 },
     /// Opens a session.
     Mount,
     /// Reads a block.
-    Read {
-        block: u64,
-    },
-    /// Writes a block: these 1 to 4,096 bytes, and zeros up to its end.
-    Write {
-        block: u64,
-        content: ArrayVec<u8, BLOCK>,
-    },
+    Read { block: u64 },
+    /// Writes a block: so many bytes of the buffer, 1 to 4,096, and zeros up to its end.
+    Write { block: u64, count: usize },
     /// Unmaps a block, which is all zeros then.
-    Trim {
-        block: u64,
-    },
+    Trim { block: u64 },
     /// Makes the session's changes the device's.
     Commit,
     /// Gives the session and its changes up.
@@ -44,9 +34,11 @@ pub enum Command {
     Seize,
 }
 
-/// The command that a line spells, without its line feed; None for a line outside the grammar.
-pub fn parse(line: &[u8]) -> Option<Command>
-    ensures found { IfSome result (λ command. Spells line.now command) }
+/// The command that a line spells, without its line feed; None for a line outside the grammar. The bytes that a write writes
+/// come to the front of the buffer, of which nothing else is kept.
+pub fn parse(line: &[u8], buffer: &mut [u8; BLOCK]) -> Option<Command>
+    ensures found { IfSome result (λ command. Spells line.now (asked command buffer.new)) }
+    ensures fits { IfSome result FitsBlock }
     ensures none { IfNone result (IsBad line.now) }
 {
     if let Some(command) = parse_word(line) {
@@ -58,7 +50,7 @@ pub fn parse(line: &[u8]) -> Option<Command>
     if let Some(command) = parse_read(line) {
         return Some(command);
     }
-    if let Some(command) = parse_write(line) {
+    if let Some(command) = parse_write(line, buffer) {
         return Some(command);
     }
     parse_trim(line)
@@ -66,13 +58,14 @@ pub fn parse(line: &[u8]) -> Option<Command>
 
 /// A command that is one word.
 fn parse_word(line: &[u8]) -> Option<Command>
-    ensures found { IfSome result (λ command. Spells line.now command) }
-    ensures mount { IfNone result (Spells line.now Command.Mount → ⊥) }
-    ensures commit { IfNone result (Spells line.now Command.Commit → ⊥) }
-    ensures drop { IfNone result (Spells line.now Command.Drop → ⊥) }
-    ensures erase { IfNone result (Spells line.now Command.Erase → ⊥) }
-    ensures stat { IfNone result (Spells line.now Command.Stat → ⊥) }
-    ensures seize { IfNone result (Spells line.now Command.Seize → ⊥) }
+    ensures found { IfSome result (λ command. (buffer : List ℕ) → Spells line.now (asked command buffer)) }
+    ensures fits { IfSome result FitsBlock }
+    ensures mount { IfNone result (Spells line.now commands.Mount → ⊥) }
+    ensures commit { IfNone result (Spells line.now commands.Commit → ⊥) }
+    ensures drop { IfNone result (Spells line.now commands.Drop → ⊥) }
+    ensures erase { IfNone result (Spells line.now commands.Erase → ⊥) }
+    ensures stat { IfNone result (Spells line.now commands.Stat → ⊥) }
+    ensures seize { IfNone result (Spells line.now commands.Seize → ⊥) }
 {
     match line {
         b"mount" => Some(Command::Mount),
@@ -87,8 +80,9 @@ fn parse_word(line: &[u8]) -> Option<Command>
 
 /// `format B M`
 fn parse_format(line: &[u8]) -> Option<Command>
-    ensures found { IfSome result (λ command. Spells line.now command) }
-    ensures none { IfNone result ((blocks order : ℕ) → Spells line.now (Command.Format blocks order) → ⊥) }
+    ensures found { IfSome result (λ command. (buffer : List ℕ) → Spells line.now (asked command buffer)) }
+    ensures fits { IfSome result FitsBlock }
+    ensures none { IfNone result ((blocks order : ℕ) → Spells line.now (commands.Format blocks order) → ⊥) }
 {
     let (blocks, rest) = number_before(line.strip_prefix(b"format ".as_slice())?)?;
     let order = parse_number(rest)?;
@@ -97,27 +91,30 @@ fn parse_format(line: &[u8]) -> Option<Command>
 
 /// `read N`
 fn parse_read(line: &[u8]) -> Option<Command>
-    ensures found { IfSome result (λ command. Spells line.now command) }
-    ensures none { IfNone result ((block : ℕ) → Spells line.now (Command.Read block) → ⊥) }
+    ensures found { IfSome result (λ command. (buffer : List ℕ) → Spells line.now (asked command buffer)) }
+    ensures fits { IfSome result FitsBlock }
+    ensures none { IfNone result ((block : ℕ) → Spells line.now (commands.Read block) → ⊥) }
 {
     let block = parse_number(line.strip_prefix(b"read ".as_slice())?)?;
     Some(Command::Read { block })
 }
 
 /// `write N HEX`
-fn parse_write(line: &[u8]) -> Option<Command>
-    ensures found { IfSome result (λ command. Spells line.now command) }
-    ensures none { IfNone result ((block : ℕ) (content : Bytes ℕ) → Spells line.now (Command.Write block content) → ⊥) }
+fn parse_write(line: &[u8], buffer: &mut [u8; BLOCK]) -> Option<Command>
+    ensures found { IfSome result (λ command. Spells line.now (asked command buffer.new)) }
+    ensures fits { IfSome result FitsBlock }
+    ensures none { IfNone result ((block : ℕ) (content : List ℕ) → Spells line.now (commands.Write block content) → ⊥) }
 {
     let (block, digits) = number_before(line.strip_prefix(b"write ".as_slice())?)?;
-    let content = parse_hex(digits)?;
-    Some(Command::Write { block, content })
+    let count = parse_hex(digits, buffer)?;
+    Some(Command::Write { block, count })
 }
 
 /// `trim N`
 fn parse_trim(line: &[u8]) -> Option<Command>
-    ensures found { IfSome result (λ command. Spells line.now command) }
-    ensures none { IfNone result ((block : ℕ) → Spells line.now (Command.Trim block) → ⊥) }
+    ensures found { IfSome result (λ command. (buffer : List ℕ) → Spells line.now (asked command buffer)) }
+    ensures fits { IfSome result FitsBlock }
+    ensures none { IfNone result ((block : ℕ) → Spells line.now (commands.Trim block) → ⊥) }
 {
     let block = parse_number(line.strip_prefix(b"trim ".as_slice())?)?;
     Some(Command::Trim { block })
@@ -140,5 +137,5 @@ pub fn lines_come_in_pieces()
 
 /// A line spells one command at most.
 pub fn lines_spell_one_command()
-    ensures { (line : List ℕ) (first second : Command) → Spells line first → Spells line second → first ≡ second }
+    ensures { (line : List ℕ) (first second : Asked) → Spells line first → Spells line second → first ≡ second }
 {}

@@ -14,10 +14,10 @@ pub use commands::{
     Command, lines_come_in_pieces, lines_spell_one_command, long_lines_are_bad, parse,
 };
 pub use devices::{Contents, Device, Session};
-pub use machine::{Machine, fill_block, reply_with_content};
+pub use machine::{Machine, reply_with_content};
 pub use reading::{read_reply, replies_are_determined};
 pub use replies::Reply;
-pub use writing::write_reply;
+pub use writing::ReplyWriter;
 
 #[cfg(test)]
 mod tests;

@@ -1,15 +1,16 @@
 //! The array machine as plain code.
 
-ghost use Rattle.std.specs.Prelude.{◌≡◌, ◌≢◌, ◌-◌, ◌^◌, ◌<◌, ◌≤◌, [], length, None, IfOk, OnErr, IsTrue, ◌↔◌, nat_lt, if◌then◌else◌};
+ghost use Rattle.std.specs.Prelude.{◌≡◌, ◌≢◌, ◌-◌, ◌^◌, ◌<◌, ◌≤◌, ℕ, List, [], length, None, IfOk, OnErr, IsTrue, ◌↔◌, nat_lt, if◌then◌else◌};
 ghost use Rattle.script_lang.specs.Arrays.{in_limits, number_of, step, step_if, trimmed, content_reply};
 ghost use Rattle.sdbt_base.specs.Arrays.{State, written, unmapped, padded, content_of};
 ghost use Rattle.std.specs.Prelude.{take};
-ghost use Rattle.script_lang.specs.Replies.{CanWrite};
+ghost use Rattle.script_lang.specs.Commands as commands;
+ghost use Rattle.script_lang.specs.Commands.{asked, FitsBlock};
+ghost use Rattle.script_lang.specs.Replies.{CanWrite, said, FitsBlock as FitsReply};
 
 use crate::commands::Command;
 use crate::devices::{Contents, Device, Session};
 use crate::replies::Reply;
-use arrayvec::ArrayVec;
 use sdbt_base::{BLOCK, MAX_BLOCKS, MAX_ORDER, Memory};
 use std::alloc::Global;
 use std::marker::Model;
@@ -56,29 +57,44 @@ impl Machine {
     }
 
     /// The reply to a command, on a medium that is full or is not: `full` answers `Full` where a format, a
-    /// write or a commit of changes would be accepted. After `Memory` the machine is as before.
-    pub fn step(&mut self, command: &Command, full: bool) -> Result<Reply, Memory>
+    /// write or a commit of changes would be accepted. What a write writes stands in the buffer before, and what a block holds
+    /// after. After `Memory` the machine is as before.
+    pub fn step(
+        &mut self,
+        command: &Command,
+        buffer: &mut [u8; BLOCK],
+        full: bool,
+    ) -> Result<Reply, Memory>
         requires served { command.now ≢ Command.Seize }
+        requires fits { FitsBlock command.now }
         requires counted { number_of self.old < 2 ^ 64 - 1 }
-        ensures step { IfOk result (λ reply. (reply, self.new) ≡ step_if full self.old command.now) }
+        ensures step { IfOk result (λ reply. (said reply buffer.new, self.new) ≡ step_if full self.old (asked command.now buffer.old)) }
         ensures memory { OnErr result (self.new ≡ self.old) }
         // The reply can be written.
-        ensures written { IfOk result (λ reply. CanWrite reply) }
+        ensures written { IfOk result (λ reply. CanWrite (said reply buffer.new)) }
+        ensures short { IfOk result FitsReply }
     {
-        self.answer(command, full)
+        self.answer(command, buffer, full)
     }
 
-    fn answer(&mut self, command: &Command, full: bool) -> Result<Reply, Memory>
+    fn answer(
+        &mut self,
+        command: &Command,
+        buffer: &mut [u8; BLOCK],
+        full: bool,
+    ) -> Result<Reply, Memory>
         requires served { command.now ≢ Command.Seize }
+        requires fits { FitsBlock command.now }
         requires counted { number_of self.old < 2 ^ 64 - 1 }
-        ensures step { IfOk result (λ reply. (reply, self.new) ≡ step_if full self.old command.now) }
+        ensures step { IfOk result (λ reply. (said reply buffer.new, self.new) ≡ step_if full self.old (asked command.now buffer.old)) }
         ensures memory { OnErr result (self.new ≡ self.old) }
+        ensures short { IfOk result FitsReply }
     {
         match command {
             Command::Format { blocks, order } => Ok(self.format(*blocks, *order, full)),
             Command::Mount => self.mount(),
-            Command::Read { block } => Ok(self.read(*block)),
-            Command::Write { block, content } => self.write(*block, content.as_slice(), full),
+            Command::Read { block } => Ok(self.read(*block, buffer)),
+            Command::Write { block, count } => self.write(*block, &buffer[..*count], full),
             Command::Trim { block } => Ok(self.trim(*block)),
             Command::Commit => self.commit(full),
             Command::Drop => Ok(self.give_up()),
@@ -89,7 +105,8 @@ impl Machine {
     }
 
     fn format(&mut self, blocks: u64, order: u64, full: bool) -> Reply
-        ensures { (result, self.new) ≡ step_if full self.old (Command.Format blocks order) }
+        ensures step { (buffer : List ℕ) → (said result buffer, self.new) ≡ step_if full self.old (commands.Format blocks order) }
+        ensures short { FitsReply result }
     {
         if self.device.is_some() {
             return Reply::NotEmpty;
@@ -110,7 +127,8 @@ impl Machine {
     }
 
     fn mount(&mut self) -> Result<Reply, Memory>
-        ensures step { IfOk result (λ reply. (reply, self.new) ≡ step self.old Command.Mount) }
+        ensures step { IfOk result (λ reply. (buffer : List ℕ) → (said reply buffer, self.new) ≡ step self.old commands.Mount) }
+        ensures short { IfOk result FitsReply }
         ensures memory { OnErr result (self.new ≡ self.old) }
     {
         if self.session.is_some() {
@@ -128,8 +146,9 @@ impl Machine {
         Ok(Reply::Mounted { number })
     }
 
-    fn read(&self, block: u64) -> Reply
-        ensures { (result, self.now) ≡ step self.now (Command.Read block) }
+    fn read(&self, block: u64, buffer: &mut [u8; BLOCK]) -> Reply
+        ensures step { (said result buffer.new, self.now) ≡ step self.now (commands.Read block) }
+        ensures short { FitsReply result }
     {
         let Some(device) = &self.device else {
             return Reply::Unmounted;
@@ -138,7 +157,7 @@ impl Machine {
             return Reply::Unmounted;
         };
         if block < device.blocks {
-            content(&session.contents, block)
+            content(&session.contents, block, buffer)
         } else {
             Reply::Range
         }
@@ -146,7 +165,8 @@ impl Machine {
 
     fn write(&mut self, block: u64, bytes: &[u8], full: bool) -> Result<Reply, Memory>
         requires { length bytes.now ≤ 4096 }
-        ensures step { IfOk result (λ reply. (reply, self.new) ≡ step_if full self.old (Command.Write block (record { items = bytes.now }))) }
+        ensures step { IfOk result (λ reply. (buffer : List ℕ) → (said reply buffer, self.new) ≡ step_if full self.old (commands.Write block bytes.now)) }
+        ensures short { IfOk result FitsReply }
         ensures memory { OnErr result (self.new ≡ self.old) }
     {
         let Some(device) = &self.device else {
@@ -168,7 +188,8 @@ impl Machine {
     }
 
     fn trim(&mut self, block: u64) -> Reply
-        ensures { (result, self.new) ≡ step self.old (Command.Trim block) }
+        ensures step { (buffer : List ℕ) → (said result buffer, self.new) ≡ step self.old (commands.Trim block) }
+        ensures short { FitsReply result }
     {
         let Some(device) = &self.device else {
             return Reply::Unmounted;
@@ -188,7 +209,8 @@ impl Machine {
 
     fn commit(&mut self, full: bool) -> Result<Reply, Memory>
         requires { number_of self.old < 2 ^ 64 - 1 }
-        ensures step { IfOk result (λ reply. (reply, self.new) ≡ step_if full self.old Command.Commit) }
+        ensures step { IfOk result (λ reply. (buffer : List ℕ) → (said reply buffer, self.new) ≡ step_if full self.old commands.Commit) }
+        ensures short { IfOk result FitsReply }
         ensures memory { OnErr result (self.new ≡ self.old) }
     {
         let Some(device) = &self.device else {
@@ -222,7 +244,8 @@ impl Machine {
     }
 
     fn give_up(&mut self) -> Reply
-        ensures { (result, self.new) ≡ step self.old Command.Drop }
+        ensures step { (buffer : List ℕ) → (said result buffer, self.new) ≡ step self.old commands.Drop }
+        ensures short { FitsReply result }
     {
         if self.device.is_none() {
             return Reply::Unmounted;
@@ -235,7 +258,8 @@ impl Machine {
     }
 
     fn erase(&mut self) -> Reply
-        ensures { (result, self.new) ≡ step self.old Command.Erase }
+        ensures step { (buffer : List ℕ) → (said result buffer, self.new) ≡ step self.old commands.Erase }
+        ensures short { FitsReply result }
     {
         if self.device.is_none() {
             return Reply::NoDevice;
@@ -246,7 +270,8 @@ impl Machine {
     }
 
     fn stat(&self) -> Reply
-        ensures { (result, self.now) ≡ step self.now Command.Stat }
+        ensures step { (buffer : List ℕ) → (said result buffer, self.now) ≡ step self.now commands.Stat }
+        ensures short { FitsReply result }
     {
         let Some(device) = &self.device else {
             return Reply::Unmounted;
@@ -273,14 +298,16 @@ fn is_in_limits(blocks: u64, order: u64) -> bool
 }
 
 /// What a block holds, as a reply.
-fn content(contents: &Contents, block: u64) -> Reply
-    ensures { result ≡ content_reply (content_of contents.now block) }
+fn content(contents: &Contents, block: u64, buffer: &mut [u8; BLOCK]) -> Reply
+    ensures value { said result buffer.new ≡ content_reply (content_of contents.now block) }
+    ensures short { FitsReply result }
 {
     match contents.get(block) {
-        None => Reply::Content {
-            bytes: ArrayVec::new(),
-        },
-        Some(content) => reply_with_content(whole(content)),
+        None => Reply::Content { count: 0 },
+        Some(content) => {
+            *buffer = *content;
+            reply_with_content(buffer)
+        }
     }
 }
 
@@ -292,26 +319,16 @@ fn whole(content: &[u8; BLOCK]) -> &[u8]
     content
 }
 
-/// The reply that gives the content of a block, of at most 4,096 bytes: all of it but its trailing zeros.
-pub fn reply_with_content(content: &[u8]) -> Reply
-    requires { length content.now ≤ 4096 }
-    ensures value { result ≡ content_reply content.now }
+/// The reply that gives the content of the block in the buffer: all of it but its trailing zeros.
+pub fn reply_with_content(buffer: &[u8; BLOCK]) -> Reply
+    ensures value { said result buffer.now ≡ content_reply buffer.now }
     // The reply can be written.
-    ensures written { CanWrite result }
+    ensures written { CanWrite (said result buffer.now) }
+    ensures short { FitsReply result }
 {
     Reply::Content {
-        bytes: front(content),
+        count: trimmed_len(whole(buffer)),
     }
-}
-
-/// The bytes of a block without its trailing zeros.
-fn front(content: &[u8]) -> ArrayVec<u8, BLOCK>
-    requires { length content.now ≤ 4096 }
-    ensures { result.items ≡ trimmed content.now }
-{
-    let mut bytes = ArrayVec::new();
-    let _ = bytes.try_extend_from_slice(&content[..trimmed_len(content)]);
-    bytes
 }
 
 /// How many bytes stand before the trailing zeros.
@@ -330,7 +347,7 @@ fn trimmed_len(bytes: &[u8]) -> usize
 }
 
 /// Fills a block of 4,096 bytes: these bytes, and zeros up to its end.
-pub fn fill_block(bytes: &[u8], block: &mut [u8])
+fn fill_block(bytes: &[u8], block: &mut [u8])
     requires fits { length bytes.now ≤ 4096 }
     requires size { length block.old ≡ 4096 }
     ensures { block.new ≡ padded bytes.now }

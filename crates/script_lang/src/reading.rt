@@ -1,9 +1,9 @@
 //! Reading replies back.
 
-ghost use Rattle.std.specs.Prelude.{◌≡◌, ◌≢◌, ◌++◌, codes, flat_map, ◌<◌, ◌↔◌, ◌^◌, ℕ, List, Some, length, IfSome, IfNone, IsTrue, OnSome};
-ghost use Rattle.arrayvec.specs.ArrayVec.{ArrayVec as Bytes};
+ghost use Rattle.std.specs.Prelude.{◌≡◌, ◌≢◌, ◌++◌, codes, flat_map, ◌<◌, ◌↔◌, ◌^◌, ℕ, List, Some, length, IfSome, IfNone, IsSomeAnd, IsTrue, take, ◌≤◌};
 ghost use Rattle.hex.specs.Hex.{encode_lower};
-ghost use Rattle.script_lang.specs.Replies.{text_of, line_of, IsReply, IsFront, IsTrimmed, hex_or_dash};
+ghost use Rattle.script_lang.specs.Replies as replies;
+ghost use Rattle.script_lang.specs.Replies.{Reply as Answer, said, FitsBlock, text_of, line_of, IsReply, IsFront, IsTrimmed, hex_or_dash};
 ghost use Rattle.std.specs.Fmt.{decimal};
 ghost use Rattle.std.specs.List.{AllByRecursion};
 ghost use Rattle.std.specs.Bool.{OnTrue, OnFalse};
@@ -11,29 +11,32 @@ ghost use Rattle.std.specs.Bool.{OnTrue, OnFalse};
 use crate::replies::Reply;
 use crate::words::{number_before, parse_hex, parse_number};
 use crate::writing::is_hex_of;
-use arrayvec::ArrayVec;
 use sdbt_base::BLOCK;
 
-/// The reply that a line gives, without its line feed; None for a line that is no reply's text.
-pub fn read_reply(line: &[u8]) -> Option<Reply>
-    ensures found { IfSome result (λ reply. IsReply reply × (line.now ≡ text_of reply)) }
-    ensures none { IfNone result ((reply : Reply) → IsReply reply → line.now ≢ text_of reply) }
+/// The reply that a line gives, without its line feed; None for a line that is no reply's text. What a block holds comes to the
+/// front of the buffer, of which nothing else is kept.
+pub fn read_reply(line: &[u8], buffer: &mut [u8; BLOCK]) -> Option<Reply>
+    ensures found { IfSome result (λ reply. IsReply (said reply buffer.new) × (line.now ≡ text_of (said reply buffer.new))) }
+    ensures fits { IfSome result FitsBlock }
+    ensures none { IfNone result ((answer : Answer) → IsReply answer → line.now ≢ text_of answer) }
     // A text is one reply's, so what was written is read back.
-    ensures same { (reply : Reply) → IsReply reply → line.now ≡ text_of reply → result ≡ Some reply }
+    ensures same { (answer : Answer) → IsReply answer → line.now ≡ text_of answer
+        → IsSomeAnd result (λ reply. said reply buffer.new ≡ answer) }
 {
-    find_reply(line)
+    find_reply(line, buffer)
 }
 
 /// A list of replies is determined by its lines.
 pub fn replies_are_determined()
-    ensures { (first second : List Reply) → AllByRecursion IsReply first → AllByRecursion IsReply second
+    ensures { (first second : List Answer) → AllByRecursion IsReply first → AllByRecursion IsReply second
         → flat_map line_of first ≡ flat_map line_of second → first ≡ second }
 {}
 
 /// A reply whose text the line is.
-fn find_reply(line: &[u8]) -> Option<Reply>
-    ensures found { IfSome result (λ reply. IsReply reply × (line.now ≡ text_of reply)) }
-    ensures none { IfNone result ((reply : Reply) → IsReply reply → line.now ≢ text_of reply) }
+fn find_reply(line: &[u8], buffer: &mut [u8; BLOCK]) -> Option<Reply>
+    ensures found { IfSome result (λ reply. IsReply (said reply buffer.new) × (line.now ≡ text_of (said reply buffer.new))) }
+    ensures fits { IfSome result FitsBlock }
+    ensures none { IfNone result ((answer : Answer) → IsReply answer → line.now ≢ text_of answer) }
 {
     if let Some(reply) = read_success(line) {
         return Some(reply);
@@ -44,7 +47,7 @@ fn find_reply(line: &[u8]) -> Option<Reply>
     if let Some(reply) = read_refusal(line) {
         return Some(reply);
     }
-    if let Some(reply) = read_content(line) {
+    if let Some(reply) = read_content(line, buffer) {
         return Some(reply);
     }
     if let Some(reply) = read_mounted(line) {
@@ -62,11 +65,12 @@ fn find_reply(line: &[u8]) -> Option<Reply>
 /// An accepted command's reply that is one word.
 #[tactic(auto, unfolding(crate::specs::Replies::text_of))]
 fn read_success(line: &[u8]) -> Option<Reply>
-    ensures found { IfSome result (λ reply. IsReply reply × (line.now ≡ text_of reply)) }
-    ensures formatted { IfNone result (line.now ≢ text_of Reply.Formatted) }
-    ensures done { IfNone result (line.now ≢ text_of Reply.Done) }
-    ensures dropped { IfNone result (line.now ≢ text_of Reply.Dropped) }
-    ensures erased { IfNone result (line.now ≢ text_of Reply.Erased) }
+    ensures found { IfSome result (λ reply. (buffer : List ℕ) → IsReply (said reply buffer) × (line.now ≡ text_of (said reply buffer))) }
+    ensures fits { IfSome result FitsBlock }
+    ensures formatted { IfNone result (line.now ≢ text_of replies.Formatted) }
+    ensures done { IfNone result (line.now ≢ text_of replies.Done) }
+    ensures dropped { IfNone result (line.now ≢ text_of replies.Dropped) }
+    ensures erased { IfNone result (line.now ≢ text_of replies.Erased) }
 {
     if is_text(line, b"formatted") {
         return Some(Reply::Formatted);
@@ -86,11 +90,12 @@ fn read_success(line: &[u8]) -> Option<Reply>
 /// A refusal by the state, as `not empty`.
 #[tactic(auto, unfolding(crate::specs::Replies::text_of))]
 fn read_state_refusal(line: &[u8]) -> Option<Reply>
-    ensures found { IfSome result (λ reply. IsReply reply × (line.now ≡ text_of reply)) }
-    ensures unmounted { IfNone result (line.now ≢ text_of Reply.Unmounted) }
-    ensures already_mounted { IfNone result (line.now ≢ text_of Reply.AlreadyMounted) }
-    ensures not_empty { IfNone result (line.now ≢ text_of Reply.NotEmpty) }
-    ensures no_device { IfNone result (line.now ≢ text_of Reply.NoDevice) }
+    ensures found { IfSome result (λ reply. (buffer : List ℕ) → IsReply (said reply buffer) × (line.now ≡ text_of (said reply buffer))) }
+    ensures fits { IfSome result FitsBlock }
+    ensures unmounted { IfNone result (line.now ≢ text_of replies.Unmounted) }
+    ensures already_mounted { IfNone result (line.now ≢ text_of replies.AlreadyMounted) }
+    ensures not_empty { IfNone result (line.now ≢ text_of replies.NotEmpty) }
+    ensures no_device { IfNone result (line.now ≢ text_of replies.NoDevice) }
 {
     if is_text(line, b"unmounted") {
         return Some(Reply::Unmounted);
@@ -110,11 +115,12 @@ fn read_state_refusal(line: &[u8]) -> Option<Reply>
 /// Another refusal, as `range`.
 #[tactic(auto, unfolding(crate::specs::Replies::text_of))]
 fn read_refusal(line: &[u8]) -> Option<Reply>
-    ensures found { IfSome result (λ reply. IsReply reply × (line.now ≡ text_of reply)) }
-    ensures bad { IfNone result (line.now ≢ text_of Reply.Bad) }
-    ensures range { IfNone result (line.now ≢ text_of Reply.Range) }
-    ensures full { IfNone result (line.now ≢ text_of Reply.Full) }
-    ensures unbuilt { IfNone result (line.now ≢ text_of Reply.Unbuilt) }
+    ensures found { IfSome result (λ reply. (buffer : List ℕ) → IsReply (said reply buffer) × (line.now ≡ text_of (said reply buffer))) }
+    ensures fits { IfSome result FitsBlock }
+    ensures bad { IfNone result (line.now ≢ text_of replies.Bad) }
+    ensures range { IfNone result (line.now ≢ text_of replies.Range) }
+    ensures full { IfNone result (line.now ≢ text_of replies.Full) }
+    ensures unbuilt { IfNone result (line.now ≢ text_of replies.Unbuilt) }
 {
     if is_text(line, b"bad") {
         return Some(Reply::Bad);
@@ -140,30 +146,33 @@ fn is_text(line: &[u8], text: &[u8]) -> bool
 
 /// `data HEX`, in lower case and without trailing zero bytes, or `data -`.
 #[tactic(auto, unfolding(crate::specs::Replies::text_of))]
-fn read_content(line: &[u8]) -> Option<Reply>
-    ensures found { IfSome result (λ reply. IsReply reply × (line.now ≡ text_of reply)) }
-    ensures none { IfNone result ((bytes : Bytes ℕ) → IsReply (Reply.Content bytes) → line.now ≢ text_of (Reply.Content bytes)) }
+fn read_content(line: &[u8], buffer: &mut [u8; BLOCK]) -> Option<Reply>
+    ensures found { IfSome result (λ reply. IsReply (said reply buffer.new) × (line.now ≡ text_of (said reply buffer.new))) }
+    ensures fits { IfSome result FitsBlock }
+    ensures none { IfNone result ((bytes : List ℕ) → IsFront bytes → line.now ≢ text_of (replies.Content bytes)) }
 {
     let digits = line.strip_prefix(b"data ".as_slice())?;
-    let bytes = parse_front(digits)?;
-    Some(Reply::Content { bytes })
+    let count = parse_front(digits, buffer)?;
+    Some(Reply::Content { count })
 }
 
-/// The front of a block that a text gives.
-fn parse_front(text: &[u8]) -> Option<ArrayVec<u8, BLOCK>>
-    ensures found { IfSome result (λ bytes. IsFront bytes.items × (text.now ≡ hex_or_dash bytes.items)) }
+/// The front of a block that a text gives, and how many bytes it has.
+fn parse_front(text: &[u8], buffer: &mut [u8; BLOCK]) -> Option<usize>
+    ensures found { IfSome result (λ count. IsFront (take count buffer.new) × (text.now ≡ hex_or_dash (take count buffer.new))) }
+    ensures fits { IfSome result (λ count. count ≤ 4096) }
     ensures none { IfNone result ((bytes : List ℕ) → IsFront bytes → text.now ≢ hex_or_dash bytes) }
 {
     if is_text(text, b"-") {
-        return Some(ArrayVec::new());
+        return Some(0);
     }
-    let bytes = parse_hex(text)?;
-    if ends_in_zero(bytes.as_slice()) {
+    let count = parse_hex(text, buffer)?;
+    let bytes = &buffer[..count];
+    if ends_in_zero(bytes) {
         return None;
     }
     // Digits may be of either case, and are printed in lower case.
-    if is_hex_of(text, bytes.as_slice()) {
-        Some(bytes)
+    if is_hex_of(text, bytes) {
+        Some(count)
     } else {
         None
     }
@@ -180,8 +189,9 @@ fn ends_in_zero(bytes: &[u8]) -> bool
 /// `mounted C`
 #[tactic(auto, unfolding(crate::specs::Replies::text_of))]
 fn read_mounted(line: &[u8]) -> Option<Reply>
-    ensures found { IfSome result (λ reply. IsReply reply × (line.now ≡ text_of reply)) }
-    ensures none { IfNone result ((number : ℕ) → number < 2 ^ 64 → line.now ≢ text_of (Reply.Mounted number)) }
+    ensures found { IfSome result (λ reply. (buffer : List ℕ) → IsReply (said reply buffer) × (line.now ≡ text_of (said reply buffer))) }
+    ensures fits { IfSome result FitsBlock }
+    ensures none { IfNone result ((number : ℕ) → number < 2 ^ 64 → line.now ≢ text_of (replies.Mounted number)) }
 {
     let number = parse_number(line.strip_prefix(b"mounted ".as_slice())?)?;
     Some(Reply::Mounted { number })
@@ -190,8 +200,9 @@ fn read_mounted(line: &[u8]) -> Option<Reply>
 /// `committed C`
 #[tactic(auto, unfolding(crate::specs::Replies::text_of))]
 fn read_committed(line: &[u8]) -> Option<Reply>
-    ensures found { IfSome result (λ reply. IsReply reply × (line.now ≡ text_of reply)) }
-    ensures none { IfNone result ((number : ℕ) → number < 2 ^ 64 → line.now ≢ text_of (Reply.Committed number)) }
+    ensures found { IfSome result (λ reply. (buffer : List ℕ) → IsReply (said reply buffer) × (line.now ≡ text_of (said reply buffer))) }
+    ensures fits { IfSome result FitsBlock }
+    ensures none { IfNone result ((number : ℕ) → number < 2 ^ 64 → line.now ≢ text_of (replies.Committed number)) }
 {
     let number = parse_number(line.strip_prefix(b"committed ".as_slice())?)?;
     Some(Reply::Committed { number })
@@ -200,8 +211,9 @@ fn read_committed(line: &[u8]) -> Option<Reply>
 /// `stat mapped K commit C`
 #[tactic(auto, unfolding(crate::specs::Replies::text_of))]
 fn read_stat(line: &[u8]) -> Option<Reply>
-    ensures found { IfSome result (λ reply. IsReply reply × (line.now ≡ text_of reply)) }
-    ensures none { IfNone result ((mapped number : ℕ) → mapped < 2 ^ 64 → number < 2 ^ 64 → line.now ≢ text_of (Reply.Stat mapped number)) }
+    ensures found { IfSome result (λ reply. (buffer : List ℕ) → IsReply (said reply buffer) × (line.now ≡ text_of (said reply buffer))) }
+    ensures fits { IfSome result FitsBlock }
+    ensures none { IfNone result ((mapped number : ℕ) → mapped < 2 ^ 64 → number < 2 ^ 64 → line.now ≢ text_of (replies.Stat mapped number)) }
 {
     let (mapped, rest) = number_before(line.strip_prefix(b"stat mapped ".as_slice())?)?;
     let number = parse_number(rest.strip_prefix(b"commit ".as_slice())?)?;
@@ -211,9 +223,10 @@ fn read_stat(line: &[u8]) -> Option<Reply>
 /// `seized pages P nodes X blocks Y`
 #[tactic(auto, unfolding(crate::specs::Replies::text_of))]
 fn read_seized(line: &[u8]) -> Option<Reply>
-    ensures found { IfSome result (λ reply. IsReply reply × (line.now ≡ text_of reply)) }
+    ensures found { IfSome result (λ reply. (buffer : List ℕ) → IsReply (said reply buffer) × (line.now ≡ text_of (said reply buffer))) }
+    ensures fits { IfSome result FitsBlock }
     ensures none { IfNone result ((pages nodes blocks : ℕ) → pages < 2 ^ 64 → nodes < 2 ^ 64 → blocks < 2 ^ 64
-        → line.now ≢ text_of (Reply.Seized pages nodes blocks)) }
+        → line.now ≢ text_of (replies.Seized pages nodes blocks)) }
 {
     let (pages, rest) = number_before(line.strip_prefix(b"seized pages ".as_slice())?)?;
     let (nodes, blocks) = nodes_and_blocks(rest)?;

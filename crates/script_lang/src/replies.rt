@@ -1,17 +1,14 @@
 //! The replies to the commands of a script.
 
-use arrayvec::ArrayVec;
-use sdbt_base::BLOCK;
-
-/// The answer to a line.
-#[derive(Clone, Debug, PartialEq, Eq, Drop)]
+/// The answer to a line. What a block holds stands apart, at the front of a buffer.
+#[derive(Clone, Copy, Debug, PartialEq, Eq)]
 pub enum Reply {
     /// There is a new device, with commit number 0.
     Formatted,
     /// There is a session, over the device with this commit number.
     Mounted { number: u64 },
-    /// What a block holds, without its trailing zero bytes.
-    Content { bytes: ArrayVec<u8, BLOCK> },
+    /// What a block holds, without its trailing zero bytes: so many bytes of the buffer.
+    Content { count: usize },
     /// The write or trim is in the session.
     Done,
     /// The device has the session's blocks, and this commit number.

@@ -1,15 +1,16 @@
 //! Lines from outside, and the machine's replies to worked scripts.
 
 ghost use Rattle.std.specs.Prelude.{IfOk};
-ghost use Rattle.script_lang.specs.Replies.{CanWrite};
+ghost use Rattle.script_lang.specs.Replies.{CanWrite, FitsBlock, said};
 
 use super::*;
-use sdbt_base::{MemSink, Memory};
+use sdbt_base::{BLOCK, MemSink, Memory};
 use std::alloc::Global;
 use std::test::Fail;
 
 #[test]
 fn grammar_refuses(rt: HostRuntime) {
+    let mut buffer = [0; BLOCK];
     for line in [
         "",
         "write 3 abc",
@@ -29,12 +30,13 @@ fn grammar_refuses(rt: HostRuntime) {
         "format 8 4 4",
         "stats",
     ] {
-        assert!(rt; parse(line.as_bytes()).is_none(), "{line:?}");
+        assert!(rt; parse(line.as_bytes(), &mut buffer).is_none(), "{line:?}");
     }
 }
 
 #[test]
 fn grammar_reads(rt: HostRuntime) -> Result<(), Fail> {
+    let mut buffer = [0; BLOCK];
     for (line, want) in [
         (
             "format 8 4",
@@ -55,7 +57,7 @@ fn grammar_reads(rt: HostRuntime) -> Result<(), Fail> {
         ("stat", Command::Stat),
         ("seize", Command::Seize),
     ] {
-        let read = parse(line.as_bytes()).ok_or("a line of the grammar")?;
+        let read = parse(line.as_bytes(), &mut buffer).ok_or("a line of the grammar")?;
         assert!(rt; read == want, "{line:?}");
     }
     Ok(())
@@ -77,10 +79,11 @@ fn grammar_reads_contents(rt: HostRuntime) -> Result<(), Fail> {
 
 // The block, the number of bytes, and the last byte that a line writes.
 fn content_of(line: &[u8]) -> Option<(u64, usize, u8)> {
-    match parse(line)? {
-        Command::Write { block, content } => {
-            let last = *content.as_slice().last()?;
-            Some((block, content.len(), last))
+    let mut buffer = [0; BLOCK];
+    match parse(line, &mut buffer)? {
+        Command::Write { block, count } => {
+            let last = *buffer.get(count.checked_sub(1)?)?;
+            Some((block, count, last))
         }
         _ => None,
     }
@@ -90,17 +93,20 @@ fn content_of(line: &[u8]) -> Option<(u64, usize, u8)> {
 fn replies_to(alloc: Global, script: &[&str]) -> Result<MemSink, Fail> {
     let mut machine = Machine::new(alloc);
     let mut output = MemSink::new(alloc, &[])?;
+    let mut buffer = [0; BLOCK];
+    let mut writer = ReplyWriter::new();
     for line in script {
-        let reply = reply_to(&mut machine, line.as_bytes())?;
-        write_reply(&reply, &mut output)?;
+        let reply = reply_to(&mut machine, line.as_bytes(), &mut buffer)?;
+        writer.write(&reply, &buffer, &mut output)?;
     }
     Ok(output)
 }
 
-fn reply_to(machine: &mut Machine, line: &[u8]) -> Result<Reply, Memory>
-    ensures { IfOk result (λ reply. CanWrite reply) }
+fn reply_to(machine: &mut Machine, line: &[u8], buffer: &mut [u8; BLOCK]) -> Result<Reply, Memory>
+    ensures written { IfOk result (λ reply. CanWrite (said reply buffer.new)) }
+    ensures short { IfOk result FitsBlock }
 {
-    let Some(command) = parse(line) else {
+    let Some(command) = parse(line, buffer) else {
         return Ok(Reply::Bad);
     };
     if let Command::Seize = command {
@@ -109,7 +115,7 @@ fn reply_to(machine: &mut Machine, line: &[u8]) -> Result<Reply, Memory>
     if machine.number() == u64::MAX {
         return Ok(Reply::Unbuilt);
     }
-    machine.step(&command, false)
+    machine.step(&command, buffer, false)
 }
 
 #[test]
@@ -174,6 +180,8 @@ fn state_refusals(rt: HostRuntime) -> Result<(), Fail> {
 
 #[test]
 fn replies_are_read_back(rt: HostRuntime) -> Result<(), Fail> {
+    let mut buffer = [0; BLOCK];
+    let mut writer = ReplyWriter::new();
     for line in [
         "formatted",
         "mounted 0",
@@ -194,9 +202,9 @@ fn replies_are_read_back(rt: HostRuntime) -> Result<(), Fail> {
         "full",
         "unbuilt",
     ] {
-        let reply = read_reply(line.as_bytes()).ok_or("a reply")?;
+        let reply = read_reply(line.as_bytes(), &mut buffer).ok_or("a reply")?;
         let mut output = MemSink::new(rt.alloc(), &[])?;
-        write_reply(&reply, &mut output)?;
+        writer.write(&reply, &buffer, &mut output)?;
         let (text, feed) = output
             .bytes()
             .split_at(output.bytes().len().saturating_sub(1));
@@ -211,7 +219,10 @@ fn replies_are_read_back(rt: HostRuntime) -> Result<(), Fail> {
         "ok ",
         "stat mapped 3 commit",
     ] {
-        assert!(rt; read_reply(line.as_bytes()).is_none(), "{line:?}");
+        assert!(rt;
+            read_reply(line.as_bytes(), &mut buffer).is_none(),
+            "{line:?}"
+        );
     }
     Ok(())
 }

@@ -1,10 +1,9 @@
 //! The parts of a line: numbers, hex text and the words between single spaces.
 
-ghost use Rattle.std.specs.Prelude.{◌≡◌, ◌≢◌, ℕ, List, [], ◌∷◌, ◌++◌, IfSome, IfNone, IsSomeAnd, ◌<◌, ◌^◌};
+ghost use Rattle.std.specs.Prelude.{◌≡◌, ◌≢◌, ℕ, List, [], ◌∷◌, ◌++◌, IfSome, IfNone, IsSomeAnd, ◌<◌, ◌≤◌, ◌^◌, take};
 ghost use Rattle.std.specs.Fmt.{decimal};
 ghost use Rattle.script_lang.specs.Grammar.{IsNumber, IsHex, HasNone};
 
-use arrayvec::ArrayVec;
 use sdbt_base::BLOCK;
 
 /// The number that a text spells: decimal digits with no sign and no leading zero, at most 2^64-1.
@@ -22,9 +21,10 @@ pub fn parse_number(text: &[u8]) -> Option<u64>
     }
 }
 
-/// The bytes that 2 to 8,192 hex digits of either case spell, two digits a byte.
-pub fn parse_hex(text: &[u8]) -> Option<ArrayVec<u8, BLOCK>>
-    ensures found { IfSome result (λ content. IsHex text.now content.items) }
+/// Decodes 2 to 8,192 hex digits of either case, two digits a byte, to the front of a buffer, and answers how many bytes they are.
+pub fn parse_hex(text: &[u8], buffer: &mut [u8; BLOCK]) -> Option<usize>
+    ensures found { IfSome result (λ count. IsHex text.now (take count buffer.new)) }
+    ensures fits { IfSome result (λ count. count ≤ 4096) }
     ensures none { IfNone result ((content : List ℕ) → IsHex text.now content → ⊥) }
 {
     let count = text.len() / 2;
@@ -34,10 +34,8 @@ pub fn parse_hex(text: &[u8]) -> Option<ArrayVec<u8, BLOCK>>
     if count > BLOCK {
         return None;
     }
-    let mut content = ArrayVec::from([0; BLOCK]);
-    content.truncate(count);
-    hex::decode_to_slice(text, content.as_mut_slice()).ok()?;
-    Some(content)
+    hex::decode_to_slice(text, &mut buffer[..count]).ok()?;
+    Some(count)
 }
 
 /// The number before the first space of a text, and what stands behind that space.

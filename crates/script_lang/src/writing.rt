@@ -1,95 +1,130 @@
-//! Writing replies: the line is built in a buffer of fixed size.
+//! Writing replies: the line is built in a buffer of fixed size, which is used again and again.
 
 ghost use Rattle.std.specs.Prelude.{◌≡◌, ◌+◌, ◌*◌, ◌≤◌, [], ◌∷◌, ◌++◌, length, OnOk, OnErr, IsTrue, ◌↔◌};
 ghost use Rattle.std.specs.Fmt.{decimal};
 ghost use Rattle.arrayvec.specs.ArrayVec.{array_vec_len};
 ghost use Rattle.hex.specs.Hex.{encode_lower};
-ghost use Rattle.sdbt_base.specs.Faults.{Rose};
-ghost use Rattle.sdbt_base.specs.Told.{Got, GotPart};
-ghost use Rattle.script_lang.specs.Replies.{line_of, text_of, hex_or_dash, CanWrite};
 
 use crate::replies::Reply;
 use arrayvec::ArrayVec;
-use sdbt_base::{Sink, SinkFault};
+use sdbt_base::{BLOCK, Sink, SinkFault};
 
 /// Room for each line of a reply: the longest has `data `, two digits for each byte of a block, and
 /// a line feed.
-pub const LINE: usize = 8300;
+const LINE: usize = 8300;
 
 /// Room for the hex digits of a block.
 const DIGITS: usize = 8192;
 
-/// Puts the line of a reply, with its line feed. At a fault a first part of it was put.
-pub fn write_reply<O: Sink>(reply: &Reply, sink: &mut O) -> Result<(), SinkFault>
-    requires { CanWrite reply.now }
-    ensures put { OnOk result (Got (O.written sink.old) (line_of reply.now) (O.written sink.new)) }
-    ensures part { OnErr result (GotPart (O.written sink.old) (line_of reply.now) (O.written sink.new)) }
-    ensures count { O.faults sink.old ≤ O.faults sink.new }
-    ensures cause { OnErr result (Rose (O.faults sink.old) (O.faults sink.new)) }
-{
-    sink.put(line_text(reply).as_slice())
+/// Writes replies.
+#[derive(Drop)]
+pub struct ReplyWriter {
+    line: ArrayVec<u8, LINE>,
+    digits: [u8; DIGITS],
 }
 
-/// The line of a reply, with its line feed.
-pub fn line_text(reply: &Reply) -> ArrayVec<u8, LINE>
-    ensures { result.items ≡ line_of reply.now }
-{
-    let mut line = ArrayVec::new();
-    push_reply(&mut line, reply);
-    line.push(b'\n');
-    line
-}
+impl ReplyWriter {
+    ghost use Rattle.sdbt_base.specs.Faults.{Rose};
+    ghost use Rattle.sdbt_base.specs.Told.{Got, GotPart};
+    ghost use Rattle.script_lang.specs.Replies.{line_of, text_of, said, FitsBlock, CanWrite, hex_or_dash};
 
-/// Puts the text of a reply into an empty line.
-#[tactic(auto, unfolding(crate::specs::Replies::text_of))]
-fn push_reply(line: &mut ArrayVec<u8, LINE>, reply: &Reply)
-    requires { line.old.items ≡ [] }
-    ensures text { line.new.items ≡ text_of reply.now }
-    ensures room { array_vec_len line.new ≤ 8299 }
-{
-    match reply {
-        Reply::Formatted => push_text(line, b"formatted"),
-        Reply::Mounted { number } => {
-            push_text(line, b"mounted ");
-            push_number(line, *number);
+    /// A writer with buffers of its own, 16 KB in all.
+    pub fn new() -> ReplyWriter {
+        ReplyWriter {
+            line: ArrayVec::new(),
+            digits: [0; DIGITS],
         }
-        Reply::Content { bytes } => {
-            push_text(line, b"data ");
-            push_hex(line, bytes.as_slice());
+    }
+
+    /// Puts the line of a reply, whose bytes stand at the front of a buffer, with its line feed. At a fault a first part of it
+    /// was put.
+    pub fn write<O: Sink>(
+        &mut self,
+        reply: &Reply,
+        buffer: &[u8; BLOCK],
+        sink: &mut O,
+    ) -> Result<(), SinkFault>
+        requires fits { FitsBlock reply.now }
+        requires trimmed { CanWrite (said reply.now buffer.now) }
+        ensures put { OnOk result (Got (O.written sink.old) (line_of (said reply.now buffer.now)) (O.written sink.new)) }
+        ensures part { OnErr result (GotPart (O.written sink.old) (line_of (said reply.now buffer.now)) (O.written sink.new)) }
+        ensures count { O.faults sink.old ≤ O.faults sink.new }
+        ensures cause { OnErr result (Rose (O.faults sink.old) (O.faults sink.new)) }
+    {
+        self.line.clear();
+        self.push_reply(reply, buffer);
+        self.line.push(b'\n');
+        sink.put(self.line.as_slice())
+    }
+
+    /// Puts the text of a reply into an empty line.
+    #[tactic(auto, unfolding(crate::specs::Replies::text_of))]
+    fn push_reply(&mut self, reply: &Reply, buffer: &[u8; BLOCK])
+        requires fits { FitsBlock reply.now }
+        requires empty { self.old.line.items ≡ [] }
+        ensures text { self.new.line.items ≡ text_of (said reply.now buffer.now) }
+        ensures room { array_vec_len self.new.line ≤ 8299 }
+    {
+        match reply {
+            Reply::Mounted { number } => {
+                push_text(&mut self.line, b"mounted ");
+                push_number(&mut self.line, *number);
+            }
+            Reply::Content { count } => {
+                push_text(&mut self.line, b"data ");
+                self.push_hex(&buffer[..*count]);
+            }
+            Reply::Committed { number } => {
+                push_text(&mut self.line, b"committed ");
+                push_number(&mut self.line, *number);
+            }
+            Reply::Stat { mapped, number } => {
+                push_text(&mut self.line, b"stat mapped ");
+                push_number(&mut self.line, *mapped);
+                push_text(&mut self.line, b" commit ");
+                push_number(&mut self.line, *number);
+            }
+            Reply::Seized {
+                pages,
+                nodes,
+                blocks,
+            } => {
+                push_text(&mut self.line, b"seized pages ");
+                push_number(&mut self.line, *pages);
+                push_text(&mut self.line, b" nodes ");
+                push_number(&mut self.line, *nodes);
+                push_text(&mut self.line, b" blocks ");
+                push_number(&mut self.line, *blocks);
+            }
+            Reply::Formatted => push_text(&mut self.line, b"formatted"),
+            Reply::Done => push_text(&mut self.line, b"ok"),
+            Reply::Dropped => push_text(&mut self.line, b"dropped"),
+            Reply::Erased => push_text(&mut self.line, b"erased"),
+            Reply::Bad => push_text(&mut self.line, b"bad"),
+            Reply::Unmounted => push_text(&mut self.line, b"unmounted"),
+            Reply::AlreadyMounted => push_text(&mut self.line, b"already mounted"),
+            Reply::NotEmpty => push_text(&mut self.line, b"not empty"),
+            Reply::NoDevice => push_text(&mut self.line, b"no device"),
+            Reply::Range => push_text(&mut self.line, b"range"),
+            Reply::Full => push_text(&mut self.line, b"full"),
+            Reply::Unbuilt => push_text(&mut self.line, b"unbuilt"),
         }
-        Reply::Done => push_text(line, b"ok"),
-        Reply::Committed { number } => {
-            push_text(line, b"committed ");
-            push_number(line, *number);
+    }
+
+    /// Puts bytes in hex at the end of a line that has room for them, and a dash for none.
+    fn push_hex(&mut self, bytes: &[u8])
+        requires block { length bytes.now ≤ 4096 }
+        requires room { array_vec_len self.old.line + 8192 ≤ 8300 }
+        ensures text { self.new.line.items ≡ self.old.line.items ++ hex_or_dash bytes.now }
+        ensures short { array_vec_len self.new.line ≤ array_vec_len self.old.line + 8192 }
+    {
+        if bytes.is_empty() {
+            push_text(&mut self.line, b"-");
+            return;
         }
-        Reply::Dropped => push_text(line, b"dropped"),
-        Reply::Erased => push_text(line, b"erased"),
-        Reply::Stat { mapped, number } => {
-            push_text(line, b"stat mapped ");
-            push_number(line, *mapped);
-            push_text(line, b" commit ");
-            push_number(line, *number);
-        }
-        Reply::Seized {
-            pages,
-            nodes,
-            blocks,
-        } => {
-            push_text(line, b"seized pages ");
-            push_number(line, *pages);
-            push_text(line, b" nodes ");
-            push_number(line, *nodes);
-            push_text(line, b" blocks ");
-            push_number(line, *blocks);
-        }
-        Reply::Bad => push_text(line, b"bad"),
-        Reply::Unmounted => push_text(line, b"unmounted"),
-        Reply::AlreadyMounted => push_text(line, b"already mounted"),
-        Reply::NotEmpty => push_text(line, b"not empty"),
-        Reply::NoDevice => push_text(line, b"no device"),
-        Reply::Range => push_text(line, b"range"),
-        Reply::Full => push_text(line, b"full"),
-        Reply::Unbuilt => push_text(line, b"unbuilt"),
+        let digits = &mut self.digits[..2 * bytes.len()];
+        let _ = hex::encode_to_slice(bytes, digits);
+        push_text(&mut self.line, &self.digits[..2 * bytes.len()]);
     }
 }
 
@@ -109,23 +144,6 @@ fn push_number(line: &mut ArrayVec<u8, LINE>, number: u64)
 {
     let mut printed = itoa::Buffer::new();
     push_text(line, printed.format(number).as_bytes());
-}
-
-/// Puts bytes in hex at the end of a line that has room for them, and a dash for none.
-fn push_hex(line: &mut ArrayVec<u8, LINE>, bytes: &[u8])
-    requires block { length bytes.now ≤ 4096 }
-    requires room { array_vec_len line.old + 8192 ≤ 8300 }
-    ensures text { line.new.items ≡ line.old.items ++ hex_or_dash bytes.now }
-    ensures short { array_vec_len line.new ≤ array_vec_len line.old + 8192 }
-{
-    if bytes.is_empty() {
-        push_text(line, b"-");
-        return;
-    }
-    let mut digits = [0; DIGITS];
-    let digits = &mut digits[..2 * bytes.len()];
-    let _ = hex::encode_to_slice(bytes, digits);
-    push_text(line, digits);
 }
 
 /// Whether a text is the hex digits of bytes, in lower case.

@@ -16,7 +16,7 @@ use Rattle.page_store.proofs.StandsLaws.{stands_left}
 use Rattle.device_core.specs.Leaf.{IsServedCell, IsServedImage}
 use Rattle.sdbt_base.specs.Arrays.{State, Device, closed}
 use Rattle.script_lang.specs.Answers.{IsMark}
-use Rattle.script_lang.specs.declared.replies.Reply.{Reply}
+use Rattle.script_lang.specs.Replies.{Reply}
 use Rattle.device_cli.specs.World.{World}
 use Rattle.device_cli.specs.Represents.{StandsFor}
 use Rattle.device_cli.specs.Ran.{AnswersScript}

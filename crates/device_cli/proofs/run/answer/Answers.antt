@@ -1,4 +1,4 @@
-use Rattle.script_lang.specs.declared.replies.Reply.TheVariants.{Bad}
+use Rattle.script_lang.specs.Replies.{Bad}
 use Rattle.device_cli.specs.World.{World, IsLater, world_of}
 use Rattle.device_cli.specs.Replied.{no_line}
 use Rattle.device_cli.proofs.RepliedLaws.{IsLater-refl, Handled-line, Handled-stop, turned_bad, turned_command}

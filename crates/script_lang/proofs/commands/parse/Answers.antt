@@ -1,15 +1,14 @@
 use Rattle.std.proofs.Common.{ℕ, List, Option, Some, None}
 use Rattle.std.specs.Option.{IfNone}
-use Rattle.arrayvec.specs.ArrayVec.{ArrayVec}
 use Rattle.script_lang.specs.Grammar.{Spells, IsBad}
-use Rattle.script_lang.specs.declared.commands.Command.TheVariants.{Format, Mount, Read, Write, Trim, Commit, Drop, Erase, Stat, Seize}
+use Rattle.script_lang.specs.Commands.{Format, Mount, Read, Write, Trim, Commit, Drop, Erase, Stat, Seize}
 use Rattle.script_lang.proofs.commands.parse.Goals as goal
 
 -- a line that spells no command of either kind is bad
 none_left : (line : List ℕ) → (Spells line Mount → ⊥) → (Spells line Commit → ⊥) → (Spells line Drop → ⊥)
     → (Spells line Erase → ⊥) → (Spells line Stat → ⊥) → (Spells line Seize → ⊥)
     → ((blocks order : ℕ) → Spells line (Format blocks order) → ⊥) → ((block : ℕ) → Spells line (Read block) → ⊥)
-    → ((block : ℕ) (content : ArrayVec ℕ) → Spells line (Write block content) → ⊥)
+    → ((block : ℕ) (content : List ℕ) → Spells line (Write block content) → ⊥)
     → ((block : ℕ) → Spells line (Trim block) → ⊥) → IsBad line
 none_left line mount commit drop erase stat seize format read write trim (Format blocks order) = format blocks order
 none_left line mount commit drop erase stat seize format read write trim Mount = mount

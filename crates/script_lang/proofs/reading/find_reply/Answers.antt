@@ -1,7 +1,7 @@
 use Rattle.std.proofs.Common.{◌≢◌, Option, Some, None}
 use Rattle.std.specs.Option.{IfNone}
 use Rattle.script_lang.specs.Replies.{IsReply, text_of}
-use Rattle.script_lang.specs.declared.replies.Reply.TheVariants.{Formatted, Mounted, Content, Done, Committed, Dropped, Erased, Stat, Seized, Bad, Unmounted, AlreadyMounted, NotEmpty, NoDevice, Range, Full, Unbuilt}
+use Rattle.script_lang.specs.Replies.{Formatted, Mounted, Content, Done, Committed, Dropped, Erased, Stat, Seized, Bad, Unmounted, AlreadyMounted, NotEmpty, NoDevice, Range, Full, Unbuilt}
 use Rattle.script_lang.proofs.reading.find_reply.Goals as goal
 
 weaker : {X : Type 0} (o : Option X) (P Q : Type 0) → (P → Q) → IfNone o P → IfNone o Q

@@ -2,7 +2,7 @@ use Rattle.std.proofs.Common.{◌≡◌, None, Some, refl, ap, arith}
 use Rattle.std.proofs.lemmas.Grind.{common_steps}
 use Rattle.device_cli.specs.declared.stop.DeviceStop.TheVariants as device
 use Rattle.device_cli.specs.World.{World, world_of}
-use Rattle.script_lang.specs.declared.commands.Command.TheVariants.{Commit}
+use Rattle.script_lang.specs.Commands.{Commit}
 use Rattle.device_cli.proofs.ServedLaws.{halts_still, gives_unmounted_commit}
 use Rattle.device_cli.proofs.ServingLaws.{serves_unmounted, serves_committed, serves_commit_full, halts_commit, keeps_same}
 use Rattle.device_course.proofs.KeysLaws.{on_start, on_call, on_done, listed_some, listed_none}

@@ -3,15 +3,15 @@ use Rattle.std.specs.Prelude.{Result, IfOk, IfErr, ◌⊎◌}
 use Rattle.sdbt_base.specs.Faults.{Rose}
 use Rattle.std.proofs.lemmas.Grind.{common_steps}
 use Rattle.sdbt_base.specs.Arrays.{State}
-use Rattle.script_lang.specs.declared.replies.Reply.{Reply}
+use Rattle.script_lang.specs.Replies.{Reply}
 use Rattle.device_cli.specs.declared.stop.DeviceStop.{DeviceStop}
 use Rattle.device_cli.specs.declared.stop.DeviceStop.TheVariants as device
 use Rattle.device_cli.specs.World.{World, world_of}
-use Rattle.script_lang.specs.declared.replies.Reply.TheVariants as replies
+use Rattle.script_lang.specs.Replies as replies
 use Rattle.device_cli.specs.Replied.{Serves, Halts}
 use Rattle.device_cli.specs.Represents.{Represents}
 use Rattle.script_lang.specs.Arrays.{in_limits}
-use Rattle.script_lang.specs.declared.commands.Command.TheVariants.{Format}
+use Rattle.script_lang.specs.Commands.{Format}
 use Rattle.std.specs.Option.{option_map}
 use Rattle.script_lang.specs.Answers.{answer}
 use Rattle.sdbt_base.specs.Arrays.{Session as OpenSession}

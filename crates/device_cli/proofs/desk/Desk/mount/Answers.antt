@@ -2,9 +2,9 @@ use Rattle.std.proofs.Common.{◌≡◌, ℕ, Option, None, Some, Ok, Err, refl,
 use Rattle.std.proofs.lemmas.Grind.{common_steps}
 use Rattle.device_cli.specs.declared.stop.DeviceStop.TheVariants as device
 use Rattle.device_cli.specs.World.{World, world_of}
-use Rattle.script_lang.specs.declared.replies.Reply.TheVariants as replies
+use Rattle.script_lang.specs.Replies as replies
 use Rattle.device_cli.specs.Replied.{Serves}
-use Rattle.script_lang.specs.declared.commands.Command.TheVariants as commands
+use Rattle.script_lang.specs.Commands as commands
 use Rattle.device_core.specs.declared.session.Session.{Session}
 use Rattle.std.specs.Prelude.{List}
 use Rattle.device_core.specs.Leaf.{IsServedCell, IsRefusedCell}

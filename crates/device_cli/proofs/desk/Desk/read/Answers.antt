@@ -1,12 +1,12 @@
 use Rattle.std.proofs.Common.{◌≡◌, ◌<◌, ◌≤◌, ℕ, None, Some, Ok, Err, refl, sym, ◌∙◌, subst, rules, arith}
 use Rattle.std.proofs.lemmas.Grind.{common_steps}
 use Rattle.script_lang.specs.Arrays.{content_reply}
-use Rattle.script_lang.specs.declared.replies.Reply.{Reply}
+use Rattle.script_lang.specs.Replies.{Reply}
 use Rattle.device_cli.specs.declared.stop.DeviceStop.TheVariants as device
 use Rattle.device_cli.specs.World.{World, is_full, world_of}
-use Rattle.script_lang.specs.declared.replies.Reply.TheVariants as replies
+use Rattle.script_lang.specs.Replies as replies
 use Rattle.device_cli.specs.Replied.{Serves}
-use Rattle.script_lang.specs.declared.commands.Command.TheVariants.{Read}
+use Rattle.script_lang.specs.Commands.{Read}
 use Rattle.device_cli.proofs.ServedLaws.{at, with_session, has_session, serves_still, halts_still, gives_unmounted_read, gives_content, gives_read_range}
 use Rattle.device_cli.proofs.ServingLaws.{serves_unmounted}
 use Rattle.device_cli.proofs.CellLaws.{mounted_still}

@@ -3,9 +3,9 @@ use Rattle.device_cli.specs.Pages.{pages_after}
 use Rattle.std.proofs.Common.{◌≡◌, Ok, sym, subst, arith}
 use Rattle.std.proofs.lemmas.Grind.{common_steps}
 use Rattle.device_cli.specs.World.{World, world_of}
-use Rattle.script_lang.specs.declared.replies.Reply.TheVariants as replies
+use Rattle.script_lang.specs.Replies as replies
 use Rattle.device_cli.specs.Replied.{Serves}
-use Rattle.script_lang.specs.declared.commands.Command.{Command}
+use Rattle.script_lang.specs.Commands.{Command}
 use Rattle.device_cli.proofs.ServingLaws.{serves_seize}
 use Rattle.device_course.proofs.KeysLaws.{on_start, on_done, listed_none}
 use Rattle.device_cli.proofs.ReachingLaws.{on_ok}

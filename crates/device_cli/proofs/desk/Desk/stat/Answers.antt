@@ -3,7 +3,7 @@ use Rattle.std.specs.Prelude.{IfSome}
 use Rattle.device_core.specs.Open.{IsOpen}
 use Rattle.device_core.specs.declared.session.Session.{Session}
 use Rattle.device_core.proofs.CountLaws.{mapped_len}
-use Rattle.script_lang.specs.declared.commands.Command.TheVariants as commands
+use Rattle.script_lang.specs.Commands as commands
 use Rattle.device_cli.proofs.ServedLaws.{gives_unmounted_stat}
 use Rattle.device_cli.proofs.ServingLaws.{serves_unmounted, serves_stat}
 use Rattle.device_cli.proofs.desk.Desk.stat.Goals as goal

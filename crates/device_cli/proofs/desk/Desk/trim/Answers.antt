@@ -3,12 +3,12 @@ use Rattle.std.specs.Prelude.{◌||◌}
 use Rattle.std.proofs.lemmas.Grind.{common_steps}
 use Rattle.device_cli.specs.declared.stop.DeviceStop.TheVariants as device
 use Rattle.device_cli.specs.World.{World, is_full, world_of}
-use Rattle.script_lang.specs.declared.replies.Reply.TheVariants as replies
+use Rattle.script_lang.specs.Replies as replies
 use Rattle.device_cli.specs.Replied.{Serves}
 use Rattle.std.specs.FinMap.{contains_key}
 use Rattle.device_core.specs.declared.refusals.TrimRefusal.TheVariants as refusals
 use Rattle.sdbt_base.specs.Arrays.{unmapped}
-use Rattle.script_lang.specs.declared.commands.Command.TheVariants.{Trim}
+use Rattle.script_lang.specs.Commands.{Trim}
 use Rattle.device_cli.proofs.ServedLaws.{at, with_session, has_session, serves_still, halts_still, gives_unmounted_trim, gives_trimmed, gives_trim_range}
 use Rattle.device_cli.proofs.ServingLaws.{serves_unmounted}
 use Rattle.device_cli.proofs.CellLaws.{mounted_still}

@@ -2,7 +2,7 @@ use Rattle.std.proofs.Common.{◌≡◌, ◌<◌, ◌≤◌, ℕ, None, Some, Ok
 use Rattle.std.proofs.lemmas.Grind.{common_steps}
 use Rattle.device_cli.specs.declared.stop.DeviceStop.TheVariants as device
 use Rattle.device_cli.specs.World.{World, is_full, world_of}
-use Rattle.script_lang.specs.declared.replies.Reply.TheVariants as replies
+use Rattle.script_lang.specs.Replies as replies
 use Rattle.device_cli.specs.Replied.{Serves}
 use Rattle.std.specs.Prelude.{List}
 use Rattle.std.specs.FinMap.{insert}
@@ -12,7 +12,7 @@ use Rattle.device_core.specs.declared.refusals.WriteRefusal.TheVariants as refus
 use Rattle.device_core.specs.Causes.{IsWriteCause}
 use Rattle.device_core.specs.Changes.{WritesArray, WriteAdds}
 use Rattle.sdbt_base.specs.Arrays.{written}
-use Rattle.script_lang.specs.declared.commands.Command.TheVariants.{Write}
+use Rattle.script_lang.specs.Commands.{Write}
 use Rattle.device_cli.proofs.ServedLaws.{at, with_session, has_session, serves_still, halts_still, is_full_true, is_full_false, gives_unmounted_write, gives_written, gives_write_range, gives_write_full}
 use Rattle.device_cli.proofs.ServingLaws.{serves_unmounted}
 use Rattle.device_core.proofs.ServedLaws.{serves_still as serves_while_cell}
