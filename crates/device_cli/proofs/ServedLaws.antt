@@ -14,7 +14,6 @@ use Rattle.sdbt_base.specs.Arrays.{Blocks, content_of, closed}
 use Rattle.device_core.specs.Open.{is_touched}
 use Rattle.device_core.specs.Holds.{Holds}
 use Rattle.device_core.specs.declared.session.Session.{Session}
-use Rattle.arrayvec.specs.ArrayVec.{ArrayVec as Bytes}
 use Rattle.script_lang.specs.Commands.{Command}
 use Rattle.script_lang.specs.Commands.{Format, Mount, Read, Write, Trim, Commit, Drop, Erase, Seize}
 use Rattle.script_lang.specs.Commands as commands
@@ -125,7 +124,7 @@ pub gives_unmounted_read : (full : Bool) (device : Option Device) (block : ℕ) 
 gives_unmounted_read full None block = refl
 gives_unmounted_read full (Some d) block = refl
 
-pub gives_unmounted_write : (full : Bool) (device : Option Device) (block : ℕ) (bytes : Bytes ℕ) → (Unmounted, closed device) ≡ answer full (closed device) (Write block bytes)
+pub gives_unmounted_write : (full : Bool) (device : Option Device) (block : ℕ) (bytes : List ℕ) → (Unmounted, closed device) ≡ answer full (closed device) (Write block bytes)
 gives_unmounted_write full None block bytes = refl
 gives_unmounted_write full (Some d) block bytes = refl
 
@@ -159,14 +158,14 @@ gives_content full d t block content within is = rw (below block d.blocks within
 pub gives_read_range : (full : Bool) (d : Device) (t : OpenSession) (block : ℕ) → d.blocks ≤ block → (Range, at d t) ≡ answer full (at d t) (Read block)
 gives_read_range full d t block past = rw (above block d.blocks past) refl
 
-pub gives_written : (full : Bool) (d : Device) (t : OpenSession) (block : ℕ) (bytes : Bytes ℕ) → full ≡ false → block < d.blocks
-    → (Done, at d (written t block bytes.items)) ≡ answer full (at d t) (Write block bytes)
+pub gives_written : (full : Bool) (d : Device) (t : OpenSession) (block : ℕ) (bytes : List ℕ) → full ≡ false → block < d.blocks
+    → (Done, at d (written t block bytes)) ≡ answer full (at d t) (Write block bytes)
 gives_written full d t block bytes room within = rw (below block d.blocks within, room) refl
 
-pub gives_write_range : (full : Bool) (d : Device) (t : OpenSession) (block : ℕ) (bytes : Bytes ℕ) → d.blocks ≤ block → (Range, at d t) ≡ answer full (at d t) (Write block bytes)
+pub gives_write_range : (full : Bool) (d : Device) (t : OpenSession) (block : ℕ) (bytes : List ℕ) → d.blocks ≤ block → (Range, at d t) ≡ answer full (at d t) (Write block bytes)
 gives_write_range full d t block bytes past = rw (above block d.blocks past) refl
 
-pub gives_write_full : (full : Bool) (d : Device) (t : OpenSession) (block : ℕ) (bytes : Bytes ℕ) → full ≡ true → block < d.blocks → (Full, at d t) ≡ answer full (at d t) (Write block bytes)
+pub gives_write_full : (full : Bool) (d : Device) (t : OpenSession) (block : ℕ) (bytes : List ℕ) → full ≡ true → block < d.blocks → (Full, at d t) ≡ answer full (at d t) (Write block bytes)
 gives_write_full full d t block bytes none within = rw (below block d.blocks within, none) refl
 
 pub gives_trimmed : (full : Bool) (d : Device) (t : OpenSession) (block : ℕ) → block < d.blocks → (Done, at d (unmapped t block)) ≡ answer full (at d t) (Trim block)

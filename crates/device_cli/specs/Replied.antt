@@ -1,5 +1,5 @@
 -- What a run that handled some lines put, and which replies belong to them.
-use Rattle.std.specs.Prelude.{◌≡◌, ℕ, ◌+◌, ◌≤◌, ◌⊎◌, List, [], ◌∷◌, ◌++◌, All, Option, None, Some, Result, Ok, Err, take, length, codes, flat_map}
+use Rattle.std.specs.Prelude.{◌≡◌, ℕ, ◌≤◌, ◌⊎◌, List, [], ◌∷◌, ◌++◌, All, Option, None, Some, Result, Ok, Err, take, length, codes, flat_map}
 use Rattle.std.specs.Fmt.{decimal}
 use Rattle.platform.specs.Image.{Image}
 use Rattle.platform.specs.History.{During, Turns}
@@ -8,7 +8,8 @@ use Rattle.root_codec.specs.RootRecord.{FitsRoot, root_bytes}
 use Rattle.device_core.specs.Damage.{IsDamaged}
 use Rattle.sdbt_base.specs.Told.{Got, GotPart}
 use Rattle.script_lang.specs.Grammar.{Spells}
-use Rattle.script_lang.specs.Replies.{line_of}
+use Rattle.script_lang.specs.Replies.{line_of, said}
+use Rattle.script_lang.specs.declared.replies.Reply.{Reply as Given}
 use Rattle.sdbt_base.specs.Arrays.{State, Device, closed}
 use Rattle.script_lang.specs.Answers.{IsMark, answer}
 use Rattle.script_lang.specs.Commands.{Command}
@@ -177,6 +178,11 @@ pub record Handled (tells : Type 0) (old new : World) (last : DeviceStop → Lis
   pub put : List ℕ
   pub got : Got written put written_now
   pub replied : Replied tells old new last ending lines put
+
+-- what was answered to a command, where the bytes of a reply stand at the front of a buffer
+abbrev pub outcome : Result Given DeviceStop → List ℕ → Result Reply DeviceStop
+outcome (Ok reply) buffer = Ok (said reply buffer)
+outcome (Err stop) buffer = Err stop
 
 -- what a stop at a command leaves of a device: itself at each moment; or, where the platform failed, itself until a moment
 -- from which on it leaves the device after the command

@@ -1,14 +1,15 @@
 //! What a run keeps between lines, and the answer to each command.
-ghost use Rattle.std.specs.Prelude.{◌≡◌, ◌≢◌, ◌<◌, ◌≤◌, ◌+◌, ◌⊎◌, ℕ, List, Option, true, false, IsNone, IfOk, OnOk, IfErr, IsErrOf, IfSome, None, Some, Ok, length};
-ghost use Rattle.arrayvec.specs.ArrayVec.{ArrayVec as Bytes};
+ghost use Rattle.std.specs.Prelude.{◌≡◌, ◌≢◌, ◌<◌, ◌≤◌, ◌+◌, ◌⊎◌, ℕ, List, Option, true, false, IsNone, IfOk, OnOk, IfErr, IsErrOf, IfSome, None, Some, Ok, take};
 ghost use Rattle.sdbt_base.specs.Faults.{Rose};
-ghost use Rattle.script_lang.specs.Replies.{CanWrite};
+ghost use Rattle.script_lang.specs.Commands as commands;
+ghost use Rattle.script_lang.specs.Commands.{FitsBlock as FitsCommand, asked};
+ghost use Rattle.script_lang.specs.Replies.{CanWrite, FitsBlock, said};
 ghost use Rattle.script_lang.specs.Arrays.{in_limits};
 ghost use Rattle.sdbt_base.specs.Arrays.{State};
 ghost use Rattle.device_core.specs.Leaf.{IsServedImage};
 ghost use Rattle.device_cli.specs.Run.{counts, IsBlamed};
 ghost use Rattle.platform.specs.History.{During};
-ghost use Rattle.device_cli.specs.Replied.{IsOfBlock, IsWrongPage, Serves};
+ghost use Rattle.device_cli.specs.Replied.{IsOfBlock, IsWrongPage, Serves, outcome};
 
 use crate::entry::MOST_BLOCKS;
 use crate::stop::DeviceStop;
@@ -17,15 +18,18 @@ use device_core::{
     TrimRefusal, WriteRefusal,
 };
 use platform::Platform;
-use script_lang::{Command, Reply, reply_with_content};
+use script_lang::{Command, Reply, ReplyWriter, reply_with_content};
 use sdbt_base::{BLOCK, MAX_BLOCKS, MAX_ORDER, ROOT, Sink, Tape};
 use std::alloc::Global;
 
-/// What a run keeps between lines: the session, if there is one.
+/// What a run keeps between lines: the session, if there is one, and the buffers that each line uses again.
 #[derive(Drop)]
 pub(crate) struct Desk {
     alloc: Global,
     pub(crate) session: Option<Session>,
+    // what a write writes, and what a read reads
+    pub(crate) buffer: [u8; BLOCK],
+    pub(crate) writer: ReplyWriter,
 }
 
 impl Desk {
@@ -44,6 +48,8 @@ impl Desk {
         Desk {
             alloc,
             session: None,
+            buffer: [0; BLOCK],
+            writer: ReplyWriter::new(),
         }
     }
 
@@ -55,23 +61,24 @@ impl Desk {
         ledger: &mut L,
         command: &Command,
     ) -> Result<Reply, DeviceStop>
-        requires { Before P.Platform self.old platform.old }
+        requires before { Before P.Platform self.old platform.old }
+        requires fits { FitsCommand command.now }
         ensures after { After P.Platform self.new platform.old platform.new result }
         ensures blame { IsBlamed (counts (P.faults platform.old) (T.faults tape.old) 0 0 (L.faults ledger.old))
             (counts (P.faults platform.new) (T.faults tape.new) 0 0 (L.faults ledger.new)) result }
         ensures unput { L.written ledger.new ≡ L.written ledger.old }
-        ensures of_block { (addr : ℕ) → IsErrOf result (DeviceStop.BadRecord addr) → IsOfBlock command.now }
+        ensures of_block { (addr : ℕ) → IsErrOf result (DeviceStop.BadRecord addr) → IsOfBlock (asked command.now self.old.buffer) }
         ensures damage { P.tells → (addr : ℕ) → IsErrOf result (DeviceStop.BadRecord addr)
             → IsWrongPage (P.history platform.new).present addr }
         ensures pages { P.tells → (entry : State) → Represents (world_of P.Platform self.old.session platform.old) entry
-            → IfOk result (λ reply. P.head platform.new ≡ pages_after entry command.now reply (P.head platform.old)) }
+            → IfOk (outcome result self.new.buffer) (λ reply. P.head platform.new ≡ pages_after entry (asked command.now self.old.buffer) reply (P.head platform.old)) }
         // Each moment keeps the keys that the image kept before, with those that were drawn, what was deleted stays so, and the cell can be served.
         ensures keeps { KeepsOn P.tells (T.drawn tape.old) (T.drawn tape.new) self.old.session
             (P.history platform.old) (P.history platform.new)
             (λ keys. OnOk result (IsListed self.new.session (P.history platform.new).present keys)) }
         ensures answered { P.tells → (entry : State) → Represents (world_of P.Platform self.old.session platform.old) entry
             → Serves (world_of P.Platform self.old.session platform.old)
-            (world_of P.Platform self.new.session platform.new) entry command.now result }
+            (world_of P.Platform self.new.session platform.new) entry (asked command.now self.old.buffer) (outcome result self.new.buffer) }
     {
         match command {
             Command::Format { blocks, order } => {
@@ -79,7 +86,7 @@ impl Desk {
             }
             Command::Mount => self.mount(platform),
             Command::Read { block } => self.read(platform, *block),
-            Command::Write { block, content } => self.write(platform, tape, *block, content),
+            Command::Write { block, count } => self.write(platform, tape, *block, *count),
             Command::Trim { block } => self.trim(platform, *block),
             Command::Commit => self.commit(platform, tape, ledger),
             Command::Drop => self.give_up(platform),
@@ -105,14 +112,14 @@ impl Desk {
         ensures unput { L.written ledger.new ≡ L.written ledger.old }
         ensures damage { (addr : ℕ) → IsErrOf result (DeviceStop.BadRecord addr) → ⊥ }
         ensures pages { P.tells → (entry : State) → Represents (world_of P.Platform self.old.session platform.old) entry
-            → IfOk result (λ reply. P.head platform.new ≡ pages_after entry (Command.Format blocks order) reply (P.head platform.old)) }
+            → IfOk (outcome result self.new.buffer) (λ reply. P.head platform.new ≡ pages_after entry (commands.Format blocks order) reply (P.head platform.old)) }
         // Each moment keeps the keys that the image kept before, with those that were drawn, what was deleted stays so, and the cell can be served.
         ensures keeps { KeepsOn P.tells (T.drawn tape.old) (T.drawn tape.new) self.old.session
             (P.history platform.old) (P.history platform.new)
             (λ keys. OnOk result (IsListed self.new.session (P.history platform.new).present keys)) }
         ensures answered { P.tells → (entry : State) → Represents (world_of P.Platform self.old.session platform.old) entry
             → Serves (world_of P.Platform self.old.session platform.old) (world_of P.Platform self.new.session platform.new)
-            entry (Command.Format blocks order) result }
+            entry (commands.Format blocks order) (outcome result self.new.buffer) }
     {
         if let Some(reply) = refused_size(blocks, order) {
             return refuse_format(platform, reply);
@@ -134,14 +141,14 @@ impl Desk {
         ensures blame { IsBlamed (counts (P.faults platform.old) 0 0 0 0) (counts (P.faults platform.new) 0 0 0 0) result }
         ensures damage { (addr : ℕ) → IsErrOf result (DeviceStop.BadRecord addr) → ⊥ }
         ensures pages { P.tells → (entry : State) → Represents (world_of P.Platform self.old.session platform.old) entry
-            → IfOk result (λ reply. P.head platform.new ≡ pages_after entry Command.Mount reply (P.head platform.old)) }
+            → IfOk (outcome result self.new.buffer) (λ reply. P.head platform.new ≡ pages_after entry commands.Mount reply (P.head platform.old)) }
         // Each moment keeps the keys that the image kept before, what was deleted stays so, and the cell can be served.
         ensures keeps { (drawn : Option (List (List ℕ))) → KeepsOn P.tells drawn drawn self.old.session
             (P.history platform.old) (P.history platform.new)
             (λ keys. OnOk result (IsListed self.new.session (P.history platform.new).present keys)) }
         ensures answered { P.tells → (entry : State) → Represents (world_of P.Platform self.old.session platform.old) entry
             → Serves (world_of P.Platform self.old.session platform.old)
-            (world_of P.Platform self.new.session platform.new) entry Command.Mount result }
+            (world_of P.Platform self.new.session platform.new) entry commands.Mount (outcome result self.new.buffer) }
     {
         if self.session.is_some() {
             return Ok(Reply::AlreadyMounted);
@@ -166,21 +173,20 @@ impl Desk {
         ensures damage { P.tells → (addr : ℕ) → IsErrOf result (DeviceStop.BadRecord addr)
             → IsWrongPage (P.history platform.new).present addr }
         ensures pages { P.tells → (entry : State) → Represents (world_of P.Platform self.old.session platform.old) entry
-            → IfOk result (λ reply. P.head platform.new ≡ pages_after entry (Command.Read block) reply (P.head platform.old)) }
+            → IfOk (outcome result self.new.buffer) (λ reply. P.head platform.new ≡ pages_after entry (commands.Read block) reply (P.head platform.old)) }
         // Each moment keeps the keys that the image kept before, what was deleted stays so, and the cell can be served.
         ensures keeps { (drawn : Option (List (List ℕ))) → KeepsOn P.tells drawn drawn self.old.session
             (P.history platform.old) (P.history platform.new)
             (λ keys. OnOk result (IsListed self.new.session (P.history platform.new).present keys)) }
         ensures answered { P.tells → (entry : State) → Represents (world_of P.Platform self.old.session platform.old) entry
             → Serves (world_of P.Platform self.old.session platform.old) (world_of P.Platform self.new.session platform.new)
-            entry (Command.Read block) result }
+            entry (commands.Read block) (outcome result self.new.buffer) }
     {
         let Some(session) = &mut self.session else {
             return Ok(Reply::Unmounted);
         };
-        let mut content = [0; BLOCK];
-        match session.read(platform, block, &mut content) {
-            Ok(()) => Ok(reply_with_content(&content)),
+        match session.read(platform, block, &mut self.buffer) {
+            Ok(()) => Ok(reply_with_content(&self.buffer)),
             Err(ReadRefusal::Range) => Ok(Reply::Range),
             Err(ReadRefusal::BadRecord { addr }) => Err(DeviceStop::BadRecord { addr }),
             Err(ReadRefusal::PlatformFault) => Err(DeviceStop::Platform),
@@ -192,9 +198,9 @@ impl Desk {
         platform: &mut P,
         tape: &mut T,
         block: u64,
-        content: &[u8],
+        count: usize,
     ) -> Result<Reply, DeviceStop>
-        requires size { length content.now ≤ 4096 }
+        requires size { count ≤ 4096 }
         requires before { Before P.Platform self.old platform.old }
         ensures after { After P.Platform self.new platform.old platform.new result }
         ensures blame { IsBlamed (counts (P.faults platform.old) (T.faults tape.old) 0 0 0)
@@ -202,21 +208,20 @@ impl Desk {
         ensures damage { P.tells → (addr : ℕ) → IsErrOf result (DeviceStop.BadRecord addr)
             → IsWrongPage (P.history platform.new).present addr }
         ensures pages { P.tells → (entry : State) → Represents (world_of P.Platform self.old.session platform.old) entry
-            → (bytes : Bytes ℕ)
-            → IfOk result (λ reply. P.head platform.new ≡ pages_after entry (Command.Write block bytes) reply (P.head platform.old)) }
+            → IfOk (outcome result self.new.buffer) (λ reply. P.head platform.new ≡ pages_after entry (commands.Write block (take count self.old.buffer)) reply (P.head platform.old)) }
         // Each moment keeps the keys that the image kept before, with those that were drawn, what was deleted stays so, and the cell can be served.
         ensures keeps { KeepsOn P.tells (T.drawn tape.old) (T.drawn tape.new) self.old.session
             (P.history platform.old) (P.history platform.new)
             (λ keys. OnOk result (IsListed self.new.session (P.history platform.new).present keys)) }
         ensures answered { P.tells → (entry : State) → Represents (world_of P.Platform self.old.session platform.old) entry
-            → (bytes : Bytes ℕ) → bytes.items ≡ content.now → Serves (world_of P.Platform self.old.session platform.old)
+            → Serves (world_of P.Platform self.old.session platform.old)
             (world_of P.Platform self.new.session platform.new)
-            entry (Command.Write block bytes) result }
+            entry (commands.Write block (take count self.old.buffer)) (outcome result self.new.buffer) }
     {
         let Some(session) = &mut self.session else {
             return Ok(Reply::Unmounted);
         };
-        match session.write(platform, tape, block, content) {
+        match session.write(platform, tape, block, &self.buffer[..count]) {
             Ok(()) => Ok(Reply::Done),
             Err(WriteRefusal::Range) => Ok(Reply::Range),
             Err(WriteRefusal::Full) => Ok(Reply::Full),
@@ -234,14 +239,14 @@ impl Desk {
         ensures damage { P.tells → (addr : ℕ) → IsErrOf result (DeviceStop.BadRecord addr)
             → IsWrongPage (P.history platform.new).present addr }
         ensures pages { P.tells → (entry : State) → Represents (world_of P.Platform self.old.session platform.old) entry
-            → IfOk result (λ reply. P.head platform.new ≡ pages_after entry (Command.Trim block) reply (P.head platform.old)) }
+            → IfOk (outcome result self.new.buffer) (λ reply. P.head platform.new ≡ pages_after entry (commands.Trim block) reply (P.head platform.old)) }
         // Each moment keeps the keys that the image kept before, what was deleted stays so, and the cell can be served.
         ensures keeps { (drawn : Option (List (List ℕ))) → KeepsOn P.tells drawn drawn self.old.session
             (P.history platform.old) (P.history platform.new)
             (λ keys. OnOk result (IsListed self.new.session (P.history platform.new).present keys)) }
         ensures answered { P.tells → (entry : State) → Represents (world_of P.Platform self.old.session platform.old) entry
             → Serves (world_of P.Platform self.old.session platform.old) (world_of P.Platform self.new.session platform.new)
-            entry (Command.Trim block) result }
+            entry (commands.Trim block) (outcome result self.new.buffer) }
     {
         let Some(session) = &mut self.session else {
             return Ok(Reply::Unmounted);
@@ -268,14 +273,14 @@ impl Desk {
         ensures unput { L.written ledger.new ≡ L.written ledger.old }
         ensures damage { (addr : ℕ) → IsErrOf result (DeviceStop.BadRecord addr) → ⊥ }
         ensures pages { P.tells → (entry : State) → Represents (world_of P.Platform self.old.session platform.old) entry
-            → IfOk result (λ reply. P.head platform.new ≡ pages_after entry Command.Commit reply (P.head platform.old)) }
+            → IfOk (outcome result self.new.buffer) (λ reply. P.head platform.new ≡ pages_after entry commands.Commit reply (P.head platform.old)) }
         // Each moment keeps the keys that the image kept before, with those that were drawn, what was deleted stays so, and the cell can be served.
         ensures keeps { KeepsOn P.tells (T.drawn tape.old) (T.drawn tape.new) self.old.session
             (P.history platform.old) (P.history platform.new)
             (λ keys. OnOk result (IsListed self.new.session (P.history platform.new).present keys)) }
         ensures answered { P.tells → (entry : State) → Represents (world_of P.Platform self.old.session platform.old) entry
             → Serves (world_of P.Platform self.old.session platform.old)
-            (world_of P.Platform self.new.session platform.new) entry Command.Commit result }
+            (world_of P.Platform self.new.session platform.new) entry commands.Commit (outcome result self.new.buffer) }
     {
         let Some(session) = self.session.take() else {
             return Ok(Reply::Unmounted);
@@ -298,12 +303,13 @@ impl Desk {
     fn give_up<P: Platform>(&mut self, platform: &P) -> Result<Reply, DeviceStop>
         requires ready { IsReady self.old (P.head platform.now) }
         ensures session { self.new.session ≡ None }
-        ensures reply { IfOk result CanWrite }
+        ensures reply { IfOk result (λ reply. CanWrite (said reply self.new.buffer)) }
+        ensures short { IfOk result FitsBlock }
         ensures full { IfOk result (λ reply. reply ≡ Reply.Full → ⊥) }
         ensures stop { IfErr result (λ stop. ⊥) }
         ensures answered { P.tells → (entry : State) → Represents (world_of P.Platform self.old.session platform.now) entry
             → Serves (world_of P.Platform self.old.session platform.now)
-            (world_of P.Platform self.new.session platform.now) entry Command.Drop result }
+            (world_of P.Platform self.new.session platform.now) entry commands.Drop (outcome result self.new.buffer) }
     {
         let _ = platform;
         if self.session.is_none() {
@@ -319,14 +325,14 @@ impl Desk {
         ensures blame { IsBlamed (counts (P.faults platform.old) 0 0 0 0) (counts (P.faults platform.new) 0 0 0 0) result }
         ensures damage { (addr : ℕ) → IsErrOf result (DeviceStop.BadRecord addr) → ⊥ }
         ensures pages { P.tells → (entry : State) → Represents (world_of P.Platform self.old.session platform.old) entry
-            → IfOk result (λ reply. P.head platform.new ≡ pages_after entry Command.Erase reply (P.head platform.old)) }
+            → IfOk (outcome result self.new.buffer) (λ reply. P.head platform.new ≡ pages_after entry commands.Erase reply (P.head platform.old)) }
         // Each moment keeps the keys that the image kept before, what was deleted stays so, and the cell can be served.
         ensures keeps { (drawn : Option (List (List ℕ))) → KeepsOn P.tells drawn drawn self.old.session
             (P.history platform.old) (P.history platform.new)
             (λ keys. OnOk result (IsListed self.new.session (P.history platform.new).present keys)) }
         ensures answered { P.tells → (entry : State) → Represents (world_of P.Platform self.old.session platform.old) entry
             → Serves (world_of P.Platform self.old.session platform.old)
-            (world_of P.Platform self.new.session platform.new) entry Command.Erase result }
+            (world_of P.Platform self.new.session platform.new) entry commands.Erase (outcome result self.new.buffer) }
     {
         match device_core::erase(platform) {
             Ok(()) => {
@@ -349,12 +355,13 @@ impl Desk {
 
     fn stat<P: Platform>(&self, platform: &P) -> Result<Reply, DeviceStop>
         requires ready { IsReady self.now (P.head platform.now) }
-        ensures reply { IfOk result CanWrite }
+        ensures reply { IfOk result (λ reply. CanWrite (said reply self.now.buffer)) }
+        ensures short { IfOk result FitsBlock }
         ensures full { IfOk result (λ reply. reply ≡ Reply.Full → ⊥) }
         ensures stop { IfErr result (λ stop. ⊥) }
         ensures answered { P.tells → (entry : State) → Represents (world_of P.Platform self.now.session platform.now) entry
             → Serves (world_of P.Platform self.now.session platform.now)
-            (world_of P.Platform self.now.session platform.now) entry Command.Stat result }
+            (world_of P.Platform self.now.session platform.now) entry commands.Stat (outcome result self.now.buffer) }
     {
         let _ = platform;
         match &self.session {
@@ -388,7 +395,8 @@ fn refused_size(blocks: u64, order: u64) -> Option<Reply>
 
 /// The reply to a `format` that is not done: that there is a device already comes first.
 fn refuse_format<P: Platform>(platform: &mut P, reply: Reply) -> Result<Reply, DeviceStop>
-    requires { CanWrite reply }
+    requires writes { (buffer : List ℕ) → CanWrite (said reply buffer) }
+    requires fits { FitsBlock reply }
     ensures replies { P.tells → IfOk result (λ now. ((now ≡ Reply.NotEmpty) × ((P.history platform.old).present.cell ≢ None))
         ⊎ ((now ≡ reply) × ((P.history platform.old).present.cell ≡ None))) }
     ensures either { IfOk result (λ now. (now ≡ Reply.NotEmpty) ⊎ (now ≡ reply)) }
@@ -397,7 +405,8 @@ fn refuse_format<P: Platform>(platform: &mut P, reply: Reply) -> Result<Reply, D
         → During (P.history platform.old) (P.history platform.new) (λ image. image.cell ≡ (P.history platform.old).present.cell) }
     ensures head { P.head platform.new ≡ P.head platform.old }
     ensures capacity { P.capacity platform.new ≡ P.capacity platform.old }
-    ensures reply { IfOk result CanWrite }
+    ensures reply { IfOk result (λ now. (buffer : List ℕ) → CanWrite (said now buffer)) }
+    ensures short { IfOk result FitsBlock }
     ensures count { P.faults platform.old ≤ P.faults platform.new }
     ensures cause { IfErr result (λ stop. (stop ≡ DeviceStop.Platform) × Rose (P.faults platform.old) (P.faults platform.new)) }
 {

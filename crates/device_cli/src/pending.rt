@@ -64,6 +64,18 @@ impl Pending {
         }
     }
 
+    /// The bytes of the line, which ends with these, or None where there are more than `MAX_LINE`. A line of which nothing had come
+    /// is not copied.
+    pub(crate) fn complete<'a>(&'a mut self, end: &'a [u8]) -> Option<&'a [u8]>
+        ensures { (line : List ℕ) → IsKept self.old line → IsKept (option_copied result) (line ++ end.now) }
+    {
+        if self.is_empty() && end.len() <= MAX_LINE {
+            return Some(end);
+        }
+        self.push(end);
+        self.line()
+    }
+
     /// Nothing of the next line yet.
     pub(crate) fn clear(&mut self)
         ensures { IsKept self.new [] }

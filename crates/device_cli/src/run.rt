@@ -5,7 +5,8 @@ ghost use Rattle.sdbt_base.specs.Faults.{Rose};
 ghost use Rattle.sdbt_base.specs.Told.{Got, GotPart};
 ghost use Rattle.script_lang.specs.Grammar.{Spells, IsBad, HasNone};
 ghost use Rattle.script_lang.specs.Lines.{whole_lines_of, rest_of, last_line as line_at_end};
-ghost use Rattle.script_lang.specs.Replies.{CanWrite, line_of};
+ghost use Rattle.script_lang.specs.Commands.{FitsBlock as FitsCommand, asked};
+ghost use Rattle.script_lang.specs.Replies.{CanWrite, FitsBlock, line_of, said};
 ghost use Rattle.platform.specs.History.{During};
 ghost use Rattle.device_core.specs.Leaf.{IsServedImage};
 ghost use Rattle.device_core.specs.declared.session.Session.{Session};
@@ -25,8 +26,8 @@ use crate::pending::Pending;
 use crate::stop::{DeviceStop, Stop};
 use arrayvec::ArrayVec;
 use platform::Platform;
-use script_lang::{Command, Reply, parse, write_reply};
-use sdbt_base::{MAX_INPUT, Sink, Source, Tape};
+use script_lang::{Command, Reply, ReplyWriter, parse};
+use sdbt_base::{BLOCK, MAX_INPUT, Sink, Source, Tape};
 use std::alloc::Global;
 
 /// The most that one take asks for.
@@ -142,8 +143,8 @@ fn serve_piece<P: Platform, T: Tape, O: Sink, L: Sink>(
 {
     let mut rest = piece;
     while let Some((front, behind)) = split_line(rest) {
-        pending.push(front);
-        if let Err(stop) = answer(desk, pending.line(), platform, tape, output, ledger) {
+        let line = pending.complete(front);
+        if let Err(stop) = answer(desk, line, platform, tape, output, ledger) {
             return Err(stop);
         }
         pending.clear();
@@ -209,34 +210,41 @@ fn answer<P: Platform, T: Tape, O: Sink, L: Sink>(
         (world_of P.Platform desk.new.session platform.new)
         no_line result (text ∷ []) (O.written output.old) (O.written output.new) }
 {
-    let Some(command) = read_line(line) else {
-        return put_reply(&Reply::Bad, output);
+    let Some(command) = read_line(line, &mut desk.buffer) else {
+        return put_reply(&mut desk.writer, &Reply::Bad, &desk.buffer, output);
     };
     match desk.serve(platform, tape, ledger, &command) {
-        Ok(reply) => put_reply(&reply, output),
+        Ok(reply) => put_reply(&mut desk.writer, &reply, &desk.buffer, output),
         Err(stop) => Err(Stop::Device(stop)),
     }
 }
 
-/// The command that a line spells. None is a line that is too long for the grammar.
-fn read_line(line: Option<&[u8]>) -> Option<Command>
-    ensures found { IfSome result (λ command. (text : List ℕ) → IsKept (option_copied line.entry) text → Spells text command) }
+/// The command that a line spells, whose bytes come to the buffer. None is a line that is too long for the grammar.
+fn read_line(line: Option<&[u8]>, buffer: &mut [u8; BLOCK]) -> Option<Command>
+    ensures found { IfSome result (λ command. (text : List ℕ) → IsKept (option_copied line.entry) text → Spells text (asked command buffer.new)) }
+    ensures fits { IfSome result FitsCommand }
     ensures none { IfNone result ((text : List ℕ) → IsKept (option_copied line.entry) text → IsBad text) }
 {
     match line {
-        Some(line) => parse(line),
+        Some(line) => parse(line, buffer),
         None => None,
     }
 }
 
 /// Puts a reply's line.
-fn put_reply<O: Sink>(reply: &Reply, output: &mut O) -> Result<(), Stop>
-    requires { CanWrite reply.now }
-    ensures put { HasPut (line_of reply.now) result (O.written output.old) (O.written output.new) }
+fn put_reply<O: Sink>(
+    writer: &mut ReplyWriter,
+    reply: &Reply,
+    buffer: &[u8; BLOCK],
+    output: &mut O,
+) -> Result<(), Stop>
+    requires fits { FitsBlock reply.now }
+    requires trimmed { CanWrite (said reply.now buffer.now) }
+    ensures put { HasPut (line_of (said reply.now buffer.now)) result (O.written output.old) (O.written output.new) }
     ensures stop { IfErr result (λ stop. (stop ≡ Stop.Sink) × Rose (O.faults output.old) (O.faults output.new)) }
     ensures count { O.faults output.old ≤ O.faults output.new }
 {
-    match write_reply(reply, output) {
+    match writer.write(reply, buffer, output) {
         Ok(()) => Ok(()),
         Err(_) => Err(Stop::Sink),
     }

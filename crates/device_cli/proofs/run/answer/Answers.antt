@@ -1,4 +1,8 @@
-use Rattle.script_lang.specs.Replies.{Bad}
+use Rattle.std.proofs.Common.{◌≡◌, ℕ, List, refl}
+use Rattle.script_lang.specs.Commands.{asked}
+use Rattle.script_lang.specs.Replies.{Bad, Full, said}
+use Rattle.script_lang.specs.declared.replies.Reply.{Reply as Given}
+use Rattle.script_lang.specs.declared.replies.Reply.TheVariants as given
 use Rattle.device_cli.specs.World.{World, IsLater, world_of}
 use Rattle.device_cli.specs.Replied.{no_line}
 use Rattle.device_cli.proofs.RepliedLaws.{IsLater-refl, Handled-line, Handled-stop, turned_bad, turned_command}
@@ -16,6 +20,26 @@ returns-in_default-clause-handled g c text kept =
     (IsLater-refl old (g.met.P.Platform.has_room c.args.platform.now)) (λ e. absurd cc)
     (λ told entry rep. turned_bad old entry text (c.in_default.ensures.none text kept) rep) c.put_reply.ensures.put
 
+-- what is said is that no page was free only where that was given
+full_as_said : (reply : Given) (buffer : List ℕ) (X : Type 0) → (reply ≡ given.Full → X) → said reply buffer ≡ Full → X
+full_as_said given.Full buffer X full e = full refl
+full_as_said given.Formatted buffer X full e = cc
+full_as_said (given.Mounted number) buffer X full e = cc
+full_as_said (given.Content count) buffer X full e = cc
+full_as_said given.Done buffer X full e = cc
+full_as_said (given.Committed number) buffer X full e = cc
+full_as_said given.Dropped buffer X full e = cc
+full_as_said given.Erased buffer X full e = cc
+full_as_said (given.Stat mapped number) buffer X full e = cc
+full_as_said (given.Seized pages nodes blocks) buffer X full e = cc
+full_as_said given.Bad buffer X full e = cc
+full_as_said given.Unmounted buffer X full e = cc
+full_as_said given.AlreadyMounted buffer X full e = cc
+full_as_said given.NotEmpty buffer X full e = cc
+full_as_said given.NoDevice buffer X full e = cc
+full_as_said given.Range buffer X full e = cc
+full_as_said given.Unbuilt buffer X full e = cc
+
 pub returns-in-Ok-clause-handled : goal.returns-in-Ok-clause-handled
 returns-in-Ok-clause-handled g c text kept =
     let P = g.P.Platform in
@@ -23,9 +47,11 @@ returns-in-Ok-clause-handled g c text kept =
     let old : World = world_of P c.args.desk.now.session c.args.platform.now in
     let new : World = world_of P c.serve.new.self.session c.serve.new.platform in
     let later : IsLater old new = record { capacity = c.serve.ensures.after.capacity; rises = c.serve.ensures.after.rises; within = g.met.P.Platform.has_room c.serve.new.platform } in
-    Handled-line P.tells old new no_line text c.in-Ok.reply c.put_reply-in-Ok.result (written c.args.output.now) (written c.put_reply-in-Ok.new.output)
-    later c.in-Ok.ensures.after.full
-    (λ told entry rep. turned_command old new entry text c.in-Some.command c.in-Ok.reply (c.in-Some.ensures.found text kept)
+    let command = asked c.in-Some.command c.read_line.new.buffer in
+    let reply = said c.in-Ok.reply c.serve.new.self.buffer in
+    Handled-line P.tells old new no_line text reply c.put_reply-in-Ok.result (written c.args.output.now) (written c.put_reply-in-Ok.new.output)
+    later (full_as_said c.in-Ok.reply c.serve.new.self.buffer _ c.in-Ok.ensures.after.full)
+    (λ told entry rep. turned_command old new entry text command reply (c.in-Some.ensures.found text kept)
     (served_at _ _ (c.serve.ensures.keeps.serves told (c.requires.cell told))) (c.in-Ok.ensures.pages told entry rep.there) (c.in-Ok.ensures.answered told entry rep.there))
     c.put_reply-in-Ok.ensures.put
 
@@ -35,7 +61,8 @@ returns-in-Err-clause-handled g c text kept =
     let old : World = world_of P c.args.desk.now.session c.args.platform.now in
     let new : World = world_of P c.serve.new.self.session c.serve.new.platform in
     let later : IsLater old new = record { capacity = c.serve.ensures.after.capacity; rises = c.serve.ensures.after.rises; within = g.met.P.Platform.has_room c.serve.new.platform } in
-    Handled-stop P.tells old new text c.in-Some.command c.in-Err.stop (g.O.Sink.written c.args.output.now) (c.in-Some.ensures.found text kept) later c.in-Err.ensures.after.added
+    let command = asked c.in-Some.command c.read_line.new.buffer in
+    Handled-stop P.tells old new text command c.in-Err.stop (g.O.Sink.written c.args.output.now) (c.in-Some.ensures.found text kept) later c.in-Err.ensures.after.added
     (λ addr e. (c.in-Err.ensures.of_block addr (cc), λ told. c.in-Err.ensures.damage told addr (cc)))
     (λ told. served_at _ _ (c.serve.ensures.keeps.serves told (c.requires.cell told))) (λ told entry rep. c.in-Err.ensures.answered told entry rep.there)
 

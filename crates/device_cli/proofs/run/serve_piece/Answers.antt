@@ -1,8 +1,6 @@
-use Rattle.std.proofs.Common.{ℕ, List, ◌++◌, refl, sym, ◌∙◌, subst}
+use Rattle.std.proofs.Common.{ℕ, List, ◌++◌, refl, ◌∙◌}
 use Rattle.std.proofs.lemmas.Grind.{common_steps}
 use Rattle.std.proofs.Common.{arith}
-use Rattle.std.specs.Prelude.{Option}
-use Rattle.device_cli.specs.Kept.{IsKept}
 use Rattle.device_cli.specs.World.{World, world_of}
 use Rattle.device_cli.proofs.Serving.{IsServing-start, IsServing-line, IsServing-stop, IsServing-end}
 use Rattle.device_cli.proofs.CellLaws.{served_at}
@@ -38,7 +36,7 @@ loop-front-preserved g c =
       serving = λ rest pending.
           let so_far = c.loop-front.invariant.serving rest pending in
           let line : List ℕ = so_far.line ++ c.in-Some.front.now in
-          let kept = subst (λ (k : Option (List ℕ)). IsKept k line) (sym c.line.ensures) (c.push.ensures so_far.line so_far.pending.is_kept) in
+          let kept = c.complete-line.ensures so_far.line so_far.pending.is_kept in
           IsServing-line P.tells old mid new (written c.args.output.now) (written c.loop-front.output) (written c.answer.new.output) (rest ++ c.args.piece.now)
           c.loop-front.pending c.clear.new.self c.loop-front.rest.now c.in-Some.front.now c.in-Some.behind.now
           so_far c.in-Some.ensures.found.0 c.in-Some.ensures.found.1 c.clear.ensures (c.in_default-answer.ensures.handled line kept);
@@ -53,7 +51,7 @@ returns-in-Err-clause-handled g c rest pending =
     let new : World = world_of P c.answer.new.desk.session c.answer.new.platform in
     let so_far = c.loop-front.invariant.serving rest pending in
     let line : List ℕ = so_far.line ++ c.in-Some.front.now in
-    let kept = subst (λ (k : Option (List ℕ)). IsKept k line) (sym c.line.ensures) (c.push.ensures so_far.line so_far.pending.is_kept) in
+    let kept = c.complete-line.ensures so_far.line so_far.pending.is_kept in
     IsServing-stop P.tells old mid new (written c.args.output.now) (written c.loop-front.output) (written c.answer.new.output) (rest ++ c.args.piece.now)
     c.loop-front.pending c.loop-front.rest.now c.in-Some.front.now c.in-Some.behind.now c.in-Err.stop
     so_far c.in-Some.ensures.found.0 c.in-Some.ensures.found.1 c.in-Err.ensures.after.stops (c.in-Err.ensures.handled line kept)
@@ -65,7 +63,7 @@ returns-clause-pending g c rest pending =
     let end = IsServing-end P.tells (world_of P c.args.desk.now.session c.args.platform.now) (world_of P c.loop-front.desk.session c.loop-front.platform)
     (g.O.Sink.written c.args.output.now) (g.O.Sink.written c.loop-front.output) (rest ++ c.args.piece.now) c.loop-front.pending c.loop-front.rest.now
     so_far c.in_default.ensures.none in
-    rw end.1 (record { is_kept = c.push-2.ensures so_far.line so_far.pending.is_kept; feedless = end.2 })
+    rw end.1 (record { is_kept = c.push.ensures so_far.line so_far.pending.is_kept; feedless = end.2 })
 
 pub returns-clause-handled : goal.returns-clause-handled
 returns-clause-handled g c rest pending =

@@ -6,7 +6,6 @@ use Rattle.script_lang.specs.Commands.{Commit}
 use Rattle.device_cli.proofs.ServedLaws.{halts_still, gives_unmounted_commit}
 use Rattle.device_cli.proofs.ServingLaws.{serves_unmounted, serves_committed, serves_commit_full, halts_commit, keeps_same}
 use Rattle.device_course.proofs.KeysLaws.{on_start, on_call, on_done, listed_some, listed_none}
-use Rattle.device_core.specs.Publishing.{IsCommitCause}
 use Rattle.device_cli.proofs.desk.Desk.commit.Goals as goal
 
 pub returns-in_default-clause-answered : goal.returns-in_default-clause-answered

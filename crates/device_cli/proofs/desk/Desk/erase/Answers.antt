@@ -1,11 +1,9 @@
-use Rattle.std.proofs.Common.{Option, None, refl, sym, ◌∙◌, subst, arith}
-use Rattle.std.proofs.lemmas.Grind.{common_steps}
+use Rattle.std.proofs.Common.{Option, None, refl, sym, ◌∙◌, subst}
 use Rattle.device_core.specs.declared.session.Session.{Session}
 use Rattle.device_course.specs.States.{IsListed}
 use Rattle.device_cli.specs.World.{World, world_of}
 use Rattle.device_cli.proofs.ServingLaws.{serves_erased, serves_erase_none, halts_erase}
 use Rattle.device_course.proofs.KeysLaws.{on_kept, listed_image}
-use Rattle.device_core.specs.Publishing.{IsEraseCause}
 use Rattle.device_cli.proofs.desk.Desk.erase.Goals as goal
 
 pub returns-in-Ok-clause-answered : goal.returns-in-Ok-clause-answered

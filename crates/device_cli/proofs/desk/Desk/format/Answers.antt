@@ -1,48 +1,50 @@
-use Rattle.std.proofs.Common.{◌≡◌, ◌≢◌, ◌<◌, ◌≤◌, ℕ, Bool, true, false, Option, None, Some, Ok, Err, inl, inr, refl, sym, ap, subst, arith, rules}
+use Rattle.std.proofs.Common.{List, ◌≡◌, ◌≢◌, ◌<◌, ◌≤◌, ℕ, Bool, true, false, Option, None, Some, Ok, Err, inl, inr, refl, sym, ap, subst, rules}
 use Rattle.std.specs.Prelude.{Result, IfOk, IfErr, ◌⊎◌}
 use Rattle.sdbt_base.specs.Faults.{Rose}
-use Rattle.std.proofs.lemmas.Grind.{common_steps}
 use Rattle.sdbt_base.specs.Arrays.{State}
-use Rattle.script_lang.specs.Replies.{Reply}
+use Rattle.script_lang.specs.Replies.{said}
+use Rattle.script_lang.specs.declared.replies.Reply.{Reply as Given}
+use Rattle.script_lang.specs.declared.replies.Reply.TheVariants as given
 use Rattle.device_cli.specs.declared.stop.DeviceStop.{DeviceStop}
 use Rattle.device_cli.specs.declared.stop.DeviceStop.TheVariants as device
 use Rattle.device_cli.specs.World.{World, world_of}
-use Rattle.script_lang.specs.Replies as replies
-use Rattle.device_cli.specs.Replied.{Serves, Halts}
+use Rattle.device_cli.specs.Replied.{Serves, Halts, outcome}
 use Rattle.device_cli.specs.Represents.{Represents}
 use Rattle.script_lang.specs.Arrays.{in_limits}
 use Rattle.script_lang.specs.Commands.{Format}
-use Rattle.std.specs.Option.{option_map}
 use Rattle.script_lang.specs.Answers.{answer}
 use Rattle.sdbt_base.specs.Arrays.{Session as OpenSession}
 use Rattle.device_cli.proofs.ServedLaws.{on, halts_still, gives_format_range, gives_format_unbuilt}
 use Rattle.device_cli.proofs.ServingLaws.{KeepsCell, serves_formatted, serves_format_full, serves_not_empty, serves_refused, halts_format}
 use Rattle.device_course.proofs.KeysLaws.{on_look, on_call, sound_of, listed_image, listed_keys, format_listed}
 use Rattle.device_cli.proofs.ReachingLaws.{on_ok}
-use Rattle.device_core.specs.Publishing.{IsFormatCause}
 use Rattle.device_cli.proofs.desk.Desk.format.Goals as goal
 
 -- what the looking for a device ended with
-refused_result : (old new : World) (entry : State) (blocks order : ℕ) (given : Reply) (result : Result Reply DeviceStop) (Risen : Type 0)
-    → IfOk result (λ now. ((now ≡ replies.NotEmpty) × (old.history.present.cell ≢ None)) ⊎ ((now ≡ given) × (old.history.present.cell ≡ None)))
+refused_result : (old new : World) (entry : State) (blocks order : ℕ) (reply : Given) (result : Result Given DeviceStop) (buffer : List ℕ) (Risen : Type 0)
+    → IfOk result (λ now. ((now ≡ given.NotEmpty) × (old.history.present.cell ≢ None)) ⊎ ((now ≡ reply) × (old.history.present.cell ≡ None)))
     → IfErr result (λ stop. (stop ≡ device.Platform) × Risen) → new.history.present ≡ old.history.present → KeepsCell old new
-    → ((full : Bool) (there : Option OpenSession) → (given, on None there) ≡ answer full (on None there) (Format blocks order))
-    → new.session ≡ old.session → Represents old entry → Serves old new entry (Format blocks order) result
-refused_result old new entry blocks order given (Ok reply) Risen replied cause image keeps gives session rep =
-    serves_refused old new entry blocks order reply given session image keeps gives replied rep
-refused_result old new entry blocks order given (Err stop) Risen replied cause image keeps gives session rep =
+    → ((full : Bool) (there : Option OpenSession) → (said reply buffer, on None there) ≡ answer full (on None there) (Format blocks order))
+    → new.session ≡ old.session → Represents old entry → Serves old new entry (Format blocks order) (outcome result buffer)
+refused_result old new entry blocks order reply (Ok now) buffer Risen replied cause image keeps gives session rep =
+    serves_refused old new entry blocks order (said now buffer) (said reply buffer) session image keeps gives
+    (elim replied [
+      | inl found ↦ inl (ap (λ (r : Given). said r buffer) found.0, found.1)
+      | inr none ↦ inr (ap (λ (r : Given). said r buffer) none.0, none.1)
+    ]) rep
+refused_result old new entry blocks order reply (Err stop) buffer Risen replied cause image keeps gives session rep =
     subst (λ (s : DeviceStop). Halts old new entry (Format blocks order) s) (sym cause.0) (halts_still old new entry (Format blocks order) device.Platform tt rep keeps)
 
 -- what belongs to such numbers where no device is there
-gives_refused : (blocks order : ℕ) (reply : Reply) → (reply ≡ replies.Range) ⊎ (reply ≡ replies.Unbuilt)
-    → (reply ≡ replies.Range → in_limits blocks order ≡ false)
-    → (reply ≡ replies.Unbuilt → (in_limits blocks order ≡ true) × ((order ≢ 64) ⊎ (64 < blocks)))
-    → (full : Bool) (there : Option OpenSession) → (reply, on None there) ≡ answer full (on None there) (Format blocks order)
-gives_refused blocks order reply (inl e) range unbuilt full there =
-    subst (λ (r : Reply). (r, on None there) ≡ answer full (on None there) (Format blocks order)) (sym e) (gives_format_range full there blocks order (range e))
-gives_refused blocks order reply (inr e) range unbuilt full there =
+gives_refused : (blocks order : ℕ) (reply : Given) (buffer : List ℕ) → (reply ≡ given.Range) ⊎ (reply ≡ given.Unbuilt)
+    → (reply ≡ given.Range → in_limits blocks order ≡ false)
+    → (reply ≡ given.Unbuilt → (in_limits blocks order ≡ true) × ((order ≢ 64) ⊎ (64 < blocks)))
+    → (full : Bool) (there : Option OpenSession) → (said reply buffer, on None there) ≡ answer full (on None there) (Format blocks order)
+gives_refused blocks order reply buffer (inl e) range unbuilt full there =
+    subst (λ (r : Given). (said r buffer, on None there) ≡ answer full (on None there) (Format blocks order)) (sym e) (gives_format_range full there blocks order (range e))
+gives_refused blocks order reply buffer (inr e) range unbuilt full there =
     let both = unbuilt e in
-    subst (λ (r : Reply). (r, on None there) ≡ answer full (on None there) (Format blocks order)) (sym e) (gives_format_unbuilt full there blocks order both.0 both.1)
+    subst (λ (r : Given). (said r buffer, on None there) ≡ answer full (on None there) (Format blocks order)) (sym e) (gives_format_unbuilt full there blocks order both.0 both.1)
 
 pub returns-in-Ok-clause-answered : goal.returns-in-Ok-clause-answered
 returns-in-Ok-clause-answered g c told entry rep =
@@ -113,10 +115,10 @@ returns-in-Some-clause-answered g c told entry rep =
     let P = g.P.Platform in
     let old : World = world_of P c.args.self.now.session c.args.platform.now in
     let new : World = world_of P c.args.self.now.session c.refuse_format.new.platform in
-    refused_result old new entry c.args.blocks c.args.order c.in-Some.reply c.refuse_format.result (Rose (P.faults c.args.platform.now) (P.faults c.refuse_format.new.platform))
+    refused_result old new entry c.args.blocks c.args.order c.in-Some.reply c.refuse_format.result c.args.self.now.buffer (Rose (P.faults c.args.platform.now) (P.faults c.refuse_format.new.platform))
     (c.refuse_format.ensures.replies told) c.refuse_format.ensures.cause (c.refuse_format.ensures.image told) (c.refuse_format.ensures.time told)
-    (gives_refused c.args.blocks c.args.order c.in-Some.reply c.in-Some.ensures.either
-    (λ e. c.in-Some.ensures.range (ap (λ (r : Reply). Some r) e)) (λ e. c.in-Some.ensures.unbuilt (ap (λ (r : Reply). Some r) e)))
+    (gives_refused c.args.blocks c.args.order c.in-Some.reply c.args.self.now.buffer c.in-Some.ensures.either
+    (λ e. c.in-Some.ensures.range (ap (λ (r : Given). Some r) e)) (λ e. c.in-Some.ensures.unbuilt (ap (λ (r : Given). Some r) e)))
     refl rep
 
 pub returns-in-Ok-clause-keeps : goal.returns-in-Ok-clause-keeps

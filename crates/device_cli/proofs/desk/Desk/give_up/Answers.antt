@@ -1,4 +1,4 @@
-use Rattle.std.proofs.Common.{◌≡◌, None, Some, Ok, arith}
+use Rattle.std.proofs.Common.{◌≡◌, None, Ok, arith}
 use Rattle.std.proofs.lemmas.Grind.{common_steps}
 use Rattle.script_lang.specs.Commands as commands
 use Rattle.script_lang.specs.Replies as replies

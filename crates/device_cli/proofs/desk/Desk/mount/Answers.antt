@@ -5,13 +5,11 @@ use Rattle.device_cli.specs.World.{World, world_of}
 use Rattle.script_lang.specs.Replies as replies
 use Rattle.device_cli.specs.Replied.{Serves}
 use Rattle.script_lang.specs.Commands as commands
-use Rattle.device_core.specs.declared.session.Session.{Session}
 use Rattle.std.specs.Prelude.{List}
 use Rattle.device_core.specs.Leaf.{IsServedCell, IsRefusedCell}
 use Rattle.device_cli.proofs.ServedLaws.{halts_still}
 use Rattle.device_cli.proofs.ServingLaws.{serves_already, serves_mounted, serves_no_device}
 use Rattle.device_course.proofs.KeysLaws.{on_start, on_look, listed_image, mount_listed}
-use Rattle.device_core.specs.Causes.{IsMountCause}
 use Rattle.device_cli.proofs.Choices.{some_of}
 use Rattle.device_cli.proofs.desk.Desk.mount.Goals as goal
 

@@ -1,7 +1,7 @@
 use Rattle.std.proofs.Common.{◌≡◌, ◌<◌, ◌≤◌, ℕ, None, Some, Ok, Err, refl, sym, ◌∙◌, subst, rules, arith}
 use Rattle.std.proofs.lemmas.Grind.{common_steps}
 use Rattle.script_lang.specs.Arrays.{content_reply}
-use Rattle.script_lang.specs.Replies.{Reply}
+use Rattle.script_lang.specs.Replies.{Reply, said}
 use Rattle.device_cli.specs.declared.stop.DeviceStop.TheVariants as device
 use Rattle.device_cli.specs.World.{World, is_full, world_of}
 use Rattle.script_lang.specs.Replies as replies
@@ -11,8 +11,6 @@ use Rattle.device_cli.proofs.ServedLaws.{at, with_session, has_session, serves_s
 use Rattle.device_cli.proofs.ServingLaws.{serves_unmounted}
 use Rattle.device_cli.proofs.CellLaws.{mounted_still}
 use Rattle.device_course.proofs.KeysLaws.{on_start, on_look, listed_some}
-use Rattle.device_core.specs.Causes.{IsReadCause}
-use Rattle.device_core.specs.Reading.{ReadsArray}
 use Rattle.device_cli.proofs.desk.Desk.read.Goals as goal
 
 pub returns-in_default-clause-answered : goal.returns-in_default-clause-answered
@@ -28,7 +26,7 @@ returns-in-Ok-clause-answered g c told entry rep =
     let old : World = world_of P c.args.self.now.session c.args.platform.now in
     let new : World = world_of P (Some c.read.new.self) c.read.new.platform in
     let taken : c.args.self.now.session ≡ Some c.in-Some.session = c.in-Some.is in
-    with_session old c.in-Some.session entry taken rep (λ state. Serves old new state (Read c.args.block) (Ok c.reply_with_content.result))
+    with_session old c.in-Some.session entry taken rep (λ state. Serves old new state (Read c.args.block) (Ok (said c.reply_with_content.result c.read.new.out)))
     (λ d t holds touched.
     let within : c.args.block < d.blocks = subst (λ (n : ℕ). c.args.block < n) holds.stands.blocks c.in-Ok.ensures.cause in
     let after = has_session new c.read.new.self d t refl (c.in-Ok.ensures.array told d t.contents holds).0 (c.in-Ok.ensures.same.2 ∙ touched) in
@@ -85,6 +83,7 @@ returns-in-Ok-clause-after g c = record {
   ready = c.in-Ok.ensures.open;
   mounted = λ told. mounted_still _ c.in-Some.session _ _ _ c.in-Some.is (c.requires.mounted told) c.read.ensures.same.0 (c.read.ensures.looks.time told) (c.read.ensures.follows told);
   reply = search rules;
+  short = search rules;
   bad_root = search rules;
   capacity = search rules;
   rises = search rules;

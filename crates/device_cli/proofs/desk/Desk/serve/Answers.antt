@@ -1,11 +1,11 @@
 use Rattle.std.specs.Prelude.{IfOk}
 use Rattle.device_cli.specs.Pages.{pages_after}
-use Rattle.std.proofs.Common.{◌≡◌, Ok, sym, subst, arith}
-use Rattle.std.proofs.lemmas.Grind.{common_steps}
+use Rattle.std.proofs.Common.{◌≡◌, Ok, sym, subst}
 use Rattle.device_cli.specs.World.{World, world_of}
 use Rattle.script_lang.specs.Replies as replies
-use Rattle.device_cli.specs.Replied.{Serves}
-use Rattle.script_lang.specs.Commands.{Command}
+use Rattle.device_cli.specs.Replied.{Serves, outcome}
+use Rattle.script_lang.specs.Commands.{asked}
+use Rattle.script_lang.specs.declared.commands.Command.{Command as Parsed}
 use Rattle.device_cli.proofs.ServingLaws.{serves_seize}
 use Rattle.device_course.proofs.KeysLaws.{on_start, on_done, listed_none}
 use Rattle.device_cli.proofs.ReachingLaws.{on_ok}
@@ -16,21 +16,31 @@ returns-in-Write-clause-answered g c told entry rep =
     let P = g.P.Platform in
     let old : World = world_of P c.args.self.now.session c.args.platform.now in
     let new : World = world_of P c.write.new.self.session c.write.new.platform in
-    subst (λ (command : Command). Serves old new entry command c.write.result) (sym c.in-Write.is)
-    (c.write.ensures.answered told entry rep c.in-Write.content (grind (arith, common_steps, c.deref.ensures)))
+    let buffer = c.args.self.now.buffer in
+    subst (λ (command : Parsed). Serves old new entry (asked command buffer) (outcome c.write.result c.write.new.self.buffer)) (sym c.in-Write.is)
+    (c.write.ensures.answered told entry rep)
 
 pub returns-in-Seize-clause-answered : goal.returns-in-Seize-clause-answered
 returns-in-Seize-clause-answered g c told entry rep =
     let P = g.P.Platform in
     let old : World = world_of P c.args.self.now.session c.args.platform.now in
-    subst (λ (command : Command). Serves old old entry command (Ok replies.Unbuilt)) (sym c.in-Seize.is)
+    subst (λ (command : Parsed). Serves old old entry (asked command c.args.self.now.buffer) (Ok replies.Unbuilt)) (sym c.in-Seize.is)
     (serves_seize c.args.self.now.session (P.history c.args.platform.now) (P.head c.args.platform.now) (P.capacity c.args.platform.now) entry rep)
+
+pub returns-in-Stat-clause-answered : goal.returns-in-Stat-clause-answered
+returns-in-Stat-clause-answered g c told entry rep =
+    let P = g.P.Platform in
+    let old : World = world_of P c.args.self.now.session c.args.platform.now in
+    let buffer = c.args.self.now.buffer in
+    subst (λ (command : Parsed). Serves old old entry (asked command buffer) (outcome c.stat.result buffer)) (sym c.in-Stat.is)
+    (c.stat.ensures.answered told entry rep)
 
 pub returns-in-Write-clause-pages : goal.returns-in-Write-clause-pages
 returns-in-Write-clause-pages g c told entry rep =
     let P = g.P.Platform in
-    subst (λ (command : Command). IfOk c.write.result (λ reply. P.head c.write.new.platform ≡ pages_after entry command reply (P.head c.args.platform.now))) (sym c.in-Write.is)
-    (c.write.ensures.pages told entry rep c.in-Write.content)
+    let buffer = c.args.self.now.buffer in
+    subst (λ (command : Parsed). IfOk (outcome c.write.result c.write.new.self.buffer) (λ reply. P.head c.write.new.platform ≡ pages_after entry (asked command buffer) reply (P.head c.args.platform.now))) (sym c.in-Write.is)
+    (c.write.ensures.pages told entry rep)
 
 pub returns-in-Drop-clause-keeps : goal.returns-in-Drop-clause-keeps
 returns-in-Drop-clause-keeps g c = on_done _ _ _ c.args.self.now.session _ _ _ _ (on_start _ _ c.args.self.now.session _) (λ keys h. on_ok c.give_up.result _ (listed_none c.args.self.now.session c.give_up.new.self.session _ keys c.give_up.ensures.session h))

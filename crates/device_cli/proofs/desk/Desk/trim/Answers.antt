@@ -1,4 +1,4 @@
-use Rattle.std.proofs.Common.{◌≡◌, ◌<◌, ◌≤◌, ℕ, Bool, None, Some, Ok, Err, refl, sym, ◌∙◌, ap, subst, rules, arith}
+use Rattle.std.proofs.Common.{◌≡◌, ◌<◌, ◌≤◌, ℕ, Bool, None, Some, Ok, Err, refl, ◌∙◌, ap, subst, rules, arith}
 use Rattle.std.specs.Prelude.{◌||◌}
 use Rattle.std.proofs.lemmas.Grind.{common_steps}
 use Rattle.device_cli.specs.declared.stop.DeviceStop.TheVariants as device
@@ -6,15 +6,12 @@ use Rattle.device_cli.specs.World.{World, is_full, world_of}
 use Rattle.script_lang.specs.Replies as replies
 use Rattle.device_cli.specs.Replied.{Serves}
 use Rattle.std.specs.FinMap.{contains_key}
-use Rattle.device_core.specs.declared.refusals.TrimRefusal.TheVariants as refusals
 use Rattle.sdbt_base.specs.Arrays.{unmapped}
 use Rattle.script_lang.specs.Commands.{Trim}
 use Rattle.device_cli.proofs.ServedLaws.{at, with_session, has_session, serves_still, halts_still, gives_unmounted_trim, gives_trimmed, gives_trim_range}
 use Rattle.device_cli.proofs.ServingLaws.{serves_unmounted}
 use Rattle.device_cli.proofs.CellLaws.{mounted_still}
 use Rattle.device_course.proofs.KeysLaws.{on_start, on_look, listed_some}
-use Rattle.device_core.specs.Causes.{IsTrimCause}
-use Rattle.device_core.specs.Changes.{TrimsArray}
 use Rattle.device_cli.proofs.desk.Desk.trim.Goals as goal
 
 pub returns-in_default-clause-answered : goal.returns-in_default-clause-answered
@@ -97,6 +94,7 @@ returns-in-Ok-clause-after g c = record {
   ready = c.in-Ok.ensures.open;
   mounted = λ told. mounted_still _ c.in-Some.session _ _ _ c.in-Some.is (c.requires.mounted told) c.trim.ensures.same.0 (c.trim.ensures.looks.time told) (c.trim.ensures.follows told);
   reply = search rules;
+  short = search rules;
   bad_root = search rules;
   capacity = search rules;
   rises = search rules;

@@ -1,16 +1,10 @@
-use Rattle.std.proofs.Common.{◌≡◌, ◌<◌, ◌≤◌, ℕ, None, Some, Ok, Err, refl, sym, rules, ◌∙◌, subst, arith}
+use Rattle.std.proofs.Common.{◌≡◌, ◌<◌, ◌≤◌, ℕ, None, Some, Ok, Err, refl, rules, ◌∙◌, subst, arith, List, take}
 use Rattle.std.proofs.lemmas.Grind.{common_steps}
 use Rattle.device_cli.specs.declared.stop.DeviceStop.TheVariants as device
 use Rattle.device_cli.specs.World.{World, is_full, world_of}
 use Rattle.script_lang.specs.Replies as replies
 use Rattle.device_cli.specs.Replied.{Serves}
 use Rattle.std.specs.Prelude.{List}
-use Rattle.std.specs.FinMap.{insert}
-use Rattle.sdbt_base.specs.Arrays.{padded}
-use Rattle.device_core.specs.Holds.{Holds}
-use Rattle.device_core.specs.declared.refusals.WriteRefusal.TheVariants as refusals
-use Rattle.device_core.specs.Causes.{IsWriteCause}
-use Rattle.device_core.specs.Changes.{WritesArray, WriteAdds}
 use Rattle.sdbt_base.specs.Arrays.{written}
 use Rattle.script_lang.specs.Commands.{Write}
 use Rattle.device_cli.proofs.ServedLaws.{at, with_session, has_session, serves_still, halts_still, is_full_true, is_full_false, gives_unmounted_write, gives_written, gives_write_range, gives_write_full}
@@ -22,15 +16,17 @@ use Rattle.device_course.proofs.KeysLaws.{on_start, on_call, sound_of, listed_so
 use Rattle.device_cli.proofs.desk.Desk.write.Goals as goal
 
 pub returns-in_default-clause-answered : goal.returns-in_default-clause-answered
-returns-in_default-clause-answered g c told entry rep bytes same =
+returns-in_default-clause-answered g c told entry rep =
     let P = g.P.Platform in
+    let bytes : List ℕ = take c.args.count c.args.self.now.buffer in
     let none : c.args.self.now.session ≡ None = grind (arith, common_steps, c.in_default.is) in
     serves_unmounted c.args.self.now.session c.args.self.now.session (P.history c.args.platform.now) (P.head c.args.platform.now) (P.capacity c.args.platform.now) entry (Write c.args.block bytes) none none
     (λ full there. gives_unmounted_write full there c.args.block bytes) rep
 
 pub returns-in-Ok-clause-answered : goal.returns-in-Ok-clause-answered
-returns-in-Ok-clause-answered g c told entry rep bytes same =
+returns-in-Ok-clause-answered g c told entry rep =
     let P = g.P.Platform in
+    let bytes : List ℕ = take c.args.count c.args.self.now.buffer in
     let old : World = world_of P c.args.self.now.session c.args.platform.now in
     let new : World = world_of P (Some c.write.new.self) c.write.new.platform in
     let taken : c.args.self.now.session ≡ Some c.in-Some.session = c.in-Some.is in
@@ -38,14 +34,14 @@ returns-in-Ok-clause-answered g c told entry rep bytes same =
     (λ d t holds touched.
     let within : c.args.block < d.blocks = subst (λ (n : ℕ). c.args.block < n) holds.stands.blocks c.in-Ok.ensures.cause.0 in
     let room = is_full_false old c.in-Ok.ensures.cause.1 in
-    let holds_now = subst (λ (content : List ℕ). Holds c.write.new.self (P.history c.write.new.platform).present d (insert t.contents c.args.block (padded content))) (sym same) (c.in-Ok.ensures.array told d t.contents holds) in
-    let after = has_session new c.write.new.self d (written t c.args.block bytes.items) refl holds_now c.in-Ok.ensures.same.1 in
-    serves_still old new (at d t) (at d (written t c.args.block bytes.items)) (Write c.args.block bytes) replies.Done (has_session old c.in-Some.session d t taken holds touched)
+    let after = has_session new c.write.new.self d (written t c.args.block bytes) refl (c.in-Ok.ensures.array told d t.contents holds) c.in-Ok.ensures.same.1 in
+    serves_still old new (at d t) (at d (written t c.args.block bytes)) (Write c.args.block bytes) replies.Done (has_session old c.in-Some.session d t taken holds touched)
     (gives_written (is_full old) d t c.args.block bytes room within) after (c.write.ensures.time told))
 
 pub returns-in-Err-Range-clause-answered : goal.returns-in-Err-Range-clause-answered
-returns-in-Err-Range-clause-answered g c told entry rep bytes same =
+returns-in-Err-Range-clause-answered g c told entry rep =
     let P = g.P.Platform in
+    let bytes : List ℕ = take c.args.count c.args.self.now.buffer in
     let old : World = world_of P c.args.self.now.session c.args.platform.now in
     let new : World = world_of P (Some c.write.new.self) c.write.new.platform in
     let taken : c.args.self.now.session ≡ Some c.in-Some.session = c.in-Some.is in
@@ -57,8 +53,9 @@ returns-in-Err-Range-clause-answered g c told entry rep bytes same =
     (gives_write_range (is_full old) d t c.args.block bytes past) after (c.write.ensures.time told))
 
 pub returns-in-Err-Full-clause-answered : goal.returns-in-Err-Full-clause-answered
-returns-in-Err-Full-clause-answered g c told entry rep bytes same =
+returns-in-Err-Full-clause-answered g c told entry rep =
     let P = g.P.Platform in
+    let bytes : List ℕ = take c.args.count c.args.self.now.buffer in
     let old : World = world_of P c.args.self.now.session c.args.platform.now in
     let new : World = world_of P (Some c.write.new.self) c.write.new.platform in
     let taken : c.args.self.now.session ≡ Some c.in-Some.session = c.in-Some.is in
@@ -71,8 +68,9 @@ returns-in-Err-Full-clause-answered g c told entry rep bytes same =
     (gives_write_full (is_full old) d t c.args.block bytes (is_full_true old both.1) within) after (c.write.ensures.time told))
 
 pub returns-in-Err-BadRecord-clause-answered : goal.returns-in-Err-BadRecord-clause-answered
-returns-in-Err-BadRecord-clause-answered g c told entry rep bytes same =
+returns-in-Err-BadRecord-clause-answered g c told entry rep =
     let P = g.P.Platform in
+    let bytes : List ℕ = take c.args.count c.args.self.now.buffer in
     let old : World = world_of P c.args.self.now.session c.args.platform.now in
     let new : World = world_of P (Some c.write.new.self) c.write.new.platform in
     let taken : c.args.self.now.session ≡ Some c.in-Some.session = c.in-Some.is in
@@ -80,22 +78,25 @@ returns-in-Err-BadRecord-clause-answered g c told entry rep bytes same =
     (λ d t holds touched. absurd ((rw c.in-Err-BadRecord.field-0-is at c.in-Err-BadRecord.ensures.array) told d t.contents holds))
 
 pub returns-in-Err-Memory-clause-answered : goal.returns-in-Err-Memory-clause-answered
-returns-in-Err-Memory-clause-answered g c told entry rep bytes same =
+returns-in-Err-Memory-clause-answered g c told entry rep =
     let P = g.P.Platform in
+    let bytes : List ℕ = take c.args.count c.args.self.now.buffer in
     let old : World = world_of P c.args.self.now.session c.args.platform.now in
     let new : World = world_of P (Some c.write.new.self) c.write.new.platform in
     halts_still old new entry (Write c.args.block bytes) device.Memory tt rep (c.write.ensures.time told)
 
 pub returns-in-Err-TapeFault-clause-answered : goal.returns-in-Err-TapeFault-clause-answered
-returns-in-Err-TapeFault-clause-answered g c told entry rep bytes same =
+returns-in-Err-TapeFault-clause-answered g c told entry rep =
     let P = g.P.Platform in
+    let bytes : List ℕ = take c.args.count c.args.self.now.buffer in
     let old : World = world_of P c.args.self.now.session c.args.platform.now in
     let new : World = world_of P (Some c.write.new.self) c.write.new.platform in
     halts_still old new entry (Write c.args.block bytes) device.Tape tt rep (c.write.ensures.time told)
 
 pub returns-in-Err-PlatformFault-clause-answered : goal.returns-in-Err-PlatformFault-clause-answered
-returns-in-Err-PlatformFault-clause-answered g c told entry rep bytes same =
+returns-in-Err-PlatformFault-clause-answered g c told entry rep =
     let P = g.P.Platform in
+    let bytes : List ℕ = take c.args.count c.args.self.now.buffer in
     let old : World = world_of P c.args.self.now.session c.args.platform.now in
     let new : World = world_of P (Some c.write.new.self) c.write.new.platform in
     halts_still old new entry (Write c.args.block bytes) device.Platform tt rep (c.write.ensures.time told)
@@ -129,6 +130,7 @@ returns-in-Ok-clause-after g c = record {
   ready = c.in-Ok.ensures.open;
   mounted = λ told. mounted_still _ c.in-Some.session _ _ _ c.in-Some.is (c.requires.before.mounted told) c.write.ensures.same.0 (c.write.ensures.time told) (c.write.ensures.follows told);
   reply = search rules;
+  short = search rules;
   bad_root = search rules;
   capacity = search rules;
   rises = search rules;
