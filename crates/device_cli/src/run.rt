@@ -25,6 +25,7 @@ use crate::entry::check_cell;
 use crate::pending::Pending;
 use crate::stop::{DeviceStop, Stop};
 use arrayvec::ArrayVec;
+use memchr::memchr;
 use platform::Platform;
 use script_lang::{Command, Reply, ReplyWriter, parse};
 use sdbt_base::{BLOCK, MAX_INPUT, Sink, Source, Tape};
@@ -159,7 +160,7 @@ fn split_line(text: &[u8]) -> Option<(&[u8], &[u8])>
     ensures found { IfSome result (λ parts. HasNone 10 parts.0.now × (text.now ≡ parts.0.now ++ 10 ∷ parts.1.now)) }
     ensures none { IfNone result (HasNone 10 text.now) }
 {
-    let feed = text.iter().position(|byte| *byte == b'\n')?;
+    let feed = memchr(b'\n', text)?;
     let (line, behind) = text.split_at(feed);
     Some((line, &behind[1..]))
 }

@@ -4,6 +4,7 @@
 
 mod commands;
 mod devices;
+mod line_buffer;
 mod machine;
 mod reading;
 mod replies;

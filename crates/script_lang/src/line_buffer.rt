@@ -1,0 +1,83 @@
+//! A line that is built in a buffer of fixed size.
+
+ghost use Rattle.std.specs.Prelude.{◌≡◌, ◌+◌, ◌*◌, ◌≤◌, ℕ, List, [], ◌++◌, length, take};
+ghost use Rattle.std.specs.Fmt.{decimal};
+ghost use Rattle.hex.specs.Hex.{encode_lower};
+
+use std::marker::Model;
+
+/// Room for each line of a reply: the longest has `data `, two digits for each byte of a block, and
+/// a line feed.
+const LINE: usize = 8300;
+
+/// The text of a line, of at most `LINE` bytes.
+#[derive(Drop)]
+pub(crate) struct LineBuffer {
+    bytes: [u8; LINE],
+    len: usize,
+}
+
+impl Model for LineBuffer {
+    ghost Value = { List ℕ };
+
+    ghost view = { λ l. take l.len l.bytes };
+
+    ghost invariant = { λ l. l.len ≤ 8300 };
+}
+
+impl LineBuffer {
+    /// An empty line.
+    pub(crate) fn new() -> LineBuffer
+        ensures { result ≡ [] }
+    {
+        LineBuffer {
+            bytes: [0; LINE],
+            len: 0,
+        }
+    }
+
+    /// The text of the line.
+    pub(crate) fn text(&self) -> &[u8]
+        ensures { result.now ≡ self.now }
+    {
+        &self.bytes[..self.len]
+    }
+
+    /// Makes the line empty.
+    pub(crate) fn clear(&mut self)
+        ensures { self.new ≡ [] }
+    {
+        self.len = 0;
+    }
+
+    /// Puts a text at the end of a line that has room for it.
+    pub(crate) fn push(&mut self, text: &[u8])
+        requires { length self.old + length text.now ≤ 8300 }
+        ensures { self.new ≡ self.old ++ text.now }
+    {
+        let end = self.len + text.len();
+        self.bytes[self.len..end].copy_from_slice(text);
+        self.len = end;
+    }
+
+    /// Puts the decimal digits of a number at the end of a line that has room for 20.
+    pub(crate) fn push_number(&mut self, number: u64)
+        requires { length self.old + 20 ≤ 8300 }
+        ensures text { self.new ≡ self.old ++ decimal number }
+        ensures short { length self.new ≤ length self.old + 20 }
+    {
+        let mut printed = itoa::Buffer::new();
+        self.push(printed.format(number).as_bytes());
+    }
+
+    /// Puts the lower-case hex digits of bytes at the end of a line that has room for them.
+    pub(crate) fn push_hex(&mut self, bytes: &[u8])
+        requires { length self.old + 2 * length bytes.now ≤ 8300 }
+        ensures text { self.new ≡ self.old ++ encode_lower bytes.now }
+        ensures len { length self.new ≡ length self.old + 2 * length bytes.now }
+    {
+        let end = self.len + 2 * bytes.len();
+        let _ = hex::encode_to_slice(bytes, &mut self.bytes[self.len..end]);
+        self.len = end;
+    }
+}
