@@ -1,27 +1,10 @@
 -- What a seeded tape's generator gives, and the keys of a seed.
-use Rattle.std.proofs.Common.{◌≡◌, ℕ, ◌+◌, ◌*◌, ◌^◌, ◌<◌, List, [], ◌∷◌, ◌++◌, take, ap, ◌∙◌, add-one, arith}
-use Rattle.std.proofs.lemmas.List.{take_all}
-use Rattle.rand_core.specs.Steps.{fill_via_u32}
-use Rattle.rand_chacha.specs.ChaCha.{ChaCha, next_word, key_of}
+use Rattle.std.proofs.Common.{◌≡◌, ℕ, ◌+◌, ◌*◌, List, [], ◌∷◌, ◌++◌, ap, ◌∙◌, add-one}
+use Rattle.rand_chacha.specs.ChaCha.{key_of}
 use Rattle.sdbt_base.specs.Bytes.{IsBytes}
 use Rattle.chacha_words.specs.Words.{words}
-use Rattle.chacha_words.proofs.WordLaws.{length-words, All-words, word_bytes-words}
+use Rattle.chacha_words.proofs.WordLaws.{length-words, All-words}
 use Rattle.key_tape.specs.SeedKeys.{seed_bytes, key_at, first_keys}
-
--- 32 bytes of a generator are its next eight words
-pub eight_words : (bytes : List ℕ) (rng after : ChaCha) → (bytes, after) ≡ fill_via_u32 (next_word 10) 32 rng
-    → rng.word_pos < 2 ^ 67 → bytes ≡ words rng.key rng.stream rng.word_pos 8
-eight_words bytes rng after filled early =
-    ap (λ (p : List ℕ × ChaCha). p.0) filled
-    ∙ ap (λ (p : List ℕ × ChaCha). take 32 p.0) (word_bytes-words rng 8 (omega arith))
-    ∙ take_all 32 (words rng.key rng.stream rng.word_pos 8) (omega (arith, length-words rng.key rng.stream rng.word_pos 8))
-
--- and it then stands behind them
-pub behind_eight : (bytes : List ℕ) (rng after : ChaCha) → (bytes, after) ≡ fill_via_u32 (next_word 10) 32 rng
-    → rng.word_pos < 2 ^ 67 → after ≡ record rng { word_pos = rng.word_pos + 8 }
-behind_eight bytes rng after filled early =
-    ap (λ (p : List ℕ × ChaCha). p.1) filled
-    ∙ ap (λ (p : List ℕ × ChaCha). p.1) (word_bytes-words rng 8 (omega arith))
 
 -- the eight words at the place of a key are that key
 pub key_of_words : (seed n : ℕ) (key : List ℕ) (stream place : ℕ)

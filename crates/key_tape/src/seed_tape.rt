@@ -5,9 +5,9 @@ ghost use Rattle.sdbt_base.specs.Told.{Drew};
 ghost use Rattle.chacha_words.specs.Words.{words};
 ghost use Rattle.key_tape.specs.SeedKeys.{SeedTapeState, seed_bytes, key_at, first_keys};
 
+use chacha_words::fill_words;
 use rand_chacha::ChaCha20Rng;
 use rand_core::SeedableRng;
-use rand_core::utils::fill_bytes_via_u32;
 use sdbt_base::{FreshKey, KEY, Tape, TapeFault};
 use std::marker::Model;
 
@@ -99,7 +99,7 @@ fn next_key(rng: &mut ChaCha20Rng) -> [u8; KEY]
     ensures place { rng.new ≡ record rng.old { word_pos = rng.old.word_pos + 8 } }
 {
     let mut bytes = [0; KEY];
-    fill_bytes_via_u32(rng, &mut bytes);
+    fill_words(rng, &mut bytes);
     bytes
 }
 

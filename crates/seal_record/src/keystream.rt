@@ -1,11 +1,12 @@
 //! The keystream of a key, and bytes with it mixed in.
-ghost use Rattle.std.specs.Prelude.{◌≡◌, ◌≤◌, length, take, bit_xor};
+ghost use Rattle.std.specs.Prelude.{◌≡◌, ◌≤◌, ◌%◌, length, take, bit_xor};
 ghost use Rattle.std.specs.Simd.Lanes.{zip2};
 ghost use Rattle.seal_record.specs.Keystream.{stream};
 ghost use Rattle.seal_record.specs.Sealing.{masked};
 
+use chacha_words::fill_words;
 use rand_chacha::ChaCha20Rng;
-use rand_core::{Rng, SeedableRng};
+use rand_core::SeedableRng;
 use sdbt_base::{Key, RECORD};
 
 /// The bytes of the keystream that lie under a stamp.
@@ -44,11 +45,12 @@ pub fn stream_front(key: &Key) -> [u8; FRONT]
 
 /// Fills `out` with the front of the keystream of `key`, and makes no more of it.
 fn fill_with_stream(key: &Key, out: &mut [u8])
-    requires { length out.old ≤ RECORD }
+    requires short { length out.old ≤ RECORD }
+    requires whole { length out.old % 4 ≡ 0 }
     ensures { out.new ≡ take (length out.old) (stream key.now) }
 {
     let mut rng = ChaCha20Rng::from_seed(key.bytes());
-    rng.fill_bytes(out);
+    fill_words(&mut rng, out);
 }
 
 /// Mixes as many bytes into `out`, place by place.
