@@ -12,7 +12,7 @@ use Rattle.page_store.specs.Disclosing.{DisclosesBy}
 use Rattle.page_store.proofs.StandsLaws.{stands_leaves}
 use Rattle.page_store.proofs.DisclosingLaws.{discloses as run_discloses}
 use Rattle.device_core.specs.Leaf.{IsServedImage}
-use Rattle.device_core.specs.declared.session.Session.{Session}
+use Rattle.device_core.specs.Sessions.{Session}
 use Rattle.device_course.specs.Marks.{Leaves, HasMark, mark_at, last_mark}
 use Rattle.device_course.specs.States.{Outside, IsAt, IsListed}
 use Rattle.device_course.specs.Course.{Course, Promised}
