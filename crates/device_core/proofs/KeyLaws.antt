@@ -1,6 +1,6 @@
 -- What a format, a commit and a write do to the keys that the image keeps.
 use Rattle.std.proofs.Common.{◌≡◌, ◌⊎◌, inl, inr, Bool, true, false, Result, ℕ, zero, suc, ◌<◌, ◌≤◌, ◌^◌, List, [], ◌∷◌, ◌++◌, map, length, get_or, refl, sym, ◌∙◌, ap, subst, arith, length-append}
-use Rattle.std.specs.Prelude.{Option, None, Some, All, Contains, remove}
+use Rattle.std.specs.Prelude.{Option, None, Some, All, Contains}
 use Rattle.std.proofs.lemmas.List.Elements.{All-nil, All-cons, All-head, All-tail, All-weaker, All-map, All-contains, Contains-append_left, Contains-get_or}
 use Rattle.platform.specs.Image.{Image, IsEarlier, IsWhole, with_page, with_cell, all_synced}
 use Rattle.platform.specs.History.{History, Steps, During, Turns}
@@ -28,7 +28,6 @@ use Rattle.page_store.specs.Places.{FitsAt, root_want}
 use Rattle.page_store.specs.Floors.{IsInTree, HasPlace, Succeeds, low_of, Forgets}
 use Rattle.key_graph.proofs.ChainLaws.{contains_map, map_contains}
 use Rattle.page_store.proofs.FloorLaws.{low_few, low_of_stands, place_later, place_at, place_of_stands, succeeds_none, succeeds_tree, forgets_published}
-use Rattle.device_core.specs.Leaf.{placed}
 use Rattle.device_core.specs.Holds.{Holds}
 use Rattle.device_core.specs.Drawing.{data_place, KeepsTree}
 use Rattle.device_core.specs.Knowing.{HoldsListed}

@@ -9,3 +9,4 @@ pub mod CountLaws
 pub mod KeyLaws
 pub mod ReadingLaws
 pub mod CommitLaws
+pub mod FormatLaws

@@ -4,7 +4,6 @@ use Rattle.std.specs.Prelude.{◌≢◌, All}
 use Rattle.std.proofs.lemmas.List.Elements.{All-contains}
 use Rattle.node_codec.specs.declared.body.Entry.{Entry}
 use Rattle.node_codec.specs.Record.{NodeRecord}
-use Rattle.root_codec.specs.declared.root.Root.{Root}
 use Rattle.page_store.proofs.RecordLaws.{one_record}
 use Rattle.device_core.specs.Leaf.{IsPlace}
 use Rattle.device_core.specs.Reading.{IsLeafOf, IsEntryOf}

@@ -4,7 +4,6 @@ use Rattle.page_store.specs.Places.{FitsAt, NothingFits, IsWantedRecord, root_wa
 use Rattle.node_codec.specs.Record.{NodeRecord, DataRecord}
 use Rattle.root_codec.specs.declared.root.Root.{Root}
 use Rattle.node_codec.specs.declared.body.Entry.{Entry}
-use Rattle.platform.specs.Image.{Image}
 use Rattle.page_store.specs.Tree.{Wrong}
 use Rattle.device_core.specs.Leaf.{AreEntries}
 use Rattle.device_core.proofs.EntryLaws.{AreEntries-read}
@@ -14,6 +13,8 @@ use Rattle.device_core.proofs.FollowLaws.{follows_same, follows_read}
 use Rattle.device_core.proofs.KeyLaws.{listed_same, listed_loaded}
 use Rattle.device_core.proofs.ReadingLaws.{loaded_or_not}
 use Rattle.device_core.specs.contracts.session.Session.{the_view}
+use Rattle.device_core.proofs.session.Session.load.Given.{Over}
+use Rattle.device_core.proofs.session.Session.load.Goals.{In-Node}
 use Rattle.device_core.proofs.session.Session.load.Goals as goal
 
 -- a node that is wanted at the root of one leaf is a leaf
@@ -35,6 +36,14 @@ no_block : (want : Want) (root : Root) (block : ℕ) (content body : List ℕ) �
 no_block want root block content body want_is one is =
     let of_root = subst (λ (w : Want). IsWantedRecord w body (DataRecord block content)) want_is is in
     omega (arith, of_root.wanted.0, one)
+
+-- the leaf that was read
+leaf_there : (g : Over) (c : In-Node g) → g.P.Platform.tells → FitsAt (g.P.Platform.history c.args.platform.now).present.readable (root_want c.self.inside.root) c.self.inside.root.key (NodeRecord 1 c.in-Node.node.entries.items)
+leaf_there g c told =
+    let is = rw (← c.self.view_is) at c.requires in
+    let wanted = rw c.in-Node.is at c.in-Ok.ensures.wanted in
+    let fits = rw c.in-Node.is at (c.in-Ok.ensures.fits told) in
+    leaf_read c.of_root-want.result c.self.inside.root c.in-Node.node.level (g.P.Platform.head c.args.platform.now) c.in-Node.node.entries.items _ _ c.of_root-want.ensures is.served.leaf.level (omega (arith, is.served.fits.addr, is.served.within)) wanted fits
 
 pub fetch-requires : goal.fetch-requires
 fetch-requires g c =
@@ -67,12 +76,8 @@ returns-in-Node-clause-open g c =
 
 pub returns-in-Node-clause-holds : goal.returns-in-Node-clause-holds
 returns-in-Node-clause-holds g c = rw (← c.self.view_is) (λ told device contents h.
-    let is = rw (← c.self.view_is) at c.requires in
-    let image = (g.P.Platform.history c.args.platform.now).present in
-    let wanted = rw c.in-Node.is at c.in-Ok.ensures.wanted in
-    let fits = rw c.in-Node.is at (c.in-Ok.ensures.fits told) in
-    let leaf = leaf_read c.of_root-want.result c.self.inside.root c.in-Node.node.level (g.P.Platform.head c.args.platform.now) c.in-Node.node.entries.items _ image.readable c.of_root-want.ensures is.served.leaf.level (omega (arith, is.served.fits.addr, is.served.within)) wanted fits in
-    holds_same _ _ image _ device contents (c.fetch.ensures.image told) (loaded _ _ c.fetch.new.buf image device contents c.if-self.false h leaf))
+    let leaf = leaf_there g (goal.at.returns-in-Node-clause-holds g c).In-Node told in
+    holds_same _ _ _ _ device contents (c.fetch.ensures.image told) (loaded _ _ c.fetch.new.buf _ device contents c.if-self.false h leaf))
 
 pub returns-in-Block-clause-open : goal.returns-in-Block-clause-open
 returns-in-Block-clause-open g c = let is = rw (← c.self.view_is) at c.requires in open_later _ _ _ _ (omega (arith, c.fetch.ensures.head)) is
@@ -91,12 +96,8 @@ returns-in-Err-clause-follows g c = rw (← c.self.view_is) (λ told follows. fo
 
 pub returns-in-Node-clause-follows : goal.returns-in-Node-clause-follows
 returns-in-Node-clause-follows g c = rw (← c.self.view_is) (λ told follows.
-    let is = rw (← c.self.view_is) at c.requires in
-    let image = (g.P.Platform.history c.args.platform.now).present in
-    let wanted = rw c.in-Node.is at c.in-Ok.ensures.wanted in
-    let fits = rw c.in-Node.is at (c.in-Ok.ensures.fits told) in
-    let leaf = leaf_read c.of_root-want.result c.self.inside.root c.in-Node.node.level (g.P.Platform.head c.args.platform.now) c.in-Node.node.entries.items _ image.readable c.of_root-want.ensures is.served.leaf.level (omega (arith, is.served.fits.addr, is.served.within)) wanted fits in
-    follows_read (the_view c.self.inside) _ c.fetch.new.buf image _ (c.fetch.ensures.image told) (follows.uncounted c.if-self.false) leaf)
+    let leaf = leaf_there g (goal.at.returns-in-Node-clause-follows g c).In-Node told in
+    follows_read (the_view c.self.inside) _ c.fetch.new.buf _ _ (c.fetch.ensures.image told) (follows.uncounted c.if-self.false) leaf)
 
 pub returns-in-Block-clause-follows : goal.returns-in-Block-clause-follows
 returns-in-Block-clause-follows g c = rw (← c.self.view_is) (λ told follows. follows_same _ _ _ _ (c.fetch.ensures.image told) follows)
@@ -109,12 +110,8 @@ returns-in-Block-clause-listed g c = rw (← c.self.view_is) (λ told keys kept 
 
 pub returns-in-Node-clause-listed : goal.returns-in-Node-clause-listed
 returns-in-Node-clause-listed g c = rw (← c.self.view_is) (λ told keys kept h.
-    let is = rw (← c.self.view_is) at c.requires in
-    let image = (g.P.Platform.history c.args.platform.now).present in
-    let wanted = rw c.in-Node.is at c.in-Ok.ensures.wanted in
-    let fits = rw c.in-Node.is at (c.in-Ok.ensures.fits told) in
-    let leaf = leaf_read c.of_root-want.result c.self.inside.root c.in-Node.node.level (g.P.Platform.head c.args.platform.now) c.in-Node.node.entries.items _ image.readable c.of_root-want.ensures is.served.leaf.level (omega (arith, is.served.fits.addr, is.served.within)) wanted fits in
-    listed_same _ _ image _ keys (c.fetch.ensures.image told) (listed_loaded _ _ c.fetch.new.buf image keys kept c.if-self.false h leaf))
+    let leaf = leaf_there g (goal.at.returns-in-Node-clause-listed g c).In-Node told in
+    listed_same _ _ _ _ keys (c.fetch.ensures.image told) (listed_loaded _ _ c.fetch.new.buf _ keys kept c.if-self.false h leaf))
 
 pub returns-then-self-clause-leaf : goal.returns-then-self-clause-leaf
 returns-then-self-clause-leaf g c = rw (← c.self.view_is) (c.if-self.true, λ told. record { read = λ is. refl; unread = λ isnt. absurd (loaded_or_not c.self.inside.is_loaded c.if-self.true isnt) })
@@ -123,11 +120,7 @@ pub returns-in-Node-clause-leaf : goal.returns-in-Node-clause-leaf
 returns-in-Node-clause-leaf g c = rw (← c.self.view_is) (
   refl,
   λ told.
-      let is = rw (← c.self.view_is) at c.requires in
-      let pages = (g.P.Platform.history c.args.platform.now).present.readable in
-      let wanted = rw c.in-Node.is at c.in-Ok.ensures.wanted in
-      let fits = rw c.in-Node.is at (c.in-Ok.ensures.fits told) in
-      let leaf = leaf_read c.of_root-want.result c.self.inside.root c.in-Node.node.level (g.P.Platform.head c.args.platform.now) c.in-Node.node.entries.items _ pages c.of_root-want.ensures is.served.leaf.level (omega (arith, is.served.fits.addr, is.served.within)) wanted fits in
+      let leaf = leaf_there g (goal.at.returns-in-Node-clause-leaf g c).In-Node told in
       record {
         read = λ yes. absurd (loaded_or_not c.self.inside.is_loaded yes c.if-self.false);
         unread = λ isnt. leaf;

@@ -1,4 +1,4 @@
-use Rattle.std.proofs.Common.{◌≡◌, ℕ, List, [], Some, ap, sym, subst, refl, arith}
+use Rattle.std.proofs.Common.{ℕ, [], Some, ap, sym, subst, refl, arith}
 use Rattle.platform.specs.Image.{Image}
 use Rattle.page_store.specs.Buffer.{Held}
 use Rattle.sdbt_base.specs.Arrays.{committed_with}
@@ -6,9 +6,24 @@ use Rattle.device_core.specs.Leaf.{AreEntries}
 use Rattle.device_core.proofs.MomentLaws.{one_call}
 use Rattle.device_core.proofs.EntryLaws.{AreEntries-later}
 use Rattle.device_core.proofs.HoldLaws.{during_stands, entries_fit, held_stands, commit_fits, commit_served}
-use Rattle.device_core.proofs.CommitLaws.{is_commit, committing, commit_turns, commit_held, commit_follows, commit_listed, commit_knows, append_discloses, commit_discloses}
+use Rattle.device_core.proofs.CommitLaws.{IsCommitting, next_root, is_commit, committing, commit_turns, commit_held, commit_follows, commit_listed, commit_knows, append_discloses, commit_discloses}
 use Rattle.device_core.specs.contracts.session.Session.{the_view}
+use Rattle.device_core.proofs.session.Session.raise.Given.{Over}
+use Rattle.device_core.proofs.session.Session.raise.Goals.{After-publish}
 use Rattle.device_core.proofs.session.Session.raise.Goals as goal
+
+-- the calls of a commit, whether the last step was taken or failed
+calls : (g : Over) (c : After-publish g) → let history = g.P.Platform.history in
+    IsCommitting g.P.Platform.tells (history c.args.platform.now) (history c.append.new.platform) (history c.publish.new.platform) (the_view c.self.inside) (next_root (the_view c.self.inside) c.in-Ok.placed.addr c.in-Ok.placed.key) (g.P.Platform.head c.args.platform.now)
+calls g c =
+    let is = rw (← c.self.view_is) at c.requires.open in
+    let touched = rw (← c.self.view_is) at c.requires.touched in
+    let history = g.P.Platform.history in
+    let pages = g.met.P.Platform.counts_pages in
+    committing g.P.Platform.tells (history c.args.platform.now) (history c.append.new.platform) (history c.publish.new.platform) (the_view c.self.inside) c.in-Ok.placed.addr c.head.result _ _ _ _ c.in-Ok.placed.key c.put_node.new.self.body c.deref.result.now
+    is touched c.in-Ok.ensures.address c.head.ensures.value c.in-Ok.ensures.head_ok c.publish.ensures.head c.requires.room (g.met.P.Platform.is_limited c.args.platform.now) c.in-Ok.ensures.key
+    (ap (λ (b : Held). b.body) c.put_node.ensures) c.deref.ensures.0 (λ told. pages told c.args.platform.now) (λ told. pages told c.append.new.platform) (λ told. pages told c.publish.new.platform)
+    c.append.ensures.time c.append.ensures.cell c.in-Ok.ensures.appended c.publish.ensures.time
 
 pub put_node-requires : goal.put_node-requires
 put_node-requires g c =
@@ -33,55 +48,27 @@ returns-in-Err-PlatformFault-clause-time g c = λ told device contents h.
 
 pub returns-in_default-clause-time : goal.returns-in_default-clause-time
 returns-in_default-clause-time g c = rw (← c.self.view_is) (
-    let is = rw (← c.self.view_is) at c.requires.open in
-    let touched = rw (← c.self.view_is) at c.requires.touched in
-    let history = g.P.Platform.history in
-    let pages = g.met.P.Platform.counts_pages in
-    let all = committing g.P.Platform.tells (history c.args.platform.now) (history c.append.new.platform) (history c.publish.new.platform) (the_view c.self.inside) c.in-Ok.placed.addr c.head.result _ _ _ _ c.in-Ok.placed.key c.put_node.new.self.body c.deref.result.now
-    is touched c.in-Ok.ensures.address c.head.ensures.value c.in-Ok.ensures.head_ok c.publish.ensures.head c.requires.room (g.met.P.Platform.is_limited c.args.platform.now) c.in-Ok.ensures.key
-    (ap (λ (b : Held). b.body) c.put_node.ensures) c.deref.ensures.0 (λ told. pages told c.args.platform.now) (λ told. pages told c.append.new.platform) (λ told. pages told c.publish.new.platform)
-    c.append.ensures.time c.append.ensures.cell c.in-Ok.ensures.appended c.publish.ensures.time in
+    let all = calls g (goal.at.returns-in_default-clause-time g c).After-publish in
     λ told device contents h. commit_turns _ _ _ _ _ _ _ device contents all told h)
 
 pub returns-clause-time : goal.returns-clause-time
 returns-clause-time g c = rw (← c.self.view_is) (
-    let is = rw (← c.self.view_is) at c.requires.open in
-    let touched = rw (← c.self.view_is) at c.requires.touched in
-    let history = g.P.Platform.history in
-    let pages = g.met.P.Platform.counts_pages in
-    let all = committing g.P.Platform.tells (history c.args.platform.now) (history c.append.new.platform) (history c.publish.new.platform) (the_view c.self.inside) c.in-Ok.placed.addr c.head.result _ _ _ _ c.in-Ok.placed.key c.put_node.new.self.body c.deref.result.now
-    is touched c.in-Ok.ensures.address c.head.ensures.value c.in-Ok.ensures.head_ok c.publish.ensures.head c.requires.room (g.met.P.Platform.is_limited c.args.platform.now) c.in-Ok.ensures.key
-    (ap (λ (b : Held). b.body) c.put_node.ensures) c.deref.ensures.0 (λ told. pages told c.args.platform.now) (λ told. pages told c.append.new.platform) (λ told. pages told c.publish.new.platform)
-    c.append.ensures.time c.append.ensures.cell c.in-Ok.ensures.appended c.publish.ensures.time in
+    let all = calls g (goal.at.returns-clause-time g c).After-publish in
     λ told device contents h. commit_turns _ _ _ _ _ _ _ device contents all told h)
 
 pub returns-clause-array : goal.returns-clause-array
 returns-clause-array g c = rw (← c.self.view_is) (
-    let is = rw (← c.self.view_is) at c.requires.open in
-    let touched = rw (← c.self.view_is) at c.requires.touched in
-    let history = g.P.Platform.history in
-    let pages = g.met.P.Platform.counts_pages in
-    let all = committing g.P.Platform.tells (history c.args.platform.now) (history c.append.new.platform) (history c.publish.new.platform) (the_view c.self.inside) c.in-Ok.placed.addr c.head.result _ _ _ _ c.in-Ok.placed.key c.put_node.new.self.body c.deref.result.now
-    is touched c.in-Ok.ensures.address c.head.ensures.value c.in-Ok.ensures.head_ok c.publish.ensures.head c.requires.room (g.met.P.Platform.is_limited c.args.platform.now) c.in-Ok.ensures.key
-    (ap (λ (b : Held). b.body) c.put_node.ensures) c.deref.ensures.0 (λ told. pages told c.args.platform.now) (λ told. pages told c.append.new.platform) (λ told. pages told c.publish.new.platform)
-    c.append.ensures.time c.append.ensures.cell c.in-Ok.ensures.appended c.publish.ensures.time in
+    let all = calls g (goal.at.returns-clause-array g c).After-publish in
     λ told device contents h. commit_held _ _ _ _ _ _ _ _ device contents all told (c.in-Ok-publish.ensures.published told) h)
 
 pub returns-clause-open : goal.returns-clause-open
 returns-clause-open g c = rw (← c.self.view_is) (
-    let is = rw (← c.self.view_is) at c.requires.open in
-    let touched = rw (← c.self.view_is) at c.requires.touched in
-    let history = g.P.Platform.history in
-    let pages = g.met.P.Platform.counts_pages in
-    let all = committing g.P.Platform.tells (history c.args.platform.now) (history c.append.new.platform) (history c.publish.new.platform) (the_view c.self.inside) c.in-Ok.placed.addr c.head.result _ _ _ _ c.in-Ok.placed.key c.put_node.new.self.body c.deref.result.now
-    is touched c.in-Ok.ensures.address c.head.ensures.value c.in-Ok.ensures.head_ok c.publish.ensures.head c.requires.room (g.met.P.Platform.is_limited c.args.platform.now) c.in-Ok.ensures.key
-    (ap (λ (b : Held). b.body) c.put_node.ensures) c.deref.ensures.0 (λ told. pages told c.args.platform.now) (λ told. pages told c.append.new.platform) (λ told. pages told c.publish.new.platform)
-    c.append.ensures.time c.append.ensures.cell c.in-Ok.ensures.appended c.publish.ensures.time in (
+    let all = calls g (goal.at.returns-clause-open g c).After-publish in (
       record {
         served = commit_served (the_view c.self.inside) _ _ (g.P.Platform.head c.publish.new.platform) all.commit (omega (arith, c.in-Ok.ensures.head_ok, c.publish.ensures.head));
-        mapped = is.mapped;
-        entries = AreEntries-later c.self.inside.entries.items c.self.inside.root.blocks _ _ is.entries (omega (arith, c.in-Ok.ensures.head_ok, c.publish.ensures.head));
-        loaded = λ never. is.loaded touched;
+        mapped = all.commit.is_open.mapped;
+        entries = AreEntries-later c.self.inside.entries.items c.self.inside.root.blocks _ _ all.commit.is_open.entries (omega (arith, c.in-Ok.ensures.head_ok, c.publish.ensures.head));
+        loaded = λ never. all.commit.loaded;
       },
       refl,
       refl,
@@ -89,14 +76,7 @@ returns-clause-open g c = rw (← c.self.view_is) (
 
 pub returns-clause-follows : goal.returns-clause-follows
 returns-clause-follows g c =
-    let is = rw (← c.self.view_is) at c.requires.open in
-    let touched = rw (← c.self.view_is) at c.requires.touched in
-    let history = g.P.Platform.history in
-    let pages = g.met.P.Platform.counts_pages in
-    let all = committing g.P.Platform.tells (history c.args.platform.now) (history c.append.new.platform) (history c.publish.new.platform) (the_view c.self.inside) c.in-Ok.placed.addr c.head.result _ _ _ _ c.in-Ok.placed.key c.put_node.new.self.body c.deref.result.now
-    is touched c.in-Ok.ensures.address c.head.ensures.value c.in-Ok.ensures.head_ok c.publish.ensures.head c.requires.room (g.met.P.Platform.is_limited c.args.platform.now) c.in-Ok.ensures.key
-    (ap (λ (b : Held). b.body) c.put_node.ensures) c.deref.ensures.0 (λ told. pages told c.args.platform.now) (λ told. pages told c.append.new.platform) (λ told. pages told c.publish.new.platform)
-    c.append.ensures.time c.append.ensures.cell c.in-Ok.ensures.appended c.publish.ensures.time in
+    let all = calls g (goal.at.returns-clause-follows g c).After-publish in
     λ told. commit_follows _ _ _ _ _ _ _ _ all told (c.in-Ok-publish.ensures.published told)
 
 pub returns-in-Err-TapeFault-clause-discloses : goal.returns-in-Err-TapeFault-clause-discloses
@@ -111,27 +91,13 @@ returns-in-Err-PlatformFault-clause-discloses g c = rw (← c.self.view_is) (
 
 pub returns-in_default-clause-discloses : goal.returns-in_default-clause-discloses
 returns-in_default-clause-discloses g c = rw (← c.self.view_is) (
-    let is = rw (← c.self.view_is) at c.requires.open in
-    let touched = rw (← c.self.view_is) at c.requires.touched in
-    let history = g.P.Platform.history in
-    let pages = g.met.P.Platform.counts_pages in
-    let all = committing g.P.Platform.tells (history c.args.platform.now) (history c.append.new.platform) (history c.publish.new.platform) (the_view c.self.inside) c.in-Ok.placed.addr c.head.result _ _ _ _ c.in-Ok.placed.key c.put_node.new.self.body c.deref.result.now
-    is touched c.in-Ok.ensures.address c.head.ensures.value c.in-Ok.ensures.head_ok c.publish.ensures.head c.requires.room (g.met.P.Platform.is_limited c.args.platform.now) c.in-Ok.ensures.key
-    (ap (λ (b : Held). b.body) c.put_node.ensures) c.deref.ensures.0 (λ told. pages told c.args.platform.now) (λ told. pages told c.append.new.platform) (λ told. pages told c.publish.new.platform)
-    c.append.ensures.time c.append.ensures.cell c.in-Ok.ensures.appended c.publish.ensures.time in
+    let all = calls g (goal.at.returns-in_default-clause-discloses g c).After-publish in
     commit_discloses _ _ _ _ _ _ _ _ c.put_node.new.self.body c.head.result _ c.deref.result.now _ all c.in-Ok.ensures.keeps (ap (λ (b : Held). b.body) c.put_node.ensures) c.deref.ensures.0 c.head.ensures.value
     (λ told keys h. tt))
 
 pub returns-clause-discloses : goal.returns-clause-discloses
 returns-clause-discloses g c = rw (← c.self.view_is) (
-    let is = rw (← c.self.view_is) at c.requires.open in
-    let touched = rw (← c.self.view_is) at c.requires.touched in
-    let history = g.P.Platform.history in
-    let pages = g.met.P.Platform.counts_pages in
-    let all = committing g.P.Platform.tells (history c.args.platform.now) (history c.append.new.platform) (history c.publish.new.platform) (the_view c.self.inside) c.in-Ok.placed.addr c.head.result _ _ _ _ c.in-Ok.placed.key c.put_node.new.self.body c.deref.result.now
-    is touched c.in-Ok.ensures.address c.head.ensures.value c.in-Ok.ensures.head_ok c.publish.ensures.head c.requires.room (g.met.P.Platform.is_limited c.args.platform.now) c.in-Ok.ensures.key
-    (ap (λ (b : Held). b.body) c.put_node.ensures) c.deref.ensures.0 (λ told. pages told c.args.platform.now) (λ told. pages told c.append.new.platform) (λ told. pages told c.publish.new.platform)
-    c.append.ensures.time c.append.ensures.cell c.in-Ok.ensures.appended c.publish.ensures.time in
+    let all = calls g (goal.at.returns-clause-discloses g c).After-publish in
     commit_discloses _ _ _ _ _ _ _ _ c.put_node.new.self.body c.head.result _ c.deref.result.now _ all c.in-Ok.ensures.keeps (ap (λ (b : Held). b.body) c.put_node.ensures) c.deref.ensures.0 c.head.ensures.value
     (λ told keys h. commit_listed _ _ _ _ _ _ _ _ keys all told (c.in-Ok-publish.ensures.published told) h))
 
@@ -144,14 +110,7 @@ returns-in-Err-TapeFault-clause-cause g c = (
 
 pub returns-clause-raised : goal.returns-clause-raised
 returns-clause-raised g c = rw (← c.self.view_is) (
-    let is = rw (← c.self.view_is) at c.requires.open in
-    let touched = rw (← c.self.view_is) at c.requires.touched in
-    let history = g.P.Platform.history in
-    let pages = g.met.P.Platform.counts_pages in
-    let all = committing g.P.Platform.tells (history c.args.platform.now) (history c.append.new.platform) (history c.publish.new.platform) (the_view c.self.inside) c.in-Ok.placed.addr c.head.result _ _ _ _ c.in-Ok.placed.key c.put_node.new.self.body c.deref.result.now
-    is touched c.in-Ok.ensures.address c.head.ensures.value c.in-Ok.ensures.head_ok c.publish.ensures.head c.requires.room (g.met.P.Platform.is_limited c.args.platform.now) c.in-Ok.ensures.key
-    (ap (λ (b : Held). b.body) c.put_node.ensures) c.deref.ensures.0 (λ told. pages told c.args.platform.now) (λ told. pages told c.append.new.platform) (λ told. pages told c.publish.new.platform)
-    c.append.ensures.time c.append.ensures.cell c.in-Ok.ensures.appended c.publish.ensures.time in
+    let all = calls g (goal.at.returns-clause-raised g c).After-publish in
     record {
       reply = refl;
       number = refl;
