@@ -113,15 +113,16 @@ leaf_later image later device root entries texts earlier cell stands = record {
   holds = stands.holds;
 }
 
--- a later image with the same cell, whatever the buffers hold
-pub holds_later : (session : Session) (buffers : Held) (image later : Image) (device : Device) (contents : Blocks) → IsEarlier image later → later.cell ≡ image.cell → Holds session image device contents → Holds (record session { buffers = buffers }) later device contents
-holds_later session buffers image later device contents earlier cell h = record {
+-- over another image, whatever the buffers hold
+held_over : (session : Session) (buffers : Held) (image other : Image) (device : Device) (contents : Blocks) → (h : Holds session image device contents) → StandsByLeaf other device session.root h.leaf h.leaf_texts → AreMapped other h.entries h.texts
+    → Holds (record session { buffers = buffers }) other device contents
+held_over session buffers image other device contents h stands there = record {
   leaf = h.leaf;
   leaf_texts = h.leaf_texts;
-  stands = leaf_later image later device session.root h.leaf h.leaf_texts earlier cell h.stands;
+  stands = stands;
   entries = h.entries;
   texts = h.texts;
-  mapped_there = mapped_later image later h.entries h.texts earlier h.mapped_there;
+  mapped_there = there;
   contents_are = h.contents_are;
   count = h.count;
   read = h.read;
@@ -129,28 +130,22 @@ holds_later session buffers image later device contents earlier cell h = record 
   untouched = h.untouched;
 }
 
+-- a later image with the same cell, whatever the buffers hold
+pub holds_later : (session : Session) (buffers : Held) (image later : Image) (device : Device) (contents : Blocks) → IsEarlier image later → later.cell ≡ image.cell → Holds session image device contents → Holds (record session { buffers = buffers }) later device contents
+holds_later session buffers image later device contents earlier cell h =
+    held_over session buffers image later device contents h (leaf_later image later device session.root h.leaf h.leaf_texts earlier cell h.stands) (mapped_later image later h.entries h.texts earlier h.mapped_there)
+
 -- the same image, whatever the buffers hold
 pub holds_same : (session : Session) (buffers : Held) (image other : Image) (device : Device) (contents : Blocks) → other ≡ image → Holds session image device contents → Holds (record session { buffers = buffers }) other device contents
-holds_same session buffers image other device contents same h = subst (λ (i : Image). Holds (record session { buffers = buffers }) i device contents) (sym same) record {
-  leaf = h.leaf;
-  leaf_texts = h.leaf_texts;
-  stands = h.stands;
-  entries = h.entries;
-  texts = h.texts;
-  mapped_there = h.mapped_there;
-  contents_are = h.contents_are;
-  count = h.count;
-  read = h.read;
-  unread = h.unread;
-  untouched = h.untouched;
-}
+holds_same session buffers image other device contents same h =
+    subst (λ (i : Image). Holds (record session { buffers = buffers }) i device contents) (sym same) (held_over session buffers image image device contents h h.stands h.mapped_there)
 
 -- ---- a mount, and the reading of the leaf
 
 leaf_mapped : (image : Image) (device : Device) (root : Root) (entries : List Entry) (texts : List (List ℕ)) → StandsByLeaf image device root entries texts → AreMapped image entries texts
 leaf_mapped image device root entries texts stands = record { records = stands.tree.records; recorded = stands.recorded; apart = stands.apart }
 
--- an image that stands by the root record is held by a session without changes
+-- an image that stands by a session's root record is held by it, where what it has read is the leaf and it counts no other blocks
 pub leaf_held : (session : Session) (image : Image) (device : Device) (entries : List Entry) (texts : List (List ℕ)) → session.mapped ≡ session.root.mapped → (session.is_loaded ≡ true → session.entries ≡ entries) → StandsByLeaf image device session.root entries texts → Holds session image device device.contents
 leaf_held session image device entries texts all read stands = record {
   leaf = entries;
