@@ -8,7 +8,7 @@ use Rattle.root_codec.specs.declared.root.Root.{Root}
 use Rattle.root_codec.specs.RootRecord.{root_bytes}
 use Rattle.device_core.specs.Holds.{Follows}
 use Rattle.device_core.specs.Leaf.{IsServedImage}
-use Rattle.device_core.specs.declared.session.Session.{Session}
+use Rattle.device_core.specs.Sessions.{Session}
 use Rattle.device_cli.specs.Desk.{IsMounted}
 
 -- no time has passed

@@ -13,7 +13,7 @@ use Rattle.page_store.proofs.StandsLaws.{stands_during}
 use Rattle.sdbt_base.specs.Arrays.{Blocks, content_of, closed}
 use Rattle.device_core.specs.Open.{is_touched}
 use Rattle.device_core.specs.Holds.{Holds}
-use Rattle.device_core.specs.declared.session.Session.{Session}
+use Rattle.device_core.specs.Sessions.{Session}
 use Rattle.script_lang.specs.Commands.{Command}
 use Rattle.script_lang.specs.Commands.{Format, Mount, Read, Write, Trim, Commit, Drop, Erase, Seize}
 use Rattle.script_lang.specs.Commands as commands

@@ -11,7 +11,7 @@ use Rattle.page_store.proofs.StandsLaws.{stands_leaves}
 use Rattle.device_core.specs.Open.{is_touched, number_of}
 use Rattle.device_core.specs.Holds.{Holds}
 use Rattle.device_core.specs.Replies.{device_after}
-use Rattle.device_core.specs.declared.session.Session.{Session}
+use Rattle.device_core.specs.Sessions.{Session}
 use Rattle.device_core.specs.declared.refusals.CommitReply.{CommitReply}
 use Rattle.device_core.specs.declared.refusals.CommitReply.TheVariants as commits
 use Rattle.script_lang.specs.Commands.{Command}

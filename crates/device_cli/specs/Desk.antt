@@ -15,7 +15,7 @@ use Rattle.device_cli.specs.declared.stop.DeviceStop.TheVariants as stops
 use Rattle.root_codec.specs.RootRecord.{root_bytes}
 use Rattle.device_core.specs.Open.{IsOpen, root_of}
 use Rattle.device_core.specs.Holds.{Follows}
-use Rattle.device_core.specs.declared.session.Session.{Session}
+use Rattle.device_core.specs.Sessions.{Session}
 use Rattle.device_cli.specs.declared.desk.Desk.{Desk}
 
 -- the session, if there is one, is open

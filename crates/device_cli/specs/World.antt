@@ -2,7 +2,7 @@
 use Rattle.std.specs.Prelude.{◌≡◌, ℕ, ◌≤◌, Bool, ◌==◌, Option}
 use Rattle.platform.specs.History.{History}
 use Rattle.platform.specs.declared.platforms.Platform.{Ghosts}
-use Rattle.device_core.specs.declared.session.Session.{Session}
+use Rattle.device_core.specs.Sessions.{Session}
 
 -- the session, if one is open; the moments of the platform; how many pages it has, and how many it can have
 pub record World : Type 0 where

@@ -15,7 +15,7 @@ use Rattle.device_core.specs.Leaf.{IsPlace}
 use Rattle.device_core.specs.Holding.{blocks_of_entries}
 use Rattle.device_core.specs.Holds.{Holds}
 use Rattle.device_core.specs.Open.{IsOpen}
-use Rattle.device_core.specs.declared.session.Session.{Session}
+use Rattle.device_core.specs.Sessions.{Session}
 use Rattle.device_core.proofs.ArrayLaws.{array_placed, array_without, length-AllZip}
 use Rattle.device_core.proofs.Ascending.{remove-ascending}
 use Rattle.device_core.proofs.EntryLaws.{above_next}

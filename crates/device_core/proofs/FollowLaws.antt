@@ -1,6 +1,6 @@
 -- What a session on any pages, forged ones too, has read and written, and which places it finds wrong.
-use Rattle.std.proofs.Common.{◌≡◌, ◌≢◌, inl, inr, ℕ, zero, suc, ◌+◌, ◌<◌, ◌≤◌, ◌^◌, Bool, true, false, List, [], ◌∷◌, ◌++◌, All, take, drop, length, get_or, set, Result, Ok, Err, IsErr, Some, is_ok, refl, sym, subst, ap, ◌∙◌, arith}
-use Rattle.std.specs.Prelude.{insert, remove, if◌then◌else◌}
+use Rattle.std.proofs.Common.{◌≡◌, ◌≢◌, inl, inr, ℕ, zero, suc, ◌+◌, ◌<◌, ◌≤◌, ◌^◌, true, false, List, [], ◌∷◌, ◌++◌, All, take, drop, length, get_or, set, Result, Ok, Err, IsErr, Some, is_ok, refl, sym, subst, ap, ◌∙◌, arith}
+use Rattle.std.specs.Prelude.{insert, if◌then◌else◌}
 use Rattle.std.proofs.lemmas.List.{take-append-drop, get_or-set_same}
 use Rattle.std.proofs.lemmas.List.Edits.{length-remove, get_or-insert_at}
 use Rattle.std.proofs.lemmas.List.Elements.{All-head, All-tail, All-weaker, All-append, All-contains_itself}
@@ -17,84 +17,96 @@ use Rattle.page_store.proofs.RecordLaws.{record_appended}
 use Rattle.page_store.proofs.WrongLaws.{wrong_block}
 use Rattle.page_store.proofs.LeafStandsLaws.{leaf_wanted}
 use Rattle.device_core.specs.Leaf.{IsOneLeaf, AreEntries, IsPlace, placed}
-use Rattle.device_core.specs.Holding.{IsOfLeaf, FollowsBy}
+use Rattle.device_core.specs.Holding.{IsOfLeaf}
+use Rattle.device_core.specs.Holds.{Follows}
+use Rattle.device_core.specs.Sessions.{Session}
+use Rattle.page_store.specs.Buffer.{Held}
 use Rattle.device_core.specs.Damage.{IsMiscounted}
 use Rattle.device_core.proofs.EntryLaws.{All-remove, length-entries, room_where_none}
-use Rattle.device_core.proofs.HoldLaws.{All-placed, length-placed_by, record_later, data_page, with_leaf, leaf_page, leaf_in_range}
+use Rattle.device_core.proofs.HoldLaws.{All-placed, length-placed_by, record_later, data_page, with_leaf, leaf_page, leaf_in_range, with_read, with_entry, without_entry, with_root}
 
 -- a session that is yet to read
-pub follows_none : (root : Root) (mapped : ℕ) (known : List Entry) (pages : List (List ℕ)) → mapped ≡ root.mapped → FollowsBy root mapped false known pages
-follows_none root mapped known pages count = record {
+pub follows_none : (session : Session) (image : Image) → session.is_loaded ≡ false → session.mapped ≡ session.root.mapped → Follows session image
+follows_none session image unread all = record {
   leaf = [];
-  fits = λ never. absurd cc;
-  each = λ never. absurd cc;
-  counted = λ never. absurd cc;
-  uncounted = λ yes. count;
+  fits = λ is. absurd (cc (is, unread));
+  each = λ is. absurd (cc (is, unread));
+  counted = λ is. absurd (cc (is, unread));
+  uncounted = λ isnt. all;
 }
 
 -- the leaf was read
-pub follows_read : (root : Root) (mapped : ℕ) (known : List Entry) (pages others : List (List ℕ)) → others ≡ pages → mapped ≡ root.mapped → FitsAt pages (root_want root) root.key (NodeRecord 1 known) → FollowsBy root mapped true known others
-follows_read root mapped known pages others same count fits = subst (FollowsBy root mapped true known) (sym same) record {
-  leaf = known;
+pub follows_read : (session : Session) (read : List Entry) (buffers : Held) (image other : Image) → other ≡ image → session.mapped ≡ session.root.mapped → FitsAt image.readable (root_want session.root) session.root.key (NodeRecord 1 read) → Follows (with_read session read buffers) other
+follows_read session read buffers image other same all fits = subst (Follows (with_read session read buffers)) (sym same) record {
+  leaf = read;
   fits = λ yes. fits;
-  counted = λ yes. omega (arith, count);
+  counted = λ yes. omega (arith, all);
   uncounted = λ never. absurd cc;
-  each = λ yes. All-weaker (λ (e : Entry). (k : ℕ) × (k < length known) × (get_or known k e ≡ e)) (IsOfLeaf pages known) (λ e there. inl there) known (All-contains_itself known);
+  each = λ yes. All-weaker (λ (e : Entry). (k : ℕ) × (k < length read) × (get_or read k e ≡ e)) (IsOfLeaf image.readable read) (λ e there. inl there) read (All-contains_itself read);
 }
 
-pub follows_same : (root : Root) (mapped : ℕ) (loaded : Bool) (known : List Entry) (image other : Image) → other ≡ image → FollowsBy root mapped loaded known image.readable → FollowsBy root mapped loaded known other.readable
-follows_same root mapped loaded known image other same follows = subst (λ (i : Image). FollowsBy root mapped loaded known i.readable) (sym same) follows
+-- the same image, whatever the buffers hold
+pub follows_same : (session : Session) (buffers : Held) (image other : Image) → other ≡ image → Follows session image → Follows (record session { buffers = buffers }) other
+follows_same session buffers image other same follows = subst (Follows (record session { buffers = buffers })) (sym same) record {
+  leaf = follows.leaf;
+  fits = follows.fits;
+  each = follows.each;
+  counted = follows.counted;
+  uncounted = follows.uncounted;
+}
 
 later_of_leaf : (image later : Image) (leaf : List Entry) (e : Entry) → IsEarlier image later → IsOfLeaf image.readable leaf e → IsOfLeaf later.readable leaf e
 later_of_leaf image later leaf e earlier (inl there) = inl there
 later_of_leaf image later leaf e earlier (inr (c, is)) = inr (c, record_later image later e.addr e.key (DataRecord e.low c) earlier is)
 
-pub follows_later : (root : Root) (mapped : ℕ) (loaded : Bool) (known : List Entry) (image later : Image) → IsEarlier image later → FollowsBy root mapped loaded known image.readable → FollowsBy root mapped loaded known later.readable
-follows_later root mapped loaded known image later earlier follows = record {
+-- a later image, whatever the buffers hold
+pub follows_later : (session : Session) (buffers : Held) (image later : Image) → IsEarlier image later → Follows session image → Follows (record session { buffers = buffers }) later
+follows_later session buffers image later earlier follows = record {
   leaf = follows.leaf;
   counted = follows.counted;
   uncounted = follows.uncounted;
-  fits = λ yes. (record_later image later root.addr root.key (NodeRecord 1 follows.leaf) earlier (follows.fits yes).0, (follows.fits yes).1);
-  each = λ yes. All-weaker (IsOfLeaf image.readable follows.leaf) (IsOfLeaf later.readable follows.leaf) (λ e is. later_of_leaf image later follows.leaf e earlier is) known (follows.each yes);
+  fits = λ yes. (record_later image later session.root.addr session.root.key (NodeRecord 1 follows.leaf) earlier (follows.fits yes).0, (follows.fits yes).1);
+  each = λ yes. All-weaker (IsOfLeaf image.readable follows.leaf) (IsOfLeaf later.readable follows.leaf) (λ e is. later_of_leaf image later follows.leaf e earlier is) session.entries (follows.each yes);
 }
 
-pub follows_written : (root : Root) (mapped now : ℕ) (loaded : Bool) (known : List Entry) (image later : Image) (block addr : ℕ) (place : Result ℕ ℕ) (key content : List ℕ) → loaded ≡ true → FollowsBy root mapped loaded known image.readable → IsPlace known block place → now ≡ (if is_ok place then mapped else mapped + 1) → IsWhole image → addr ≡ length image.recorded → addr < 2 ^ 64 → block < 1048576 → IsBytes 4096 content → IsEarlier image later → later ≡ with_page image (data_page addr block key content) (data_page addr block key content) → FollowsBy root now loaded (placed known place (record { low = block; addr = addr; key = key })) later.readable
-follows_written root mapped now loaded known image later block addr place key content ready follows is_place next whole at small low sized earlier later_is =
-    let kept = follows_later root mapped loaded known image later earlier follows in
+pub follows_written : (session : Session) (count : ℕ) (buffers : Held) (image later : Image) (block addr : ℕ) (place : Result ℕ ℕ) (key content : List ℕ) → session.is_loaded ≡ true → Follows session image → IsPlace session.entries block place → count ≡ (if is_ok place then session.mapped else session.mapped + 1) → IsWhole image → addr ≡ length image.recorded → addr < 2 ^ 64 → block < 1048576 → IsBytes 4096 content → IsEarlier image later → later ≡ with_page image (data_page addr block key content) (data_page addr block key content) → Follows (with_entry session place (record { low = block; addr = addr; key = key }) count buffers) later
+follows_written session count buffers image later block addr place key content ready follows is_place next whole at small low sized earlier later_is =
+    let kept = follows_later session buffers image later earlier follows in
     let entry : Entry = record { low = block; addr = addr; key = key } in
     let there : IsRecordAt later.readable addr key (DataRecord block content) = subst (λ (i : Image). IsRecordAt i.readable addr key (DataRecord block content)) (sym later_is)
     (record_appended image.readable addr key (DataRecord block content) small (at ∙ sym whole.as_many) (low, sized)) in
     record {
       leaf = kept.leaf;
       fits = kept.fits;
-      each = λ yes. All-placed (IsOfLeaf later.readable kept.leaf) known place entry (kept.each yes) (inr (content, there));
-      counted = λ yes. omega (arith, length-placed_by known place block entry now mapped is_place next, kept.counted yes);
-      uncounted = λ never. absurd cc;
+      each = λ yes. All-placed (IsOfLeaf later.readable kept.leaf) session.entries place entry (kept.each yes) (inr (content, there));
+      counted = λ yes. omega (arith, length-placed_by session.entries place block entry count session.mapped is_place next, kept.counted yes);
+      uncounted = λ isnt. absurd (cc (isnt, ready));
     }
 
-pub follows_removed : (root : Root) (mapped now : ℕ) (loaded : Bool) (known : List Entry) (pages : List (List ℕ)) (at : ℕ) → loaded ≡ true → FollowsBy root mapped loaded known pages → at < length known → now + 1 ≡ mapped → FollowsBy root now loaded (remove known at) pages
-follows_removed root mapped now loaded known pages at ready follows within next = record {
+pub follows_removed : (session : Session) (count : ℕ) (image : Image) (at : ℕ) → session.is_loaded ≡ true → Follows session image → at < length session.entries → count + 1 ≡ session.mapped → Follows (without_entry session at count) image
+follows_removed session count image at ready follows within next = record {
   leaf = follows.leaf;
   fits = follows.fits;
-  each = λ yes. All-remove (IsOfLeaf pages follows.leaf) known at (follows.each yes);
-  counted = λ yes. omega (arith, length-remove known at within, follows.counted yes, next);
-  uncounted = λ never. absurd cc;
+  each = λ yes. All-remove (IsOfLeaf image.readable follows.leaf) session.entries at (follows.each yes);
+  counted = λ yes. omega (arith, length-remove session.entries at within, follows.counted yes, next);
+  uncounted = λ isnt. absurd (cc (isnt, ready));
 }
 
 -- a leaf that was appended is the session's
-pub follows_committed : (root : Root) (loaded : Bool) (known : List Entry) (image later : Image) → IsWhole image → FitsRoot root → IsOneLeaf root → root.addr ≡ length image.recorded → AreEntries known root.blocks root.addr → later ≡ with_leaf image root known → FollowsBy root root.mapped loaded known later.readable
-follows_committed root loaded known image later whole fits one at are later_is =
-    let most : length known ≤ 64 = omega (arith, one.blocks, length-entries known root.blocks root.addr are) in
-    let pages = image.readable ++ leaf_page root known ∷ [] in
-    let leaf : FitsAt pages (root_want root) root.key (NodeRecord 1 known) = (
-      record_appended image.readable root.addr root.key (NodeRecord 1 known) (omega (arith, fits.addr, fits.head)) (at ∙ sym whole.as_many) (leaf_in_range root known one fits most are),
-      leaf_wanted root known one.level (omega (arith, one.order, most)) are.lows,
+pub follows_committed : (session : Session) (next : Root) (buffers : Held) (image later : Image) → session.mapped ≡ next.mapped → IsWhole image → FitsRoot next → IsOneLeaf next → next.addr ≡ length image.recorded → AreEntries session.entries next.blocks next.addr → later ≡ with_leaf image next session.entries → Follows (with_root session next buffers) later
+follows_committed session next buffers image later all whole fits one at are later_is =
+    let known = session.entries in
+    let most : length known ≤ 64 = omega (arith, one.blocks, length-entries known next.blocks next.addr are) in
+    let pages = image.readable ++ leaf_page next known ∷ [] in
+    let leaf : FitsAt pages (root_want next) next.key (NodeRecord 1 known) = (
+      record_appended image.readable next.addr next.key (NodeRecord 1 known) (omega (arith, fits.addr, fits.head)) (at ∙ sym whole.as_many) (leaf_in_range next known one fits most are),
+      leaf_wanted next known one.level (omega (arith, one.order, most)) are.lows,
     ) in
-    subst (λ (i : Image). FollowsBy root root.mapped loaded known i.readable) (sym later_is) record {
+    subst (Follows (with_root session next buffers)) (sym later_is) record {
       leaf = known;
       fits = λ yes. leaf;
-      counted = λ yes. omega arith;
-      uncounted = λ no. refl;
+      counted = λ yes. omega (arith, all);
+      uncounted = λ no. all;
       each = λ yes. All-weaker (λ (e : Entry). (k : ℕ) × (k < length known) × (get_or known k e ≡ e)) (IsOfLeaf pages known) (λ e there. inl there) known (All-contains_itself known);
     }
 
@@ -104,23 +116,23 @@ wrong_entry pages root leaf entry level fits (inl (k, within, is)) nothing =
     wrong_block pages root k leaf entry level fits (slice_get-get_or leaf k entry within ∙ ap (λ (e : Entry). Some e) is) nothing
 wrong_entry pages root leaf entry level fits (inr (c, is)) nothing = absurd (nothing (DataRecord entry.low c) (is, (refl, refl)))
 
-pub wrong_found : (root : Root) (mapped : ℕ) (loaded : Bool) (known : List Entry) (pages : List (List ℕ)) (at block : ℕ) (entry : Entry) → loaded ≡ true → FollowsBy root mapped loaded known pages → root.level ≡ 1 → IsPlace known block (Ok at) → entry ≡ get_or known at entry → NothingFits pages (block_want entry.addr block) entry.key → Wrong pages root entry.addr
-wrong_found root mapped loaded known pages at block entry ready follows level place is nothing =
+pub wrong_found : (session : Session) (image : Image) (at block : ℕ) (entry : Entry) → session.is_loaded ≡ true → Follows session image → session.root.level ≡ 1 → IsPlace session.entries block (Ok at) → entry ≡ get_or session.entries at entry → NothingFits image.readable (block_want entry.addr block) entry.key → Wrong image.readable session.root entry.addr
+wrong_found session image at block entry ready follows level place is nothing =
     let low : entry.low ≡ block = ap (λ (e : Entry). e.low) is ∙ place.1 entry in
-    let of_leaf = subst (IsOfLeaf pages follows.leaf) (sym is) (follows.each ready at entry place.0) in
-    wrong_entry pages root follows.leaf entry level (follows.fits ready) of_leaf (subst (λ (n : ℕ). NothingFits pages (block_want entry.addr n) entry.key) (sym low) nothing)
+    let of_leaf = subst (IsOfLeaf image.readable follows.leaf) (sym is) (follows.each ready at entry place.0) in
+    wrong_entry image.readable session.root follows.leaf entry level (follows.fits ready) of_leaf (subst (λ (n : ℕ). NothingFits image.readable (block_want entry.addr n) entry.key) (sym low) nothing)
 
 -- where as many blocks are counted as there are and one has no entry, the leaf has fewer than the root record says
-pub miscounted_full : (root : Root) (mapped : ℕ) (loaded : Bool) (known : List Entry) (pages : List (List ℕ)) (place : Result ℕ ℕ) (block blocks head : ℕ) → loaded ≡ true → FollowsBy root mapped loaded known pages → AreEntries known blocks head → IsPlace known block place → block < blocks → IsErr place → mapped ≡ blocks → IsMiscounted pages root
-miscounted_full root mapped loaded known pages place block blocks head ready follows are is_place low none all = record {
+pub miscounted_full : (session : Session) (image : Image) (place : Result ℕ ℕ) (block blocks head : ℕ) → session.is_loaded ≡ true → Follows session image → AreEntries session.entries blocks head → IsPlace session.entries block place → block < blocks → IsErr place → session.mapped ≡ blocks → IsMiscounted image.readable session.root
+miscounted_full session image place block blocks head ready follows are is_place low none all = record {
   entries = follows.leaf;
   fits = follows.fits ready;
-  other = λ same. omega (arith, follows.counted ready, room_where_none known place block blocks head none are is_place low, all, same);
+  other = λ same. omega (arith, follows.counted ready, room_where_none session.entries place block blocks head none are is_place low, all, same);
 }
 
 -- where no block is counted and one has an entry, the leaf has more than the root record says
-pub miscounted_none : (root : Root) (mapped : ℕ) (loaded : Bool) (known : List Entry) (pages : List (List ℕ)) (at : ℕ) → loaded ≡ true → FollowsBy root mapped loaded known pages → at < length known → mapped ≡ 0 → IsMiscounted pages root
-miscounted_none root mapped loaded known pages at ready follows within none = record {
+pub miscounted_none : (session : Session) (image : Image) (at : ℕ) → session.is_loaded ≡ true → Follows session image → at < length session.entries → session.mapped ≡ 0 → IsMiscounted image.readable session.root
+miscounted_none session image at ready follows within none = record {
   entries = follows.leaf;
   fits = follows.fits ready;
   other = λ same. omega (arith, follows.counted ready, within, none, same);

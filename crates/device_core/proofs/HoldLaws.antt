@@ -30,10 +30,13 @@ use Rattle.page_store.proofs.StandsLaws.{stands_later, stands_leaves, stands_dur
 use Rattle.page_store.proofs.LeafStandsLaws.{stands_by_leaf, leaf_of_stands, leaf_found, leaf_wanted, leaf_appended}
 use Rattle.device_core.specs.Leaf.{IsOneLeaf, IsServed, IsRefusedCell, AreEntries, IsPlace, placed}
 use Rattle.device_core.proofs.MomentLaws.{one_call, one_look, call_more, then_published}
-use Rattle.device_core.specs.Holding.{AreMapped, blocks_of_entries, HoldsBy}
+use Rattle.device_core.specs.Holding.{AreMapped, blocks_of_entries}
+use Rattle.device_core.specs.Holds.{Holds}
+use Rattle.device_core.specs.Sessions.{Session}
+use Rattle.page_store.specs.Buffer.{Held}
 use Rattle.page_store.specs.Roots.{IsRootWithin, IsBadCell}
-use Rattle.device_core.specs.Open.{IsOpenBy}
-use Rattle.device_core.proofs.EntryLaws.{length-entries, room_where_none, All-insert, All-remove, AreEntries-none}
+use Rattle.device_core.specs.Open.{IsOpen}
+use Rattle.device_core.proofs.EntryLaws.{length-entries, room_where_none, All-insert, All-remove, AreEntries-none, AreEntries-later}
 use Rattle.device_core.proofs.ArrayLaws.{same_means, is_within, length-AllZip, AllZip-placed, AllZip-remove, apart_placed, array_placed, array_removed, array_without, array_at}
 
 -- ---- a later image
@@ -110,15 +113,16 @@ leaf_later image later device root entries texts earlier cell stands = record {
   holds = stands.holds;
 }
 
--- a later image with the same cell
-pub holds_later : (root : Root) (count : ℕ) (loaded touched : Bool) (known : List Entry) (image later : Image) (device : Device) (contents : Blocks) → IsEarlier image later → later.cell ≡ image.cell → HoldsBy root count loaded touched known image device contents → HoldsBy root count loaded touched known later device contents
-holds_later root count loaded touched known image later device contents earlier cell h = record {
+-- over another image, whatever the buffers hold
+held_over : (session : Session) (buffers : Held) (image other : Image) (device : Device) (contents : Blocks) → (h : Holds session image device contents) → StandsByLeaf other device session.root h.leaf h.leaf_texts → AreMapped other h.entries h.texts
+    → Holds (record session { buffers = buffers }) other device contents
+held_over session buffers image other device contents h stands there = record {
   leaf = h.leaf;
   leaf_texts = h.leaf_texts;
-  stands = leaf_later image later device root h.leaf h.leaf_texts earlier cell h.stands;
+  stands = stands;
   entries = h.entries;
   texts = h.texts;
-  mapped_there = mapped_later image later h.entries h.texts earlier h.mapped_there;
+  mapped_there = there;
   contents_are = h.contents_are;
   count = h.count;
   read = h.read;
@@ -126,27 +130,32 @@ holds_later root count loaded touched known image later device contents earlier 
   untouched = h.untouched;
 }
 
--- the same image
-pub holds_same : (root : Root) (count : ℕ) (loaded touched : Bool) (known : List Entry) (image other : Image) (device : Device) (contents : Blocks) → other ≡ image → HoldsBy root count loaded touched known image device contents → HoldsBy root count loaded touched known other device contents
-holds_same root count loaded touched known image other device contents same h =
-    subst (λ (i : Image). HoldsBy root count loaded touched known i device contents) (sym same) h
+-- a later image with the same cell, whatever the buffers hold
+pub holds_later : (session : Session) (buffers : Held) (image later : Image) (device : Device) (contents : Blocks) → IsEarlier image later → later.cell ≡ image.cell → Holds session image device contents → Holds (record session { buffers = buffers }) later device contents
+holds_later session buffers image later device contents earlier cell h =
+    held_over session buffers image later device contents h (leaf_later image later device session.root h.leaf h.leaf_texts earlier cell h.stands) (mapped_later image later h.entries h.texts earlier h.mapped_there)
+
+-- the same image, whatever the buffers hold
+pub holds_same : (session : Session) (buffers : Held) (image other : Image) (device : Device) (contents : Blocks) → other ≡ image → Holds session image device contents → Holds (record session { buffers = buffers }) other device contents
+holds_same session buffers image other device contents same h =
+    subst (λ (i : Image). Holds (record session { buffers = buffers }) i device contents) (sym same) (held_over session buffers image image device contents h h.stands h.mapped_there)
 
 -- ---- a mount, and the reading of the leaf
 
 leaf_mapped : (image : Image) (device : Device) (root : Root) (entries : List Entry) (texts : List (List ℕ)) → StandsByLeaf image device root entries texts → AreMapped image entries texts
 leaf_mapped image device root entries texts stands = record { records = stands.tree.records; recorded = stands.recorded; apart = stands.apart }
 
--- an image that stands by the root is held by a session without changes
-pub leaf_held : (image : Image) (device : Device) (root : Root) (loaded : Bool) (entries : List Entry) (texts : List (List ℕ)) (known : List Entry) → (loaded ≡ true → known ≡ entries) → StandsByLeaf image device root entries texts → HoldsBy root root.mapped loaded false known image device device.contents
-leaf_held image device root loaded entries texts known read stands = record {
+-- an image that stands by a session's root record is held by it, where what it has read is the leaf and it counts no other blocks
+pub leaf_held : (session : Session) (image : Image) (device : Device) (entries : List Entry) (texts : List (List ℕ)) → session.mapped ≡ session.root.mapped → (session.is_loaded ≡ true → session.entries ≡ entries) → StandsByLeaf image device session.root entries texts → Holds session image device device.contents
+leaf_held session image device entries texts all read stands = record {
   leaf = entries;
   leaf_texts = texts;
   stands = stands;
   entries = entries;
   texts = texts;
-  mapped_there = leaf_mapped image device root entries texts stands;
+  mapped_there = leaf_mapped image device session.root entries texts stands;
   contents_are = stands.holds;
-  count = sym stands.count;
+  count = all ∙ sym stands.count;
   read = read;
   unread = λ yes. refl;
   untouched = λ yes. refl;
@@ -155,17 +164,22 @@ leaf_held image device root loaded entries texts known read stands = record {
 same_some : {A : Type 0} (x y : A) → Some x ≡ Some y → x ≡ y
 same_some x y same = cc
 
-pub mounted : (image : Image) (device : Device) (root : Root) (pages : ℕ) (known : List Entry) → IsServed root pages → image.cell ≡ Some (root_bytes root) → Stands image (Some device) → HoldsBy root root.mapped false false known image device device.contents
-mounted image device root pages known served cell (other, parts, stands) =
+pub mounted : (session : Session) (image : Image) (device : Device) (pages : ℕ) → session.is_loaded ≡ false → session.mapped ≡ session.root.mapped → IsServed session.root pages → image.cell ≡ Some (root_bytes session.root) → Stands image (Some device) → Holds session image device device.contents
+mounted session image device pages unread all served cell (other, parts, stands) =
+    let root = session.root in
     let roots : other ≡ root = one_root other root stands.in_range served.fits stands.key.0 (same_some _ _ (sym stands.cell ∙ cell)) in
     let by_root = subst (λ (r : Root). StandsBy image device r parts) roots stands in
     let (entries, texts, leaf, parts_are) = leaf_of_stands image device root parts served.leaf.level by_root in
-    leaf_held image device root false entries texts known (λ never. absurd cc) leaf
+    leaf_held session image device entries texts all (λ is. absurd (cc (is, unread))) leaf
+
+-- a session with the leaf that was read
+abbrev pub with_read : Session → List Entry → Held → Session
+with_read session read buffers = record session { is_loaded = true; entries = read; buffers = buffers }
 
 -- the leaf that is read is the session's array
-pub loaded : (root : Root) (count : ℕ) (touched : Bool) (known read : List Entry) (image : Image) (device : Device) (contents : Blocks) → HoldsBy root count false touched known image device contents → FitsAt image.readable (root_want root) root.key (NodeRecord 1 read) → HoldsBy root count true touched read image device contents
-loaded root count touched known read image device contents h fits =
-    let is : read ≡ h.leaf = leaf_found image.readable root h.leaf read h.leaf_texts h.stands.in_range h.stands.tree fits in
+pub loaded : (session : Session) (read : List Entry) (buffers : Held) (image : Image) (device : Device) (contents : Blocks) → session.is_loaded ≡ false → Holds session image device contents → FitsAt image.readable (root_want session.root) session.root.key (NodeRecord 1 read) → Holds (with_read session read buffers) image device contents
+loaded session read buffers image device contents isnt h fits =
+    let is : read ≡ h.leaf = leaf_found image.readable session.root h.leaf read h.leaf_texts h.stands.in_range h.stands.tree fits in
     record {
       leaf = h.leaf;
       leaf_texts = h.leaf_texts;
@@ -175,20 +189,20 @@ loaded root count touched known read image device contents h fits =
       mapped_there = h.mapped_there;
       contents_are = h.contents_are;
       count = h.count;
-      read = λ yes. is ∙ sym (h.unread refl);
+      read = λ yes. is ∙ sym (h.unread isnt);
       unread = λ never. absurd cc;
       untouched = h.untouched;
     }
 
 -- the leaf is there
-pub leaf_fits : (root : Root) (count : ℕ) (loaded touched : Bool) (known : List Entry) (image : Image) (device : Device) (contents : Blocks) → HoldsBy root count loaded touched known image device contents → NothingFits image.readable (root_want root) root.key → ⊥
-leaf_fits root count loaded touched known image device contents h nothing = nothing (NodeRecord 1 h.leaf) h.stands.tree.leaf
+pub leaf_fits : (session : Session) (image : Image) (device : Device) (contents : Blocks) → Holds session image device contents → NothingFits image.readable (root_want session.root) session.root.key → ⊥
+leaf_fits session image device contents h nothing = nothing (NodeRecord 1 h.leaf) h.stands.tree.leaf
 
 -- ---- a read
 
 -- the data record of an entry is there
-pub block_fits : (root : Root) (count : ℕ) (loaded touched : Bool) (known : List Entry) (image : Image) (device : Device) (contents : Blocks) (at block : ℕ) (entry : Entry) → loaded ≡ true → HoldsBy root count loaded touched known image device contents → IsPlace known block (Ok at) → entry ≡ get_or known at entry → NothingFits image.readable (block_want entry.addr block) entry.key → ⊥
-block_fits root count loaded touched known image device contents at block entry ready h place is nothing =
+pub block_fits : (session : Session) (image : Image) (device : Device) (contents : Blocks) (at block : ℕ) (entry : Entry) → session.is_loaded ≡ true → Holds session image device contents → IsPlace session.entries block (Ok at) → entry ≡ get_or session.entries at entry → NothingFits image.readable (block_want entry.addr block) entry.key → ⊥
+block_fits session image device contents at block entry ready h place is nothing =
     let same = h.read ready in
     let there = subst (λ (es : List Entry). IsPlace es block (Ok at)) same place in
     let here = array_at (λ (e : Entry) (c : List ℕ). IsRecordAt image.readable e.addr e.key (DataRecord e.low c)) h.entries h.texts at block h.mapped_there.records there in
@@ -198,8 +212,8 @@ block_fits root count loaded touched known image device contents at block entry 
     nothing (DataRecord block here.0) (subst (λ (n : ℕ). IsRecordAt image.readable entry.addr entry.key (DataRecord n here.0)) low at_entry, (refl, refl))
 
 -- what is read at an entry is what the array has
-pub content_read : (root : Root) (count : ℕ) (loaded touched : Bool) (known : List Entry) (image : Image) (device : Device) (contents : Blocks) (at block pages : ℕ) (entry : Entry) (value : Record) (content : List ℕ) → loaded ≡ true → HoldsBy root count loaded touched known image device contents → IsPlace known block (Ok at) → entry ≡ get_or known at entry → entry.addr < pages → pages ≤ 2 ^ 32 → FitsAt image.readable (block_want entry.addr block) entry.key value → ((n : ℕ) (c : List ℕ) → value ≡ DataRecord n c → content ≡ c) → content ≡ content_of contents block
-content_read root count loaded touched known image device contents at block pages entry value content ready h place is small most fits content_is =
+pub content_read : (session : Session) (image : Image) (device : Device) (contents : Blocks) (at block pages : ℕ) (entry : Entry) (value : Record) (content : List ℕ) → session.is_loaded ≡ true → Holds session image device contents → IsPlace session.entries block (Ok at) → entry ≡ get_or session.entries at entry → entry.addr < pages → pages ≤ 2 ^ 32 → FitsAt image.readable (block_want entry.addr block) entry.key value → ((n : ℕ) (c : List ℕ) → value ≡ DataRecord n c → content ≡ c) → content ≡ content_of contents block
+content_read session image device contents at block pages entry value content ready h place is small most fits content_is =
     let same = h.read ready in
     let there = subst (λ (es : List Entry). IsPlace es block (Ok at)) same place in
     let here = array_at (λ (e : Entry) (c : List ℕ). IsRecordAt image.readable e.addr e.key (DataRecord e.low c)) h.entries h.texts at block h.mapped_there.records there in
@@ -210,8 +224,8 @@ content_read root count loaded touched known image device contents at block page
     content_is entry.low here.0 value_is ∙ sym (ap (λ (o : Option (List ℕ)). unwrap_or o (replicate 4096 0)) found)
 
 -- a block without an entry holds zeros
-pub content_none : (root : Root) (count : ℕ) (loaded touched : Bool) (known : List Entry) (image : Image) (device : Device) (contents : Blocks) (at block : ℕ) → loaded ≡ true → HoldsBy root count loaded touched known image device contents → IsPlace known block (Err at) → maps.get contents block ≡ None
-content_none root count loaded touched known image device contents at block ready h place =
+pub content_none : (session : Session) (image : Image) (device : Device) (contents : Blocks) (at block : ℕ) → session.is_loaded ≡ true → Holds session image device contents → IsPlace session.entries block (Err at) → maps.get contents block ≡ None
+content_none session image device contents at block ready h place =
     let there = subst (λ (es : List Entry). IsPlace es block (Err at)) (h.read ready) place in
     ap (λ (m : Blocks). maps.get m block) h.contents_are ∙ array_without h.entries h.texts at block there
 
@@ -247,10 +261,14 @@ end_recorded image page addr as_many at =
 abbrev pub data_page : ℕ → ℕ → List ℕ → List ℕ → List ℕ
 data_page addr block key content = masked key (record_bytes addr (DataRecord block content))
 
-pub written : (root : Root) (count now : ℕ) (loaded touched : Bool) (known : List Entry) (image later : Image) (device : Device) (contents : Blocks) (block addr : ℕ) (place : Result ℕ ℕ) (key content : List ℕ) → loaded ≡ true → HoldsBy root count loaded touched known image device contents → IsWhole image → addr ≡ length image.recorded → addr < 2 ^ 64 → AreEntries known root.blocks addr → IsPlace known block place → block < 1048576 → IsBytes 4096 content → now ≡ (if is_ok place then count else count + 1) → IsEarlier image later → later ≡ with_page image (data_page addr block key content) (data_page addr block key content) → HoldsBy root now loaded true (placed known place (record { low = block; addr = addr; key = key })) later device (maps.insert contents block content)
-written root count now loaded touched known image later device contents block addr place key content ready h whole at small are is_place low sized next earlier later_is =
+-- a session with the entry of a block at its place, and so many mapped blocks
+abbrev pub with_entry : Session → Result ℕ ℕ → Entry → ℕ → Held → Session
+with_entry session place entry count buffers = record session { mapped = count; is_touched = true; entries = placed session.entries place entry; buffers = buffers }
+
+pub written : (session : Session) (count : ℕ) (buffers : Held) (image later : Image) (device : Device) (contents : Blocks) (block addr : ℕ) (place : Result ℕ ℕ) (key content : List ℕ) → session.is_loaded ≡ true → Holds session image device contents → IsWhole image → addr ≡ length image.recorded → addr < 2 ^ 64 → AreEntries session.entries session.root.blocks addr → IsPlace session.entries block place → block < 1048576 → IsBytes 4096 content → count ≡ (if is_ok place then session.mapped else session.mapped + 1) → IsEarlier image later → later ≡ with_page image (data_page addr block key content) (data_page addr block key content) → Holds (with_entry session place (record { low = block; addr = addr; key = key }) count buffers) later device (maps.insert contents block content)
+written session count buffers image later device contents block addr place key content ready h whole at small are is_place low sized next earlier later_is =
     let entry : Entry = record { low = block; addr = addr; key = key } in
-    let same : known ≡ h.entries = h.read ready in
+    let same : session.entries ≡ h.entries = h.read ready in
     let there = subst (λ (es : List Entry). IsPlace es block place) same is_place in
     let below = subst (λ (es : List Entry). All (λ (e : Entry). e.addr < addr) es) same are.below in
     let page = data_page addr block key content in
@@ -262,7 +280,7 @@ written root count now loaded touched known image later device contents block ad
     record {
       leaf = h.leaf;
       leaf_texts = h.leaf_texts;
-      stands = leaf_later image later device root h.leaf h.leaf_texts earlier (ap (λ (i : Image). i.cell) later_is) h.stands;
+      stands = leaf_later image later device session.root h.leaf h.leaf_texts earlier (ap (λ (i : Image). i.cell) later_is) h.stands;
       entries = placed h.entries place entry;
       texts = placed h.texts place content;
       mapped_there = record {
@@ -272,15 +290,19 @@ written root count now loaded touched known image later device contents block ad
             (All-weaker (λ (e : Entry). e.addr < addr) (λ (e : Entry). addr ≢ e.addr) (λ e less. omega (arith, less)) h.entries below) h.mapped_there.apart;
       };
       contents_are = ap (λ (m : Blocks). maps.insert m block content) h.contents_are ∙ sym (array_placed h.entries h.texts place entry content len there);
-      count = length-placed h.entries place block entry now count there h.count next;
+      count = length-placed h.entries place block entry count session.mapped there h.count next;
       read = λ yes. ap (λ (es : List Entry). placed es place entry) same;
-      unread = λ never. absurd cc;
+      unread = λ never. absurd (cc (never, ready));
       untouched = λ never. absurd cc;
     }
 
-pub trimmed : (root : Root) (count now : ℕ) (loaded touched : Bool) (known : List Entry) (image : Image) (device : Device) (contents : Blocks) (block at : ℕ) → loaded ≡ true → HoldsBy root count loaded touched known image device contents → IsPlace known block (Ok at) → now + 1 ≡ count → HoldsBy root now loaded true (remove known at) image device (maps.remove contents block)
-trimmed root count now loaded touched known image device contents block at ready h is_place next =
-    let same : known ≡ h.entries = h.read ready in
+-- a session without the entry at this place, and so many mapped blocks
+abbrev pub without_entry : Session → ℕ → ℕ → Session
+without_entry session at count = record session { mapped = count; is_touched = true; entries = remove session.entries at }
+
+pub trimmed : (session : Session) (count : ℕ) (image : Image) (device : Device) (contents : Blocks) (block at : ℕ) → session.is_loaded ≡ true → Holds session image device contents → IsPlace session.entries block (Ok at) → count + 1 ≡ session.mapped → Holds (without_entry session at count) image device (maps.remove contents block)
+trimmed session count image device contents block at ready h is_place next =
+    let same : session.entries ≡ h.entries = h.read ready in
     let there = subst (λ (es : List Entry). IsPlace es block (Ok at)) same is_place in
     let len = length-AllZip (λ (e : Entry) (c : List ℕ). IsRecordAt image.readable e.addr e.key (DataRecord e.low c)) h.entries h.texts h.mapped_there.records in
     record {
@@ -297,7 +319,7 @@ trimmed root count now loaded touched known image device contents block at ready
       contents_are = ap (λ (m : Blocks). maps.remove m block) h.contents_are ∙ sym (array_removed h.entries h.texts at block len there);
       count = omega (arith, length-remove h.entries at there.0, h.count, next);
       read = λ yes. ap (λ (es : List Entry). remove es at) same;
-      unread = λ never. absurd cc;
+      unread = λ never. absurd (cc (never, ready));
       untouched = λ never. absurd cc;
     }
 
@@ -402,25 +424,34 @@ refused_levels cell pages root is within never = record {
       never (subst IsOneLeaf roots served.leaf);
 }
 
-pub opened : (root : Root) (known : List Entry) (pages now : ℕ) → IsRootWithin pages root → IsOneLeaf root → known ≡ [] → now ≡ pages → IsOpenBy root root.mapped false false known now
-opened root known pages now within one none same = record {
+pub opened : (session : Session) (pages now : ℕ) → session.mapped ≡ session.root.mapped → session.is_touched ≡ false → session.entries ≡ [] → IsRootWithin pages session.root → IsOneLeaf session.root → now ≡ pages → IsOpen session now
+opened session pages now all still none within one same = record {
   served = record { fits = within.in_range; key = within.key; leaf = one; within = omega (arith, within.within) };
-  mapped = within.in_range.mapped;
-  entries = subst (λ (es : List Entry). AreEntries es root.blocks now) (sym none) (AreEntries-none root.blocks now);
-  loaded = λ never. absurd cc;
+  mapped = omega (arith, all, within.in_range.mapped);
+  entries = subst (λ (es : List Entry). AreEntries es session.root.blocks now) (sym none) (AreEntries-none session.root.blocks now);
+  loaded = λ is. absurd (cc (is, still));
+}
+
+-- on more pages, whatever the buffers hold
+pub open_later : (session : Session) (buffers : Held) (pages now : ℕ) → pages ≤ now → IsOpen session pages → IsOpen (record session { buffers = buffers }) now
+open_later session buffers pages now more is = record {
+  served = record { fits = is.served.fits; key = is.served.key; leaf = is.served.leaf; within = omega (arith, is.served.within, more) };
+  mapped = is.mapped;
+  entries = AreEntries-later session.entries session.root.blocks pages now is.entries more;
+  loaded = is.loaded;
 }
 
 -- ---- a forged count
 
 -- where a block has an entry the count isn't 0
-pub some_mapped : (root : Root) (count : ℕ) (loaded touched : Bool) (known : List Entry) (image : Image) (device : Device) (contents : Blocks) (at block : ℕ) → loaded ≡ true → HoldsBy root count loaded touched known image device contents → IsPlace known block (Ok at) → count ≡ 0 → ⊥
-some_mapped root count loaded touched known image device contents at block ready h place none =
+pub some_mapped : (session : Session) (image : Image) (device : Device) (contents : Blocks) (at block : ℕ) → session.is_loaded ≡ true → Holds session image device contents → IsPlace session.entries block (Ok at) → session.mapped ≡ 0 → ⊥
+some_mapped session image device contents at block ready h place none =
     omega (arith, ap (λ (es : List Entry). length es) (h.read ready), h.count, place.0, none)
 
 -- where a block has no entry not every block is mapped
-pub some_unmapped : (root : Root) (count : ℕ) (loaded touched : Bool) (known : List Entry) (image : Image) (device : Device) (contents : Blocks) (block blocks pages : ℕ) (place : Result ℕ ℕ) → loaded ≡ true → HoldsBy root count loaded touched known image device contents → AreEntries known blocks pages → IsPlace known block place → block < blocks → IsErr place → count ≡ blocks → ⊥
-some_unmapped root count loaded touched known image device contents block blocks pages place ready h are is_place low none all =
-    omega (arith, ap (λ (es : List Entry). length es) (h.read ready), h.count, all, room_where_none known place block blocks pages none are is_place low)
+pub some_unmapped : (session : Session) (image : Image) (device : Device) (contents : Blocks) (block blocks pages : ℕ) (place : Result ℕ ℕ) → session.is_loaded ≡ true → Holds session image device contents → AreEntries session.entries blocks pages → IsPlace session.entries block place → block < blocks → IsErr place → session.mapped ≡ blocks → ⊥
+some_unmapped session image device contents block blocks pages place ready h are is_place low none all =
+    omega (arith, ap (λ (es : List Entry). length es) (h.read ready), h.count, all, room_where_none session.entries place block blocks pages none are is_place low)
 
 pub touched_none : (was now : Bool) (o : Option (List ℕ)) → now ≡ was → o ≡ None → now ≡ (was || is_some o)
 touched_none false now o same none = same ∙ sym (ap is_some none)
@@ -437,8 +468,8 @@ padded_bytes content most bytes = (
 )
 
 -- what the array has for a block with an entry
-pub is_mapped : (root : Root) (count : ℕ) (loaded touched : Bool) (known : List Entry) (image : Image) (device : Device) (contents : Blocks) (at block : ℕ) → loaded ≡ true → HoldsBy root count loaded touched known image device contents → IsPlace known block (Ok at) → (c : List ℕ) × (maps.get contents block ≡ Some c)
-is_mapped root count loaded touched known image device contents at block ready h place =
+pub is_mapped : (session : Session) (image : Image) (device : Device) (contents : Blocks) (at block : ℕ) → session.is_loaded ≡ true → Holds session image device contents → IsPlace session.entries block (Ok at) → (c : List ℕ) × (maps.get contents block ≡ Some c)
+is_mapped session image device contents at block ready h place =
     let there = subst (λ (es : List Entry). IsPlace es block (Ok at)) (h.read ready) place in
     let here = array_at (λ (e : Entry) (c : List ℕ). IsRecordAt image.readable e.addr e.key (DataRecord e.low c)) h.entries h.texts at block h.mapped_there.records there in
     (here.0, ap (λ (m : Blocks). maps.get m block) h.contents_are ∙ here.1)
@@ -457,9 +488,9 @@ erased old mid new device first same second either stands =
     ])
 
 -- what a held image stands for
-pub held_stands : (root : Root) (count : ℕ) (loaded touched : Bool) (known : List Entry) (image : Image) (device : Device) (contents : Blocks) → HoldsBy root count loaded touched known image device contents → Stands image (Some device)
-held_stands root count loaded touched known image device contents h =
-    (root, leaf_parts root.addr root.key h.leaf h.leaf_texts, stands_by_leaf image device root h.leaf h.leaf_texts h.stands)
+pub held_stands : (session : Session) (image : Image) (device : Device) (contents : Blocks) → Holds session image device contents → Stands image (Some device)
+held_stands session image device contents h =
+    (session.root, leaf_parts session.root.addr session.root.key h.leaf h.leaf_texts, stands_by_leaf image device session.root h.leaf h.leaf_texts h.stands)
 
 -- ---- a commit of a session's array
 
@@ -473,7 +504,7 @@ pub record IsNext (old new : Root) (count pages : ℕ) : Type 0 where
   pub mapped : new.mapped ≡ count
   pub head : new.head ≡ pages + 1
 
-pub next_fits : (old new : Root) (count pages : ℕ) → IsNext old new count pages → IsServed old pages → count ≤ old.blocks → pages < 2 ^ 32 → FitsRoot new
+next_fits : (old new : Root) (count pages : ℕ) → IsNext old new count pages → IsServed old pages → count ≤ old.blocks → pages < 2 ^ 32 → FitsRoot new
 next_fits old new count pages next served most room =
     let fits = served.fits in
     record {
@@ -490,48 +521,75 @@ next_fits old new count pages next served most room =
       head = omega (arith, next.head, room);
     }
 
-pub next_leaf : (old new : Root) (count pages : ℕ) → IsNext old new count pages → IsOneLeaf old → IsOneLeaf new
+next_leaf : (old new : Root) (count pages : ℕ) → IsNext old new count pages → IsOneLeaf old → IsOneLeaf new
 next_leaf old new count pages next one = record { order = next.order ∙ one.order; level = next.level ∙ one.level; blocks = omega (arith, next.blocks, one.blocks) }
 
+-- the root record that a commit of the session writes over so many pages
+pub record IsCommitOf (session : Session) (next : Root) (pages : ℕ) : Type 0 where
+  pub loaded : session.is_loaded ≡ true
+  pub is_open : IsOpen session pages
+  pub follows : IsNext session.root next session.mapped pages
+  pub room : pages < 2 ^ 32
+  pub key : IsBytes 32 next.key
+
+pub commit_fits : (session : Session) (next : Root) (pages : ℕ) → IsCommitOf session next pages → FitsRoot next
+commit_fits session next pages commit = next_fits session.root next session.mapped pages commit.follows commit.is_open.served commit.is_open.mapped commit.room
+
+pub commit_leaf : (session : Session) (next : Root) (pages : ℕ) → IsCommitOf session next pages → IsOneLeaf next
+commit_leaf session next pages commit = next_leaf session.root next session.mapped pages commit.follows commit.is_open.served.leaf
+
+-- and it can be served on one page more
+pub commit_served : (session : Session) (next : Root) (pages now : ℕ) → IsCommitOf session next pages → pages + 1 ≤ now → IsServed next now
+commit_served session next pages now commit within = record {
+  fits = commit_fits session next pages commit;
+  key = commit.key;
+  leaf = commit_leaf session next pages commit;
+  within = omega (arith, commit.follows.head, within);
+}
+
 -- the image after a commit stands for the device with the session's array
-pub raised_leaf : (old new : Root) (count pages : ℕ) (loaded touched : Bool) (known : List Entry) (image : Image) (device : Device) (contents : Blocks) → loaded ≡ true → (h : HoldsBy old count loaded touched known image device contents) → IsNext old new count pages → IsServed old pages → count ≤ old.blocks → pages < 2 ^ 32 → IsBytes 32 new.key → IsWhole image → pages ≡ length image.recorded → AreEntries known old.blocks pages → StandsByLeaf (with_leaf image new known) (committed_with device contents) new known h.texts
-raised_leaf old new count pages loaded touched known image device contents ready h next served most room key whole at are =
-    let same = h.read ready in
-    committed image new (committed_with device contents) known h.texts whole (next_fits old new count pages next served most room) key (next_leaf old new count pages next served.leaf)
-    (next.addr ∙ at) (omega (arith, next.addr, next.head)) (ap length same ∙ sym h.count ∙ sym next.mapped)
-    (subst (λ (n : ℕ). AreEntries known n new.addr) (sym next.blocks) (subst (λ (n : ℕ). AreEntries known old.blocks n) (sym next.addr) are))
+pub raised_leaf : (session : Session) (next : Root) (pages : ℕ) (image : Image) (device : Device) (contents : Blocks) → IsCommitOf session next pages → (h : Holds session image device contents) → IsWhole image → pages ≡ length image.recorded → StandsByLeaf (with_leaf image next session.entries) (committed_with device contents) next session.entries h.texts
+raised_leaf session next pages image device contents commit h whole at =
+    let follows = commit.follows in
+    let same = h.read commit.loaded in
+    committed image next (committed_with device contents) session.entries h.texts whole (commit_fits session next pages commit) commit.key (commit_leaf session next pages commit)
+    (follows.addr ∙ at) (omega (arith, follows.addr, follows.head)) (ap length same ∙ sym h.count ∙ sym follows.mapped)
+    (subst (λ (n : ℕ). AreEntries session.entries n next.addr) (sym follows.blocks) (subst (λ (n : ℕ). AreEntries session.entries session.root.blocks n) (sym follows.addr) commit.is_open.entries))
     (subst (λ (es : List Entry). AreMapped image es h.texts) (sym same) h.mapped_there)
-    (next.order ∙ h.stands.order) (next.blocks ∙ h.stands.blocks) (next.commit ∙ ap (λ (n : ℕ). n + 1) h.stands.number)
+    (follows.order ∙ h.stands.order) (follows.blocks ∙ h.stands.blocks) (follows.commit ∙ ap (λ (n : ℕ). n + 1) h.stands.number)
     (h.contents_are ∙ ap (λ (es : List Entry). blocks_of_entries es h.texts) (sym same))
 
-pub raised_stands : (old new : Root) (count pages : ℕ) (loaded touched : Bool) (known : List Entry) (image : Image) (device : Device) (contents : Blocks) → loaded ≡ true → HoldsBy old count loaded touched known image device contents → IsNext old new count pages → IsServed old pages → count ≤ old.blocks → pages < 2 ^ 32 → IsBytes 32 new.key → IsWhole image → pages ≡ length image.recorded → AreEntries known old.blocks pages → Stands (with_leaf image new known) (Some (committed_with device contents))
-raised_stands old new count pages loaded touched known image device contents ready h next served most room key whole at are = (
-  new,
-  leaf_parts new.addr new.key known h.texts,
-  stands_by_leaf (with_leaf image new known) (committed_with device contents) new known h.texts
-      (raised_leaf old new count pages loaded touched known image device contents ready h next served most room key whole at are),
+pub raised_stands : (session : Session) (next : Root) (pages : ℕ) (image : Image) (device : Device) (contents : Blocks) → IsCommitOf session next pages → Holds session image device contents → IsWhole image → pages ≡ length image.recorded → Stands (with_leaf image next session.entries) (Some (committed_with device contents))
+raised_stands session next pages image device contents commit h whole at = (
+  next,
+  leaf_parts next.addr next.key session.entries h.texts,
+  stands_by_leaf (with_leaf image next session.entries) (committed_with device contents) next session.entries h.texts
+      (raised_leaf session next pages image device contents commit h whole at),
 )
 
-pub raised_held : (old new : Root) (count pages : ℕ) (loaded touched : Bool) (known : List Entry) (image later : Image) (device : Device) (contents : Blocks) → loaded ≡ true → HoldsBy old count loaded touched known image device contents → IsNext old new count pages → IsServed old pages → count ≤ old.blocks → pages < 2 ^ 32 → IsBytes 32 new.key → IsWhole image → pages ≡ length image.recorded → AreEntries known old.blocks pages → later ≡ with_leaf image new known → HoldsBy new count loaded false known later (committed_with device contents) contents
-raised_held old new count pages loaded touched known image later device contents ready h next served most room key whole at are later_is =
-    let leaf = raised_leaf old new count pages loaded touched known image device contents ready h next served most room key whole at are in
-    let held = leaf_held (with_leaf image new known) (committed_with device contents) new loaded known h.texts known (λ yes. refl) leaf in
-    subst (λ (n : ℕ). HoldsBy new n loaded false known later (committed_with device contents) contents) next.mapped
-    (subst (λ (i : Image). HoldsBy new new.mapped loaded false known i (committed_with device contents) contents) (sym later_is) held)
+-- a session after a commit
+abbrev pub with_root : Session → Root → Held → Session
+with_root session next buffers = record session { root = next; is_touched = false; buffers = buffers }
+
+pub raised_held : (session : Session) (next : Root) (buffers : Held) (pages : ℕ) (image later : Image) (device : Device) (contents : Blocks) → IsCommitOf session next pages → Holds session image device contents → IsWhole image → pages ≡ length image.recorded → later ≡ with_leaf image next session.entries → Holds (with_root session next buffers) later (committed_with device contents) contents
+raised_held session next buffers pages image later device contents commit h whole at later_is =
+    let leaf = raised_leaf session next pages image device contents commit h whole at in
+    let held = leaf_held (with_root session next buffers) (with_leaf image next session.entries) (committed_with device contents) session.entries h.texts (sym commit.follows.mapped) (λ yes. refl) leaf in
+    subst (λ (i : Image). Holds (with_root session next buffers) i (committed_with device contents) contents) (sym later_is) held
 
 -- the leaf is appended, the medium synced, and the root record replaced
-pub raise_turns : (old mid new : History) (first next : Root) (count pages : ℕ) (loaded touched : Bool) (known : List Entry) (device : Device) (contents : Blocks) → loaded ≡ true → HoldsBy first count loaded touched known old.present device contents → IsNext first next count pages → IsServed first pages → count ≤ first.blocks → pages < 2 ^ 32 → IsBytes 32 next.key → pages ≡ length old.present.recorded → AreEntries known first.blocks pages → Steps old mid → mid.present.cell ≡ old.present.cell → mid.present ≡ with_page old.present (leaf_page next known) (leaf_page next known) → Turns mid new (λ image. image.cell ≡ mid.present.cell) (λ image. image ≡ with_cell (all_synced mid.present) (Some (root_bytes next))) → Turns old new (LeavesOnly (λ left. Stands left (Some device))) (LeavesOnly (λ left. Stands left (Some (committed_with device contents))))
-raise_turns old mid new first next count pages loaded touched known device contents ready h follows served most room key at are steps cell appended published =
-    let X = with_leaf old.present next known in
+pub raise_turns : (old mid new : History) (session : Session) (next : Root) (pages : ℕ) (device : Device) (contents : Blocks) → IsCommitOf session next pages → Holds session old.present device contents → pages ≡ length old.present.recorded → Steps old mid → mid.present.cell ≡ old.present.cell → mid.present ≡ with_page old.present (leaf_page next session.entries) (leaf_page next session.entries) → Turns mid new (λ image. image.cell ≡ mid.present.cell) (λ image. image ≡ with_cell (all_synced mid.present) (Some (root_bytes next))) → Turns old new (LeavesOnly (λ left. Stands left (Some device))) (LeavesOnly (λ left. Stands left (Some (committed_with device contents))))
+raise_turns old mid new session next pages device contents commit h at steps cell appended published =
+    let X = with_leaf old.present next session.entries in
     let same : with_cell (all_synced mid.present) (Some (root_bytes next)) ≡ X = ap (λ (i : Image). with_cell (all_synced i) (Some (root_bytes next))) appended in
     let turns = subst (λ (x : Image). Turns mid new (λ image. image.cell ≡ mid.present.cell) (λ image. image ≡ x)) same published in
-    turns_stands old new X (Some device) (Some (committed_with device contents)) (held_stands first count loaded touched known old.present device contents h)
-    (raised_stands first next count pages loaded touched known old.present device contents ready h follows served most room key (whole-now old) at are)
+    turns_stands old new X (Some device) (Some (committed_with device contents)) (held_stands session old.present device contents h)
+    (raised_stands session next pages old.present device contents commit h (whole-now old) at)
     (then_published old mid new X (one_call old mid steps cell) turns)
 
-pub raise_held : (old mid new : History) (first next : Root) (count pages : ℕ) (loaded touched : Bool) (known : List Entry) (device : Device) (contents : Blocks) → loaded ≡ true → HoldsBy first count loaded touched known old.present device contents → IsNext first next count pages → IsServed first pages → count ≤ first.blocks → pages < 2 ^ 32 → IsBytes 32 next.key → pages ≡ length old.present.recorded → AreEntries known first.blocks pages → mid.present ≡ with_page old.present (leaf_page next known) (leaf_page next known) → new.present ≡ with_cell (all_synced mid.present) (Some (root_bytes next)) → HoldsBy next count loaded false known new.present (committed_with device contents) contents
-raise_held old mid new first next count pages loaded touched known device contents ready h follows served most room key at are appended published =
-    raised_held first next count pages loaded touched known old.present new.present device contents ready h follows served most room key (whole-now old) at are
+pub raise_held : (old mid new : History) (session : Session) (next : Root) (buffers : Held) (pages : ℕ) (device : Device) (contents : Blocks) → IsCommitOf session next pages → Holds session old.present device contents → pages ≡ length old.present.recorded → mid.present ≡ with_page old.present (leaf_page next session.entries) (leaf_page next session.entries) → new.present ≡ with_cell (all_synced mid.present) (Some (root_bytes next)) → Holds (with_root session next buffers) new.present (committed_with device contents) contents
+raise_held old mid new session next buffers pages device contents commit h at appended published =
+    raised_held session next buffers pages old.present new.present device contents commit h (whole-now old) at
     (published ∙ ap (λ (i : Image). with_cell (all_synced i) (Some (root_bytes next))) appended)
 
 -- a leaf's entries can stand in a record
@@ -546,12 +604,12 @@ entries_fit root addr entries one are = record {
 }
 
 -- without a change the device with its own number and the session's array is the device
-pub untouched_after : (root : Root) (count : ℕ) (loaded touched : Bool) (known : List Entry) (image : Image) (device : Device) (contents : Blocks) (number : ℕ) → touched ≡ false → number ≡ root.commit → HoldsBy root count loaded touched known image device contents → HoldsBy root count loaded touched known image (record device { number = number; contents = contents }) contents
-untouched_after root count loaded touched known image device contents number still is h =
+pub untouched_after : (session : Session) (image : Image) (device : Device) (contents : Blocks) (number : ℕ) → session.is_touched ≡ false → number ≡ session.root.commit → Holds session image device contents → Holds session image (record device { number = number; contents = contents }) contents
+untouched_after session image device contents number still is h =
     let numbers : device.number ≡ number = sym (is ∙ h.stands.number) in
     let maps : device.contents ≡ contents = sym (h.untouched still) in
     let same : device ≡ record { blocks = device.blocks; order = device.order; number = number; contents = contents } = λ i. record { blocks = device.blocks; order = device.order; number = numbers i; contents = maps i } in
-    subst (λ (d : Device). HoldsBy root count loaded touched known image d contents) same h
+    subst (λ (d : Device). Holds session image d contents) same h
 
 -- ---- the first root record of a device
 

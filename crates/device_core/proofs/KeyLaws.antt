@@ -1,6 +1,6 @@
 -- What a format, a commit and a write do to the keys that the image keeps.
 use Rattle.std.proofs.Common.{◌≡◌, ◌⊎◌, inl, inr, Bool, true, false, Result, ℕ, zero, suc, ◌<◌, ◌≤◌, ◌^◌, List, [], ◌∷◌, ◌++◌, map, length, get_or, refl, sym, ◌∙◌, ap, subst, arith, length-append}
-use Rattle.std.specs.Prelude.{Option, None, Some, All, Contains, remove}
+use Rattle.std.specs.Prelude.{Option, None, Some, All, Contains}
 use Rattle.std.proofs.lemmas.List.Elements.{All-nil, All-cons, All-head, All-tail, All-weaker, All-map, All-contains, Contains-append_left, Contains-get_or}
 use Rattle.platform.specs.Image.{Image, IsEarlier, IsWhole, with_page, with_cell, all_synced}
 use Rattle.platform.specs.History.{History, Steps, During, Turns}
@@ -12,8 +12,10 @@ use Rattle.sdbt_base.specs.Bytes.{IsBytes}
 use Rattle.sdbt_base.specs.Arrays.{new_device, committed_with, Device, Blocks}
 use Rattle.device_core.proofs.EntryLaws.{AreEntries-none, All-remove}
 use Rattle.node_codec.specs.declared.body.Entry.{Entry}
-use Rattle.node_codec.specs.Record.{Record, DataRecord, NodeRecord, FitsNode, FitsRecord, record_bytes}
-use Rattle.device_core.specs.Leaf.{IsServed, AreEntries}
+use Rattle.node_codec.specs.Record.{Record, DataRecord, NodeRecord, FitsRecord, record_bytes}
+use Rattle.device_core.specs.Open.{IsOpen}
+use Rattle.device_core.specs.Sessions.{Session}
+use Rattle.page_store.specs.Buffer.{Held}
 use Rattle.root_codec.specs.declared.root.Root.{Root}
 use Rattle.root_codec.specs.RootRecord.{root_bytes}
 use Rattle.sdbt_base.specs.Traces.{TraceEntry, DataOf, NodeOver}
@@ -26,15 +28,14 @@ use Rattle.page_store.specs.Places.{FitsAt, root_want}
 use Rattle.page_store.specs.Floors.{IsInTree, HasPlace, Succeeds, low_of, Forgets}
 use Rattle.key_graph.proofs.ChainLaws.{contains_map, map_contains}
 use Rattle.page_store.proofs.FloorLaws.{low_few, low_of_stands, place_later, place_at, place_of_stands, succeeds_none, succeeds_tree, forgets_published}
-use Rattle.device_core.specs.Leaf.{placed}
-use Rattle.device_core.specs.Holding.{HoldsBy}
+use Rattle.device_core.specs.Holds.{Holds}
 use Rattle.device_core.specs.Drawing.{data_place, KeepsTree}
-use Rattle.device_core.specs.Knowing.{HoldsListedBy}
+use Rattle.device_core.specs.Knowing.{HoldsListed}
 use Rattle.page_store.proofs.LeafStandsLaws.{stands_by_leaf, leaf_found}
 use Rattle.page_store.proofs.StandsLaws.{stands_with_page}
 use Rattle.page_store.proofs.KeptLaws.{kept_leaf, kept_published, one_root_in, root_of_stands}
 use Rattle.page_store.proofs.KeepingLaws.{keeps_idle, keeps_still, keeps_then, keeps_from}
-use Rattle.device_core.proofs.HoldLaws.{IsNext, raised_leaf, raise_held, held_stands, holds_later, loaded, All-placed, leaf_page, with_leaf, committed, none_mapped, first_root, first_fits, first_one, no_entries_fit}
+use Rattle.device_core.proofs.HoldLaws.{IsCommitOf, entries_fit, raised_leaf, raise_held, held_stands, holds_later, holds_same, loaded, with_read, with_entry, without_entry, with_root, All-placed, leaf_page, with_leaf, committed, none_mapped, first_root, first_fits, first_one, no_entries_fit}
 
 -- calls that only look
 pub looks : (old new : History) → Steps old new → new.present ≡ old.present → During old new (λ image. image ≡ old.present)
@@ -91,7 +92,7 @@ first_record : (image : Image) (keys : List (List ℕ)) → IsSound image → Is
 first_record image keys sound = record { device = sound.0; stands = sound.1; listed = All-nil (λ (e : Entry). Contains keys e.key) }
 
 -- a call that appends a body where it is a record of the address
-abbrev Appends : Type 0 → Option (List (List ℕ)) → Option (List (List ℕ)) → History → History → List ℕ → ℕ → (List (List ℕ) → Type 0) → Type 0
+abbrev pub Appends : Type 0 → Option (List (List ℕ)) → Option (List (List ℕ)) → History → History → List ℕ → ℕ → (List (List ℕ) → Type 0) → Type 0
 Appends tells drawn drawn_now old new body at Done =
     (value : Record) → FitsRecord at value → body ≡ record_bytes at value → KeepsKeys tells drawn drawn_now old new (IsNextRecord old.present value) Done
 
@@ -218,8 +219,15 @@ forgets_leaf old new X was device first root leaf entries leaf_texts texts stood
 
 -- ---- sessions
 
-pub listed_same : (root : Root) (mapped : ℕ) (loaded touched : Bool) (known : List Entry) (image other : Image) (keys : List (List ℕ)) → other ≡ image → HoldsListedBy root mapped loaded touched known image keys → HoldsListedBy root mapped loaded touched known other keys
-listed_same root mapped loaded touched known image other keys same h = subst (λ (i : Image). HoldsListedBy root mapped loaded touched known i keys) (sym same) h
+-- the same image, whatever the buffers hold
+pub listed_same : (session : Session) (buffers : Held) (image other : Image) (keys : List (List ℕ)) → other ≡ image → HoldsListed session image keys → HoldsListed (record session { buffers = buffers }) other keys
+listed_same session buffers image other keys same h = subst (λ (i : Image). HoldsListed (record session { buffers = buffers }) i keys) (sym same) record {
+  device = h.device;
+  contents = h.contents;
+  holds = holds_same session buffers image image h.device h.contents refl h.holds;
+  listed = h.listed;
+  newer = h.newer;
+}
 
 -- what a session's pages are in a later image with the same cell
 newer_later : (image later : Image) (head : ℕ) (known : List Entry) → IsEarlier image later → later.cell ≡ image.cell → AreNewer image head known → AreNewer later head known
@@ -233,17 +241,17 @@ newer_later image later head known earlier same newer =
 listed_more : (keys more : List (List ℕ)) (known : List Entry) → All (λ e. Contains keys e.key) known → All (λ e. Contains (keys ++ more) e.key) known
 listed_more keys more known listed = All-weaker (λ (e : Entry). Contains keys e.key) (λ (e : Entry). Contains (keys ++ more) e.key) (λ e. Contains-append_left keys more e.key) known listed
 
-pub listed_later : (root : Root) (mapped : ℕ) (loaded touched : Bool) (known : List Entry) (image later : Image) (keys more : List (List ℕ)) → IsEarlier image later → later.cell ≡ image.cell → HoldsListedBy root mapped loaded touched known image keys → HoldsListedBy root mapped loaded touched known later (keys ++ more)
-listed_later root mapped loaded touched known image later keys more earlier same h = record {
+pub listed_later : (session : Session) (buffers : Held) (image later : Image) (keys more : List (List ℕ)) → IsEarlier image later → later.cell ≡ image.cell → HoldsListed session image keys → HoldsListed (record session { buffers = buffers }) later (keys ++ more)
+listed_later session buffers image later keys more earlier same h = record {
   device = h.device;
   contents = h.contents;
-  holds = holds_later root mapped loaded touched known image later h.device h.contents earlier same h.holds;
-  listed = listed_more keys more known h.listed;
-  newer = newer_later image later root.head known earlier same h.newer;
+  holds = holds_later session buffers image later h.device h.contents earlier same h.holds;
+  listed = listed_more keys more session.entries h.listed;
+  newer = newer_later image later session.root.head session.entries earlier same h.newer;
 }
 
-pub listed_sound : (root : Root) (mapped : ℕ) (loaded touched : Bool) (known : List Entry) (image : Image) (keys : List (List ℕ)) → HoldsListedBy root mapped loaded touched known image keys → IsSound image
-listed_sound root mapped loaded touched known image keys h = (Some h.device, held_stands root mapped loaded touched known image h.device h.contents h.holds)
+pub listed_sound : (session : Session) (image : Image) (keys : List (List ℕ)) → HoldsListed session image keys → IsSound image
+listed_sound session image keys h = (Some h.device, held_stands session image h.device h.contents h.holds)
 
 -- the data records of the leaf that an image stands by are places of its tree
 leaf_places : (image : Image) (device : Device) (root : Root) (entries : List Entry) (texts : List (List ℕ)) → StandsByLeaf image device root entries texts → All (λ e. HasPlace image (data_place e)) entries
@@ -261,9 +269,10 @@ leaf_places image device root entries texts leaf =
     }
 
 -- a leaf that was read
-pub listed_loaded : (root : Root) (mapped : ℕ) (touched : Bool) (known read : List Entry) (image : Image) (keys : List (List ℕ)) → Kept keys image → HoldsListedBy root mapped false touched known image keys → FitsAt image.readable (root_want root) root.key (NodeRecord 1 read) → HoldsListedBy root mapped true touched read image keys
-listed_loaded root mapped touched known read image keys kept h fits =
-    let held = loaded root mapped touched known read image h.device h.contents h.holds fits in
+pub listed_loaded : (session : Session) (read : List Entry) (buffers : Held) (image : Image) (keys : List (List ℕ)) → Kept keys image → session.is_loaded ≡ false → HoldsListed session image keys → FitsAt image.readable (root_want session.root) session.root.key (NodeRecord 1 read) → HoldsListed (with_read session read buffers) image keys
+listed_loaded session read buffers image keys kept isnt h fits =
+    let root = session.root in
+    let held = loaded session read buffers image h.device h.contents isnt h.holds fits in
     let same : h.holds.leaf ≡ read = sym (leaf_found image.readable root h.holds.leaf read h.holds.leaf_texts h.holds.stands.in_range h.holds.stands.tree fits) in
     record {
       device = h.device;
@@ -276,43 +285,43 @@ listed_loaded root mapped touched known read image keys kept h fits =
     }
 
 -- an entry more, or another one in its place, of a page that was appended
-pub listed_written : (root : Root) (mapped now : ℕ) (loaded touched was_touched : Bool) (known : List Entry) (place : Result ℕ ℕ) (entry : Entry) (image later : Image) (device : Device) (contents : Blocks) (keys more : List (List ℕ)) → HoldsListedBy root mapped loaded was_touched known image keys → HoldsBy root now loaded touched (placed known place entry) later device contents → IsEarlier image later → later.cell ≡ image.cell → root.head ≤ entry.addr → Contains (keys ++ more) entry.key → HoldsListedBy root now loaded touched (placed known place entry) later (keys ++ more)
-listed_written root mapped now loaded touched was_touched known place entry image later device contents keys more h held earlier same after has = record {
+pub listed_written : (session : Session) (count : ℕ) (buffers : Held) (place : Result ℕ ℕ) (entry : Entry) (image later : Image) (device : Device) (contents : Blocks) (keys more : List (List ℕ)) → HoldsListed session image keys → Holds (with_entry session place entry count buffers) later device contents → IsEarlier image later → later.cell ≡ image.cell → session.root.head ≤ entry.addr → Contains (keys ++ more) entry.key → HoldsListed (with_entry session place entry count buffers) later (keys ++ more)
+listed_written session count buffers place entry image later device contents keys more h held earlier same after has = record {
   device = device;
   contents = contents;
   holds = held;
-  listed = All-placed (λ (e : Entry). Contains (keys ++ more) e.key) known place entry (listed_more keys more known h.listed) has;
-  newer = All-placed (λ (e : Entry). HasPlace later (data_place e) ⊎ (root.head ≤ e.addr)) known place entry (newer_later image later root.head known earlier same h.newer) (inr after);
+  listed = All-placed (λ (e : Entry). Contains (keys ++ more) e.key) session.entries place entry (listed_more keys more session.entries h.listed) has;
+  newer = All-placed (λ (e : Entry). HasPlace later (data_place e) ⊎ (session.root.head ≤ e.addr)) session.entries place entry (newer_later image later session.root.head session.entries earlier same h.newer) (inr after);
 }
 
 -- an entry less
-pub listed_trimmed : (root : Root) (mapped now : ℕ) (loaded touched was_touched : Bool) (known : List Entry) (at : ℕ) (image : Image) (device : Device) (contents : Blocks) (keys : List (List ℕ)) → HoldsListedBy root mapped loaded was_touched known image keys → HoldsBy root now loaded touched (remove known at) image device contents → HoldsListedBy root now loaded touched (remove known at) image keys
-listed_trimmed root mapped now loaded touched was_touched known at image device contents keys h held = record {
+pub listed_trimmed : (session : Session) (count at : ℕ) (image : Image) (device : Device) (contents : Blocks) (keys : List (List ℕ)) → HoldsListed session image keys → Holds (without_entry session at count) image device contents → HoldsListed (without_entry session at count) image keys
+listed_trimmed session count at image device contents keys h held = record {
   device = device;
   contents = contents;
   holds = held;
-  listed = All-remove (λ (e : Entry). Contains keys e.key) known at h.listed;
-  newer = All-remove (λ (e : Entry). HasPlace image (data_place e) ⊎ (root.head ≤ e.addr)) known at h.newer;
+  listed = All-remove (λ (e : Entry). Contains keys e.key) session.entries at h.listed;
+  newer = All-remove (λ (e : Entry). HasPlace image (data_place e) ⊎ (session.root.head ≤ e.addr)) session.entries at h.newer;
 }
 
 -- a session that has read nothing
-pub listed_mounted : (root : Root) (mapped : ℕ) (loaded touched : Bool) (known : List Entry) (image : Image) (device : Device) (contents : Blocks) (keys : List (List ℕ)) → known ≡ [] → HoldsBy root mapped loaded touched known image device contents → HoldsListedBy root mapped loaded touched known image keys
-listed_mounted root mapped loaded touched known image device contents keys none held = record {
+pub listed_mounted : (session : Session) (image : Image) (device : Device) (contents : Blocks) (keys : List (List ℕ)) → session.entries ≡ [] → Holds session image device contents → HoldsListed session image keys
+listed_mounted session image device contents keys none held = record {
   device = device;
   contents = contents;
   holds = held;
   listed = subst (λ (es : List Entry). All (λ (e : Entry). Contains keys e.key) es) (sym none) (All-nil (λ (e : Entry). Contains keys e.key));
-  newer = subst (λ (es : List Entry). AreNewer image root.head es) (sym none) (All-nil (λ (e : Entry). HasPlace image (data_place e) ⊎ (root.head ≤ e.addr)));
+  newer = subst (λ (es : List Entry). AreNewer image session.root.head es) (sym none) (All-nil (λ (e : Entry). HasPlace image (data_place e) ⊎ (session.root.head ≤ e.addr)));
 }
 
 -- a session whose leaf was published
-pub listed_committed : (root : Root) (mapped : ℕ) (loaded touched : Bool) (known : List Entry) (image : Image) (device : Device) (contents : Blocks) (texts : List (List ℕ)) (keys : List (List ℕ)) → HoldsBy root mapped loaded touched known image device contents → loaded ≡ true → touched ≡ false → All (λ e. Contains keys e.key) known → StandsByLeaf image device root known texts → HoldsListedBy root mapped loaded touched known image keys
-listed_committed root mapped loaded touched known image device contents texts keys held is_loaded untouched listed leaf = record {
+pub listed_committed : (session : Session) (image : Image) (device : Device) (contents : Blocks) (texts : List (List ℕ)) (keys : List (List ℕ)) → Holds session image device contents → All (λ e. Contains keys e.key) session.entries → StandsByLeaf image device session.root session.entries texts → HoldsListed session image keys
+listed_committed session image device contents texts keys held listed leaf = record {
   device = device;
   contents = contents;
   holds = held;
   listed = listed;
-  newer = All-weaker (λ (e : Entry). HasPlace image (data_place e)) (λ (e : Entry). HasPlace image (data_place e) ⊎ (root.head ≤ e.addr)) (λ e there. inl there) known (leaf_places image device root known texts leaf);
+  newer = All-weaker (λ (e : Entry). HasPlace image (data_place e)) (λ (e : Entry). HasPlace image (data_place e) ⊎ (session.root.head ≤ e.addr)) (λ e there. inl there) session.entries (leaf_places image device session.root session.entries texts leaf);
 }
 
 -- ---- an erasure
@@ -347,94 +356,96 @@ forgets_erased old mid new look same steps either sound =
 
 -- ---- a commit
 
-pub listed_grown : (root : Root) (mapped : ℕ) (loaded touched : Bool) (known : List Entry) (image : Image) (keys more : List (List ℕ)) → HoldsListedBy root mapped loaded touched known image keys → HoldsListedBy root mapped loaded touched known image (keys ++ more)
-listed_grown root mapped loaded touched known image keys more h = record { device = h.device; contents = h.contents; holds = h.holds; listed = listed_more keys more known h.listed; newer = h.newer }
+pub listed_grown : (session : Session) (image : Image) (keys more : List (List ℕ)) → HoldsListed session image keys → HoldsListed session image (keys ++ more)
+listed_grown session image keys more h = record { device = h.device; contents = h.contents; holds = h.holds; listed = listed_more keys more session.entries h.listed; newer = h.newer }
 
 -- the leaf is the record that is appended
-next_record : (root : Root) (mapped : ℕ) (loaded touched : Bool) (known : List Entry) (image : Image) (keys : List (List ℕ)) → HoldsListedBy root mapped loaded touched known image keys → IsNextRecord image (NodeRecord 1 known) keys
-next_record root mapped loaded touched known image keys h = record {
+next_record : (session : Session) (image : Image) (keys : List (List ℕ)) → HoldsListed session image keys → IsNextRecord image (NodeRecord 1 session.entries) keys
+next_record session image keys h = record {
   device = Some h.device;
-  stands = held_stands root mapped loaded touched known image h.device h.contents h.holds;
+  stands = held_stands session image h.device h.contents h.holds;
   listed = h.listed;
 }
 
-pub raise_appends : (tells : Type 0) (drawn drawn_now : Option (List (List ℕ))) (old mid : History) (root : Root) (mapped : ℕ) (loaded touched : Bool) (known : List Entry) (body : List ℕ) (addr at : ℕ) (Done : List (List ℕ) → Type 0)
-    → Appends tells drawn drawn_now old mid body at Done
-    → body ≡ record_bytes addr (NodeRecord 1 known) → addr ≡ at → FitsNode addr 1 known → All (λ e. IsBytes 32 e.key) known
-    → KeepsKeys tells drawn drawn_now old mid (HoldsListedBy root mapped loaded touched known old.present) (λ keys. Done keys × HoldsListedBy root mapped loaded touched known old.present keys)
-raise_appends tells drawn drawn_now old mid root mapped loaded touched known body addr at Done append is here fits sized =
-    let leaf : Record = NodeRecord 1 known in
-    keeps_from tells drawn drawn_now old mid (IsNextRecord old.present leaf) (HoldsListedBy root mapped loaded touched known old.present) Done (λ keys. Done keys × HoldsListedBy root mapped loaded touched known old.present keys)
-    (append leaf (subst (λ (n : ℕ). FitsNode n 1 known) here fits, sized) (is ∙ ap (λ (n : ℕ). record_bytes n leaf) here))
-    (λ told keys h. next_record root mapped loaded touched known old.present keys h)
-    (λ told keys more h done. (done, listed_grown root mapped loaded touched known old.present keys more h))
+pub raise_appends : (tells : Type 0) (drawn drawn_now : Option (List (List ℕ))) (old mid : History) (session : Session) (body : List ℕ) (addr at : ℕ) (Done : List (List ℕ) → Type 0)
+    → IsOpen session at → Appends tells drawn drawn_now old mid body at Done
+    → body ≡ record_bytes addr (NodeRecord 1 session.entries) → addr ≡ at
+    → KeepsKeys tells drawn drawn_now old mid (HoldsListed session old.present) (λ keys. Done keys × HoldsListed session old.present keys)
+raise_appends tells drawn drawn_now old mid session body addr at Done opened append is here =
+    let leaf : Record = NodeRecord 1 session.entries in
+    keeps_from tells drawn drawn_now old mid (IsNextRecord old.present leaf) (HoldsListed session old.present) Done (λ keys. Done keys × HoldsListed session old.present keys)
+    (append leaf (entries_fit session.root at session.entries opened.served.leaf opened.entries, opened.entries.keys) (is ∙ ap (λ (n : ℕ). record_bytes n leaf) here))
+    (λ told keys h. next_record session old.present keys h)
+    (λ told keys more h done. (done, listed_grown session old.present keys more h))
 
-pub raise_publishes : (tells : Type 0) (drawn drawn_now : Option (List (List ℕ))) (old mid new : History) (first next : Root) (count pages : ℕ) (loaded touched : Bool) (known : List Entry) (Done : List (List ℕ) → Type 0)
-    → KeepsKeys tells drawn drawn_now old mid (HoldsListedBy first count loaded touched known old.present) (λ keys. Contains keys next.key × HoldsListedBy first count loaded touched known old.present keys)
-    → (tells → mid.present ≡ with_page old.present (leaf_page next known) (leaf_page next known))
+pub raise_publishes : (tells : Type 0) (drawn drawn_now : Option (List (List ℕ))) (old mid new : History) (session : Session) (next : Root) (pages : ℕ) (Done : List (List ℕ) → Type 0)
+    → KeepsKeys tells drawn drawn_now old mid (HoldsListed session old.present) (λ keys. Contains keys next.key × HoldsListed session old.present keys)
+    → (tells → mid.present ≡ with_page old.present (leaf_page next session.entries) (leaf_page next session.entries))
     → (tells → length new.present.recorded ≡ length mid.present.recorded)
     → (tells → Turns mid new (λ image. image.cell ≡ mid.present.cell) (λ image. image ≡ with_cell (all_synced mid.present) (Some (root_bytes next))))
-    → loaded ≡ true → IsNext first next count pages → IsServed first pages → count ≤ first.blocks → pages < 2 ^ 32 → IsBytes 32 next.key → (tells → pages ≡ length old.present.recorded) → AreEntries known first.blocks pages
-    → (tells → (keys : List (List ℕ)) → HoldsListedBy first count loaded touched known old.present keys → Done keys)
-    → KeepsKeys tells drawn drawn_now old new (HoldsListedBy first count loaded touched known old.present) Done
-raise_publishes tells drawn drawn_now old mid new first next count pages loaded touched known Done append appended size turns ready follows served most room sized at are done =
-    let Held : List (List ℕ) → Type 0 = HoldsListedBy first count loaded touched known old.present in
-    keeps_then tells drawn drawn_now drawn_now old mid new Held (λ keys. Contains keys next.key × Held keys) (IsPublishing old.present mid.present next known) (λ keys. Unit {0}) Done append
-    (publish_keeps tells drawn_now old.present mid new next known (λ keys. Unit {0}) appended size turns (λ told keys publishing. tt))
+    → IsCommitOf session next pages → (tells → pages ≡ length old.present.recorded)
+    → (tells → (keys : List (List ℕ)) → HoldsListed session old.present keys → Done keys)
+    → KeepsKeys tells drawn drawn_now old new (HoldsListed session old.present) Done
+raise_publishes tells drawn drawn_now old mid new session next pages Done append appended size turns commit at done =
+    let page = leaf_page next session.entries in
+    keeps_then tells drawn drawn_now drawn_now old mid new (HoldsListed session old.present) (λ keys. Contains keys next.key × HoldsListed session old.present keys) (IsPublishing old.present mid.present next session.entries) (λ keys. Unit {0}) Done append
+    (publish_keeps tells drawn_now old.present mid new next session.entries (λ keys. Unit {0}) appended size turns (λ told keys publishing. tt))
     (λ told keys kept mids. record {
       device = Some mids.1.device;
       stands = subst (λ (i : Image). Stands i (Some mids.1.device)) (sym (appended told))
-          (stands_with_page old.present (leaf_page next known) (leaf_page next known) (Some mids.1.device) (held_stands first count loaded touched known old.present mids.1.device mids.1.contents mids.1.holds));
+          (stands_with_page old.present page page (Some mids.1.device) (held_stands session old.present mids.1.device mids.1.contents mids.1.holds));
       next = committed_with mids.1.device mids.1.contents;
       texts = mids.1.holds.texts;
-      leaf = raised_leaf first next count pages loaded touched known old.present mids.1.device mids.1.contents ready mids.1.holds follows served most room sized (whole-now old) (at told) are;
+      leaf = raised_leaf session next pages old.present mids.1.device mids.1.contents commit mids.1.holds (whole-now old) (at told);
       own = mids.0;
       listed = mids.1.listed;
     })
-    (λ told keys more mids never. done told (keys ++ more) (listed_grown first count loaded touched known old.present keys more mids.1))
+    (λ told keys more mids never. done told (keys ++ more) (listed_grown session old.present keys more mids.1))
 
 -- the session after it
-pub raise_listed : (old mid new : History) (first next : Root) (count pages : ℕ) (loaded touched : Bool) (known : List Entry) (keys : List (List ℕ)) → HoldsListedBy first count loaded touched known old.present keys
-    → mid.present ≡ with_page old.present (leaf_page next known) (leaf_page next known) → new.present ≡ with_cell (all_synced mid.present) (Some (root_bytes next))
-    → loaded ≡ true → IsNext first next count pages → IsServed first pages → count ≤ first.blocks → pages < 2 ^ 32 → IsBytes 32 next.key → pages ≡ length old.present.recorded → AreEntries known first.blocks pages
-    → HoldsListedBy next count loaded false known new.present keys
-raise_listed old mid new first next count pages loaded touched known keys h appended published ready follows served most room sized at are =
-    let target : new.present ≡ with_leaf old.present next known = published ∙ ap (λ (i : Image). with_cell (all_synced i) (Some (root_bytes next))) appended in
-    let leaf = subst (λ (i : Image). StandsByLeaf i (committed_with h.device h.contents) next known h.holds.texts) (sym target)
-    (raised_leaf first next count pages loaded touched known old.present h.device h.contents ready h.holds follows served most room sized (whole-now old) at are) in
-    listed_committed next count loaded false known new.present (committed_with h.device h.contents) h.contents h.holds.texts keys
-    (raise_held old mid new first next count pages loaded touched known h.device h.contents ready h.holds follows served most room sized at are appended published) ready refl h.listed leaf
+pub raise_listed : (old mid new : History) (session : Session) (next : Root) (buffers : Held) (pages : ℕ) (keys : List (List ℕ)) → HoldsListed session old.present keys
+    → mid.present ≡ with_page old.present (leaf_page next session.entries) (leaf_page next session.entries) → new.present ≡ with_cell (all_synced mid.present) (Some (root_bytes next))
+    → IsCommitOf session next pages → pages ≡ length old.present.recorded
+    → HoldsListed (with_root session next buffers) new.present keys
+raise_listed old mid new session next buffers pages keys h appended published commit at =
+    let target : new.present ≡ with_leaf old.present next session.entries = published ∙ ap (λ (i : Image). with_cell (all_synced i) (Some (root_bytes next))) appended in
+    let leaf = subst (λ (i : Image). StandsByLeaf i (committed_with h.device h.contents) next session.entries h.holds.texts) (sym target)
+    (raised_leaf session next pages old.present h.device h.contents commit h.holds (whole-now old) at) in
+    listed_committed (with_root session next buffers) new.present (committed_with h.device h.contents) h.contents h.holds.texts keys
+    (raise_held old mid new session next buffers pages h.device h.contents commit h.holds at appended published) h.listed leaf
 
 -- and no key that isn't of the new tree
-pub raise_knows : (old mid new : History) (first next : Root) (count pages : ℕ) (loaded touched : Bool) (known : List Entry) (device : Device) (contents : Blocks) → HoldsBy first count loaded touched known old.present device contents
-    → mid.present ≡ with_page old.present (leaf_page next known) (leaf_page next known) → new.present ≡ with_cell (all_synced mid.present) (Some (root_bytes next))
-    → loaded ≡ true → IsNext first next count pages → IsServed first pages → count ≤ first.blocks → pages < 2 ^ 32 → IsBytes 32 next.key → pages ≡ length old.present.recorded → AreEntries known first.blocks pages
-    → KeepsTree next known new.present
-raise_knows old mid new first next count pages loaded touched known device contents h appended published ready follows served most room sized at are =
-    let target : new.present ≡ with_leaf old.present next known = published ∙ ap (λ (i : Image). with_cell (all_synced i) (Some (root_bytes next))) appended in
+pub raise_knows : (old mid new : History) (session : Session) (next : Root) (pages : ℕ) (device : Device) (contents : Blocks) → Holds session old.present device contents
+    → mid.present ≡ with_page old.present (leaf_page next session.entries) (leaf_page next session.entries) → new.present ≡ with_cell (all_synced mid.present) (Some (root_bytes next))
+    → IsCommitOf session next pages → pages ≡ length old.present.recorded
+    → KeepsTree next session.entries new.present
+raise_knows old mid new session next pages device contents h appended published commit at =
+    let target : new.present ≡ with_leaf old.present next session.entries = published ∙ ap (λ (i : Image). with_cell (all_synced i) (Some (root_bytes next))) appended in
     let later = committed_with device contents in
-    let leaf = subst (λ (i : Image). StandsByLeaf i later next known h.texts) (sym target)
-    (raised_leaf first next count pages loaded touched known old.present device contents ready h follows served most room sized (whole-now old) at are) in
+    let leaf = subst (λ (i : Image). StandsByLeaf i later next session.entries h.texts) (sym target)
+    (raised_leaf session next pages old.present device contents commit h (whole-now old) at) in
     record {
-      cell = root_of_stands new.present later next (leaf_parts next.addr next.key known h.texts) (stands_by_leaf new.present later next known h.texts leaf);
-      entries = leaf_places new.present later next known h.texts leaf;
+      cell = root_of_stands new.present later next (leaf_parts next.addr next.key session.entries h.texts) (stands_by_leaf new.present later next session.entries h.texts leaf);
+      entries = leaf_places new.present later next session.entries h.texts leaf;
     }
 
-pub raise_forgets : (old mid new : History) (first next : Root) (count pages : ℕ) (loaded touched : Bool) (known : List Entry) (keys : List (List ℕ)) → HoldsListedBy first count loaded touched known old.present keys
+pub raise_forgets : (old mid new : History) (session : Session) (next : Root) (pages : ℕ) (keys : List (List ℕ)) → HoldsListed session old.present keys
     → Steps old mid → mid.present.cell ≡ old.present.cell
-    → mid.present ≡ with_page old.present (leaf_page next known) (leaf_page next known)
+    → mid.present ≡ with_page old.present (leaf_page next session.entries) (leaf_page next session.entries)
     → Turns mid new (λ image. image.cell ≡ mid.present.cell) (λ image. image ≡ with_cell (all_synced mid.present) (Some (root_bytes next)))
-    → loaded ≡ true → IsNext first next count pages → IsServed first pages → count ≤ first.blocks → pages < 2 ^ 32 → IsBytes 32 next.key → pages ≡ length old.present.recorded → AreEntries known first.blocks pages
+    → IsCommitOf session next pages → pages ≡ length old.present.recorded
     → Forgets old new
-raise_forgets old mid new first next count pages loaded touched known keys h steps cell appended turns ready follows served most room sized at are =
+raise_forgets old mid new session next pages keys h steps cell appended turns commit at =
+    let first = session.root in
+    let known = session.entries in
     let X = with_cell (all_synced mid.present) (Some (root_bytes next)) in
     let target : X ≡ with_leaf old.present next known = ap (λ (i : Image). with_cell (all_synced i) (Some (root_bytes next))) appended in
     let leaf = subst (λ (i : Image). StandsByLeaf i (committed_with h.device h.contents) next known h.holds.texts) (sym target)
-    (raised_leaf first next count pages loaded touched known old.present h.device h.contents ready h.holds follows served most room sized (whole-now old) at are) in
+    (raised_leaf session next pages old.present h.device h.contents commit h.holds (whole-now old) at) in
     let low : low_of old.present ≡ first.head = low_of_stands old.present h.device first _ (stands_by_leaf old.present h.device first h.holds.leaf h.holds.leaf_texts h.holds.stands) in
-    let longer : next.head ≡ length X.recorded = omega (arith, follows.head, at, simp length-append at (ap (λ (i : Image). length i.recorded) target)) in
+    let longer : next.head ≡ length X.recorded = omega (arith, commit.follows.head, at, simp length-append at (ap (λ (i : Image). length i.recorded) target)) in
     forgets_leaf old new X h.device (committed_with h.device h.contents) first next h.holds.leaf known h.holds.leaf_texts h.holds.texts h.holds.stands
-    (then_published old mid new X (one_call old mid steps cell) turns) leaf (omega (arith, low, follows.addr, served.within)) (omega (arith, follows.addr, follows.head)) longer
+    (then_published old mid new X (one_call old mid steps cell) turns) leaf (omega (arith, low, commit.follows.addr, commit.is_open.served.within)) (omega (arith, commit.follows.addr, commit.follows.head)) longer
     (subst (λ (n : ℕ). AreNewer old.present n known) (sym low) h.newer)
 
 -- ---- a write
@@ -443,15 +454,15 @@ pub load_keeps : (tells : Type 0) (drawn : Option (List (List ℕ))) (old new : 
 load_keeps tells drawn old new Ready Done same cell done = keeps_idle tells drawn drawn old new Ready Done refl (λ told. same_during old new (same told) (cell told)) done
 
 -- a look, and then the append of a data record
-pub write_keeps : (tells : Type 0) (drawn drawn_now : Option (List (List ℕ))) (old looked new : History) (root : Root) (mapped : ℕ) (loaded touched : Bool) (known : List Entry) (body : List ℕ) (addr block : ℕ) (content : List ℕ) (at : ℕ) (Ready Then Done : List (List ℕ) → Type 0)
-    → KeepsKeys tells drawn drawn old looked Ready (HoldsListedBy root mapped loaded touched known looked.present)
+pub write_keeps : (tells : Type 0) (drawn drawn_now : Option (List (List ℕ))) (old looked new : History) (session : Session) (body : List ℕ) (addr block : ℕ) (content : List ℕ) (at : ℕ) (Ready Then Done : List (List ℕ) → Type 0)
+    → KeepsKeys tells drawn drawn old looked Ready (HoldsListed session looked.present)
     → Appends tells drawn drawn_now looked new body at Then
     → body ≡ record_bytes addr (DataRecord block content) → addr ≡ at → block < 1048576 → IsBytes 4096 content
-    → (tells → (keys more : List (List ℕ)) → HoldsListedBy root mapped loaded touched known looked.present keys → Then (keys ++ more) → Done (keys ++ more))
+    → (tells → (keys more : List (List ℕ)) → HoldsListed session looked.present keys → Then (keys ++ more) → Done (keys ++ more))
     → KeepsKeys tells drawn drawn_now old new Ready Done
-write_keeps tells drawn drawn_now old looked new root mapped loaded touched known body addr block content at Ready Then Done look append is here low sized done =
+write_keeps tells drawn drawn_now old looked new session body addr block content at Ready Then Done look append is here low sized done =
     let value : Record = DataRecord block content in
-    keeps_then tells drawn drawn drawn_now old looked new Ready (HoldsListedBy root mapped loaded touched known looked.present) (IsNextRecord looked.present value) Then Done look
+    keeps_then tells drawn drawn drawn_now old looked new Ready (HoldsListed session looked.present) (IsNextRecord looked.present value) Then Done look
     (append value (low, sized) (is ∙ ap (λ (n : ℕ). record_bytes n value) here))
-    (λ told keys kept h. record { device = Some h.device; stands = held_stands root mapped loaded touched known looked.present h.device h.contents h.holds; listed = tt })
+    (λ told keys kept h. record { device = Some h.device; stands = held_stands session looked.present h.device h.contents h.holds; listed = tt })
     done

@@ -8,3 +8,5 @@ pub mod ServedLaws
 pub mod CountLaws
 pub mod KeyLaws
 pub mod ReadingLaws
+pub mod CommitLaws
+pub mod FormatLaws

@@ -4,10 +4,10 @@ use Rattle.std.specs.Prelude.{◌≢◌, All}
 use Rattle.std.proofs.lemmas.List.Elements.{All-contains}
 use Rattle.node_codec.specs.declared.body.Entry.{Entry}
 use Rattle.node_codec.specs.Record.{NodeRecord}
-use Rattle.root_codec.specs.declared.root.Root.{Root}
 use Rattle.page_store.proofs.RecordLaws.{one_record}
 use Rattle.device_core.specs.Leaf.{IsPlace}
-use Rattle.device_core.specs.Reading.{IsLeafBy, IsEntryOf}
+use Rattle.device_core.specs.Reading.{IsLeafOf, IsEntryOf}
+use Rattle.device_core.specs.Sessions.{Session}
 
 one_node : (leaf other : List Entry) (level : ℕ) → NodeRecord level leaf ≡ NodeRecord level other → leaf ≡ other
 one_node leaf other level same = cc
@@ -20,10 +20,10 @@ bool_cases true = inl (cc)
 bool_cases false = inr (cc)
 
 -- a session has one leaf at most, read or still to be read
-pub one_leaf : (root : Root) (is_loaded : Bool) (known : List Entry) (pages : List (List ℕ)) (leaf other : List Entry) → root.addr < 2 ^ 64 → IsLeafBy root is_loaded known pages leaf → IsLeafBy root is_loaded known pages other → leaf ≡ other
-one_leaf root is_loaded known pages leaf other small one two = elim (bool_cases is_loaded) [
+pub one_leaf : (session : Session) (pages : List (List ℕ)) (leaf other : List Entry) → session.root.addr < 2 ^ 64 → IsLeafOf session pages leaf → IsLeafOf session pages other → leaf ≡ other
+one_leaf session pages leaf other small one two = elim (bool_cases session.is_loaded) [
   | inl is ↦ one.read is ∙ sym (two.read is)
-  | inr isnt ↦ one_node leaf other 1 (one_record pages root.addr root.key (NodeRecord 1 leaf) (NodeRecord 1 other) small (one.unread isnt).0 (two.unread isnt).0)
+  | inr isnt ↦ one_node leaf other 1 (one_record pages session.root.addr session.root.key (NodeRecord 1 leaf) (NodeRecord 1 other) small (one.unread isnt).0 (two.unread isnt).0)
 ]
 
 -- the entry at the place of a block

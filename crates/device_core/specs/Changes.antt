@@ -9,7 +9,7 @@ use Rattle.node_codec.specs.declared.body.Entry.{Entry}
 use Rattle.device_core.specs.Drawing.{NamesPage}
 use Rattle.device_core.specs.Holds.{Holds}
 use Rattle.device_core.specs.Open.{is_touched}
-use Rattle.device_core.specs.declared.session.Session.{Session}
+use Rattle.device_core.specs.Sessions.{Session}
 use Rattle.device_core.specs.declared.refusals.WriteRefusal.{WriteRefusal}
 use Rattle.device_core.specs.declared.refusals.WriteRefusal.TheVariants as write
 use Rattle.device_core.specs.declared.refusals.TrimRefusal.{TrimRefusal}

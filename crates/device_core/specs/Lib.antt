@@ -1,3 +1,4 @@
+pub mod Sessions
 pub mod Leaf
 pub mod Holding
 pub mod Damage

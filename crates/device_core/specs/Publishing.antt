@@ -13,8 +13,8 @@ use Rattle.device_core.specs.Changes.{AddsNothing}
 use Rattle.device_core.specs.Drawing.{NamesLast, KeepsTree}
 use Rattle.device_core.specs.Holds.{Holds}
 use Rattle.device_core.specs.Leaf.{IsServedImage}
-use Rattle.device_core.specs.Open.{number_of, entries_of, root_of, buffers_of, is_touched}
-use Rattle.device_core.specs.declared.session.Session.{Session}
+use Rattle.device_core.specs.Open.{number_of, root_of, is_touched}
+use Rattle.device_core.specs.Sessions.{Session}
 use Rattle.device_core.specs.declared.refusals.CommitReply.{CommitReply}
 use Rattle.device_core.specs.declared.refusals.CommitReply.TheVariants.{Committed}
 use Rattle.device_core.specs.declared.refusals.CommitFault.{CommitFault}
@@ -39,12 +39,12 @@ pub record HasRaised {S R : Type 0} (P : PlatformGhosts S) (T : TapeGhosts R) (p
   pub reply : answer.1 ≡ Committed (number_of session + 1)
   pub number : number_of answer.0 ≡ number_of session + 1
   pub untouched : is_touched answer.0 ≡ false
-  pub wiped : IsBlank (buffers_of answer.0)
+  pub wiped : IsBlank answer.0.buffers
   pub head : P.head platform_now ≡ P.head platform + 1
   pub names : NamesLast (T.drawn tape) (T.drawn tape_now) (P.head platform_now) (root_of answer.0)
   pub cell : P.tells → (P.history platform_now).present.cell ≡ Some (root_bytes (root_of answer.0))
   pub knows : P.tells → (device : Device) (contents : Blocks) → Holds session (P.history platform).present device contents
-      → KeepsTree (root_of answer.0) (entries_of answer.0) (P.history platform_now).present
+      → KeepsTree (root_of answer.0) answer.0.entries (P.history platform_now).present
 
 -- a commit fails where the platform, the tape or the ledger failed. Where no key was drawn nothing was handed over; but for a fault of the platform
 -- the cell is as it was at each moment

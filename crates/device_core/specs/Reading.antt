@@ -1,21 +1,17 @@
 -- What a session reads, on any pages, forged ones too.
-use Rattle.std.specs.Prelude.{◌≡◌, ◌≢◌, ◌⊎◌, ℕ, Bool, true, false, List, All, Contains, replicate, Result, Ok, Err}
+use Rattle.std.specs.Prelude.{◌≡◌, ◌≢◌, ◌⊎◌, ℕ, true, false, List, All, Contains, replicate, Result, Ok, Err}
 use Rattle.sdbt_base.specs.Arrays.{Blocks, content_of}
 use Rattle.node_codec.specs.declared.body.Entry.{Entry}
 use Rattle.node_codec.specs.Record.{DataRecord, NodeRecord}
-use Rattle.root_codec.specs.declared.root.Root.{Root}
 use Rattle.page_store.specs.Places.{FitsAt, NothingFits, root_want, block_want}
 use Rattle.device_core.specs.declared.refusals.ReadRefusal.{ReadRefusal}
 use Rattle.device_core.specs.declared.refusals.ReadRefusal.TheVariants as refusals
-use Rattle.device_core.specs.declared.session.Session.{Session}
+use Rattle.device_core.specs.Sessions.{Session}
 
 -- these are the entries of a leaf: those that the session has, or, where it has read none yet, those of the leaf that its root record names
-pub record IsLeafBy (root : Root) (is_loaded : Bool) (known : List Entry) (pages : List (List ℕ)) (leaf : List Entry) : Type 0 where
-  pub read : is_loaded ≡ true → leaf ≡ known
-  pub unread : is_loaded ≡ false → FitsAt pages (root_want root) root.key (NodeRecord 1 leaf)
-
-abbrev pub IsLeafOf : Session → List (List ℕ) → List Entry → Type 0
-IsLeafOf session pages leaf = IsLeafBy session.root session.is_loaded session.entries.items pages leaf
+pub record IsLeafOf (session : Session) (pages : List (List ℕ)) (leaf : List Entry) : Type 0 where
+  pub read : session.is_loaded ≡ true → leaf ≡ session.entries
+  pub unread : session.is_loaded ≡ false → FitsAt pages (root_want session.root) session.root.key (NodeRecord 1 leaf)
 
 -- an entry of the leaf is the block's
 pub record IsEntryOf (leaf : List Entry) (block : ℕ) (entry : Entry) : Type 0 where

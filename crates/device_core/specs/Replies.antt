@@ -1,5 +1,4 @@
 -- What a commit makes of the device.
-use Rattle.std.specs.Prelude.{◌+◌}
 use Rattle.sdbt_base.specs.Arrays.{Device, Blocks}
 use Rattle.device_core.specs.declared.refusals.CommitReply.{CommitReply}
 use Rattle.device_core.specs.declared.refusals.CommitReply.TheVariants.{Committed, Full}

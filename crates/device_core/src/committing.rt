@@ -18,7 +18,7 @@ use root_codec::Root;
 use sdbt_base::{Sink, Tape};
 
 impl Session {
-    ghost use Rattle.device_core.specs.Open.{IsOpen, blocks_of, number_of, mapped_of, root_of, is_touched};
+    ghost use Rattle.device_core.specs.Open.{IsOpen, blocks_of, number_of, root_of, is_touched};
     ghost use Rattle.device_core.specs.Holds.{Holds, Follows};
     ghost use Rattle.device_core.specs.Knowing.{HoldsListed};
 
@@ -46,7 +46,7 @@ impl Session {
         ensures array { P.tells → (device : Device) (contents : Blocks) → Holds self (P.history platform.old).present device contents
             → IfOk result (λ answer. Holds answer.0 (P.history platform.new).present (device_after answer.1 device contents) contents) }
         ensures open { IfOk result (λ answer. IsOpen answer.0 (P.head platform.new)
-            × (blocks_of answer.0 ≡ blocks_of self) × (mapped_of answer.0 ≡ mapped_of self)) }
+            × (blocks_of answer.0 ≡ blocks_of self) × (answer.0.mapped ≡ self.mapped)) }
         // On any image: what was read of the pages fits still, and a session on the root record in the cell stays on it.
         ensures mounted { P.tells → IfOk result (λ answer.
             (Follows self (P.history platform.old).present → Follows answer.0 (P.history platform.new).present)
@@ -92,7 +92,7 @@ impl Session {
         ensures array { P.tells → (device : Device) (contents : Blocks) → Holds self (P.history platform.old).present device contents
             → IfOk result (λ answer. Holds answer.0 (P.history platform.new).present (device_after answer.1 device contents) contents) }
         ensures open { IfOk result (λ answer. IsOpen answer.0 (P.head platform.new)
-            × (blocks_of answer.0 ≡ blocks_of self) × (mapped_of answer.0 ≡ mapped_of self)) }
+            × (blocks_of answer.0 ≡ blocks_of self) × (answer.0.mapped ≡ self.mapped)) }
         ensures follows { P.tells → IfOk result (λ answer. Follows answer.0 (P.history platform.new).present) }
         ensures time { P.tells → (device : Device) (contents : Blocks) → Holds self (P.history platform.old).present device contents
             → Turns (P.history platform.old) (P.history platform.new)

@@ -4,9 +4,9 @@ ghost use Rattle.std.specs.FinMap as map;
 ghost use Rattle.platform.specs.Image.{Image};
 ghost use Rattle.sdbt_base.specs.Arrays.{Device, Blocks};
 ghost use Rattle.page_store.specs.Stands.{Stands};
-ghost use Rattle.device_core.specs.Open.{IsOpen, blocks_of, number_of, mapped_of, is_touched};
+ghost use Rattle.device_core.specs.Open.{IsOpen, blocks_of, number_of, is_touched};
 ghost use Rattle.device_core.specs.Holds.{Holds};
-ghost use Rattle.device_core.specs.declared.session.Session.{Session};
+ghost use Rattle.device_core.specs.Sessions.{Session};
 
 /// Below a session the image stands for its device, of which a session without changes has the array. It counts the blocks of its array.
 pub fn stands_under_session()
@@ -17,5 +17,5 @@ pub fn stands_under_session()
     ensures untouched { (session : Session) (image : Image) (device : Device) (contents : Blocks) → Holds session image device contents
         → is_touched session ≡ false → contents ≡ device.contents }
     ensures mapped { (session : Session) (image : Image) (device : Device) (contents : Blocks) (head : ℕ) → IsOpen session head
-        → Holds session image device contents → mapped_of session ≡ map.len contents }
+        → Holds session image device contents → session.mapped ≡ map.len contents }
 {}

@@ -18,7 +18,7 @@ use page_store::{Buffers, FetchRefusal, Want, fetch};
 use platform::Platform;
 
 impl Session {
-    ghost use Rattle.device_core.specs.Open.{IsOpen, blocks_of, level_of, root_of, is_touched};
+    ghost use Rattle.device_core.specs.Open.{IsOpen, blocks_of, root_of, is_touched};
     ghost use Rattle.device_core.specs.Holds.{Holds, Follows};
     ghost use Rattle.device_core.specs.Knowing.{HoldsListed};
     ghost use Rattle.device_core.specs.Reading.{IsLeafOf, ReadsAs, ReadsArray, IsFirstMisfit};
@@ -58,7 +58,7 @@ impl Session {
         ensures same { (self.new.root ≡ self.old.root) × (self.new.mapped ≡ self.old.mapped) × (is_touched self.new ≡ is_touched self.old) }
 
         ensures looks { Looks P.Platform platform.old platform.new }
-        ensures reads { P.tells → P.reads platform.new ≤ P.reads platform.old + (level_of self.old + 1) }
+        ensures reads { P.tells → P.reads platform.new ≤ P.reads platform.old + (self.old.root.level + 1) }
         ensures cause { IsReadCause block (blocks_of self.old) (Rose (P.faults platform.old) (P.faults platform.new)) result }
     {
         if block >= self.root.blocks {
@@ -75,10 +75,13 @@ impl Session {
         };
         let entry = self.entries[place];
         match fetch_block(platform, &entry, block, &mut self.buffers, out) {
-            Ok(()) => Ok(()),
-            Err(FetchRefusal::BadRecord { addr }) => Err(ReadRefusal::BadRecord { addr }),
-            Err(FetchRefusal::PlatformFault) => Err(ReadRefusal::PlatformFault),
+            Ok(()) => {}
+            Err(FetchRefusal::BadRecord { .. }) => {
+                return Err(ReadRefusal::BadRecord { addr: entry.addr });
+            }
+            Err(FetchRefusal::PlatformFault) => return Err(ReadRefusal::PlatformFault),
         }
+        Ok(())
     }
 }
 

@@ -18,6 +18,7 @@ use page_store::{Buffers, CurrentRefusal, FetchRefusal, Want, current, fetch};
 use platform::Platform;
 use root_codec::Root;
 use std::alloc::Global;
+use std::marker::Model;
 
 /// A session on a device: an array of blocks with changes that are the device's only with a commit.
 ///
@@ -36,8 +37,23 @@ pub struct Session {
     pub(crate) buffers: Buffers,
 }
 
+impl Model for Session {
+    ghost use Rattle.device_core.specs.Sessions as specs;
+
+    ghost Value = { specs.Session };
+
+    ghost view = { λ s. record {
+      root = s.root;
+      mapped = s.mapped;
+      is_loaded = s.is_loaded;
+      is_touched = s.is_touched;
+      entries = s.entries.items;
+      buffers = s.buffers;
+    } };
+}
+
 impl Session {
-    ghost use Rattle.device_core.specs.Open.{IsOpen, blocks_of, number_of, mapped_of, entries_of, buffers_of, is_touched};
+    ghost use Rattle.device_core.specs.Open.{IsOpen, blocks_of, number_of, is_touched};
     ghost use Rattle.device_core.specs.Reading.{IsLeafOf};
     ghost use Rattle.device_core.specs.Holds.{Holds, Follows};
     ghost use Rattle.device_core.specs.Knowing.{HoldsListed};
@@ -96,7 +112,7 @@ impl Session {
 
     /// The number of mapped blocks, uncommitted changes included.
     pub fn mapped(&self) -> u64
-        ensures { result ≡ mapped_of self.now }
+        ensures { result ≡ self.now.mapped }
     {
         self.mapped
     }
@@ -117,8 +133,8 @@ impl Session {
 
     /// Leaves nothing of what was read or sealed in the session's buffers: for a session that is given up.
     pub fn wipe(&mut self)
-        ensures wiped { IsBlank (buffers_of self.new) }
-        ensures same { self.new ≡ record self.old { buffers = buffers_of self.new } }
+        ensures wiped { IsBlank self.new.buffers }
+        ensures same { self.new ≡ record self.old { buffers = self.new.buffers } }
     {
         self.buffers.wipe();
     }
@@ -140,7 +156,7 @@ impl Session {
         // On any pages: the entries are the leaf's, and what is named is a leaf that was still to be read, and doesn't fit.
         ensures follows { P.tells → Follows self.old (P.history platform.old).present → Follows self.new (P.history platform.new).present }
         ensures leaf { OnOk result ((self.new.is_loaded ≡ true)
-            × (P.tells → IsLeafOf self.old (P.history platform.old).present.readable (entries_of self.new))) }
+            × (P.tells → IsLeafOf self.old (P.history platform.old).present.readable self.new.entries)) }
         ensures misfit { P.tells → (addr : ℕ) → IsErrOf result (FetchRefusal.BadRecord addr)
             → (self.old.is_loaded ≡ false) × (addr ≡ self.old.root.addr)
             × NothingFits (P.history platform.old).present.readable (root_want self.old.root) self.old.root.key

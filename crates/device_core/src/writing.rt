@@ -20,7 +20,7 @@ use platform::Platform;
 use sdbt_base::Tape;
 
 impl Session {
-    ghost use Rattle.device_core.specs.Open.{IsOpen, IsMapped, IsUnmapped, blocks_of, mapped_of, entries_of, root_of, root_node, is_touched};
+    ghost use Rattle.device_core.specs.Open.{IsOpen, IsMapped, IsUnmapped, blocks_of, root_of, is_touched};
     ghost use Rattle.device_core.specs.Holds.{Holds, Follows};
     ghost use Rattle.device_core.specs.Knowing.{HoldsListed};
     ghost use Rattle.device_core.specs.Reading.{IsLeafOf, IsEntryOf};
@@ -48,17 +48,17 @@ impl Session {
         // Each moment keeps the keys that the image kept before, with the one that was drawn.
         ensures keeps { KeepsKeys P.tells (T.drawn tape.old) (T.drawn tape.new) (P.history platform.old) (P.history platform.new)
             (HoldsListed self.old (P.history platform.old).present) (HoldsListed self.new (P.history platform.new).present) }
-        ensures adds { WriteAdds P.Platform T.Tape platform.old platform.new tape.old tape.new (entries_of self.new) block result }
+        ensures adds { WriteAdds P.Platform T.Tape platform.old platform.new tape.old tape.new self.new.entries block result }
         // On any pages: what is named is a place of the root's tree that doesn't fit, or the root node, where
         // the block has no entry and as many blocks are mapped as there are.
         ensures follows { P.tells → Follows self.old (P.history platform.old).present → Follows self.new (P.history platform.new).present }
         ensures damaged { P.tells → (addr : ℕ) → IsErrOf result (WriteRefusal.BadRecord addr)
             → (Wrong (P.history platform.old).present.readable (root_of self.old) addr
-            ⊎ ((addr ≡ root_node self.old) × (mapped_of self.old ≡ blocks_of self.old) × IsUnmapped self.new block))
+            ⊎ ((addr ≡ self.old.root.addr) × (self.old.mapped ≡ blocks_of self.old) × IsUnmapped self.new block))
             × (Follows self.old (P.history platform.old).present → IsDamaged (P.history platform.new).present.readable (root_of self.old) addr) }
         // Where as many blocks are mapped as there are, none is written that had no entry.
         ensures counter { P.tells → (leaf : List Entry) → IsLeafOf self.old (P.history platform.old).present.readable leaf
-            → All (λ e. e.low ≢ block) leaf → mapped_of self.old ≡ blocks_of self.old
+            → All (λ e. e.low ≢ block) leaf → self.old.mapped ≡ blocks_of self.old
             → (IsOk result ⊎ IsErrOf result WriteRefusal.TapeFault) → ⊥ }
 
         ensures cause { IsWriteCause block (blocks_of self.old) (P.head platform.old) (P.capacity platform.old)
@@ -124,11 +124,11 @@ impl Session {
         ensures follows { P.tells → Follows self.old (P.history platform.old).present → Follows self.new (P.history platform.new).present }
         ensures damaged { P.tells → (addr : ℕ) → IsErrOf result (TrimRefusal.BadRecord addr)
             → (Wrong (P.history platform.old).present.readable (root_of self.old) addr
-            ⊎ ((addr ≡ root_node self.old) × (mapped_of self.old ≡ 0) × IsMapped self.new block))
+            ⊎ ((addr ≡ self.old.root.addr) × (self.old.mapped ≡ 0) × IsMapped self.new block))
             × (Follows self.old (P.history platform.old).present → IsDamaged (P.history platform.new).present.readable (root_of self.old) addr) }
         // Where no block is mapped, none is trimmed that had an entry.
         ensures counter { P.tells → (leaf : List Entry) (entry : Entry) → IsLeafOf self.old (P.history platform.old).present.readable leaf
-            → IsEntryOf leaf block entry → mapped_of self.old ≡ 0 → IsOk result → ⊥ }
+            → IsEntryOf leaf block entry → self.old.mapped ≡ 0 → IsOk result → ⊥ }
 
         ensures cause { IsTrimCause block (blocks_of self.old) (Rose (P.faults platform.old) (P.faults platform.new)) result }
         ensures looks { Looks P.Platform platform.old platform.new }

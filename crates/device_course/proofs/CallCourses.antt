@@ -21,7 +21,7 @@ use Rattle.device_core.specs.Knowing.{HoldsListed}
 use Rattle.device_core.specs.Leaf.{IsServedImage}
 use Rattle.device_core.specs.Replies.{device_after}
 use Rattle.device_core.specs.declared.refusals.CommitReply.{CommitReply}
-use Rattle.device_core.specs.declared.session.Session.{Session}
+use Rattle.device_core.specs.Sessions.{Session}
 use Rattle.device_core.proofs.ServedLaws.{serves_still}
 use Rattle.device_course.specs.Marks.{Leaves}
 use Rattle.device_course.specs.States.{Outside, Represents, IsAt, IsListed, IsLater, mounted, committed_if}
@@ -61,7 +61,7 @@ course_of tells old new before after entry exit marks c made = record {
 opens : (image : Image) (session : Session) (device : Device) (array : Blocks) (touched : Bool) → Holds session image device array → is_touched session ≡ touched
     → Represents image (Some session) (mounted device (record { contents = array; touched = touched }))
 opens image session device array touched holds is = record {
-  device = held_stands session.root session.mapped session.is_loaded session.is_touched session.entries.items image device array holds;
+  device = held_stands session image device array holds;
   session = (holds, is);
 }
 

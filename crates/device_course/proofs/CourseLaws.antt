@@ -6,7 +6,7 @@ use Rattle.page_store.specs.Kept.{Kept}
 use Rattle.page_store.specs.Disclosing.{DisclosesBy}
 use Rattle.page_store.proofs.DisclosingLaws.{discloses as run_discloses}
 use Rattle.device_core.specs.Leaf.{IsServedImage}
-use Rattle.device_core.specs.declared.session.Session.{Session}
+use Rattle.device_core.specs.Sessions.{Session}
 use Rattle.device_course.specs.States.{Outside, IsAt, IsLater, IsListed}
 use Rattle.device_course.specs.Keys.{KeepsOn}
 use Rattle.device_course.specs.Course.{Made, Course, Promised}

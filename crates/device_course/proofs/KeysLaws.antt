@@ -13,7 +13,7 @@ use Rattle.page_store.proofs.KeptLaws.{same_during}
 use Rattle.page_store.proofs.KeepingLaws.{keeps_idle, keeps_then, keeps_from, keeps_still}
 use Rattle.page_store.proofs.FloorLaws.{deleted_start, deleted_call, deleted_then, forgets_still}
 use Rattle.device_core.specs.Knowing.{HoldsListed}
-use Rattle.device_core.specs.declared.session.Session.{Session}
+use Rattle.device_core.specs.Sessions.{Session}
 use Rattle.device_core.specs.Leaf.{IsServedImage}
 use Rattle.device_core.proofs.ServedLaws.{serves_still}
 use Rattle.device_core.proofs.KeyLaws.{listed_sound, listed_same, listed_grown}
@@ -22,7 +22,7 @@ use Rattle.device_course.specs.Keys.{KeepsOn}
 
 pub sound_of : (session : Option Session) (image : Image) (keys : List (List ℕ)) → IsListed session image keys → IsSound image
 sound_of None image keys sound = sound
-sound_of (Some session) image keys h = listed_sound session.root session.mapped session.is_loaded session.is_touched session.entries.items image keys h
+sound_of (Some session) image keys h = listed_sound session image keys h
 
 pub listed_image : (session : Option Session) (image other : Image) (keys : List (List ℕ)) → other ≡ image → IsListed session image keys → IsListed session other keys
 listed_image session image other keys same h = subst (λ (i : Image). IsListed session i keys) (sym same) h
@@ -97,8 +97,8 @@ format_listed (Some session) image after keys more device empty stands h = absur
 pub listed_keys : (held : Option Session) (image other : Image) (keys more : List (List ℕ)) → other ≡ image → IsListed held image keys → IsListed held other (keys ++ more)
 listed_keys None image other keys more same h = subst IsSound (sym same) h
 listed_keys (Some session) image other keys more same h =
-    listed_same session.root session.mapped session.is_loaded session.is_touched session.entries.items image other (keys ++ more) same
-    (listed_grown session.root session.mapped session.is_loaded session.is_touched session.entries.items image keys more h)
+    listed_same session session.buffers image other (keys ++ more) same
+    (listed_grown session image keys more h)
 
 -- a call that draws none and adds no page
 pub on_kept : (tells : Type 0) (drawn : Option (List (List ℕ))) (session : Option Session) (old new : History) (Done : List (List ℕ) → Type 0) → (tells → Extends old new) → (tells → length new.present.recorded ≡ length old.present.recorded) → (tells → (keys : List (List ℕ)) → Kept keys old.present → During old new (Kept keys)) → (tells → IsSound old.present → Forgets old new) → (tells → (keys : List (List ℕ)) → IsListed session old.present keys → Done keys) → (tells → IsServedImage old.present → During old new IsServedImage) → KeepsOn tells drawn drawn session old new Done

@@ -8,7 +8,7 @@ use Rattle.page_store.specs.Kept.{Kept}
 use Rattle.page_store.specs.Keeping.{DrewAll, HandedOver}
 use Rattle.page_store.specs.Disclosing.{DisclosesBy}
 use Rattle.device_core.specs.Leaf.{IsServedImage}
-use Rattle.device_core.specs.declared.session.Session.{Session}
+use Rattle.device_core.specs.Sessions.{Session}
 use Rattle.device_course.specs.Marks.{HasMark, last_mark}
 use Rattle.device_course.specs.Keys.{KeepsOn}
 use Rattle.device_course.specs.States.{Outside, IsAt, IsListed, IsLater}

@@ -5,7 +5,7 @@ use Rattle.page_store.specs.Kept.{Kept}
 use Rattle.page_store.specs.Keeping.{KeepsKeys}
 use Rattle.page_store.specs.Floors.{KeepsDeleted}
 use Rattle.device_core.specs.Leaf.{IsServedImage}
-use Rattle.device_core.specs.declared.session.Session.{Session}
+use Rattle.device_core.specs.Sessions.{Session}
 use Rattle.device_course.specs.States.{IsListed}
 
 -- a part of a run that began with this session: on any image each page that was handed over is a record sealed under a key that was drawn; each

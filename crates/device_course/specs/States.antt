@@ -10,7 +10,7 @@ use Rattle.device_core.specs.Holds.{Holds}
 use Rattle.device_core.specs.Open.{is_touched}
 use Rattle.device_core.specs.Knowing.{HoldsListed}
 use Rattle.device_core.specs.Leaf.{IsServedImage}
-use Rattle.device_core.specs.declared.session.Session.{Session}
+use Rattle.device_core.specs.Sessions.{Session}
 
 -- what there is beside a session: the moments of the platform, how many pages it has and can have, and the keys that were drawn
 pub record Outside : Type 0 where

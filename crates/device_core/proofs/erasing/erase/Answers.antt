@@ -1,4 +1,4 @@
-use Rattle.std.proofs.Common.{inr, None}
+use Rattle.std.proofs.Common.{None}
 use Rattle.device_core.proofs.MomentLaws.{one_look, once, stays_once}
 use Rattle.device_core.proofs.ServedLaws.{serves_still, serves_cleared}
 use Rattle.device_core.proofs.HoldLaws.{during_stands, erased}

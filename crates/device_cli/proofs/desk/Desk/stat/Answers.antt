@@ -1,7 +1,7 @@
 use Rattle.std.proofs.Common.{Option, ◌∙◌, subst}
 use Rattle.std.specs.Prelude.{IfSome}
 use Rattle.device_core.specs.Open.{IsOpen}
-use Rattle.device_core.specs.declared.session.Session.{Session}
+use Rattle.device_core.specs.Sessions.{Session}
 use Rattle.device_core.proofs.CountLaws.{mapped_len}
 use Rattle.script_lang.specs.Commands as commands
 use Rattle.device_cli.proofs.ServedLaws.{gives_unmounted_stat}

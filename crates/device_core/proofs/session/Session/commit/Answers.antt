@@ -1,8 +1,8 @@
-use Rattle.std.proofs.Common.{◌≡◌, Some, Result, Ok, Err, refl, arith}
+use Rattle.std.proofs.Common.{◌≡◌, Some, Result, Ok, Err, ap, refl, arith}
 use Rattle.std.specs.Prelude.{IfOk, IfErr}
 use Rattle.sdbt_base.specs.declared.tapes.Tape.{Ghosts as TapeGhosts}
 use Rattle.platform.specs.declared.platforms.Platform.{Ghosts as PlatformGhosts}
-use Rattle.device_core.specs.declared.session.Session.{Session}
+use Rattle.device_core.specs.Sessions.{Session}
 use Rattle.device_core.specs.declared.refusals.CommitReply.{CommitReply}
 use Rattle.device_core.specs.declared.refusals.CommitFault.{CommitFault}
 use Rattle.device_core.specs.declared.refusals.CommitFault.TheVariants as faults
@@ -35,15 +35,15 @@ cause_more P T platform platform_now tape tape_now Failed Undrawn Unput (Err fau
 cause_more P T platform platform_now tape tape_now Failed Undrawn Unput (Err faults.Memory) cause = absurd cause
 
 pub returns-then-not-self-clause-array : goal.returns-then-not-self-clause-array
-returns-then-not-self-clause-array g c = λ told device contents h. untouched_after _ _ _ _ _ _ device contents _ (grind (arith, c.if-not-self.true)) refl h
+returns-then-not-self-clause-array g c = λ told device contents h. untouched_after _ _ device contents _ (grind (arith, c.if-not-self.true)) (ap (λ (s : Session). s.root.commit) c.self.view_is) h
 
 pub returns-then-not-self-clause-time : goal.returns-then-not-self-clause-time
 returns-then-not-self-clause-time g c = λ told device contents h.
-    during_stands _ _ (Some device) (Some (committed_with device contents)) (held_stands _ _ _ _ _ _ device contents h) (still _)
+    during_stands _ _ (Some device) (Some (committed_with device contents)) (held_stands _ _ device contents h) (still _)
 
 pub returns-then-head-capacity-clause-time : goal.returns-then-head-capacity-clause-time
 returns-then-head-capacity-clause-time g c = λ told device contents h.
-    during_stands _ _ (Some device) (Some (committed_with device contents)) (held_stands _ _ _ _ _ _ device contents h) (still _)
+    during_stands _ _ (Some device) (Some (committed_with device contents)) (held_stands _ _ device contents h) (still _)
 
 pub returns-then-not-self-clause-discloses : goal.returns-then-not-self-clause-discloses
 returns-then-not-self-clause-discloses g c = record {
@@ -52,7 +52,7 @@ returns-then-not-self-clause-discloses g c = record {
       keeps_idle _ _ _ old old (HoldsListed c.args.self old.present) _ refl (λ told. During-start old (λ image. image ≡ old.present) refl) (λ told keys kept h. h);
   turns = λ told. stays_once _ _ (still _);
   serves = λ told. serves_still _ _ (still _);
-  forgets = λ told keys h. forgets_still _ _ (listed_sound _ _ _ _ _ _ keys h) (still _);
+  forgets = λ told keys h. forgets_still _ _ (listed_sound _ _ keys h) (still _);
 }
 
 pub returns-then-head-capacity-clause-discloses : goal.returns-then-head-capacity-clause-discloses
@@ -62,7 +62,7 @@ returns-then-head-capacity-clause-discloses g c = record {
       keeps_idle _ _ _ old old (HoldsListed c.args.self old.present) _ refl (λ told. During-start old (λ image. image ≡ old.present) refl) (λ told keys kept h. h);
   turns = λ told. stays_once _ _ (still _);
   serves = λ told. serves_still _ _ (still _);
-  forgets = λ told keys h. forgets_still _ _ (listed_sound _ _ _ _ _ _ keys h) (still _);
+  forgets = λ told keys h. forgets_still _ _ (listed_sound _ _ keys h) (still _);
 }
 
 pub returns-clause-mounted : goal.returns-clause-mounted

@@ -1,5 +1,8 @@
-use Rattle.std.proofs.Common.{refl, arith}
-use Rattle.device_core.proofs.HoldLaws.{refused_bad, refused_levels, opened, mounted, holds_same}
+use Rattle.std.proofs.Common.{◌≡◌, Some, refl, sym, subst, arith}
+use Rattle.platform.specs.Image.{Image}
+use Rattle.root_codec.specs.RootRecord.{root_bytes}
+use Rattle.page_store.specs.Stands.{Stands}
+use Rattle.device_core.proofs.HoldLaws.{refused_bad, refused_levels, opened, mounted}
 use Rattle.device_core.proofs.FollowLaws.{follows_none}
 use Rattle.device_core.proofs.KeyLaws.{listed_mounted}
 use Rattle.device_core.proofs.session.Session.mount.Goals as goal
@@ -17,20 +20,20 @@ pub returns-clause-open : goal.returns-clause-open
 returns-clause-open g c =
     let within = rw c.in-Some.is at c.in-Ok.ensures.within in
     let one = c.is_one_leaf.ensures.0 (grind (arith, c.if-not-is_one_leaf.false)) in
-    opened c.in-Some.root _ (g.P.Platform.head c.args.platform.now) _ within one c.new-2.ensures c.current.ensures.head
+    opened _ (g.P.Platform.head c.args.platform.now) _ refl refl c.new-2.ensures within one c.current.ensures.head
 
 pub returns-clause-holds : goal.returns-clause-holds
 returns-clause-holds g c = λ told device stands.
-    let history = g.P.Platform.history in
+    let same = sym (c.current.ensures.image told) in
     let found = rw c.in-Some.is at c.in-Ok.ensures.found told in
     let within = rw c.in-Some.is at c.in-Ok.ensures.within in
     let one = c.is_one_leaf.ensures.0 (grind (arith, c.if-not-is_one_leaf.false)) in
-    let opens = opened c.in-Some.root c.new-2.result.items (g.P.Platform.head c.args.platform.now) (g.P.Platform.head c.args.platform.now) within one c.new-2.ensures refl in
-    holds_same _ _ _ _ _ (history c.args.platform.now).present _ _ _ (c.current.ensures.image told)
-    (mounted (history c.args.platform.now).present device c.in-Some.root _ c.new-2.result.items opens.served found stands)
+    let root = c.in-Some.root in
+    mounted _ _ device _ refl refl (record { fits = within.in_range; key = within.key; leaf = one; within = within.within })
+    (subst (λ (i : Image). i.cell ≡ Some (root_bytes root)) same found) (subst (λ (i : Image). Stands i (Some device)) same stands)
 
 pub returns-clause-follows : goal.returns-clause-follows
-returns-clause-follows g c = λ told. follows_none c.in-Some.root _ c.new-2.result.items _ refl
+returns-clause-follows g c = λ told. follows_none _ _ refl refl
 
 pub returns-clause-listed : goal.returns-clause-listed
-returns-clause-listed g c = λ told device stands keys. listed_mounted _ _ _ _ _ _ device _ keys c.new-2.ensures (returns-clause-holds g c told device stands)
+returns-clause-listed g c = λ told device stands keys. listed_mounted _ _ device _ keys c.new-2.ensures (returns-clause-holds g c told device stands)

@@ -12,54 +12,68 @@ use Rattle.node_codec.specs.Record.{Record, DataRecord}
 use Rattle.page_store.specs.Places.{FitsAt, NothingFits, block_want}
 use Rattle.device_core.proofs.FollowLaws.{unmapped_place}
 use Rattle.device_core.proofs.ReadingLaws.{entry_at}
+use Rattle.device_core.specs.contracts.session.Session.{the_view}
 use Rattle.device_core.proofs.session.Session.read.Goals as goal
 
 pub returns-in_default-clause-array : goal.returns-in_default-clause-array
 returns-in_default-clause-array g c = λ told device contents h.
     let place = rw c.as_slice.ensures.value at c.in_default.ensures in
-    let held = c.load.ensures.holds told device contents h in
-    let none = content_none _ _ _ _ _ _ device contents _ c.args.block c.in-Ok.ensures.leaf.0 held place in
+    let ready = rw (← c.self-2.view_is) at c.in-Ok.ensures.leaf.0 in
+    let held = rw (← c.self-2.view_is) at (c.load.ensures.holds told device contents h) in
+    let none = content_none (the_view c.self-2.inside) _ device contents _ c.args.block ready held place in
     (c.load.ensures.holds told device contents h, c.fill.ensures.after (λ y same. same) ∙ ap (λ (n : ℕ). replicate n 0) c.requires.size ∙ sym (ap (λ (o : Option (List ℕ)). unwrap_or o (replicate 4096 0)) none))
 
-pub returns-in-Ok-fetch_block-clause-array : goal.returns-in-Ok-fetch_block-clause-array
-returns-in-Ok-fetch_block-clause-array g c = λ told device contents h.
+pub returns-clause-array : goal.returns-clause-array
+returns-clause-array g c = λ told device contents h.
     let place = rw c.as_slice.ensures.value at c.in-Ok-place_of.ensures in
-    let at : c.index-deref-place.result ≡ get_or c.load.new.self.entries.items c.in-Ok-place_of.place c.index-deref-place.result = rw c.deref.ensures.0 at c.index-deref-place.is in
-    let held = c.load.ensures.holds told device contents h in
+    let at : c.index-deref-place.result ≡ get_or c.self-2.inside.entries.items c.in-Ok-place_of.place c.index-deref-place.result = rw c.deref.ensures.0 at c.index-deref-place.is in
+    let ready = rw (← c.self-2.view_is) at c.in-Ok.ensures.leaf.0 in
+    let held = rw (← c.self-2.view_is) at (c.load.ensures.holds told device contents h) in
     let there = c.in-Ok-fetch_block.ensures.fits told in
-    let small = subst (λ (e : Entry). e.addr < g.P.Platform.head c.load.new.platform) (sym at) (c.load.ensures.open.entries.below c.in-Ok-place_of.place c.index-deref-place.result place.0) in
-    (holds_same _ _ _ _ _ _ _ _ _ (c.fetch_block.ensures.looks.image told) (c.load.ensures.holds told device contents h), content_read _ _ _ _ _ _ device contents _ c.args.block _ c.index-deref-place.result there.0 c.fetch_block.new.out c.in-Ok.ensures.leaf.0 held place at small (omega (arith, g.met.P.Platform.has_room c.load.new.platform, g.met.P.Platform.is_limited c.load.new.platform)) there.1 (λ n t is. cc (there.2, is)))
+    let opened = rw (← c.self-2.view_is) at c.load.ensures.open in
+    let small = subst (λ (e : Entry). e.addr < g.P.Platform.head c.load.new.platform) (sym at) (opened.entries.below c.in-Ok-place_of.place c.index-deref-place.result place.0) in
+    (holds_same (the_view c.self-2.inside) _ _ _ _ _ (c.fetch_block.ensures.looks.image told) held, content_read (the_view c.self-2.inside) _ device contents _ c.args.block _ c.index-deref-place.result there.0 c.fetch_block.new.out ready held place at small (omega (arith, g.met.P.Platform.has_room c.load.new.platform, g.met.P.Platform.is_limited c.load.new.platform)) there.1 (λ n t is. cc (there.2, is)))
 
 pub returns-in-Err-BadRecord-fetch_block-clause-array : goal.returns-in-Err-BadRecord-fetch_block-clause-array
 returns-in-Err-BadRecord-fetch_block-clause-array g c = λ told device contents h.
     let place = rw c.as_slice.ensures.value at c.in-Ok-place_of.ensures in
-    let at : c.index-deref-place.result ≡ get_or c.load.new.self.entries.items c.in-Ok-place_of.place c.index-deref-place.result = rw c.deref.ensures.0 at c.index-deref-place.is in
-    let held = c.load.ensures.holds told device contents h in (
-      holds_same _ _ _ _ _ _ _ _ _ (c.fetch_block.ensures.looks.image told) (c.load.ensures.holds told device contents h),
-      block_fits _ _ _ _ _ _ device contents _ c.args.block c.index-deref-place.result c.in-Ok.ensures.leaf.0 held place at
-          (c.fetch_block.ensures.nothing_fits told c.in-Err-BadRecord-fetch_block.addr (cc)),
+    let at : c.index-deref-place.result ≡ get_or c.self-2.inside.entries.items c.in-Ok-place_of.place c.index-deref-place.result = rw c.deref.ensures.0 at c.index-deref-place.is in
+    let ready = rw (← c.self-2.view_is) at c.in-Ok.ensures.leaf.0 in
+    let held = rw (← c.self-2.view_is) at (c.load.ensures.holds told device contents h) in (
+      holds_same (the_view c.self-2.inside) _ _ _ _ _ (c.fetch_block.ensures.looks.image told) held,
+      block_fits (the_view c.self-2.inside) _ device contents _ c.args.block c.index-deref-place.result ready held place at
+          (c.fetch_block.ensures.nothing_fits told c.in-Err-BadRecord-fetch_block.field-0-0 (cc)),
     )
 
 pub returns-in-Err-BadRecord-clause-array : goal.returns-in-Err-BadRecord-clause-array
 returns-in-Err-BadRecord-clause-array g c = λ told device contents h. (c.load.ensures.holds told device contents h, c.load.ensures.sound told device contents h c.in-Err-BadRecord.addr (cc))
 
 pub returns-in-Err-PlatformFault-fetch_block-clause-array : goal.returns-in-Err-PlatformFault-fetch_block-clause-array
-returns-in-Err-PlatformFault-fetch_block-clause-array g c = λ told device contents h. (holds_same _ _ _ _ _ _ _ _ _ (c.fetch_block.ensures.looks.image told) (c.load.ensures.holds told device contents h), tt)
+returns-in-Err-PlatformFault-fetch_block-clause-array g c = λ told device contents h.
+    let held = rw (← c.self-2.view_is) at (c.load.ensures.holds told device contents h) in
+    (holds_same (the_view c.self-2.inside) _ _ _ _ _ (c.fetch_block.ensures.looks.image told) held, tt)
 
 pub fetch_block-requires-clause-within : goal.fetch_block-requires-clause-within
 fetch_block-requires-clause-within g c =
+    let opened = rw (← c.self-2.view_is) at c.load.ensures.open in
     let place = rw c.as_slice.ensures.value at c.in-Ok-place_of.ensures in
-    let at : c.index-deref-place.result ≡ get_or c.load.new.self.entries.items c.in-Ok-place_of.place c.index-deref-place.result = rw c.deref.ensures.0 at c.index-deref-place.is in
-    subst (λ (e : Entry). e.addr < g.P.Platform.head c.load.new.platform) (sym at) (c.load.ensures.open.entries.below c.in-Ok-place_of.place c.index-deref-place.result place.0)
+    let at : c.index-deref-place.result ≡ get_or c.self-2.inside.entries.items c.in-Ok-place_of.place c.index-deref-place.result = rw c.deref.ensures.0 at c.index-deref-place.is in
+    subst (λ (e : Entry). e.addr < g.P.Platform.head c.load.new.platform) (sym at) (opened.entries.below c.in-Ok-place_of.place c.index-deref-place.result place.0)
 
-pub returns-in-Ok-fetch_block-clause-follows : goal.returns-in-Ok-fetch_block-clause-follows
-returns-in-Ok-fetch_block-clause-follows g c = λ told follows. follows_same _ _ _ _ _ _ (c.fetch_block.ensures.looks.image told) (c.load.ensures.follows told follows)
+pub returns-clause-follows : goal.returns-clause-follows
+returns-clause-follows g c = λ told follows.
+    let followed = rw (← c.self-2.view_is) at (c.load.ensures.follows told follows) in
+    follows_same (the_view c.self-2.inside) _ _ _ (c.fetch_block.ensures.looks.image told) followed
 
 pub returns-in-Err-BadRecord-fetch_block-clause-follows : goal.returns-in-Err-BadRecord-fetch_block-clause-follows
-returns-in-Err-BadRecord-fetch_block-clause-follows g c = λ told follows. follows_same _ _ _ _ _ _ (c.fetch_block.ensures.looks.image told) (c.load.ensures.follows told follows)
+returns-in-Err-BadRecord-fetch_block-clause-follows g c = λ told follows.
+    let followed = rw (← c.self-2.view_is) at (c.load.ensures.follows told follows) in
+    follows_same (the_view c.self-2.inside) _ _ _ (c.fetch_block.ensures.looks.image told) followed
 
 pub returns-in-Err-PlatformFault-fetch_block-clause-follows : goal.returns-in-Err-PlatformFault-fetch_block-clause-follows
-returns-in-Err-PlatformFault-fetch_block-clause-follows g c = λ told follows. follows_same _ _ _ _ _ _ (c.fetch_block.ensures.looks.image told) (c.load.ensures.follows told follows)
+returns-in-Err-PlatformFault-fetch_block-clause-follows g c = λ told follows.
+    let followed = rw (← c.self-2.view_is) at (c.load.ensures.follows told follows) in
+    follows_same (the_view c.self-2.inside) _ _ _ (c.fetch_block.ensures.looks.image told) followed
 
 pub returns-in-Err-BadRecord-clause-damaged : goal.returns-in-Err-BadRecord-clause-damaged
 returns-in-Err-BadRecord-clause-damaged g c = λ told follows addr is. (
@@ -71,47 +85,58 @@ pub returns-in-Err-BadRecord-fetch_block-clause-damaged : goal.returns-in-Err-Ba
 returns-in-Err-BadRecord-fetch_block-clause-damaged g c = λ told follows addr is.
     let history = g.P.Platform.history in
     let place = rw c.as_slice.ensures.value at c.in-Ok-place_of.ensures in
-    let at : c.index-deref-place.result ≡ get_or c.load.new.self.entries.items c.in-Ok-place_of.place c.index-deref-place.result = rw c.deref.ensures.0 at c.index-deref-place.is in
-    let nothing = c.fetch_block.ensures.nothing_fits told c.in-Err-BadRecord-fetch_block.addr (cc) in
-    let named : addr ≡ c.index-deref-place.result.addr = let same : c.in-Err-BadRecord-fetch_block.addr ≡ addr = cc in sym same ∙ c.fetch_block.ensures.bad c.in-Err-BadRecord-fetch_block.addr (cc) in
-    let found = wrong_found c.load.new.self.root c.load.new.self.mapped c.load.new.self.is_loaded c.load.new.self.entries.items (history c.load.new.platform).present.readable _ c.args.block c.index-deref-place.result c.in-Ok.ensures.leaf.0
-    (c.load.ensures.follows told follows) c.load.ensures.open.served.leaf.level place at nothing in
-    let after = subst (λ (i : Image). Wrong i.readable c.load.new.self.root c.index-deref-place.result.addr) (sym (c.fetch_block.ensures.looks.image told)) found in
-    let of_root = subst (λ (r : Root). Wrong (history c.fetch_block.new.platform).present.readable r c.index-deref-place.result.addr) c.load.ensures.same.0 after in
-    let before = subst (λ (i : Image). Wrong i.readable c.load.new.self.root c.index-deref-place.result.addr) (c.load.ensures.looks.image told) found in
-    let of_root_before = subst (λ (r : Root). Wrong (history c.args.platform.now).present.readable r c.index-deref-place.result.addr) c.load.ensures.same.0 before in
+    let at : c.index-deref-place.result ≡ get_or c.self-2.inside.entries.items c.in-Ok-place_of.place c.index-deref-place.result = rw c.deref.ensures.0 at c.index-deref-place.is in
+    let nothing = c.fetch_block.ensures.nothing_fits told c.in-Err-BadRecord-fetch_block.field-0-0 (cc) in
+    let named : addr ≡ c.index-deref-place.result.addr = let same : c.index-deref-place.result.addr ≡ addr = cc in sym same in
+    let image = (history c.load.new.platform).present in
+    let ready = rw (← c.self-2.view_is) at c.in-Ok.ensures.leaf.0 in
+    let opened = rw (← c.self-2.view_is) at c.load.ensures.open in
+    let followed = rw (← c.self-2.view_is) at (c.load.ensures.follows told follows) in
+    let same = rw (← c.self-2.view_is) at c.load.ensures.same.0 in
+    let wrong = wrong_found (the_view c.self-2.inside) image _ c.args.block c.index-deref-place.result ready followed opened.served.leaf.level place at nothing in
+    let found = subst (λ (r : Root). Wrong image.readable r c.index-deref-place.result.addr) same wrong in
+    let of_root = subst (λ (i : Image). Wrong i.readable c.args.self.now.root c.index-deref-place.result.addr) (sym (c.fetch_block.ensures.looks.image told)) found in
+    let of_root_before = subst (λ (i : Image). Wrong i.readable c.args.self.now.root c.index-deref-place.result.addr) (c.load.ensures.looks.image told) found in
     (subst (λ (n : ℕ). Wrong (history c.args.platform.now).present.readable c.args.self.now.root n) (sym named) of_root_before, inl (subst (λ (n : ℕ). Wrong (history c.fetch_block.new.platform).present.readable c.args.self.now.root n) (sym named) of_root))
 
-pub returns-in-Ok-fetch_block-clause-listed : goal.returns-in-Ok-fetch_block-clause-listed
-returns-in-Ok-fetch_block-clause-listed g c = λ told keys kept h. listed_same _ _ _ _ _ _ _ keys (c.fetch_block.ensures.looks.image told) (c.load.ensures.listed told keys kept h)
+pub returns-clause-listed : goal.returns-clause-listed
+returns-clause-listed g c = λ told keys kept h.
+    let listed = rw (← c.self-2.view_is) at (c.load.ensures.listed told keys kept h) in
+    listed_same (the_view c.self-2.inside) _ _ _ keys (c.fetch_block.ensures.looks.image told) listed
 
 pub returns-in-Err-BadRecord-fetch_block-clause-listed : goal.returns-in-Err-BadRecord-fetch_block-clause-listed
-returns-in-Err-BadRecord-fetch_block-clause-listed g c = λ told keys kept h. listed_same _ _ _ _ _ _ _ keys (c.fetch_block.ensures.looks.image told) (c.load.ensures.listed told keys kept h)
+returns-in-Err-BadRecord-fetch_block-clause-listed g c = λ told keys kept h.
+    let listed = rw (← c.self-2.view_is) at (c.load.ensures.listed told keys kept h) in
+    listed_same (the_view c.self-2.inside) _ _ _ keys (c.fetch_block.ensures.looks.image told) listed
 
 pub returns-in-Err-PlatformFault-fetch_block-clause-listed : goal.returns-in-Err-PlatformFault-fetch_block-clause-listed
-returns-in-Err-PlatformFault-fetch_block-clause-listed g c = λ told keys kept h. listed_same _ _ _ _ _ _ _ keys (c.fetch_block.ensures.looks.image told) (c.load.ensures.listed told keys kept h)
+returns-in-Err-PlatformFault-fetch_block-clause-listed g c = λ told keys kept h.
+    let listed = rw (← c.self-2.view_is) at (c.load.ensures.listed told keys kept h) in
+    listed_same (the_view c.self-2.inside) _ _ _ keys (c.fetch_block.ensures.looks.image told) listed
 
 pub returns-in_default-clause-finds : goal.returns-in_default-clause-finds
 returns-in_default-clause-finds g c = λ told.
-    let place = rw c.as_slice.ensures.value at c.in_default.ensures in (
-      c.load.new.self.entries.items,
-      c.in-Ok.ensures.leaf.1 told,
-      inl (unmapped_place c.load.new.self.entries.items (Err _) c.args.block place refl, c.fill.ensures.after (λ y same. same) ∙ ap (λ (n : ℕ). replicate n 0) c.requires.size),
+    let place = rw c.as_slice.ensures.value at c.in_default.ensures in
+    let known = rw (← c.self-2.view_is) at (c.in-Ok.ensures.leaf.1 told) in (
+      c.self-2.inside.entries.items,
+      known,
+      inl (unmapped_place c.self-2.inside.entries.items (Err _) c.args.block place refl, c.fill.ensures.after (λ y same. same) ∙ ap (λ (n : ℕ). replicate n 0) c.requires.size),
     )
 
-pub returns-in-Ok-fetch_block-clause-finds : goal.returns-in-Ok-fetch_block-clause-finds
-returns-in-Ok-fetch_block-clause-finds g c = λ told.
+pub returns-clause-finds : goal.returns-clause-finds
+returns-clause-finds g c = λ told.
     let history = g.P.Platform.history in
     let entry = c.index-deref-place.result in
     let place = rw c.as_slice.ensures.value at c.in-Ok-place_of.ensures in
-    let at : entry ≡ get_or c.load.new.self.entries.items c.in-Ok-place_of.place entry = rw c.deref.ensures.0 at c.index-deref-place.is in
+    let at : entry ≡ get_or c.self-2.inside.entries.items c.in-Ok-place_of.place entry = rw c.deref.ensures.0 at c.index-deref-place.is in
     let there = c.in-Ok-fetch_block.ensures.fits told in
-    let fits = subst (λ (v : Record). FitsAt (history c.load.new.platform).present.readable (block_want entry.addr c.args.block) entry.key v) there.2 there.1 in (
-      c.load.new.self.entries.items,
-      c.in-Ok.ensures.leaf.1 told,
+    let fits = subst (λ (v : Record). FitsAt (history c.load.new.platform).present.readable (block_want entry.addr c.args.block) entry.key v) there.2 there.1 in
+    let known = rw (← c.self-2.view_is) at (c.in-Ok.ensures.leaf.1 told) in (
+      c.self-2.inside.entries.items,
+      known,
       inr (
         entry,
-        entry_at c.load.new.self.entries.items c.args.block c.in-Ok-place_of.place entry place at,
+        entry_at c.self-2.inside.entries.items c.args.block c.in-Ok-place_of.place entry place at,
         subst (λ (i : Image). FitsAt i.readable (block_want entry.addr c.args.block) entry.key (DataRecord c.args.block c.fetch_block.new.out)) (c.load.ensures.looks.image told) fits,
       ),
     )
@@ -124,14 +149,15 @@ returns-in-Err-BadRecord-fetch_block-clause-misfit g c = λ told addr is.
     let history = g.P.Platform.history in
     let entry = c.index-deref-place.result in
     let place = rw c.as_slice.ensures.value at c.in-Ok-place_of.ensures in
-    let at : entry ≡ get_or c.load.new.self.entries.items c.in-Ok-place_of.place entry = rw c.deref.ensures.0 at c.index-deref-place.is in
-    let nothing = c.fetch_block.ensures.nothing_fits told c.in-Err-BadRecord-fetch_block.addr (cc) in
-    let named : addr ≡ entry.addr = let same : c.in-Err-BadRecord-fetch_block.addr ≡ addr = cc in sym same ∙ c.fetch_block.ensures.bad c.in-Err-BadRecord-fetch_block.addr (cc) in
+    let at : entry ≡ get_or c.self-2.inside.entries.items c.in-Ok-place_of.place entry = rw c.deref.ensures.0 at c.index-deref-place.is in
+    let nothing = c.fetch_block.ensures.nothing_fits told c.in-Err-BadRecord-fetch_block.field-0-0 (cc) in
+    let named : addr ≡ entry.addr = let same : entry.addr ≡ addr = cc in sym same in
+    let known = rw (← c.self-2.view_is) at (c.in-Ok.ensures.leaf.1 told) in
     inr (
-      c.load.new.self.entries.items,
+      c.self-2.inside.entries.items,
       entry,
-      c.in-Ok.ensures.leaf.1 told,
-      entry_at c.load.new.self.entries.items c.args.block c.in-Ok-place_of.place entry place at,
+      known,
+      entry_at c.self-2.inside.entries.items c.args.block c.in-Ok-place_of.place entry place at,
       named,
       subst (λ (i : Image). NothingFits i.readable (block_want entry.addr c.args.block) entry.key) (c.load.ensures.looks.image told) nothing,
     )

@@ -1,6 +1,6 @@
 use Rattle.std.proofs.Common.{◌≡◌, ◌∙◌, Err, refl, ap, sym, subst, arith}
 use Rattle.sdbt_base.specs.Arrays.{Blocks}
-use Rattle.device_core.specs.Holding.{HoldsBy}
+use Rattle.device_core.specs.Holds.{Holds}
 use Rattle.device_core.proofs.EntryLaws.{AreEntries-removed}
 use Rattle.device_core.proofs.HoldLaws.{content_none, remove_none, trimmed, some_mapped, touched_none, touched_some, is_mapped}
 use Rattle.std.proofs.Common.{inl, inr}
@@ -13,74 +13,85 @@ use Rattle.device_core.proofs.KeyLaws.{listed_trimmed}
 use Rattle.std.specs.Prelude.{◌≢◌, List, All}
 use Rattle.node_codec.specs.declared.body.Entry.{Entry}
 use Rattle.device_core.proofs.ReadingLaws.{one_leaf, has_place}
+use Rattle.device_core.specs.contracts.session.Session.{the_view}
 use Rattle.device_core.proofs.session.Session.trim.Goals as goal
 
 pub returns-in-Err-BadRecord-clause-array : goal.returns-in-Err-BadRecord-clause-array
 returns-in-Err-BadRecord-clause-array g c = λ told device contents h. c.load.ensures.sound told device contents h c.in-Err-BadRecord.addr (cc)
 
 pub returns-in_default-clause-array : goal.returns-in_default-clause-array
-returns-in_default-clause-array g c = λ told device contents h.
+returns-in_default-clause-array g c = λ told device contents h. rw (← c.self-2.view_is) (
+    let ready = rw (← c.self-2.view_is) at c.in-Ok.ensures.leaf.0 in
+    let same = rw (← c.self-2.view_is) at c.load.ensures.same.2 in
+    let held = rw (← c.self-2.view_is) at (c.load.ensures.holds told device contents h) in
     let place = rw c.as_slice.ensures.value at c.in_default.ensures in
-    let held = c.load.ensures.holds told device contents h in
-    let none = content_none _ _ _ _ _ _ device contents _ c.args.block c.in-Ok.ensures.leaf.0 held place in
-    let self = c.load.new.self in
-    (subst (λ (m : Blocks). HoldsBy self.root self.mapped self.is_loaded self.is_touched self.entries.items (g.P.Platform.history c.load.new.platform).present device m) (remove_none contents c.args.block none) held, touched_none _ _ _ c.load.ensures.same.2 (content_none _ _ _ _ _ _ device contents _ c.args.block c.in-Ok.ensures.leaf.0 held place))
+    let none = content_none (the_view c.self-2.inside) _ device contents _ c.args.block ready held place in
+    (subst (λ (m : Blocks). Holds (the_view c.self-2.inside) (g.P.Platform.history c.load.new.platform).present device m) (remove_none contents c.args.block none) held, touched_none _ _ _ same none))
 
 pub returns-then-self-eq0-clause-array : goal.returns-then-self-eq0-clause-array
 returns-then-self-eq0-clause-array g c = λ told device contents h.
+    let ready = rw (← c.self-2.view_is) at c.in-Ok.ensures.leaf.0 in
+    let held = rw (← c.self-2.view_is) at (c.load.ensures.holds told device contents h) in
     let place = rw c.as_slice.ensures.value at c.in-Ok-place_of.ensures in
-    some_mapped _ _ _ _ _ _ device contents _ c.args.block c.in-Ok.ensures.leaf.0 (c.load.ensures.holds told device contents h) place c.if-self-eq0.true
+    some_mapped (the_view c.self-2.inside) _ device contents _ c.args.block ready held place c.if-self-eq0.true
 
 pub returns-clause-array : goal.returns-clause-array
 returns-clause-array g c = λ told device contents h.
+    let ready = rw (← c.self-2.view_is) at c.in-Ok.ensures.leaf.0 in
+    let held = rw (← c.self-2.view_is) at (c.load.ensures.holds told device contents h) in
     let place = rw c.as_slice.ensures.value at c.in-Ok-place_of.ensures in
-    let held = c.load.ensures.holds told device contents h in
-    let there = is_mapped _ _ _ _ _ _ device contents _ c.args.block c.in-Ok.ensures.leaf.0 (c.load.ensures.holds told device contents h) place in
-    (rw c.remove.ensures.items (trimmed _ _ _ _ _ _ _ device contents c.args.block _ c.in-Ok.ensures.leaf.0 held place (omega arith)), touched_some _ _ there.0 there.1)
+    let there = is_mapped (the_view c.self-2.inside) _ device contents _ c.args.block ready held place in
+    (rw c.remove.ensures.items (trimmed (the_view c.self-2.inside) _ _ device contents c.args.block _ ready held place (omega arith)), touched_some _ _ there.0 there.1)
 
 pub returns-clause-open : goal.returns-clause-open
 returns-clause-open g c =
+    let ready = rw (← c.self-2.view_is) at c.in-Ok.ensures.leaf.0 in
+    let opened = rw (← c.self-2.view_is) at c.load.ensures.open in
     let place = rw c.as_slice.ensures.value at c.in-Ok-place_of.ensures in
-    let opened = c.load.ensures.open in
     record {
       served = opened.served;
       mapped = omega (arith, opened.mapped);
-      entries = rw c.remove.ensures.items (AreEntries-removed c.load.new.self.entries.items c.in-Ok-place_of.place _ _ opened.entries place.0);
-      loaded = λ yes. c.in-Ok.ensures.leaf.0;
+      entries = rw c.remove.ensures.items (AreEntries-removed c.self-2.inside.entries.items c.in-Ok-place_of.place _ _ opened.entries place.0);
+      loaded = λ yes. ready;
     }
 
 pub returns-clause-follows : goal.returns-clause-follows
 returns-clause-follows g c = λ told follows.
+    let ready = rw (← c.self-2.view_is) at c.in-Ok.ensures.leaf.0 in
+    let followed = rw (← c.self-2.view_is) at (c.load.ensures.follows told follows) in
     let place = rw c.as_slice.ensures.value at c.in-Ok-place_of.ensures in
-    rw c.remove.ensures.items (follows_removed _ c.load.new.self.mapped _ _ _ _ c.in-Ok-place_of.place c.in-Ok.ensures.leaf.0 (c.load.ensures.follows told follows) place.0 (omega arith))
+    rw c.remove.ensures.items (follows_removed (the_view c.self-2.inside) _ _ c.in-Ok-place_of.place ready followed place.0 (omega arith))
 
 pub returns-in-Err-BadRecord-clause-damaged : goal.returns-in-Err-BadRecord-clause-damaged
 returns-in-Err-BadRecord-clause-damaged g c = λ told addr is.
     (inl ((c.load.ensures.misfit told addr (cc)).3), λ follows. inl (subst (λ (i : Image). Wrong i.readable c.args.self.now.root addr) (sym (c.load.ensures.looks.image told)) ((c.load.ensures.misfit told addr (cc)).3)))
 
 pub returns-then-self-eq0-clause-damaged : goal.returns-then-self-eq0-clause-damaged
-returns-then-self-eq0-clause-damaged g c = λ told addr is.
+returns-then-self-eq0-clause-damaged g c = λ told addr is. rw (← c.self-2.view_is) (
+    let ready = rw (← c.self-2.view_is) at c.in-Ok.ensures.leaf.0 in
+    let same = rw (← c.self-2.view_is) at c.load.ensures.same.0 in
+    let all = rw (← c.self-2.view_is) at c.load.ensures.same.1 in
     let place = rw c.as_slice.ensures.value at c.in-Ok-place_of.ensures in
-    let named : c.load.new.self.root.addr ≡ addr = cc in
-    let session = c.load.new.self in
-    let pages = (g.P.Platform.history c.load.new.platform).present.readable in
-    let named : session.root.addr ≡ addr = cc in (
-      inr (sym named ∙ ap (λ (r : Root). r.addr) c.load.ensures.same.0, sym c.load.ensures.same.1 ∙ c.if-self-eq0.true, (c.in-Ok-place_of.place, place.1)),
+    let image = (g.P.Platform.history c.load.new.platform).present in
+    let named : c.self-2.inside.root.addr ≡ addr = cc in (
+      inr (sym named ∙ ap (λ (r : Root). r.addr) same, sym all ∙ c.if-self-eq0.true, (c.in-Ok-place_of.place, place.1)),
       λ follows. inr (
-        sym named ∙ ap (λ (r : Root). r.addr) c.load.ensures.same.0,
-        subst (λ (r : Root). IsMiscounted pages r) c.load.ensures.same.0
-            (miscounted_none session.root session.mapped session.is_loaded session.entries.items pages c.in-Ok-place_of.place c.in-Ok.ensures.leaf.0 (c.load.ensures.follows told follows) place.0 c.if-self-eq0.true),
+        sym named ∙ ap (λ (r : Root). r.addr) same,
+        let followed = rw (← c.self-2.view_is) at (c.load.ensures.follows told follows) in
+            subst (λ (r : Root). IsMiscounted image.readable r) same (miscounted_none (the_view c.self-2.inside) image c.in-Ok-place_of.place ready followed place.0 c.if-self-eq0.true),
       ),
-    )
+    ))
 
 pub returns-in_default-clause-counter : goal.returns-in_default-clause-counter
 returns-in_default-clause-counter g c = λ told leaf entry is has none ok.
     let place = rw c.as_slice.ensures.value at c.in_default.ensures in
-    let same = one_leaf c.args.self.now.root c.args.self.now.is_loaded c.args.self.now.entries.items _ leaf c.load.new.self.entries.items (omega (arith, c.requires.served.fits.addr, c.requires.served.fits.head)) is (c.in-Ok.ensures.leaf.1 told) in
-    has_place leaf c.args.block entry has (subst (λ (es : List Entry). All (λ (e : Entry). e.low ≢ c.args.block) es) (sym same) (unmapped_place c.load.new.self.entries.items (Err _) c.args.block place refl))
+    let known = rw (← c.self-2.view_is) at (c.in-Ok.ensures.leaf.1 told) in
+    let same = one_leaf c.args.self.now _ leaf c.self-2.inside.entries.items (omega (arith, c.requires.served.fits.addr, c.requires.served.fits.head)) is known in
+    has_place leaf c.args.block entry has (subst (λ (es : List Entry). All (λ (e : Entry). e.low ≢ c.args.block) es) (sym same) (unmapped_place c.self-2.inside.entries.items (Err _) c.args.block place refl))
 
 pub returns-clause-listed : goal.returns-clause-listed
 returns-clause-listed g c = λ told keys kept h.
+    let ready = rw (← c.self-2.view_is) at c.in-Ok.ensures.leaf.0 in
     let place = rw c.as_slice.ensures.value at c.in-Ok-place_of.ensures in
-    let l = c.load.ensures.listed told keys kept h in
-    rw c.remove.ensures.items (listed_trimmed _ _ _ _ _ _ _ _ _ l.device _ keys l (trimmed _ _ _ _ _ _ _ l.device l.contents c.args.block _ c.in-Ok.ensures.leaf.0 l.holds place (omega arith)))
+    let l = rw (← c.self-2.view_is) at (c.load.ensures.listed told keys kept h) in
+    rw c.remove.ensures.items (listed_trimmed (the_view c.self-2.inside) _ _ _ l.device _ keys l (trimmed (the_view c.self-2.inside) _ _ l.device l.contents c.args.block _ ready l.holds place (omega arith)))

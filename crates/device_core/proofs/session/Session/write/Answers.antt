@@ -1,4 +1,5 @@
-use Rattle.std.proofs.Common.{◌≡◌, ◌∙◌, ℕ, List, ap, sym, subst, arith}
+use Rattle.std.proofs.Common.{◌≡◌, ◌∙◌, ◌<◌, ◌≤◌, ◌^◌, ℕ, List, ap, sym, subst, arith}
+use Rattle.device_core.specs.Sessions.{Session}
 use Rattle.platform.proofs.Moments.{Extends-earlier, whole-now}
 use Rattle.seal_record.specs.Sealing.{masked}
 use Rattle.node_codec.specs.declared.body.Entry.{Entry}
@@ -23,7 +24,95 @@ use Rattle.device_core.specs.Knowing.{HoldsListed}
 use Rattle.device_core.proofs.KeyLaws.{load_keeps, write_keeps, listed_later, listed_written}
 use Rattle.std.specs.Prelude.{◌≢◌, All}
 use Rattle.device_core.proofs.ReadingLaws.{one_leaf}
+use Rattle.device_core.specs.contracts.session.Session.{the_view}
+use Rattle.sdbt_base.specs.Arrays.{Device, Blocks}
+use Rattle.std.specs.FinMap as maps
+use Rattle.device_core.specs.Holds.{Holds}
+use Rattle.device_core.specs.Reading.{IsLeafOf}
+use Rattle.page_store.specs.Keeping.{KeepsKeys}
+use Rattle.std.proofs.Common.{◌++◌}
+use Rattle.device_core.proofs.HoldLaws.{with_entry}
+use Rattle.device_core.proofs.KeyLaws.{Appends}
+use Rattle.device_core.proofs.session.Session.write.Given.{Over}
+use Rattle.device_core.proofs.session.Session.write.Goals.{After-load, After-place_of-place, After-append, In-Some, In-Ok-append}
 use Rattle.device_core.proofs.session.Session.write.Goals as goal
+
+-- an address of the medium is no great number
+near : (addr head capacity : ℕ) → addr ≡ head → head ≤ capacity → capacity ≤ 2 ^ 32 → addr < 2 ^ 64
+near addr head capacity is room most = omega (arith, is, room, most)
+
+-- a leaf's blocks are few
+few : (block blocks : ℕ) → block < blocks → blocks ≤ 64 → block < 1048576
+few block blocks small most = omega (arith, small, most)
+
+-- the block is one of the device
+of_device : (g : Over) (c : After-load g) → c.args.block < c.args.self.now.root.blocks
+of_device g c = subst (λ (s : Session). c.args.block < s.root.blocks) c.self.view_is c.if-block-self.false
+
+-- and of the session that read its leaf
+of_session : (g : Over) (c : After-place_of-place g) → c.args.block < c.self-2.inside.root.blocks
+of_session g c =
+    let same = rw (← c.self-2.view_is) at c.load.ensures.same.0 in
+    subst (λ (r : Root). c.args.block < r.blocks) (sym same) (subst (λ (s : Session). c.args.block < s.root.blocks) c.self.view_is c.if-block-self.false)
+
+-- the data record that was appended
+appended : (g : Over) (c : In-Ok-append g) → g.P.Platform.tells → let looked = (g.P.Platform.history c.load.new.platform).present in let page = data_page c.in-Ok-append.placed.addr c.args.block c.in-Ok-append.placed.key (padded c.args.content.now) in
+    (g.P.Platform.history c.append.new.platform).present ≡ with_page looked page page
+appended g c told =
+    let addr = c.in-Ok-append.placed.addr in
+    let key = c.in-Ok-append.placed.key in
+    let text = padded c.args.content.now in
+    let address : addr ≡ g.P.Platform.head c.load.new.platform = c.in-Ok-append.ensures.address in
+    let body : c.put_block.new.self.body ≡ record_bytes addr (DataRecord c.args.block text) =
+    ap (λ (b : Held). b.body) c.put_block.ensures ∙ ap (λ (n : ℕ). record_bytes n (DataRecord c.args.block text)) (c.head-addr.ensures.value ∙ sym address) in
+    let page : masked key c.put_block.new.self.body ≡ data_page addr c.args.block key text = ap (masked key) body in
+    c.in-Ok-append.ensures.appended told ∙ ap (λ (bytes : List ℕ). with_page (g.P.Platform.history c.load.new.platform).present bytes bytes) page
+
+-- the entry of the block
+abbrev entry_of : (g : Over) → In-Ok-append g → Entry
+entry_of g c = record { low = c.args.block; addr = c.in-Ok-append.placed.addr; key = c.in-Ok-append.placed.key }
+
+-- the session has the array with the block
+holds_written : (g : Over) (c : In-Ok-append g) → g.P.Platform.tells → (device : Device) (contents : Blocks) → Holds (the_view c.self-2.inside) (g.P.Platform.history c.load.new.platform).present device contents
+    → Holds (with_entry (the_view c.self-2.inside) c.place_of-place.result (entry_of g c) c.in-Some.mapped c.append.new.self) (g.P.Platform.history c.append.new.platform).present device (maps.insert contents c.args.block (padded c.args.content.now))
+holds_written g c told device contents held =
+    let looked = g.P.Platform.history c.load.new.platform in
+    let ready = rw (← c.self-2.view_is) at c.in-Ok.ensures.leaf.0 in
+    let opened = rw (← c.self-2.view_is) at c.load.ensures.open in
+    let address : c.in-Ok-append.placed.addr ≡ g.P.Platform.head c.load.new.platform = c.in-Ok-append.ensures.address in
+    let are = subst (λ (n : ℕ). AreEntries c.self-2.inside.entries.items c.self-2.inside.root.blocks n) (sym address) opened.entries in
+    written (the_view c.self-2.inside) _ _ looked.present (g.P.Platform.history c.append.new.platform).present device contents c.args.block c.in-Ok-append.placed.addr c.place_of-place.result c.in-Ok-append.placed.key (padded c.args.content.now) ready held (whole-now looked)
+    (address ∙ sym (g.met.P.Platform.counts_pages told c.load.new.platform)) (near _ _ _ address (g.met.P.Platform.has_room c.load.new.platform) (g.met.P.Platform.is_limited c.load.new.platform)) are (rw c.as_slice.ensures.value at c.place_of-place.ensures)
+    (few _ _ (subst (λ (s : Session). c.args.block < s.root.blocks) c.self.view_is c.if-block-self.false) c.requires.open.served.leaf.blocks) (padded_bytes c.args.content.now c.requires.size c.are_bytes.ensures) c.in-Some.ensures.found.1
+    (Extends-earlier _ _ (c.append.ensures.time told).extends) (appended g c told)
+
+-- a look and an append keep the keys, with the one that was drawn
+keeps_written : (g : Over) (c : After-append g) (Then Done : List (List ℕ) → Type 0) → let history = g.P.Platform.history in let drawn = g.T.Tape.drawn in
+    Appends g.P.Platform.tells (drawn c.args.tape.now) (drawn c.append.new.tape) (history c.load.new.platform) (history c.append.new.platform) c.put_block.new.self.body (g.P.Platform.head c.load.new.platform) Then
+    → (g.P.Platform.tells → (keys more : List (List ℕ)) → HoldsListed (the_view c.self-2.inside) (history c.load.new.platform).present keys → Then (keys ++ more) → Done (keys ++ more))
+    → KeepsKeys g.P.Platform.tells (drawn c.args.tape.now) (drawn c.append.new.tape) (history c.args.platform.now) (history c.append.new.platform) (HoldsListed c.args.self.now (history c.args.platform.now).present) Done
+keeps_written g c Then Done append done =
+    let drawn = g.T.Tape.drawn in
+    let old = g.P.Platform.history c.args.platform.now in
+    let looked = g.P.Platform.history c.load.new.platform in
+    let session = the_view c.self-2.inside in
+    let listed = rw (← c.self-2.view_is) at c.load.ensures.listed in
+    let look = load_keeps g.P.Platform.tells (drawn c.args.tape.now) old looked (HoldsListed c.args.self.now old.present) (HoldsListed session looked.present) c.load.ensures.looks.image c.load.ensures.looks.time listed in
+    write_keeps g.P.Platform.tells (drawn c.args.tape.now) (drawn c.append.new.tape) old looked (g.P.Platform.history c.append.new.platform) session c.put_block.new.self.body c.head-addr.result c.args.block (padded c.args.content.now) _
+    (HoldsListed c.args.self.now old.present) Then Done look append (ap (λ (b : Held). b.body) c.put_block.ensures) c.head-addr.ensures.value
+    (few _ _ (subst (λ (s : Session). c.args.block < s.root.blocks) c.self.view_is c.if-block-self.false) c.requires.open.served.leaf.blocks) (padded_bytes c.args.content.now c.requires.size c.are_bytes.ensures) done
+
+-- where no entry was the block's and as many blocks are mapped as there are, none is mapped more
+no_more : (g : Over) (c : In-Some g) → g.P.Platform.tells → (leaf : List Entry) → IsLeafOf c.args.self.now (g.P.Platform.history c.args.platform.now).present.readable leaf → All (λ e. e.low ≢ c.args.block) leaf → c.args.self.now.mapped ≡ c.args.self.now.root.blocks → ⊥
+no_more g c told leaf is none all =
+    let same_root = rw (← c.self-2.view_is) at c.load.ensures.same.0 in
+    let same_count = rw (← c.self-2.view_is) at c.load.ensures.same.1 in
+    let known = rw (← c.self-2.view_is) at (c.in-Ok.ensures.leaf.1 told) in
+    let place = rw c.as_slice.ensures.value at c.place_of-place.ensures in
+    let same = one_leaf c.args.self.now _ leaf c.self-2.inside.entries.items (omega (arith, c.requires.open.served.fits.addr, c.requires.open.served.fits.head)) is known in
+    let new = new_place c.self-2.inside.entries.items c.place_of-place.result c.args.block place (subst (λ (es : List Entry). All (λ (e : Entry). e.low ≢ c.args.block) es) same none) in
+    let no = c.mapped_with.ensures.none.1 (new, same_count ∙ all ∙ sym (ap (λ (r : Root). r.blocks) same_root)) in
+    grind (arith, no, c.in-Some.is)
 
 pub returns-then-block-self-clause-time : goal.returns-then-block-self-clause-time
 returns-then-block-self-clause-time g c = λ told. still _
@@ -36,26 +125,33 @@ returns-in-Err-BadRecord-clause-array g c = λ told device contents h. c.load.en
 
 pub returns-in_default-clause-array : goal.returns-in_default-clause-array
 returns-in_default-clause-array g c = λ told device contents h.
-    let session = c.load.new.self in
+    let small = of_session g (goal.at.returns-in_default-clause-array g c).After-place_of-place in
+    let ready = rw (← c.self-2.view_is) at c.in-Ok.ensures.leaf.0 in
+    let held = rw (← c.self-2.view_is) at (c.load.ensures.holds told device contents h) in
+    let opened = rw (← c.self-2.view_is) at c.load.ensures.open in
+    let same_root = rw (← c.self-2.view_is) at c.load.ensures.same.0 in
+    let session = the_view c.self-2.inside in
     let place = rw c.as_slice.ensures.value at c.place_of-place.ensures in
-    let same = ap (λ (r : Root). r.blocks) c.load.ensures.same.0 in
+    let same = ap (λ (r : Root). r.blocks) same_root in
     let counter = c.mapped_with.ensures.none.0 (grind (arith, c.in_default.is)) in
-    some_unmapped session.root session.mapped session.is_loaded session.is_touched session.entries.items _ device contents c.args.block session.root.blocks _ c.place_of-place.result c.in-Ok.ensures.leaf.0
-    (c.load.ensures.holds told device contents h) c.load.ensures.open.entries place (omega (arith, same)) counter.0 counter.1
+    some_unmapped session _ device contents c.args.block session.root.blocks _ c.place_of-place.result ready
+    held opened.entries place small counter.0 counter.1
 
 pub put_block-requires-clause-block : goal.put_block-requires-clause-block
-put_block-requires-clause-block g c = omega (arith, c.requires.open.served.leaf.blocks)
+put_block-requires-clause-block g c = few _ _ (of_device g (goal.at.put_block-requires-clause-block g c).After-load) c.requires.open.served.leaf.blocks
 
 pub returns-in-Err-TapeFault-clause-array : goal.returns-in-Err-TapeFault-clause-array
 returns-in-Err-TapeFault-clause-array g c = λ told device contents h.
-    holds_same _ _ _ _ _ _ _ _ _ (c.append.ensures.unchanged told (cc)) (c.load.ensures.holds told device contents h)
+    let held = rw (← c.self-2.view_is) at (c.load.ensures.holds told device contents h) in
+    holds_same (the_view c.self-2.inside) _ _ _ _ _ (c.append.ensures.unchanged told (cc)) held
 
 pub returns-in-Err-TapeFault-clause-time : goal.returns-in-Err-TapeFault-clause-time
 returns-in-Err-TapeFault-clause-time g c = λ told. call_more _ _ _ (c.load.ensures.looks.time told) (c.append.ensures.time told) (c.append.ensures.cell told)
 
 pub returns-in-Err-PlatformFault-append-clause-array : goal.returns-in-Err-PlatformFault-append-clause-array
 returns-in-Err-PlatformFault-append-clause-array g c = λ told device contents h.
-    holds_later _ _ _ _ _ _ _ device contents (Extends-earlier _ _ (c.append.ensures.time told).extends) (c.append.ensures.cell told) (c.load.ensures.holds told device contents h)
+    let held = rw (← c.self-2.view_is) at (c.load.ensures.holds told device contents h) in
+    holds_later (the_view c.self-2.inside) _ _ _ device contents (Extends-earlier _ _ (c.append.ensures.time told).extends) (c.append.ensures.cell told) held
 
 pub returns-in-Err-PlatformFault-append-clause-time : goal.returns-in-Err-PlatformFault-append-clause-time
 returns-in-Err-PlatformFault-append-clause-time g c = λ told. call_more _ _ _ (c.load.ensures.looks.time told) (c.append.ensures.time told) (c.append.ensures.cell told)
@@ -65,120 +161,99 @@ returns-clause-time g c = λ told. call_more _ _ _ (c.load.ensures.looks.time to
 
 pub put_entry-requires-clause-room : goal.put_entry-requires-clause-room
 put_entry-requires-clause-room g c none =
-    let session = c.load.new.self in
-    let opened = c.load.ensures.open in
-    let same = ap (λ (r : Root). r.blocks) c.load.ensures.same.0 in
+    let small = of_session g (goal.at.put_entry-requires-clause-room g c).After-place_of-place in
+    let same_root = rw (← c.self-2.view_is) at c.load.ensures.same.0 in
+    let session = the_view c.self-2.inside in
+    let opened = rw (← c.self-2.view_is) at c.load.ensures.open in
+    let same = ap (λ (r : Root). r.blocks) same_root in
     omega (
       arith,
-      room_where_none session.entries.items c.place_of-place.result c.args.block session.root.blocks (g.P.Platform.head c.load.new.platform) none
-          opened.entries (rw c.as_slice.ensures.value at c.place_of-place.ensures) (omega (arith, same)),
+      room_where_none session.entries c.place_of-place.result c.args.block session.root.blocks (g.P.Platform.head c.load.new.platform) none
+          opened.entries (rw c.as_slice.ensures.value at c.place_of-place.ensures) small,
       opened.served.leaf.blocks,
     )
 
 pub returns-clause-open : goal.returns-clause-open
 returns-clause-open g c =
-    let session = c.load.new.self in
-    let opened = c.load.ensures.open in
-    let same = ap (λ (r : Root). r.blocks) c.load.ensures.same.0 in
+    let small = of_session g (goal.at.returns-clause-open g c).After-place_of-place in
+    let ready = rw (← c.self-2.view_is) at c.in-Ok.ensures.leaf.0 in
+    let same_root = rw (← c.self-2.view_is) at c.load.ensures.same.0 in
+    let session = the_view c.self-2.inside in
+    let opened = rw (← c.self-2.view_is) at c.load.ensures.open in
+    let same = ap (λ (r : Root). r.blocks) same_root in
     let entry : Entry = record { low = c.args.block; addr = c.in-Ok-append.placed.addr; key = c.in-Ok-append.placed.key } in
     record {
       served = record { fits = opened.served.fits; key = opened.served.key; leaf = opened.served.leaf; within = omega (arith, opened.served.within, c.append.ensures.head_rises) };
       mapped = omega (arith, c.in-Some.ensures.found, same);
-      entries = rw c.put_entry.ensures (AreEntries-placed session.entries.items c.place_of-place.result entry session.root.blocks
+      entries = rw c.put_entry.ensures (AreEntries-placed session.entries c.place_of-place.result entry session.root.blocks
           (g.P.Platform.head c.load.new.platform) (g.P.Platform.head c.append.new.platform) opened.entries
-          (rw c.as_slice.ensures.value at c.place_of-place.ensures) (omega (arith, same)) (omega (arith, c.in-Ok-append.ensures.address, c.in-Ok-append.ensures.head_ok)) c.in-Ok-append.ensures.key c.append.ensures.head_rises);
-      loaded = λ yes. c.in-Ok.ensures.leaf.0;
+          (rw c.as_slice.ensures.value at c.place_of-place.ensures) small (omega (arith, c.in-Ok-append.ensures.address, c.in-Ok-append.ensures.head_ok)) c.in-Ok-append.ensures.key c.append.ensures.head_rises);
+      loaded = λ yes. ready;
     }
 
 pub returns-clause-array : goal.returns-clause-array
 returns-clause-array g c = λ told device contents h.
-    let history = g.P.Platform.history in
-    let session = c.load.new.self in
-    let opened = c.load.ensures.open in
-    let addr = c.in-Ok-append.placed.addr in
-    let key = c.in-Ok-append.placed.key in
-    let text = padded c.args.content.now in
-    let same = ap (λ (r : Root). r.blocks) c.load.ensures.same.0 in
-    let pages = g.met.P.Platform.counts_pages told c.load.new.platform in
-    let address : addr ≡ g.P.Platform.head c.load.new.platform = c.in-Ok-append.ensures.address in
-    let are = subst (λ (n : ℕ). AreEntries session.entries.items session.root.blocks n) (sym address) opened.entries in
-    let body : c.put_block.new.self.body ≡ record_bytes addr (DataRecord c.args.block text) =
-    ap (λ (b : Held). b.body) c.put_block.ensures ∙ ap (λ (n : ℕ). record_bytes n (DataRecord c.args.block text)) (c.head-addr.ensures.value ∙ sym address) in
-    let page : masked key c.put_block.new.self.body ≡ data_page addr c.args.block key text = ap (masked key) body in
-    let later = c.in-Ok-append.ensures.appended told ∙ ap (λ (bytes : List ℕ). with_page (history c.load.new.platform).present bytes bytes) page in
-    let place = rw c.as_slice.ensures.value at c.place_of-place.ensures in
-    rw c.put_entry.ensures (written session.root session.mapped _ session.is_loaded session.is_touched session.entries.items (history c.load.new.platform).present (history c.append.new.platform).present device contents c.args.block addr
-    c.place_of-place.result key text c.in-Ok.ensures.leaf.0 (c.load.ensures.holds told device contents h) (whole-now (history c.load.new.platform)) (address ∙ sym pages)
-    (omega (arith, address, g.met.P.Platform.has_room c.load.new.platform, g.met.P.Platform.is_limited c.load.new.platform)) are place (omega (arith, c.requires.open.served.leaf.blocks))
-    (padded_bytes c.args.content.now c.requires.size c.are_bytes.ensures) c.in-Some.ensures.found.1 (Extends-earlier _ _ (c.append.ensures.time told).extends) later)
+    let held = rw (← c.self-2.view_is) at (c.load.ensures.holds told device contents h) in
+    rw c.put_entry.ensures (holds_written g (goal.at.returns-clause-array g c).In-Ok-append told device contents held)
 
 pub returns-in-Err-TapeFault-clause-follows : goal.returns-in-Err-TapeFault-clause-follows
-returns-in-Err-TapeFault-clause-follows g c = λ told follows. follows_same _ _ _ _ _ _ (c.append.ensures.unchanged told (cc)) (c.load.ensures.follows told follows)
+returns-in-Err-TapeFault-clause-follows g c = λ told follows.
+    let followed = rw (← c.self-2.view_is) at (c.load.ensures.follows told follows) in
+    follows_same (the_view c.self-2.inside) _ _ _ (c.append.ensures.unchanged told (cc)) followed
 
 pub returns-in-Err-PlatformFault-append-clause-follows : goal.returns-in-Err-PlatformFault-append-clause-follows
 returns-in-Err-PlatformFault-append-clause-follows g c = λ told follows.
-    follows_later _ _ _ _ _ _ (Extends-earlier _ _ (c.append.ensures.time told).extends) (c.load.ensures.follows told follows)
+    let followed = rw (← c.self-2.view_is) at (c.load.ensures.follows told follows) in
+    follows_later (the_view c.self-2.inside) _ _ _ (Extends-earlier _ _ (c.append.ensures.time told).extends) followed
 
 pub returns-clause-follows : goal.returns-clause-follows
 returns-clause-follows g c = λ told follows.
-    let history = g.P.Platform.history in
-    let session = c.load.new.self in
-    let addr = c.in-Ok-append.placed.addr in
-    let key = c.in-Ok-append.placed.key in
-    let text = padded c.args.content.now in
-    let pages = g.met.P.Platform.counts_pages told c.load.new.platform in
-    let address : addr ≡ g.P.Platform.head c.load.new.platform = c.in-Ok-append.ensures.address in
-    let body : c.put_block.new.self.body ≡ record_bytes addr (DataRecord c.args.block text) =
-    ap (λ (b : Held). b.body) c.put_block.ensures ∙ ap (λ (n : ℕ). record_bytes n (DataRecord c.args.block text)) (c.head-addr.ensures.value ∙ sym address) in
-    let page : masked key c.put_block.new.self.body ≡ data_page addr c.args.block key text = ap (masked key) body in
-    let later = c.in-Ok-append.ensures.appended told ∙ ap (λ (bytes : List ℕ). with_page (history c.load.new.platform).present bytes bytes) page in
-    let place = rw c.as_slice.ensures.value at c.place_of-place.ensures in
-    rw c.put_entry.ensures (follows_written session.root session.mapped _ session.is_loaded session.entries.items (history c.load.new.platform).present (history c.append.new.platform).present c.args.block addr c.place_of-place.result key text
-    c.in-Ok.ensures.leaf.0 (c.load.ensures.follows told follows) place c.in-Some.ensures.found.1 (whole-now (history c.load.new.platform)) (address ∙ sym pages)
-    (omega (arith, address, g.met.P.Platform.has_room c.load.new.platform, g.met.P.Platform.is_limited c.load.new.platform)) (omega (arith, c.requires.open.served.leaf.blocks))
-    (padded_bytes c.args.content.now c.requires.size c.are_bytes.ensures) (Extends-earlier _ _ (c.append.ensures.time told).extends) later)
+    let looked = g.P.Platform.history c.load.new.platform in
+    let ready = rw (← c.self-2.view_is) at c.in-Ok.ensures.leaf.0 in
+    let followed = rw (← c.self-2.view_is) at (c.load.ensures.follows told follows) in
+    let at = goal.at.returns-clause-follows g c in
+    let address : c.in-Ok-append.placed.addr ≡ g.P.Platform.head c.load.new.platform = c.in-Ok-append.ensures.address in
+    rw c.put_entry.ensures (follows_written (the_view c.self-2.inside) _ _ looked.present (g.P.Platform.history c.append.new.platform).present c.args.block c.in-Ok-append.placed.addr c.place_of-place.result c.in-Ok-append.placed.key (padded c.args.content.now)
+    ready followed (rw c.as_slice.ensures.value at c.place_of-place.ensures) c.in-Some.ensures.found.1 (whole-now looked) (address ∙ sym (g.met.P.Platform.counts_pages told c.load.new.platform))
+    (near _ _ _ address (g.met.P.Platform.has_room c.load.new.platform) (g.met.P.Platform.is_limited c.load.new.platform)) (few _ _ (of_device g at.After-load) c.requires.open.served.leaf.blocks)
+    (padded_bytes c.args.content.now c.requires.size c.are_bytes.ensures) (Extends-earlier _ _ (c.append.ensures.time told).extends) (appended g at.In-Ok-append told))
 
 pub returns-in-Err-BadRecord-clause-damaged : goal.returns-in-Err-BadRecord-clause-damaged
 returns-in-Err-BadRecord-clause-damaged g c = λ told addr is.
     (inl ((c.load.ensures.misfit told addr (cc)).3), λ follows. inl (subst (λ (i : Image). Wrong i.readable c.args.self.now.root addr) (sym (c.load.ensures.looks.image told)) ((c.load.ensures.misfit told addr (cc)).3)))
 
 pub returns-in_default-clause-damaged : goal.returns-in_default-clause-damaged
-returns-in_default-clause-damaged g c = λ told addr is.
+returns-in_default-clause-damaged g c = λ told addr is. rw (← c.self-2.view_is) (
+    let small = of_session g (goal.at.returns-in_default-clause-damaged g c).After-place_of-place in
+    let ready = rw (← c.self-2.view_is) at c.in-Ok.ensures.leaf.0 in
+    let opened = rw (← c.self-2.view_is) at c.load.ensures.open in
+    let same_root = rw (← c.self-2.view_is) at c.load.ensures.same.0 in
+    let same_count = rw (← c.self-2.view_is) at c.load.ensures.same.1 in
     let place = rw c.as_slice.ensures.value at c.place_of-place.ensures in
     let counter = c.mapped_with.ensures.none.0 (grind (arith, c.in_default.is)) in
-    let named : c.load.new.self.root.addr ≡ addr = cc in
-    let session = c.load.new.self in
-    let pages = (g.P.Platform.history c.load.new.platform).present.readable in
-    let named : session.root.addr ≡ addr = cc in
-    let same = ap (λ (r : Root). r.blocks) c.load.ensures.same.0 in (
+    let session = the_view c.self-2.inside in
+    let image = (g.P.Platform.history c.load.new.platform).present in
+    let named : c.self-2.inside.root.addr ≡ addr = cc in
+    let same = ap (λ (r : Root). r.blocks) same_root in (
       inr (
-        sym named ∙ ap (λ (r : Root). r.addr) c.load.ensures.same.0,
-        sym c.load.ensures.same.1 ∙ counter.1 ∙ ap (λ (r : Root). r.blocks) c.load.ensures.same.0,
+        sym named ∙ ap (λ (r : Root). r.addr) same_root,
+        sym same_count ∙ counter.1 ∙ same,
         unmapped_place _ c.place_of-place.result c.args.block place counter.0,
       ),
       λ follows. inr (
-        sym named ∙ ap (λ (r : Root). r.addr) c.load.ensures.same.0,
-        subst (λ (r : Root). IsMiscounted pages r) c.load.ensures.same.0
-            (miscounted_full session.root session.mapped session.is_loaded session.entries.items pages c.place_of-place.result c.args.block session.root.blocks (g.P.Platform.head c.load.new.platform)
-            c.in-Ok.ensures.leaf.0 (c.load.ensures.follows told follows) c.load.ensures.open.entries place (omega (arith, same)) counter.0 counter.1),
+        sym named ∙ ap (λ (r : Root). r.addr) same_root,
+        let followed = rw (← c.self-2.view_is) at (c.load.ensures.follows told follows) in
+            subst (λ (r : Root). IsMiscounted image.readable r) same_root
+            (miscounted_full session image c.place_of-place.result c.args.block session.root.blocks (g.P.Platform.head c.load.new.platform)
+            ready followed opened.entries place small counter.0 counter.1),
       ),
-    )
+    ))
 
 pub returns-in-Err-TapeFault-clause-counter : goal.returns-in-Err-TapeFault-clause-counter
-returns-in-Err-TapeFault-clause-counter g c = λ told leaf is none all stop.
-    let place = rw c.as_slice.ensures.value at c.place_of-place.ensures in
-    let same = one_leaf c.args.self.now.root c.args.self.now.is_loaded c.args.self.now.entries.items _ leaf c.load.new.self.entries.items (omega (arith, c.requires.open.served.fits.addr, c.requires.open.served.fits.head)) is (c.in-Ok.ensures.leaf.1 told) in
-    let new = new_place c.load.new.self.entries.items c.place_of-place.result c.args.block place (subst (λ (es : List Entry). All (λ (e : Entry). e.low ≢ c.args.block) es) same none) in
-    let no = c.mapped_with.ensures.none.1 (new, c.load.ensures.same.1 ∙ all ∙ sym (ap (λ (r : Root). r.blocks) c.load.ensures.same.0)) in
-    grind (arith, no, c.in-Some.is)
+returns-in-Err-TapeFault-clause-counter g c = λ told leaf is none all stop. no_more g (goal.at.returns-in-Err-TapeFault-clause-counter g c).In-Some told leaf is none all
 
 pub returns-clause-counter : goal.returns-clause-counter
-returns-clause-counter g c = λ told leaf is none all stop.
-    let place = rw c.as_slice.ensures.value at c.place_of-place.ensures in
-    let same = one_leaf c.args.self.now.root c.args.self.now.is_loaded c.args.self.now.entries.items _ leaf c.load.new.self.entries.items (omega (arith, c.requires.open.served.fits.addr, c.requires.open.served.fits.head)) is (c.in-Ok.ensures.leaf.1 told) in
-    let new = new_place c.load.new.self.entries.items c.place_of-place.result c.args.block place (subst (λ (es : List Entry). All (λ (e : Entry). e.low ≢ c.args.block) es) same none) in
-    let no = c.mapped_with.ensures.none.1 (new, c.load.ensures.same.1 ∙ all ∙ sym (ap (λ (r : Root). r.blocks) c.load.ensures.same.0)) in
-    grind (arith, no, c.in-Some.is)
+returns-clause-counter g c = λ told leaf is none all stop. no_more g (goal.at.returns-clause-counter g c).In-Some told leaf is none all
 
 pub returns-in-Err-TapeFault-clause-adds : goal.returns-in-Err-TapeFault-clause-adds
 returns-in-Err-TapeFault-clause-adds g c = record {
@@ -211,67 +286,24 @@ returns-in_default-clause-keeps g c =
 
 pub returns-in-Err-TapeFault-clause-keeps : goal.returns-in-Err-TapeFault-clause-keeps
 returns-in-Err-TapeFault-clause-keeps g c =
-    let history = g.P.Platform.history in
-    let drawn = g.T.Tape.drawn in
-    let old = history c.args.platform.now in
-    let looked = history c.load.new.platform in
-    let new = history c.append.new.platform in
-    let session = c.load.new.self in
-    let text = padded c.args.content.now in
-    let look = load_keeps g.P.Platform.tells (drawn c.args.tape.now) old looked (HoldsListed c.args.self.now old.present) (HoldsListed session looked.present) c.load.ensures.looks.image c.load.ensures.looks.time c.load.ensures.listed in
-    let body : c.put_block.new.self.body ≡ record_bytes c.head-addr.result (DataRecord c.args.block text) = ap (λ (b : Held). b.body) c.put_block.ensures in
-    write_keeps g.P.Platform.tells (drawn c.args.tape.now) (drawn c.append.new.tape) old looked new session.root session.mapped session.is_loaded session.is_touched session.entries.items c.put_block.new.self.body c.head-addr.result c.args.block text _
-    (HoldsListed c.args.self.now old.present) _ _ look c.append.ensures.keeps body c.head-addr.ensures.value (omega (arith, c.requires.open.served.leaf.blocks))
-    (padded_bytes c.args.content.now c.requires.size c.are_bytes.ensures)
-    (λ told keys more h done. listed_later _ _ _ _ _ _ _ keys more (Extends-earlier _ _ (c.append.ensures.time told).extends) (c.append.ensures.cell told) h)
+    keeps_written g (goal.at.returns-in-Err-TapeFault-clause-keeps g c).After-append _ _ c.append.ensures.keeps
+    (λ told keys more h done. listed_later (the_view c.self-2.inside) _ _ _ keys more (Extends-earlier _ _ (c.append.ensures.time told).extends) (c.append.ensures.cell told) h)
 
 pub returns-in-Err-PlatformFault-append-clause-keeps : goal.returns-in-Err-PlatformFault-append-clause-keeps
 returns-in-Err-PlatformFault-append-clause-keeps g c =
-    let history = g.P.Platform.history in
-    let drawn = g.T.Tape.drawn in
-    let old = history c.args.platform.now in
-    let looked = history c.load.new.platform in
-    let new = history c.append.new.platform in
-    let session = c.load.new.self in
-    let text = padded c.args.content.now in
-    let look = load_keeps g.P.Platform.tells (drawn c.args.tape.now) old looked (HoldsListed c.args.self.now old.present) (HoldsListed session looked.present) c.load.ensures.looks.image c.load.ensures.looks.time c.load.ensures.listed in
-    let body : c.put_block.new.self.body ≡ record_bytes c.head-addr.result (DataRecord c.args.block text) = ap (λ (b : Held). b.body) c.put_block.ensures in
-    write_keeps g.P.Platform.tells (drawn c.args.tape.now) (drawn c.append.new.tape) old looked new session.root session.mapped session.is_loaded session.is_touched session.entries.items c.put_block.new.self.body c.head-addr.result c.args.block text _
-    (HoldsListed c.args.self.now old.present) _ _ look c.append.ensures.keeps body c.head-addr.ensures.value (omega (arith, c.requires.open.served.leaf.blocks))
-    (padded_bytes c.args.content.now c.requires.size c.are_bytes.ensures)
-    (λ told keys more h done. listed_later _ _ _ _ _ _ _ keys more (Extends-earlier _ _ (c.append.ensures.time told).extends) (c.append.ensures.cell told) h)
+    keeps_written g (goal.at.returns-in-Err-PlatformFault-append-clause-keeps g c).After-append _ _ c.append.ensures.keeps
+    (λ told keys more h done. listed_later (the_view c.self-2.inside) _ _ _ keys more (Extends-earlier _ _ (c.append.ensures.time told).extends) (c.append.ensures.cell told) h)
 
 pub returns-clause-keeps : goal.returns-clause-keeps
 returns-clause-keeps g c =
-    let history = g.P.Platform.history in
-    let drawn = g.T.Tape.drawn in
-    let old = history c.args.platform.now in
-    let looked = history c.load.new.platform in
-    let new = history c.append.new.platform in
-    let session = c.load.new.self in
-    let text = padded c.args.content.now in
-    let look = load_keeps g.P.Platform.tells (drawn c.args.tape.now) old looked (HoldsListed c.args.self.now old.present) (HoldsListed session looked.present) c.load.ensures.looks.image c.load.ensures.looks.time c.load.ensures.listed in
-    let body : c.put_block.new.self.body ≡ record_bytes c.head-addr.result (DataRecord c.args.block text) = ap (λ (b : Held). b.body) c.put_block.ensures in
-    let entry : Entry = record { low = c.args.block; addr = c.in-Ok-append.placed.addr; key = c.in-Ok-append.placed.key } in
-    let opened = c.load.ensures.open in
-    write_keeps g.P.Platform.tells (drawn c.args.tape.now) (drawn c.append.new.tape) old looked new session.root session.mapped session.is_loaded session.is_touched session.entries.items c.put_block.new.self.body c.head-addr.result c.args.block text _
-    (HoldsListed c.args.self.now old.present) _ _ look c.in-Ok-append.ensures.keeps body c.head-addr.ensures.value (omega (arith, c.requires.open.served.leaf.blocks))
-    (padded_bytes c.args.content.now c.requires.size c.are_bytes.ensures)
-    (λ told keys more h has.
-    let pages = g.met.P.Platform.counts_pages told c.load.new.platform in
+    let opened = rw (← c.self-2.view_is) at c.load.ensures.open in
+    let at = goal.at.returns-clause-keeps g c in
     let address : c.in-Ok-append.placed.addr ≡ g.P.Platform.head c.load.new.platform = c.in-Ok-append.ensures.address in
-    let are = subst (λ (n : ℕ). AreEntries session.entries.items session.root.blocks n) (sym address) opened.entries in
-    let spelled : c.put_block.new.self.body ≡ record_bytes c.in-Ok-append.placed.addr (DataRecord c.args.block text) = body ∙ ap (λ (n : ℕ). record_bytes n (DataRecord c.args.block text)) (c.head-addr.ensures.value ∙ sym address) in
-    let page : masked c.in-Ok-append.placed.key c.put_block.new.self.body ≡ data_page c.in-Ok-append.placed.addr c.args.block c.in-Ok-append.placed.key text = ap (masked c.in-Ok-append.placed.key) spelled in
-    let later = c.in-Ok-append.ensures.appended told ∙ ap (λ (bytes : List ℕ). with_page looked.present bytes bytes) page in
-    let place = rw c.as_slice.ensures.value at c.place_of-place.ensures in
-    let earlier = Extends-earlier _ _ (c.append.ensures.time told).extends in
-    let held = written session.root session.mapped _ session.is_loaded session.is_touched session.entries.items looked.present new.present h.device h.contents c.args.block c.in-Ok-append.placed.addr
-    c.place_of-place.result c.in-Ok-append.placed.key text c.in-Ok.ensures.leaf.0 h.holds (whole-now looked) (address ∙ sym pages)
-    (omega (arith, address, g.met.P.Platform.has_room c.load.new.platform, g.met.P.Platform.is_limited c.load.new.platform)) are place (omega (arith, c.requires.open.served.leaf.blocks))
-    (padded_bytes c.args.content.now c.requires.size c.are_bytes.ensures) c.in-Some.ensures.found.1 earlier later in
-    rw c.put_entry.ensures (listed_written session.root session.mapped _ session.is_loaded _ session.is_touched session.entries.items c.place_of-place.result entry looked.present new.present h.device _ keys more h held earlier
-    (c.append.ensures.cell told) (omega (arith, address, opened.served.within)) has))
+    keeps_written g at.After-append _ _ c.in-Ok-append.ensures.keeps
+    (λ told keys more h has.
+    let held = holds_written g at.In-Ok-append told h.device h.contents h.holds in
+    rw c.put_entry.ensures (listed_written (the_view c.self-2.inside) _ _ c.place_of-place.result (entry_of g at.In-Ok-append) _ _ h.device _ keys more h held (Extends-earlier _ _ (c.append.ensures.time told).extends)
+    (c.append.ensures.cell told) (subst (λ (n : ℕ). c.self-2.inside.root.head ≤ n) (sym address) opened.served.within) has))
 
 pub returns-clause-adds : goal.returns-clause-adds
 returns-clause-adds g c =
@@ -282,7 +314,7 @@ returns-clause-adds g c =
       record {
         key = c.in-Ok-append.placed.key;
         drew = c.in-Ok-append.ensures.drew;
-        entry = rw c.put_entry.ensures (subst (λ (n : ℕ). Contains (placed c.load.new.self.entries.items c.place_of-place.result entry) (record { low = c.args.block; addr = n; key = c.in-Ok-append.placed.key })) here
-            (placed_there c.load.new.self.entries.items c.args.block c.place_of-place.result entry place));
+        entry = rw c.put_entry.ensures (subst (λ (n : ℕ). Contains (placed c.self-2.inside.entries.items c.place_of-place.result entry) (record { low = c.args.block; addr = n; key = c.in-Ok-append.placed.key })) here
+            (placed_there c.self-2.inside.entries.items c.args.block c.place_of-place.result entry place));
       },
     )

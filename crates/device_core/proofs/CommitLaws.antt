@@ -1,0 +1,139 @@
+-- What a commit does, whether its last step was taken or failed.
+use Rattle.std.proofs.Common.{◌≡◌, ◌∙◌, ◌+◌, ◌<◌, ◌≤◌, ◌^◌, ℕ, List, Some, true, refl, ap, sym, subst, arith, length}
+use Rattle.std.specs.Prelude.{Option, Contains}
+use Rattle.sdbt_base.specs.Bytes.{IsBytes}
+use Rattle.sdbt_base.specs.Arrays.{Device, Blocks, committed_with}
+use Rattle.platform.specs.Image.{Image, LeavesOnly, with_page, with_cell, all_synced}
+use Rattle.platform.specs.History.{History, Steps, Turns}
+use Rattle.platform.proofs.Moments.{whole-now}
+use Rattle.seal_record.specs.Sealing.{masked}
+use Rattle.node_codec.specs.declared.body.Entry.{Entry}
+use Rattle.node_codec.specs.Record.{NodeRecord, record_bytes}
+use Rattle.root_codec.specs.declared.root.Root.{Root}
+use Rattle.root_codec.specs.RootRecord.{root_bytes}
+use Rattle.page_store.specs.Buffer.{Held}
+use Rattle.page_store.specs.Stands.{Stands}
+use Rattle.page_store.proofs.KeepingLaws.{keeps_from}
+use Rattle.page_store.proofs.FloorLaws.{forgets_still}
+use Rattle.device_core.specs.Leaf.{AreEntries}
+use Rattle.device_core.specs.Open.{IsOpen}
+use Rattle.device_core.specs.Holds.{Holds, Follows}
+use Rattle.device_core.specs.Knowing.{HoldsListed}
+use Rattle.device_core.specs.Drawing.{KeepsTree}
+use Rattle.device_core.specs.Publishing.{Discloses}
+use Rattle.device_core.specs.Sessions.{Session}
+use Rattle.device_core.proofs.MomentLaws.{one_call, then_published, once, stays_once}
+use Rattle.device_core.proofs.HoldLaws.{IsCommitOf, commit_fits, commit_leaf, commit_served, leaf_page, with_root, raise_turns, raise_held}
+use Rattle.device_core.proofs.FollowLaws.{follows_committed}
+use Rattle.device_core.proofs.ServedLaws.{serves_still, serves_turned, served_published}
+use Rattle.device_core.proofs.KeyLaws.{Appends, listed_sound, raise_appends, raise_publishes, raise_listed, raise_knows, raise_forgets}
+
+-- the root record that a commit of a session writes
+abbrev pub next_root : Session → ℕ → List ℕ → Root
+next_root session addr key = record { order = session.root.order; level = session.root.level; blocks = session.root.blocks; commit = session.root.commit + 1; addr = addr; key = key; mapped = session.mapped; head = addr + 1 }
+
+pub is_commit : (session : Session) (addr head capacity : ℕ) (key : List ℕ) → IsOpen session head → session.is_touched ≡ true → addr ≡ head → head < capacity → capacity ≤ 2 ^ 32 → IsBytes 32 key → IsCommitOf session (next_root session addr key) head
+is_commit session addr head capacity key opened touched at room most sized = record {
+  loaded = opened.loaded touched;
+  is_open = opened;
+  follows = record { order = refl; level = refl; blocks = refl; commit = refl; addr = at; mapped = refl; head = ap (λ (n : ℕ). n + 1) at };
+  room = omega (arith, room, most);
+  key = sized;
+}
+
+-- the page that was appended is that of the leaf
+pub page_is : (session : Session) (addr at : ℕ) (key body : List ℕ) (given : List Entry) → body ≡ record_bytes at (NodeRecord 1 given) → given ≡ session.entries → at ≡ addr → masked key body ≡ leaf_page (next_root session addr key) session.entries
+page_is session addr at key body given is same here =
+    ap (masked key) is ∙ ap (λ (es : List Entry). masked key (record_bytes at (NodeRecord 1 es))) same ∙ ap (λ (n : ℕ). masked key (record_bytes n (NodeRecord 1 session.entries))) here
+
+-- the calls of a commit: a session's leaf is appended, and then its root record is published
+pub record IsCommitting (tells : Type 0) (old mid new : History) (session : Session) (next : Root) (pages : ℕ) : Type 0 where
+  pub commit : IsCommitOf session next pages
+  pub at_end : tells → pages ≡ length old.present.recorded
+  pub steps : tells → Steps old mid
+  pub cell : tells → mid.present.cell ≡ old.present.cell
+  pub appended : tells → mid.present ≡ with_page old.present (leaf_page next session.entries) (leaf_page next session.entries)
+  pub size : tells → length mid.present.recorded ≡ pages + 1
+  pub stays : tells → length new.present.recorded ≡ length mid.present.recorded
+  pub turns : tells → Turns mid new (λ image. image.cell ≡ mid.present.cell) (λ image. image ≡ with_cell (all_synced mid.present) (Some (root_bytes next)))
+
+-- the calls, by what each of them says
+pub committing : (tells : Type 0) (old mid new : History) (session : Session) (addr at pages capacity now later : ℕ) (key body : List ℕ) (given : List Entry)
+    → IsOpen session pages → session.is_touched ≡ true → addr ≡ pages → at ≡ pages → now ≡ pages + 1 → later ≡ now → pages < capacity → capacity ≤ 2 ^ 32 → IsBytes 32 key
+    → body ≡ record_bytes at (NodeRecord 1 given) → given ≡ session.entries
+    → (tells → length old.present.recorded ≡ pages) → (tells → length mid.present.recorded ≡ now) → (tells → length new.present.recorded ≡ later)
+    → (tells → Steps old mid) → (tells → mid.present.cell ≡ old.present.cell) → (tells → mid.present ≡ with_page old.present (masked key body) (masked key body))
+    → (tells → Turns mid new (λ image. image.cell ≡ mid.present.cell) (λ image. image ≡ with_cell (all_synced mid.present) (Some (root_bytes (next_root session addr key)))))
+    → IsCommitting tells old mid new session (next_root session addr key) pages
+committing tells old mid new session addr at pages capacity now later key body given opened touched here there grown same room most sized is given_is first second third steps cell appended turns = record {
+  commit = is_commit session addr pages capacity key opened touched here room most sized;
+  at_end = λ told. sym (first told);
+  steps = steps;
+  cell = cell;
+  appended = λ told. appended told ∙ ap (λ (bytes : List ℕ). with_page old.present bytes bytes) (page_is session addr at key body given is given_is (there ∙ sym here));
+  size = λ told. second told ∙ grown;
+  stays = λ told. third told ∙ (same ∙ sym (second told));
+  turns = turns;
+}
+
+-- the root record in the cell, where the last step was taken
+abbrev IsPublished : History → History → Root → Type 0
+IsPublished mid new next = new.present ≡ with_cell (all_synced mid.present) (Some (root_bytes next))
+
+pub commit_turns : (tells : Type 0) (old mid new : History) (session : Session) (next : Root) (pages : ℕ) (device : Device) (contents : Blocks) → IsCommitting tells old mid new session next pages → tells → Holds session old.present device contents
+    → Turns old new (LeavesOnly (λ left. Stands left (Some device))) (LeavesOnly (λ left. Stands left (Some (committed_with device contents))))
+commit_turns tells old mid new session next pages device contents all told h =
+    raise_turns old mid new session next pages device contents all.commit h (all.at_end told) (all.steps told) (all.cell told) (all.appended told) (all.turns told)
+
+-- the device after a commit, by the number that is answered
+pub commit_held : (tells : Type 0) (old mid new : History) (session : Session) (next : Root) (buffers : Held) (pages : ℕ) (device : Device) (contents : Blocks) → IsCommitting tells old mid new session next pages → tells → IsPublished mid new next → Holds session old.present device contents
+    → Holds (with_root session next buffers) new.present (record device { number = session.root.commit + 1; contents = contents }) contents
+commit_held tells old mid new session next buffers pages device contents all told published h =
+    let held = raise_held old mid new session next buffers pages device contents all.commit h (all.at_end told) (all.appended told) published in
+    subst (λ (n : ℕ). Holds (with_root session next buffers) new.present (record device { number = n; contents = contents }) contents) (sym (ap (λ (n : ℕ). n + 1) h.stands.number)) held
+
+pub commit_follows : (tells : Type 0) (old mid new : History) (session : Session) (next : Root) (buffers : Held) (pages : ℕ) → IsCommitting tells old mid new session next pages → tells → IsPublished mid new next → Follows (with_root session next buffers) new.present
+commit_follows tells old mid new session next buffers pages all told published =
+    let made = all.commit.follows in
+    let are = subst (λ (n : ℕ). AreEntries session.entries n next.addr) (sym made.blocks) (subst (λ (n : ℕ). AreEntries session.entries session.root.blocks n) (sym made.addr) all.commit.is_open.entries) in
+    follows_committed session next buffers old.present new.present (sym made.mapped) (whole-now old) (commit_fits session next pages all.commit) (commit_leaf session next pages all.commit) (made.addr ∙ all.at_end told) are
+    (published ∙ ap (λ (i : Image). with_cell (all_synced i) (Some (root_bytes next))) (all.appended told))
+
+pub commit_listed : (tells : Type 0) (old mid new : History) (session : Session) (next : Root) (buffers : Held) (pages : ℕ) (keys : List (List ℕ)) → IsCommitting tells old mid new session next pages → tells → IsPublished mid new next → HoldsListed session old.present keys → HoldsListed (with_root session next buffers) new.present keys
+commit_listed tells old mid new session next buffers pages keys all told published h =
+    raise_listed old mid new session next buffers pages keys h (all.appended told) published all.commit (all.at_end told)
+
+pub commit_knows : (tells : Type 0) (old mid new : History) (session : Session) (next : Root) (pages : ℕ) (device : Device) (contents : Blocks) → IsCommitting tells old mid new session next pages → tells → IsPublished mid new next → Holds session old.present device contents → KeepsTree next session.entries new.present
+commit_knows tells old mid new session next pages device contents all told published h =
+    raise_knows old mid new session next pages device contents h (all.appended told) published all.commit (all.at_end told)
+
+-- what is disclosed, where the append failed
+pub append_discloses : (tells : Type 0) (drawn drawn_now : Option (List (List ℕ))) (old mid : History) (session : Session) (body : List ℕ) (addr at : ℕ) (given : List Entry) (Done : List (List ℕ) → Type 0)
+    → IsOpen session at → Appends tells drawn drawn_now old mid body at Done → body ≡ record_bytes addr (NodeRecord 1 given) → given ≡ session.entries → addr ≡ at
+    → (tells → Steps old mid) → (tells → mid.present.cell ≡ old.present.cell)
+    → Discloses tells drawn drawn_now old mid (HoldsListed session old.present) (λ keys. Unit {0})
+append_discloses tells drawn drawn_now old mid session body addr at given Done opened append is given_is here steps cell = record {
+  keys =
+      let first = raise_appends tells drawn drawn_now old mid session body addr at Done opened append (is ∙ ap (λ (es : List Entry). record_bytes addr (NodeRecord 1 es)) given_is) here in
+      keeps_from tells drawn drawn_now old mid (HoldsListed session old.present) (HoldsListed session old.present) (λ keys. Done keys × HoldsListed session old.present keys) (λ keys. Unit {0}) first (λ told keys ready. ready) (λ told keys more ready done. tt);
+  turns = λ told. stays_once old mid (one_call old mid (steps told) (cell told));
+  serves = λ told. serves_still old mid (one_call old mid (steps told) (cell told));
+  forgets = λ told keys h. forgets_still old mid (listed_sound session old.present keys h) (one_call old mid (steps told) (cell told));
+}
+
+-- what is disclosed, where the leaf was appended
+pub commit_discloses : (tells : Type 0) (drawn drawn_now : Option (List (List ℕ))) (old mid new : History) (session : Session) (next : Root) (body : List ℕ) (addr pages : ℕ) (given : List Entry) (Done : List (List ℕ) → Type 0)
+    → IsCommitting tells old mid new session next pages → Appends tells drawn drawn_now old mid body pages (λ keys. Contains keys next.key) → body ≡ record_bytes addr (NodeRecord 1 given) → given ≡ session.entries → addr ≡ pages
+    → (tells → (keys : List (List ℕ)) → HoldsListed session old.present keys → Done keys)
+    → Discloses tells drawn drawn_now old new (HoldsListed session old.present) Done
+commit_discloses tells drawn drawn_now old mid new session next body addr pages given Done all append is given_is here done = record {
+  keys =
+      let first = raise_appends tells drawn drawn_now old mid session body addr pages (λ keys. Contains keys next.key) all.commit.is_open append (is ∙ ap (λ (es : List Entry). record_bytes addr (NodeRecord 1 es)) given_is) here in
+      raise_publishes tells drawn drawn_now old mid new session next pages Done first all.appended all.stays all.turns all.commit all.at_end done;
+  turns = λ told. once old new _ (then_published old mid new _ (one_call old mid (all.steps told) (all.cell told)) (all.turns told));
+  serves = λ told served.
+      serves_turned old new _ (then_published old mid new _ (one_call old mid (all.steps told) (all.cell told)) (all.turns told)) served
+      (served_published mid.present next (pages + 1) (all.size told) (commit_served session next pages (pages + 1) all.commit (omega arith)));
+  forgets = λ told keys h.
+      raise_forgets old mid new session next pages keys h (all.steps told) (all.cell told) (all.appended told) (all.turns told) all.commit (all.at_end told);
+}
