@@ -1,5 +1,5 @@
 -- How parts of a run compose, and what follows of each.
-use Rattle.std.proofs.Common.{◌≡◌, ℕ, ◌≤◌, List, [], ◌++◌, Option, None, refl, ◌∙◌, subst, arith}
+use Rattle.std.proofs.Common.{ℕ, ◌≤◌, List, [], ◌++◌, Option, None, refl, ◌∙◌, subst, arith}
 use Rattle.sdbt_base.specs.Arrays.{Device, State, closed}
 use Rattle.page_store.specs.Stands.{Stands}
 use Rattle.page_store.specs.Kept.{Kept}

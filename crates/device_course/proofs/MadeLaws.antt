@@ -1,5 +1,5 @@
 -- Which devices a call makes, and how parts of a run compose.
-use Rattle.std.proofs.Common.{◌≡◌, ℕ, ◌+◌, List, [], ◌∷◌, ◌++◌, Option, None, inl, inr, length, refl, sym, ◌∙◌, subst, ap, arith, length-append}
+use Rattle.std.proofs.Common.{◌≡◌, ◌+◌, List, [], ◌∷◌, ◌++◌, Option, None, inl, inr, length, refl, sym, ◌∙◌, subst, ap, length-append}
 use Rattle.std.specs.Prelude.{◌⊎◌}
 use Rattle.sdbt_base.specs.Arrays.{Device, State, closed}
 use Rattle.platform.specs.Image.{Image, LeavesOnly}

@@ -1,6 +1,6 @@
 -- What a session and the platform stand for.
 use Rattle.std.specs.Prelude.{◌≡◌, ◌≤◌, ℕ, Bool, true, false, List, Option, None, Some}
-use Rattle.sdbt_base.specs.Arrays.{Blocks, Device, Session as OpenSession, State, session_on, committed}
+use Rattle.sdbt_base.specs.Arrays.{Device, Session as OpenSession, State, committed}
 use Rattle.sdbt_base.specs.declared.tapes.Tape.{Ghosts as TapeGhosts}
 use Rattle.platform.specs.declared.platforms.Platform.{Ghosts as PlatformGhosts}
 use Rattle.platform.specs.Image.{Image}
