@@ -8,6 +8,7 @@ use Rattle.std.proofs.lemmas.Bool.{cases_lt}
 use Rattle.std.proofs.lemmas.List.{take_at, drop_at, take-append-drop, length-drop, length-replicate, get_or-map, get_or_default, length-map, flat_map_more}
 use Rattle.std.proofs.Math.Seq.{take-add}
 use Rattle.std.proofs.lemmas.List.Elements.{All-head, All-tail}
+use Rattle.sdbt_base.specs.Bytes.{IsBytes}
 use Rattle.record_fields.specs.Fields.{fields_from, fields_whole, fields_again, pieces_same, append_same, number_same_2, number_same_8}
 use Rattle.node_codec.specs.declared.body.Entry.{Entry}
 use Rattle.node_codec.specs.declared.head.Head.{Head}
@@ -198,6 +199,21 @@ again_of_parts found addr body front payload is-front is-payload again value fit
 pub none_of_again : (found : Option Body) (addr : ℕ) (body : List ℕ) → Again found addr body → IfNone found ((value : Record) → FitsRecord addr value → body ≡ record_bytes addr value → ⊥)
 none_of_again None addr body again = again
 none_of_again (Some b) addr body again = tt
+
+-- bytes are a data record exactly where their head is that of one
+pub block_found : (found : Option ℕ) (addr : ℕ) (body front : List ℕ) → front ≡ take 32 body → IsBytes 4096 (drop 32 body) → IfSome found (λ block. (block < 1048576) × (front ≡ head_bytes addr 1 0 0 block)) → IfSome found (λ block. FitsRecord addr (DataRecord block (drop 32 body)) × (body ≡ record_bytes addr (DataRecord block (drop 32 body))))
+block_found None addr body front is-front bytes h = tt
+block_found (Some block) addr body front is-front bytes h = ((h.0, bytes), whole_of_parts addr body (DataRecord block (drop 32 body)) (sym is-front ∙ h.1, refl))
+
+abbrev BlockAgain : Option ℕ → ℕ → List ℕ → Type 0
+BlockAgain found addr body = (block : ℕ) (content : List ℕ) → FitsRecord addr (DataRecord block content) → body ≡ record_bytes addr (DataRecord block content) → found ≡ Some block
+
+pub block_again : (found : Option ℕ) (addr : ℕ) (body front : List ℕ) → front ≡ take 32 body → ((block : ℕ) → block < 1048576 → front ≡ head_bytes addr 1 0 0 block → found ≡ Some block) → BlockAgain found addr body
+block_again found addr body front is-front again block content fits same = again block fits.0 (is-front ∙ (parts_of_whole addr body (DataRecord block content) same).0)
+
+pub no_block_of_again : (found : Option ℕ) (addr : ℕ) (body : List ℕ) → BlockAgain found addr body → IfNone found ((block : ℕ) (content : List ℕ) → FitsRecord addr (DataRecord block content) → body ≡ record_bytes addr (DataRecord block content) → ⊥)
+no_block_of_again None addr body again = λ block content fits same. let other = again block content fits same in absurd cc
+no_block_of_again (Some found) addr body again = tt
 
 -- the numbers of two heads with the same bytes are the same
 record SameHeads (addr kind level count block addr' kind' level' count' block' : ℕ) : Type 0 where

@@ -1,5 +1,5 @@
-ghost use Rattle.std.specs.Prelude.{◌≡◌, ◌≢◌, ◌^◌, ◌<◌, IfSome, IfNone, IsSomeAnd, drop, length};
-ghost use Rattle.node_codec.specs.Record.{Record, FitsRecord, record_bytes, value_of};
+ghost use Rattle.std.specs.Prelude.{◌≡◌, ◌≢◌, ◌^◌, ◌<◌, ℕ, List, Some, IfSome, IfNone, IsSomeAnd, drop, length};
+ghost use Rattle.node_codec.specs.Record.{Record, DataRecord, FitsRecord, record_bytes, head_bytes, value_of};
 ghost use Rattle.node_codec.specs.Parts.{HasParts};
 
 use crate::body::{Body, NodeBody};
@@ -38,4 +38,27 @@ fn body_of(front: &[u8], payload: &[u8], addr: u64) -> Option<Body>
     } else {
         None
     }
+}
+
+/// The number of the block whose data record at `addr` the 4,128 bytes are, or `None` where they are no data record of that
+/// address. The content is the bytes from 32 on.
+pub fn decode_block(body: &[u8], addr: u64) -> Option<u64>
+    requires { length body.now ≡ 4128 }
+    ensures found { IfSome result (λ block. FitsRecord addr (DataRecord block (drop 32 body.now)) × (body.now ≡ record_bytes addr (DataRecord block (drop 32 body.now)))) }
+    ensures none { IfNone result ((block : ℕ) (content : List ℕ) → FitsRecord addr (DataRecord block content) → body.now ≢ record_bytes addr (DataRecord block content)) }
+    // What was encoded is decoded to the same block.
+    ensures again { (block : ℕ) (content : List ℕ) → FitsRecord addr (DataRecord block content) → body.now ≡ record_bytes addr (DataRecord block content) → result ≡ Some block }
+{
+    let (front, _) = body.split_at(HEAD);
+    block_of(front, addr)
+}
+
+/// The same, of the head.
+fn block_of(front: &[u8], addr: u64) -> Option<u64>
+    requires { length front.now ≡ 32 }
+    ensures found { IfSome result (λ block. (block < 1048576) × (front.now ≡ head_bytes addr 1 0 0 block)) }
+    ensures again { (block : ℕ) → block < 1048576 → front.now ≡ head_bytes addr 1 0 0 block → result ≡ Some block }
+{
+    let head = head_of(front)?;
+    head.is_data(addr).then_some(head.block)
 }

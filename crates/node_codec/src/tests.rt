@@ -57,6 +57,8 @@ fn worked_block(rt: HostRuntime) {
     assert!(rt; body[34..].iter().all(|byte| *byte == 0));
     assert!(rt; matches!(decode(&body, 3), Some(Body::Block { block: 3 })));
     assert!(rt; decode(&body, 4).is_none());
+    assert_eq!(rt; decode_block(&body, 3), Some(3));
+    assert_eq!(rt; decode_block(&body, 4), None);
 }
 
 #[test]
@@ -73,6 +75,7 @@ fn node(rt: HostRuntime) {
     };
     assert_eq!(rt; node.level, 20);
     assert!(rt; node.entries.as_slice() == [entry(5, 2)].as_slice());
+    assert_eq!(rt; decode_block(&body, 7), None);
 }
 
 #[test]

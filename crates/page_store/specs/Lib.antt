@@ -8,3 +8,4 @@ pub mod Kept
 pub mod Keeping
 pub mod Floors
 pub mod Disclosing
+pub mod Reading

@@ -6,6 +6,7 @@
 #![tactic(auto)]
 
 mod appending;
+mod blocks;
 mod buffers;
 mod fetching;
 mod floor_laws;
@@ -16,6 +17,7 @@ mod roots;
 mod wants;
 
 pub use appending::Placed;
+pub use blocks::fetch_block;
 pub use buffers::Buffers;
 pub use fetching::fetch;
 pub use floor_laws::{head_of_root, keeps_deleted, never_reached, reaches_still};

@@ -1,6 +1,8 @@
 ghost use Rattle.std.specs.Prelude.{◌<◌};
 
-use crate::{AppendFault, Buffers, CurrentRefusal, FetchRefusal, Placed, Want, current, fetch};
+use crate::{
+    AppendFault, Buffers, CurrentRefusal, FetchRefusal, Placed, Want, current, fetch, fetch_block,
+};
 use node_codec::{Body, Entry};
 use platform::{CallKind, Failure, MemPlatform, Platform};
 use root_codec::{Root, encode_root};
@@ -42,6 +44,22 @@ fn fetched<P: Platform>(
         Ok(Body::Block { block }) => Some(Ok((0, block))),
         Ok(Body::Node { node }) => Some(Ok((node.level, node.entries.len() as u64))),
         Err(refusal) => Some(Err(refusal)),
+    }
+}
+
+// Whether the data record of a block is there; none where there is no such page.
+fn fetched_block<P: Platform>(
+    platform: &mut P,
+    addr: u64,
+    block: u64,
+    key: &Key,
+    buffers: &mut Buffers,
+) -> Option<Result<(), FetchRefusal>> {
+    if addr < platform.head() {
+        let want = Want::of_block(addr, block);
+        Some(fetch_block(platform, &want, key, buffers))
+    } else {
+        None
     }
 }
 
@@ -141,12 +159,15 @@ fn fetches_what_is_wanted_and_nothing_else(rt: HostRuntime) -> Result<(), Fail> 
     }
     assert_eq!(rt; platform.reads(), 12, "one read each");
 
-    fetched(
-        &mut platform,
-        &Want::of_block(0, 3),
-        &data.key,
-        &mut buffers,
-    );
+    for (addr, block, key, answer) in [
+        (0, 4, data.key, Err(FetchRefusal::BadRecord { addr: 0 })),
+        (1, 3, leaf.key, Err(FetchRefusal::BadRecord { addr: 1 })),
+        (0, 3, data.key, Ok(())),
+    ] {
+        let got = fetched_block(&mut platform, addr, block, &key, &mut buffers);
+        assert_eq!(rt; got, Some(answer), "for block {block} at {addr}");
+    }
+    assert_eq!(rt; platform.reads(), 15, "one read each");
     assert!(rt; buffers.content().starts_with(b"hi\0"));
     buffers.wipe();
     assert!(rt; buffers.content().starts_with(b"\0\0"));
