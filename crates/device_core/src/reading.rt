@@ -14,7 +14,7 @@ use crate::leaves::place_of;
 use crate::refusals::ReadRefusal;
 use crate::session::Session;
 use node_codec::Entry;
-use page_store::{Buffers, FetchRefusal, Want, fetch};
+use page_store::{Buffers, FetchRefusal, Want, fetch_block};
 use platform::Platform;
 
 impl Session {
@@ -74,7 +74,7 @@ impl Session {
             return Ok(());
         };
         let entry = self.entries[place];
-        match fetch_block(platform, &entry, block, &mut self.buffers, out) {
+        match read_block(platform, &entry, block, &mut self.buffers, out) {
             Ok(()) => {}
             Err(FetchRefusal::BadRecord { .. }) => {
                 return Err(ReadRefusal::BadRecord { addr: entry.addr });
@@ -87,7 +87,7 @@ impl Session {
 
 /// Reads the data record of a block, which an entry names, and puts its content into the 4,096 bytes of `out`.
 #[tactic(auto, using(platform::proofs::CallLaws::looks_start, platform::proofs::CallLaws::looks_call, platform::proofs::CallLaws::looks_then))]
-fn fetch_block<P: Platform>(
+fn read_block<P: Platform>(
     platform: &mut P,
     entry: &Entry,
     block: u64,
@@ -110,8 +110,8 @@ fn fetch_block<P: Platform>(
     ensures cause { IsErrOf result FetchRefusal.PlatformFault → Rose (P.faults platform.old) (P.faults platform.new) }
 {
     let want = Want::of_block(entry.addr, block);
-    match fetch(platform, &want, &entry.key, buffers) {
-        Ok(_) => {}
+    match fetch_block(platform, &want, &entry.key, buffers) {
+        Ok(()) => {}
         Err(refusal) => return Err(refusal),
     }
     out.copy_from_slice(buffers.content());
