@@ -1,0 +1,53 @@
+-- Digits as numbers: what tests and arithmetic on their codes give.
+use Rattle.std.proofs.Common.{◌≡◌, ℕ, ◌+◌, ◌*◌, ◌/◌, ◌%◌, ◌<◌, true, ◌||◌, nat_lt, Some, Ok, bit_and, bit_or, refl, ap, arith}
+use Rattle.std.proofs.lemmas.Bool.{agree_below_at}
+use Rattle.std.proofs.lemmas.Nat.{and_block, and_mask}
+use Rattle.hex.specs.Hex.{digit_or_error, hex_digit_value, is_hex_digit, pair_value, value_at}
+
+-- the two tests of a byte are the kit's
+pub is_digit_by_tests : (c : ℕ) → c < 256
+    → (nat_lt ((c + 208) % 256) 10 || nat_lt ((bit_or c 32 + 159) % 256) 6) ≡ is_hex_digit c
+is_digit_by_tests c h =
+    agree_below_at (λ k. nat_lt ((k + 208) % 256) 10 || nat_lt ((bit_or k 32 + 159) % 256) 6) is_hex_digit 256 c refl h
+
+-- a digit's code is small
+pub is_hex_digit-small : (c : ℕ) → is_hex_digit c ≡ true → c < 128
+is_hex_digit-small c h = grind (arith)
+
+-- a digit's value, by arithmetic on its code
+pub hex_digit_value-by_code : (c : ℕ) → is_hex_digit c ≡ true → hex_digit_value c ≡ Some (c % 16 + c / 64 * 9)
+hex_digit_value-by_code c h = grind (arith)
+
+-- such a value is below 16
+pub code_value-small : (c : ℕ) → is_hex_digit c ≡ true → c % 16 + c / 64 * 9 < 16
+code_value-small c h = grind (arith)
+
+-- both values in the halves of one number
+pub values_at_once : (h l : ℕ) → h < 128 → l < 128
+    → bit_and (h + l * 256) 3855 + bit_and ((h + l * 256) / 64) 257 * 9
+    ≡ (l % 16 + l / 64 * 9) * 256 + (h % 16 + h / 64 * 9)
+values_at_once h l hs ls =
+    let turned : h + l * 256 ≡ l * 256 + h = omega arith in
+    let low : bit_and (l * 256 + h) 3855 ≡ bit_and l 15 * 256 + bit_and h 15 = and_block 8 l 15 h 15 (omega arith) (omega arith) in
+    let l15 : bit_and l 15 ≡ l % 16 = and_mask l 4 in
+    let h15 : bit_and h 15 ≡ h % 16 = and_mask h 4 in
+    let rest : ℕ = l % 64 * 4 + h / 64 in
+    let shifted : (l * 256 + h) / 64 ≡ l / 64 * 256 + (l % 64 * 4 + h / 64) = omega arith in
+    let letters : bit_and (l / 64 * 256 + (l % 64 * 4 + h / 64)) 257
+    ≡ bit_and (l / 64) 1 * 256 + bit_and (l % 64 * 4 + h / 64) 1 = and_block 8 (l / 64) 1 (l % 64 * 4 + h / 64) 1 (omega arith) (omega arith) in
+    let l1 : bit_and (l / 64) 1 ≡ l / 64 % 2 = and_mask (l / 64) 1 in
+    let h1 : bit_and (l % 64 * 4 + h / 64) 1 ≡ (l % 64 * 4 + h / 64) % 2 = and_mask (l % 64 * 4 + h / 64) 1 in
+    rw (turned, low, shifted, letters, l15, h15, l1, h1) (omega arith)
+
+-- two digits read as their byte
+pub pair_value-by_code : (h l i : ℕ) → is_hex_digit h ≡ true → is_hex_digit l ≡ true
+    → pair_value h l i ≡ Ok ((h % 16 + h / 64 * 9) * 16 + (l % 16 + l / 64 * 9))
+pair_value-by_code h l i hd ld =
+    let hv : value_at h i ≡ Ok (h % 16 + h / 64 * 9) = ap (digit_or_error h i) (hex_digit_value-by_code h hd) in
+    let lv : value_at l (i + 1) ≡ Ok (l % 16 + l / 64 * 9) = ap (digit_or_error l (i + 1)) (hex_digit_value-by_code l ld) in
+    rw (hv, lv) refl
+
+-- the byte of both values
+pub byte_at_once : (x y : ℕ) → x < 16 → y < 16
+    → ((y * 256 + x) * 16 + (y * 256 + x) / 256) % 256 ≡ x * 16 + y
+byte_at_once x y hx hy = omega arith
