@@ -1,8 +1,8 @@
 -- Digits as numbers: what tests and arithmetic on their codes give.
-use Rattle.std.proofs.Common.{◌≡◌, ℕ, ◌+◌, ◌*◌, ◌/◌, ◌%◌, ◌<◌, true, ◌||◌, nat_lt, Some, Ok, bit_and, bit_or, refl, ap, arith}
-use Rattle.std.proofs.lemmas.Bool.{agree_below_at}
+use Rattle.std.proofs.Common.{◌≡◌, ℕ, ◌+◌, ◌*◌, ◌/◌, ◌%◌, ◌<◌, true, ◌||◌, nat_lt, Some, Ok, bit_and, bit_or, ◌==◌, slice_index, refl, ap, arith}
+use Rattle.std.proofs.lemmas.Bool.{agree_below_at, eqb-true}
 use Rattle.std.proofs.lemmas.Nat.{and_block, and_mask}
-use Rattle.hex.specs.Hex.{digit_or_error, hex_digit_value, is_hex_digit, pair_value, value_at}
+use Rattle.hex.specs.Hex.{digit_or_error, hex_digit_value, is_hex_digit, lower_digits, pair_value, value_at}
 
 -- the two tests of a byte are the kit's
 pub is_digit_by_tests : (c : ℕ) → c < 256
@@ -48,6 +48,20 @@ pair_value-by_code h l i hd ld =
     rw (hv, lv) refl
 
 -- the byte of both values
-pub byte_at_once : (x y : ℕ) → x < 16 → y < 16
-    → ((y * 256 + x) * 16 + (y * 256 + x) / 256) % 256 ≡ x * 16 + y
+pub byte_at_once : (x y : ℕ) → x < 16 → y < 16 → (y * 256 + x) * 4097 % 65536 / 256 ≡ x * 16 + y
 byte_at_once x y hx hy = omega arith
+
+-- both digits of a byte in the halves of one number, as `digits_of` computes them
+abbrev pub digits_at_once : ℕ → ℕ
+digits_at_once b =
+    b * 4097 % 65536 / 16 + 12336 + bit_and ((b * 4097 % 65536 / 16 + 1542) / 16) 257 * 39
+
+pub digits_at_once-first : (b : ℕ) → b < 256 → digits_at_once b % 256 ≡ slice_index lower_digits (b / 16)
+digits_at_once-first b h =
+    eqb-true _ _
+    (agree_below_at (λ k. digits_at_once k % 256 == slice_index lower_digits (k / 16)) (λ k. true) 256 b refl h)
+
+pub digits_at_once-second : (b : ℕ) → b < 256 → digits_at_once b / 256 ≡ slice_index lower_digits (b % 16)
+digits_at_once-second b h =
+    eqb-true _ _
+    (agree_below_at (λ k. digits_at_once k / 256 == slice_index lower_digits (k % 16)) (λ k. true) 256 b refl h)

@@ -29,7 +29,7 @@ fn byte_of(high: u8, low: u8) -> u8
 {
     let pair = high as u16 + low as u16 * 256;
     let values = (pair & 0x0f0f) + ((pair >> 6) & 0x0101) * 9;
-    ((values * 16 + values / 256) % 256) as u8
+    (values.wrapping_mul(4097) / 256) as u8
 }
 
 // Writes the bytes of digits.

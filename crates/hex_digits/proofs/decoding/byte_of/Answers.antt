@@ -1,22 +1,6 @@
-use Rattle.std.proofs.Common.{Ok, ap, sym, ◌∙◌, arith}
+use Rattle.std.proofs.Common.{Ok, ap, sym, ◌∙◌}
 use Rattle.hex_digits.proofs.Digits.{byte_at_once, code_value-small, is_hex_digit-small, pair_value-by_code, values_at_once}
 use Rattle.hex_digits.proofs.decoding.byte_of.Goals as goal
-
-pub overflow_mul-result : goal.overflow_mul-result
-overflow_mul-result c =
-    let h = is_hex_digit-small c.args.high c.requires.high_is_digit in
-    let l = is_hex_digit-small c.args.low c.requires.low_is_digit in
-    let x = code_value-small c.args.high c.requires.high_is_digit in
-    let y = code_value-small c.args.low c.requires.low_is_digit in
-    rw (values_at_once c.args.high c.args.low h l) (omega arith)
-
-pub overflow_add-result : goal.overflow_add-result
-overflow_add-result c =
-    let h = is_hex_digit-small c.args.high c.requires.high_is_digit in
-    let l = is_hex_digit-small c.args.low c.requires.low_is_digit in
-    let x = code_value-small c.args.high c.requires.high_is_digit in
-    let y = code_value-small c.args.low c.requires.low_is_digit in
-    rw (values_at_once c.args.high c.args.low h l) (omega arith)
 
 pub returns : goal.returns
 returns c =
