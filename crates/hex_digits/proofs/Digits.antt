@@ -1,14 +1,33 @@
 -- Digits as numbers: what tests and arithmetic on their codes give.
-use Rattle.std.proofs.Common.{◌≡◌, ℕ, ◌+◌, ◌*◌, ◌/◌, ◌%◌, ◌<◌, true, ◌||◌, nat_lt, Some, Ok, bit_and, bit_or, ◌==◌, slice_index, refl, ap, arith}
-use Rattle.std.proofs.lemmas.Bool.{agree_below_at, eqb-true}
+use Rattle.std.proofs.Common.{◌≡◌, ℕ, ◌+◌, ◌*◌, ◌/◌, ◌%◌, ◌<◌, ◌≤◌, min, cond, true, nat_lt, Some, Ok, bit_and, bit_or, ◌==◌, slice_index, refl, ap, ◌∙◌, arith}
+use Rattle.std.proofs.lemmas.Bool.{agree_below_at, cond_above, cond_below, eqb-true}
 use Rattle.std.proofs.lemmas.Nat.{and_block, and_mask}
 use Rattle.hex.specs.Hex.{digit_or_error, hex_digit_value, is_hex_digit, lower_digits, pair_value, value_at}
 
--- the two tests of a byte are the kit's
-pub is_digit_by_tests : (c : ℕ) → c < 256
-    → (nat_lt ((c + 208) % 256) 10 || nat_lt ((bit_or c 32 + 159) % 256) 6) ≡ is_hex_digit c
-is_digit_by_tests c h =
-    agree_below_at (λ k. nat_lt ((k + 208) % 256) 10 || nat_lt ((bit_or k 32 + 159) % 256) 6) is_hex_digit 256 c refl h
+-- a byte's distance above `0`, and above four places before `a` in lower case
+abbrev pub number_of : ℕ → ℕ
+number_of c = (c + 208) % 256
+
+abbrev pub letter_of : ℕ → ℕ
+letter_of c = min ((bit_or c 32 + 159) % 256 + 4) 255
+
+-- the lower of both is below 10 where the byte is a digit
+lower_below_ten : (c : ℕ) → c < 256
+    → nat_lt (cond (nat_lt (number_of c) (letter_of c)) (number_of c) (letter_of c)) 10 ≡ is_hex_digit c
+lower_below_ten c h =
+    agree_below_at (λ k. nat_lt (cond (nat_lt (number_of k) (letter_of k)) (number_of k) (letter_of k)) 10) is_hex_digit 256 c refl h
+
+pub number_below_ten : (c letter : ℕ) → c < 256 → letter ≡ letter_of c → number_of c < letter
+    → nat_lt (number_of c) 10 ≡ is_hex_digit c
+number_below_ten c letter h e below =
+    let less : number_of c < letter_of c = rw e at below in
+    ap (λ (v : ℕ). nat_lt v 10) (cond_below (number_of c) (letter_of c) (number_of c) (letter_of c) less) ∙ lower_below_ten c h
+
+pub letter_below_ten : (c letter : ℕ) → c < 256 → letter ≡ letter_of c → letter ≤ number_of c
+    → nat_lt letter 10 ≡ is_hex_digit c
+letter_below_ten c letter h e above =
+    let most : letter_of c ≤ number_of c = rw e at above in
+    ap (λ (v : ℕ). nat_lt v 10) (cond_above (number_of c) (letter_of c) (number_of c) (letter_of c) letter most e) ∙ lower_below_ten c h
 
 -- a digit's code is small
 pub is_hex_digit-small : (c : ℕ) → is_hex_digit c ≡ true → c < 128

@@ -1,24 +1,27 @@
-ghost use Rattle.std.specs.Prelude.{◌≡◌, ◌*◌, ◌<◌, ℕ, List, length, true, IsTrue, ◌↔◌, Ok};
+ghost use Rattle.std.specs.Prelude.{◌≡◌, nat_lt, ◌*◌, ◌<◌, ℕ, List, length, true, IsTrue, ◌↔◌, Ok};
 ghost use Rattle.std.specs.Bool.{OnTrue, OnFalse};
 ghost use Rattle.std.specs.List.{AllPass};
 ghost use Rattle.hex.specs.Hex.{decode_of, is_hex_digit, pair_value};
 
-// Whether a byte is a hex digit, in either case.
-fn is_digit(digit: u8) -> bool
-    ensures { result ≡ is_hex_digit digit }
+// Below 10 for a hex digit, in either case, and no other byte.
+fn strangeness(digit: u8) -> u8
+    ensures { nat_lt result 10 ≡ is_hex_digit digit }
 {
-    (digit.wrapping_sub(48) < 10) | ((digit | 32).wrapping_sub(97) < 6)
+    let number = digit.wrapping_sub(48);
+    let letter = (digit | 32).wrapping_sub(97).saturating_add(4);
+    if number < letter { number } else { letter }
 }
 
 // Whether all are hex digits.
 fn all_digits(digits: &[u8]) -> bool
     ensures { IsTrue result ↔ AllPass is_hex_digit digits.now }
 {
-    let mut valid = true;
+    let mut worst = 0;
     'digits: for i in 0..digits.len() {
-        valid = valid & is_digit(digits[i]);
+        let strange = strangeness(digits[i]);
+        worst = if worst < strange { strange } else { worst };
     }
-    valid
+    worst < 10
 }
 
 // The byte of two digits, both computed in the halves of one number.
