@@ -15,6 +15,7 @@ fn vectors(rt: HostRuntime) {
     assert!(rt; decode(b"666F6F626172", &mut bytes));
     assert_eq!(rt; &bytes, b"foobar");
     let mut none = [0; 0];
+    encode_lower(b"", &mut none);
     assert!(rt; decode(b"", &mut none));
     let mut one = [0; 1];
     assert!(rt; !decode(b"6g", &mut one));
