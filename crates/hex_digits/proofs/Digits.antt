@@ -50,7 +50,6 @@ values_at_once h l hs ls =
     let low : bit_and (l * 256 + h) 3855 ≡ bit_and l 15 * 256 + bit_and h 15 = and_block 8 l 15 h 15 (omega arith) (omega arith) in
     let l15 : bit_and l 15 ≡ l % 16 = and_mask l 4 in
     let h15 : bit_and h 15 ≡ h % 16 = and_mask h 4 in
-    let rest : ℕ = l % 64 * 4 + h / 64 in
     let shifted : (l * 256 + h) / 64 ≡ l / 64 * 256 + (l % 64 * 4 + h / 64) = omega arith in
     let letters : bit_and (l / 64 * 256 + (l % 64 * 4 + h / 64)) 257
     ≡ bit_and (l / 64) 1 * 256 + bit_and (l % 64 * 4 + h / 64) 1 = and_block 8 (l / 64) 1 (l % 64 * 4 + h / 64) 1 (omega arith) (omega arith) in
