@@ -77,7 +77,7 @@ impl LineBuffer {
         ensures len { length self.new ≡ length self.old + 2 * length bytes.now }
     {
         let end = self.len + 2 * bytes.len();
-        let _ = hex::encode_to_slice(bytes, &mut self.bytes[self.len..end]);
+        hex_digits::encode_lower(bytes, &mut self.bytes[self.len..end]);
         self.len = end;
     }
 }

@@ -34,8 +34,14 @@ pub fn parse_hex(text: &[u8], buffer: &mut [u8; BLOCK]) -> Option<usize>
     if count > BLOCK {
         return None;
     }
-    hex::decode_to_slice(text, &mut buffer[..count]).ok()?;
-    Some(count)
+    if !text.len().is_multiple_of(2) {
+        return None;
+    }
+    if hex_digits::decode(text, &mut buffer[..count]) {
+        Some(count)
+    } else {
+        None
+    }
 }
 
 /// The number before the first space of a text, and what stands behind that space.

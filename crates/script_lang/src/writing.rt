@@ -125,7 +125,7 @@ pub fn is_hex_of(text: &[u8], bytes: &[u8]) -> bool
 {
     let mut digits = [0; DIGITS];
     let digits = &mut digits[..2 * bytes.len()];
-    let _ = hex::encode_to_slice(bytes, digits);
+    hex_digits::encode_lower(bytes, digits);
     let digits: &[u8] = digits;
     text == digits
 }
