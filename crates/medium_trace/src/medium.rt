@@ -76,9 +76,7 @@ impl MediumTrace {
     {
         let addr = self.recorded.len() as u64;
         self.torn.push(false)?;
-        let mut copy = [0; PAGE];
-        copy.copy_from_slice(page);
-        if self.recorded.push(copy).is_err() {
+        if self.recorded.push(whole(page)).is_err() {
             let _ = self.torn.pop();
             return Err(Memory);
         }
@@ -163,4 +161,15 @@ fn zeros() -> &'static [u8]
     ensures size { length result.now ≡ PAGE }
 {
     &ZERO_PAGE
+}
+
+// A page of `PAGE` bytes as an array.
+fn whole(page: &[u8]) -> &[u8; PAGE]
+    requires { length page.now ≡ PAGE }
+    ensures { result.now ≡ page.now }
+{
+    match page.first_chunk() {
+        Some(bytes) => bytes,
+        None => unreachable!(),
+    }
 }

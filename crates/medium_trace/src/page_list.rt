@@ -33,11 +33,11 @@ impl Pages {
     }
 
     /// Adds a page behind the others; without memory the list stays as it was.
-    pub fn push(&mut self, item: [u8; PAGE]) -> Result<(), Memory>
-        ensures pushed { self.new ≡ (if is_ok result then self.old ++ item ∷ [] else self.old) }
+    pub fn push(&mut self, item: &[u8; PAGE]) -> Result<(), Memory>
+        ensures pushed { self.new ≡ (if is_ok result then self.old ++ item.now ∷ [] else self.old) }
     {
-        is_page(&item);
-        self.pages.push(item)?;
+        is_page(item);
+        self.pages.push(*item)?;
         Ok(())
     }
 

@@ -17,17 +17,17 @@ returns-then-is_err-clause-whole c =
 
 pub invariant_of-self-else-is_err : goal.invariant_of-self-else-is_err
 invariant_of-self-else-is_err c =
-    let pages_are : c.push-2.new.self ≡ c.self.inside.recorded ++ c.args.page.now ∷ [] = rw c.if-is_err.ensures.negation at (rw c.copy_from_slice.ensures.after at c.push-2.ensures.pushed) in
+    let pages_are : c.push-2.new.self ≡ c.self.inside.recorded ++ c.args.page.now ∷ [] = rw c.if-is_err.ensures.negation at (rw c.whole.ensures at c.push-2.ensures.pushed) in
     rw (c.in_ok-push.ensures.items, pages_are) (IsMarked-push _ _ _ _ _ c.self.invariant (c.requires, λ k d below. grind (arith, common_steps, c.type_inv.page k)))
 
 pub returns-clause-whole : goal.returns-clause-whole
 returns-clause-whole c =
-    let pages_are : c.push-2.new.self ≡ c.self.inside.recorded ++ c.args.page.now ∷ [] = rw c.if-is_err.ensures.negation at (rw c.copy_from_slice.ensures.after at c.push-2.ensures.pushed) in
+    let pages_are : c.push-2.new.self ≡ c.self.inside.recorded ++ c.args.page.now ∷ [] = rw c.if-is_err.ensures.negation at (rw c.whole.ensures at c.push-2.ensures.pushed) in
     IsWhole-marked _ _ _ _ _ (rw (c.in_ok-push.ensures.items, pages_are) (IsMarked-push _ _ _ _ _ c.self.invariant (c.requires, λ k d below. grind (arith, common_steps, c.type_inv.page k)))) refl
 
 pub returns-clause-readable : goal.returns-clause-readable
 returns-clause-readable c =
     let inside = c.self.inside in
-    let pages_are : c.push-2.new.self ≡ inside.recorded ++ c.args.page.now ∷ [] = rw c.if-is_err.ensures.negation at (rw c.copy_from_slice.ensures.after at c.push-2.ensures.pushed) in
+    let pages_are : c.push-2.new.self ≡ inside.recorded ++ c.args.page.now ∷ [] = rw c.if-is_err.ensures.negation at (rw c.whole.ensures at c.push-2.ensures.pushed) in
     let readable_is : shown_pages inside.unmarked inside.recorded inside.torn.items ≡ c.args.self.now.readable = ap (λ (trace : Trace). trace.readable) c.self.view_is in
     rw (c.in_ok-push.ensures.items, pages_are, shown_pages-push inside.unmarked inside.recorded inside.torn.items c.args.page.now c.self.invariant.as_many, readable_is)
