@@ -7,3 +7,4 @@ pub mod GroveLaws
 pub mod CacheLaws
 pub mod HoldLaws
 pub mod RootHolds
+pub mod WrongLaws

@@ -1,11 +1,11 @@
 -- What stands at the places below the nodes in memory.
-use Rattle.std.proofs.Common.{◌≡◌, ℕ, zero, suc, ◌+◌, ◌/◌, ◌<◌, ◌≤◌, ◌^◌, List, [], ◌∷◌, ◌++◌, map, refl, sym, ap, subst, ◌∙◌, arith, append_assoc, append-nil}
-use Rattle.std.specs.List.{AllZip, AllByRecursion}
+use Rattle.std.proofs.Common.{◌≡◌, ℕ, zero, suc, ◌<◌, ◌≤◌, ◌^◌, List, [], ◌∷◌, ◌++◌, refl, sym, ap, subst, ◌∙◌, arith, append_assoc}
+use Rattle.std.specs.List.{AllByRecursion}
 use Rattle.node_codec.specs.declared.body.Entry.{Entry}
-use Rattle.node_codec.specs.Record.{Record, DataRecord, NodeRecord}
+use Rattle.node_codec.specs.Record.{DataRecord, NodeRecord}
 use Rattle.page_store.specs.declared.wants.Want.{Want}
 use Rattle.page_store.specs.Places.{IsRecordAt, FitsAt, child_want}
-use Rattle.page_store.specs.Tree.{Parts, Mapped, Subtree, EachChild, IsData, IsNode, joined, data_parts, node_parts, bound_of}
+use Rattle.page_store.specs.Tree.{Parts, Mapped, Subtree, EachChild, joined, data_parts, node_parts, bound_of}
 use Rattle.page_store.proofs.RecordLaws.{one_record}
 use Rattle.btree_twigs.specs.Stubs.{Stub, Tiles, Puts, datum}
 use Rattle.std.proofs.lemmas.List.Elements.{recursion_from_All}

@@ -6,7 +6,7 @@ use Rattle.page_store.specs.declared.wants.Want.{Want}
 use Rattle.page_store.specs.Places.{IsRecordAt, IsNodeWanted}
 use Rattle.btree_twigs.specs.declared.twigs.Child.{Child}
 use Rattle.btree_twigs.specs.declared.twigs.Twig.{Twig, out-Twig}
-use Rattle.btree_twigs.specs.Stubs.{Stub, low_of, level_of, children_of, stubs, stubs_below}
+use Rattle.btree_twigs.specs.Stubs.{low_of, level_of, children_of, stubs, stubs_below}
 use Rattle.btree_twigs.specs.Shape.{IsChild, IsTwig}
 use Rattle.btree_update.specs.Reading.{all_kept}
 use Rattle.btree_update.specs.Held.{AreBelow}

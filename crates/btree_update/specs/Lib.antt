@@ -4,5 +4,6 @@ pub mod Held
 pub mod Opens
 pub mod Reading
 pub mod Roots
+pub mod Wrong
 pub mod Groves
 pub mod Holding

@@ -16,7 +16,7 @@ ghost use Rattle.btree_walk.specs.Sights.{StandsOver};
 ghost use Rattle.btree_twigs.specs.declared.twigs.Child.{Child};
 ghost use Rattle.btree_update.specs.declared.refusals.ReadyRefusal.{ReadyRefusal};
 ghost use Rattle.btree_update.specs.Held.{AreBelow};
-ghost use Rattle.btree_update.specs.Groves.{KeepsTree, IsSound, IsReadFrom, CanInsert, GroveMaps, places_of, grown_in, IsAddressOf, LetsGo, Goes};
+ghost use Rattle.btree_update.specs.Groves.{KeepsTree, IsSound, IsReadFrom, IsWrongOnWay, CanInsert, GroveMaps, places_of, grown_in, IsAddressOf, LetsGo, Goes};
 
 use crate::holding::hold_root;
 use crate::opening::{note, open_root};
@@ -114,6 +114,8 @@ impl Grove {
         requires within { AreBelow (P.head platform.old) (places_of self.old) }
         ensures can { IfOk result (λ _. CanInsert block self.new) }
         ensures reads { P.tells → StandsOver (P.history platform.old).present.readable cache.old → IfOk result (λ _. IsReadFrom (P.history platform.old).present.readable block self.new) }
+        ensures bad { P.tells → StandsOver (P.history platform.old).present.readable cache.old → (addr : ℕ) → IsErrOf result (ReadyRefusal.BadRecord addr) →
+            IsWrongOnWay (P.history platform.old).present.readable block self.old addr }
         ensures sound { IsSound self.new }
         ensures tree { KeepsTree self.old self.new }
         ensures stands { P.tells → StandsOver (P.history platform.old).present.readable cache.old → StandsOver (P.history platform.old).present.readable cache.new }

@@ -6,6 +6,8 @@ ghost use Rattle.btree_walk.specs.Sights.{StandsOver};
 ghost use Rattle.btree_update.specs.Held.{AnyRead, IsReadAs, OnWay, HeldFor};
 ghost use Rattle.btree_twigs.specs.Top.{top_least};
 ghost use Rattle.btree_update.specs.Roots.{HeldRoot};
+ghost use Rattle.btree_twigs.specs.Stubs.{stubs, stubs_below};
+ghost use Rattle.btree_update.specs.Wrong.{WrongOnWay, WrongFrom};
 ghost use Rattle.btree_update.specs.Holding.{CanHold, CanHoldBelow, CanHoldRoot};
 
 use crate::reading::read_node;
@@ -36,6 +38,8 @@ pub(crate) fn hold_way<P: Platform>(
     ensures at_hand { IfOk result (λ _. HeldFor AnyRead order block level high child.now held.new.items) }
     ensures reads { P.tells → StandsOver (P.history platform.old).present.readable cache.old →
         IfOk result (λ _. HeldFor (IsReadAs (P.history platform.old).present.readable order) order block level high child.now held.new.items) }
+    ensures bad { P.tells → StandsOver (P.history platform.old).present.readable cache.old → (addr : ℕ) → IsErrOf result (ReadyRefusal.BadRecord addr) →
+        WrongOnWay (P.history platform.old).present.readable order block addr (stubs level high child.now) }
     ensures stands { P.tells → StandsOver (P.history platform.old).present.readable cache.old → StandsOver (P.history platform.old).present.readable cache.new }
     ensures looks { Looks P.Platform level platform.old platform.new }
     ensures cause { IsErrOf result ReadyRefusal.PlatformFault → Rose (P.faults platform.old) (P.faults platform.new) }
@@ -100,6 +104,8 @@ pub(crate) fn hold_below<P: Platform>(
     ensures at_hand { IfOk result (λ _. OnWay block (λ end c. HeldFor AnyRead order block level end c held.new.items) high twig.now) }
     ensures reads { P.tells → StandsOver (P.history platform.old).present.readable cache.old →
         IfOk result (λ _. OnWay block (λ end c. HeldFor (IsReadAs (P.history platform.old).present.readable order) order block level end c held.new.items) high twig.now) }
+    ensures bad { P.tells → StandsOver (P.history platform.old).present.readable cache.old → (addr : ℕ) → IsErrOf result (ReadyRefusal.BadRecord addr) →
+        WrongOnWay (P.history platform.old).present.readable order block addr (stubs_below level high twig.now) }
     ensures stands { P.tells → StandsOver (P.history platform.old).present.readable cache.old → StandsOver (P.history platform.old).present.readable cache.new }
     ensures looks { Looks P.Platform level platform.old platform.new }
     ensures cause { IsErrOf result ReadyRefusal.PlatformFault → Rose (P.faults platform.old) (P.faults platform.new) }
@@ -136,6 +142,8 @@ pub(crate) fn hold_root<P: Platform>(
     ensures at_hand { IfOk result (λ _. HeldRoot AnyRead order block (level - 1) high top.now held.new.items) }
     ensures reads { P.tells → StandsOver (P.history platform.old).present.readable cache.old →
         IfOk result (λ _. HeldRoot (IsReadAs (P.history platform.old).present.readable order) order block (level - 1) high top.now held.new.items) }
+    ensures bad { P.tells → StandsOver (P.history platform.old).present.readable cache.old → (addr : ℕ) → IsErrOf result (ReadyRefusal.BadRecord addr) →
+        WrongFrom (P.history platform.old).present.readable order block addr (level - 1) high top.now }
     ensures stands { P.tells → StandsOver (P.history platform.old).present.readable cache.old → StandsOver (P.history platform.old).present.readable cache.new }
     ensures looks { Looks P.Platform level platform.old platform.new }
     ensures cause { IsErrOf result ReadyRefusal.PlatformFault → Rose (P.faults platform.old) (P.faults platform.new) }

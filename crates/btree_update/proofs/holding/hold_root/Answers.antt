@@ -1,13 +1,18 @@
-use Rattle.std.proofs.Common.{◌≡◌, ℕ, zero, suc, ◌<◌, ◌≤◌, ◌+◌, ◌-◌, ◌/◌, ◌^◌, ◌++◌, [], ◌∷◌, List, refl, sym, ap, subst, ◌∙◌, rules, arith}
-use Rattle.page_store.specs.declared.wants.Want.{Want}
+use Rattle.std.proofs.Common.{◌≡◌, ℕ, suc, ◌<◌, ◌≤◌, ◌-◌, ◌^◌, sym, ap, subst, arith}
 use Rattle.btree_walk.specs.Sights.{StandsOver}
 use Rattle.btree_walk.proofs.OnLaws.{IfOk_map}
-use Rattle.btree_twigs.specs.declared.twigs.Child.TheVariants as made
 use Rattle.btree_update.specs.Held.{stub_at, AnyRead, IsReadAs, OnWay, HeldFor}
 use Rattle.btree_update.specs.Holding.{CanHoldRoot, CanHoldBelow, IsNodeFor, IsNodeOf}
 use Rattle.btree_update.specs.Roots.{HeldRoot}
 use Rattle.btree_update.proofs.HoldLaws.{read_as}
-use Rattle.btree_update.proofs.RootHolds.{root_grown, root_held_grown, want_root, root_low, root_read, root_held, root_lt}
+use Rattle.btree_update.proofs.RootHolds.{root_grown, root_held_grown, want_root, root_low, root_starts, root_read, root_held, root_lt}
+use Rattle.btree_twigs.specs.Stubs.{stubs_below}
+use Rattle.btree_update.specs.Wrong.{ComesToWrong, Here, WrongOnWay, WrongFrom}
+use Rattle.btree_update.specs.declared.refusals.ReadyRefusal.TheVariants.{BadRecord}
+use Rattle.btree_update.proofs.WrongLaws.{wrong_below, wrong_root}
+use Rattle.page_store.specs.Places.{NothingFits}
+use Rattle.std.proofs.Common.{Err}
+use Rattle.std.proofs.lemmas.Result.{err_from_is_err_and}
 use Rattle.btree_update.proofs.holding.hold_root.Goals as goal
 
 above : (level : ℕ) → 1 ≤ level → level ≡ suc (level - 1)
@@ -73,3 +78,37 @@ returns-in_ok-hold-in-Kept-clause-reads g c = λ tells stands.
     let h = root_held c.args.order c.args.level c.args.block c.args.high (g.P.Platform.head c.args.platform.now) c.in-Kept.low c.in-Kept.addr c.least_of_root.result c.in-Kept.key twig at c.least_of_root.ensures c.in_ok-twig-in-Kept.ensures.fits
     Reads c.hold_below-in-Kept.new.held.items c.hold.new.held.items c.in_ok-hold-in-Kept.ensures.held reads way in
     subst (λ x. HeldRoot Reads c.args.order c.args.block (c.args.level - 1) c.args.high x c.hold.new.held.items) (sym c.in-Kept.is) h)
+
+pub returns-in_err-twig-in-Kept-clause-bad : goal.returns-in_err-twig-in-Kept-clause-bad
+returns-in_err-twig-in-Kept-clause-bad g c =
+    let p = err_from_is_err_and c.from_residual.result c.from_residual.ensures.1 in
+    rw (p.1, p.2) (λ tells stands addr is.
+    let same : c.in_err-twig-in-Kept.field-0.0 ≡ BadRecord addr = cc in
+    let at = subst (CanHoldRoot c.args.order c.args.level c.args.block c.args.high (g.P.Platform.head c.args.platform.now)) c.in-Kept.is c.requires.can in
+    let pages = (g.P.Platform.history c.args.platform.now).present.readable in
+    let b = c.in_err-twig-in-Kept.ensures.bad tells stands addr (ap Err same) in
+    let nothing = subst (NothingFits pages (want_root c.args.order c.args.level c.in-Kept.low c.args.high c.in-Kept.addr c.least_of_root.result)) c.from_bytes-key.ensures b.1 in
+    let low_is = root_starts c.args.order c.args.level c.args.block c.args.high (g.P.Platform.head c.args.platform.now) c.in-Kept.low c.in-Kept.addr c.in-Kept.key at in
+    subst (WrongFrom pages c.args.order c.args.block addr (c.args.level - 1) c.args.high) (sym c.in-Kept.is)
+    (wrong_root pages c.args.order c.args.block addr c.args.level c.in-Kept.low c.args.high c.in-Kept.addr c.least_of_root.result c.in-Kept.key at.one low_is c.least_of_root.ensures (Here b.0 nothing)))
+
+pub returns-in_err-is_mapped-in-Kept-clause-bad : goal.returns-in_err-is_mapped-in-Kept-clause-bad
+returns-in_err-is_mapped-in-Kept-clause-bad g c =
+    let p = err_from_is_err_and c.from_residual-in_err-is_mapped-in-Kept.result c.from_residual-in_err-is_mapped-in-Kept.ensures.1 in
+    rw (p.1, p.2) (λ tells stands addr is.
+    let err : c.in_err-is_mapped-in-Kept.field-0.0 ≡ BadRecord addr = cc in
+    let at = subst (CanHoldRoot c.args.order c.args.level c.args.block c.args.high (g.P.Platform.head c.args.platform.now)) c.in-Kept.is c.requires.can in
+    let twig = c.in_ok-twig-in-Kept.twig in
+    let pages = (g.P.Platform.history c.args.platform.now).present.readable in
+    let l = above c.args.level at.one in
+    let same : (g.P.Platform.history c.read_node.new.platform).present.readable ≡ pages = ap (λ i. i.readable) (c.in_ok-twig-in-Kept.ensures.looks.image tells) in
+    let stands' = subst (λ p. StandsOver p c.read_node.new.cache) (sym same) (c.in_ok-twig-in-Kept.ensures.stands tells stands) in
+    let w = subst (λ p. WrongOnWay p c.args.order c.args.block addr (stubs_below (c.args.level - 1) c.args.high twig)) same (c.in_err-is_mapped-in-Kept.ensures.bad tells stands' addr (ap Err err)) in
+    let node = subst (λ k. IsNodeOf pages (want_root c.args.order k c.in-Kept.low c.args.high c.in-Kept.addr c.least_of_root.result) c.in-Kept.key twig) l
+    (subst (λ k. IsNodeOf pages (want_root c.args.order c.args.level c.in-Kept.low c.args.high c.in-Kept.addr c.least_of_root.result) k twig) c.from_bytes-key.ensures (c.in_ok-twig-in-Kept.ensures.reads tells stands)) in
+    let fits = subst (λ k. IsNodeFor (want_root c.args.order k c.in-Kept.low c.args.high c.in-Kept.addr c.least_of_root.result) twig) l c.in_ok-twig-in-Kept.ensures.fits in
+    let comes = wrong_below pages c.args.order c.args.block addr (c.args.level - 1) c.in-Kept.low c.args.high c.in-Kept.addr c.least_of_root.result c.args.order c.in-Kept.key twig fits node w in
+    let low_is = root_starts c.args.order c.args.level c.args.block c.args.high (g.P.Platform.head c.args.platform.now) c.in-Kept.low c.in-Kept.addr c.in-Kept.key at in
+    subst (WrongFrom pages c.args.order c.args.block addr (c.args.level - 1) c.args.high) (sym c.in-Kept.is)
+    (wrong_root pages c.args.order c.args.block addr c.args.level c.in-Kept.low c.args.high c.in-Kept.addr c.least_of_root.result c.in-Kept.key at.one low_is c.least_of_root.ensures
+    (subst (λ k. ComesToWrong pages c.args.order c.args.block addr (want_root c.args.order k c.in-Kept.low c.args.high c.in-Kept.addr c.least_of_root.result) c.in-Kept.key) (sym l) comes)))

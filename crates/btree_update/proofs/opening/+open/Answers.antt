@@ -1,17 +1,16 @@
-use Rattle.std.proofs.Common.{◌≡◌, ℕ, zero, suc, ◌<◌, ◌≤◌, ◌+◌, ◌-◌, ◌*◌, ◌/◌, ◌++◌, [], ◌∷◌, List, length, take, drop, get_or, set, refl, sym, ap, subst, ◌∙◌, rules, arith}
-use Rattle.std.specs.List.{AllByRecursion}
+use Rattle.std.proofs.Common.{◌≡◌, ℕ, suc, ◌<◌, ◌≤◌, ◌+◌, ◌-◌, ◌/◌, ◌++◌, ◌∷◌, List, length, take, drop, set, refl, sym, ap, subst, ◌∙◌, rules, arith}
 use Rattle.std.specs.Vec.{with_item}
 use Rattle.std.proofs.lemmas.List.{set_split}
 use Rattle.btree_twigs.specs.declared.twigs.Child.{Child, out-Child}
 use Rattle.btree_twigs.specs.declared.twigs.Child.TheVariants as made
-use Rattle.btree_twigs.specs.declared.twigs.Twig.{Twig, out-Twig, roll-Twig}
-use Rattle.btree_twigs.specs.Stubs.{start_by, low_of, low_in, children_of, stubs, stubs_below, nodes, nodes_below}
+use Rattle.btree_twigs.specs.declared.twigs.Twig.{Twig, out-Twig}
+use Rattle.btree_twigs.specs.Stubs.{start_by, low_of, children_of, stubs, nodes}
 use Rattle.btree_twigs.specs.Shape.{IsChild, IsTwig}
 use Rattle.btree_twigs.specs.Updates.{IsNode, IsOpen, stubs_under}
-use Rattle.btree_twigs.proofs.Nodes.{twig_of, children_of_roll, low_of_grown, stubs_of_grown, grown_is_child}
+use Rattle.btree_twigs.proofs.Nodes.{children_of_roll, low_of_grown, stubs_of_grown, grown_is_child}
 use Rattle.btree_update.specs.Opens.{Opens, GivesWay}
 use Rattle.btree_twigs.proofs.Counts.{one_nodes, nodes_grown}
-use Rattle.btree_update.specs.Held.{AreBelow, IsReadAs, OnWay, HeldFor, AnyRead, CanOpen, IsOpened, CanOpenBelow, IsOpenedBelow}
+use Rattle.btree_update.specs.Held.{AreBelow, IsReadAs, OnWay, HeldFor, AnyRead, CanOpen, IsOpened, CanOpenBelow}
 use Rattle.btree_update.proofs.OpenLaws.{open_first, child_is, opened, still_opens, still_below, up_below, IsOnWay, on_way, at_hand, IsUp, up, up_gives, gives_none, gives_then, nodes_is, data_open, twig_opened, twig_gives}
 use Rattle.btree_update.proofs.opening.+open.Goals as goal
 

@@ -1,18 +1,15 @@
-use Rattle.std.proofs.Common.{◌≡◌, ℕ, zero, suc, ◌<◌, ◌≤◌, ◌+◌, ◌-◌, ◌++◌, [], ◌∷◌, List, refl, sym, ap, subst, ◌∙◌, rules, arith}
-use Rattle.page_store.specs.Tree.{Mapped}
-use Rattle.btree_twigs.specs.declared.twigs.Child.{Child, out-Child}
+use Rattle.std.proofs.Common.{◌≡◌, ℕ, suc, ◌≤◌, ◌+◌, ◌-◌, sym, ap, subst, ◌∙◌, arith}
+use Rattle.btree_twigs.specs.declared.twigs.Child.{out-Child}
 use Rattle.btree_twigs.specs.declared.twigs.Child.TheVariants as made
-use Rattle.btree_twigs.specs.declared.twigs.Twig.{Twig}
 use Rattle.btree_twigs.specs.Stubs.{stubs, stubs_below, nodes, nodes_below}
 use Rattle.btree_twigs.specs.Shape.{IsTwig}
 use Rattle.btree_twigs.specs.Updates.{IsOpen}
-use Rattle.btree_twigs.specs.Top.{IsTop, IsTopBy, top_least}
+use Rattle.btree_twigs.specs.Top.{IsTopBy, top_least}
 use Rattle.btree_twigs.proofs.Nodes.{stubs_of_grown}
 use Rattle.btree_twigs.proofs.Counts.{nodes_grown}
 use Rattle.btree_update.specs.GroveTree.{Maps}
 use Rattle.btree_update.specs.Held.{AreBelow, IsReadAs, AnyRead, OnWay, HeldFor}
 use Rattle.btree_update.specs.Opens.{GivesWay}
-use Rattle.btree_update.specs.Roots.{IsRootOpened}
 use Rattle.btree_update.proofs.OpenLaws.{gives_then, nodes_is}
 use Rattle.btree_update.proofs.OpenMaps.{opened_maps}
 use Rattle.btree_update.proofs.RootLaws.{root_at_hand, root_up, root_gives, root_maps, root_below, below_root}

@@ -1,10 +1,4 @@
-use Rattle.std.proofs.Common.{◌≡◌, ℕ, ◌<◌, ◌≤◌, ◌+◌, ◌-◌, List, subst, ap, rules, arith, length}
-use Rattle.std.specs.declared.vec.Vec.{Vec}
-use Rattle.std.specs.declared.alloc.Global.{Global}
-use Rattle.btree_twigs.specs.declared.twigs.Child.{Child}
-use Rattle.btree_twigs.specs.Updates.{HasSpares}
-use Rattle.btree_update.specs.declared.groves.Grove.{Grove}
-use Rattle.btree_update.specs.Groves.{IsSound, CanInsert}
+use Rattle.std.proofs.Common.{arith}
 use Rattle.btree_update.proofs.groves.Grove.ready.Goals as goal
 
 pub returns-in_err-make_spares-clause-sound : goal.returns-in_err-make_spares-clause-sound
