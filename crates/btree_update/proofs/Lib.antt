@@ -8,3 +8,4 @@ pub mod CacheLaws
 pub mod HoldLaws
 pub mod RootHolds
 pub mod WrongLaws
+pub mod BesideLaws

@@ -16,6 +16,10 @@ use Rattle.btree_update.proofs.HoldLaws.{bare_of, read_below, read_lower, node_i
 above_root : (level : ℕ) → 1 ≤ level → level ≡ suc (level - 1)
 above_root level one = omega (arith, one)
 
+least_two : (level : ℕ) → 1 ≤ level → 2 ≤ top_least level
+least_two zero one = absurd (omega (arith, one))
+least_two (suc level) one = omega arith
+
 -- a root in memory
 pub root_grown : (order level block high head low : ℕ) (twig : Twig) → CanHoldRoot order level block high head (made.Grown low twig) → CanHoldBelow order (level - 1) block high head twig
 root_grown order level block high head low twig at =
@@ -23,6 +27,7 @@ root_grown order level block high head low twig at =
     record {
       least = top_least (level - 1);
       low = 0;
+      two = least_two (level - 1);
       four = at.four;
       most = at.most;
       shaped = h.1;
@@ -64,6 +69,7 @@ module _ (order level block high head low addr least : ℕ) (key : List ℕ) (tw
   root_read = record {
     least = top_least (level - 1);
     low = 0;
+    two = least_two (level - 1);
     four = at.four;
     most = at.most;
     shaped = root_shaped;

@@ -1,5 +1,5 @@
 -- How the way to a block comes to a wrong place.
-use Rattle.std.proofs.Common.{◌≡◌, ℕ, zero, suc, ◌-◌, ◌<◌, ◌≤◌, List, [], ◌∷◌, ◌++◌, take, drop, ◌==◌, if◌then◌else◌, refl, sym, ap, subst, ◌∙◌, arith}
+use Rattle.std.proofs.Common.{◌≡◌, ◌⊎◌, inl, inr, ℕ, zero, suc, ◌-◌, ◌<◌, ◌≤◌, List, [], ◌∷◌, ◌++◌, take, drop, ◌==◌, if◌then◌else◌, refl, sym, ap, subst, ◌∙◌, arith}
 use Rattle.std.proofs.lemmas.List.Elements.{Contains-append_left, Contains-append_right}
 use Rattle.node_codec.specs.declared.body.Entry.{Entry}
 use Rattle.node_codec.specs.Record.{NodeRecord}
@@ -16,7 +16,7 @@ use Rattle.btree_update.specs.GroveTree.{want_of, top_want, stubs_at}
 use Rattle.btree_update.specs.Reading.{kept_of, all_kept}
 use Rattle.btree_update.specs.Held.{stub_at}
 use Rattle.btree_update.specs.Holding.{IsNodeFor, IsNodeOf}
-use Rattle.btree_update.specs.Wrong.{HasBlock, ComesToWrong, Below, WrongOnWay, WrongFrom, WrongFromBy}
+use Rattle.btree_update.specs.Wrong.{HasNode, HasBlock, IsWrongAt, ComesToWrong, Below, Beside, WrongOnWay, WrongFrom, WrongFromBy}
 use Rattle.btree_update.proofs.OpenLaws.{IsOnWay}
 use Rattle.btree_update.proofs.Readings.{kept_stubs}
 use Rattle.btree_update.proofs.RootHolds.{want_root}
@@ -28,8 +28,6 @@ within pages order block addr fs ss bs w = record {
   has = record {
     among = Contains-append_right fs (ss ++ bs) w.stub (Contains-append_left ss bs w.stub w.has.among);
     inner = w.has.inner;
-    from = w.has.from;
-    to = w.has.to;
   };
   comes = w.comes;
 }
@@ -82,7 +80,13 @@ pub wrong_below : (pages : List (List ℕ)) (order block wrong level low high ad
     WrongOnWay pages order block wrong (stubs_below level high twig) → ComesToWrong pages order block wrong (record { addr = addr; level = suc level; low = low; high = high; least = least; most = most }) key
 wrong_below pages order block wrong level low high addr least most key twig h o w =
     let f = read_fits pages level low high addr least most key twig h o in
-    Below level f.0 w.stub f.1 (subst (λ ss. HasBlock block ss w.stub) f.2 w.has) w.comes
+    by f.0 f.1 (subst (λ ss. HasNode ss w.stub) f.2 w.has) w.comes
+  where
+    by : (entries : List Entry) → FitsAt pages (record { addr = addr; level = suc level; low = low; high = high; least = least; most = most }) key (NodeRecord (suc level) entries) → HasNode (stubs_at level high entries) w.stub →
+        (HasBlock block w.stub × ComesToWrong pages order block wrong (want_of order w.stub) w.stub.key) ⊎ IsWrongAt pages wrong (want_of order w.stub) w.stub.key →
+        ComesToWrong pages order block wrong (record { addr = addr; level = suc level; low = low; high = high; least = least; most = most }) key
+    by entries fits has (inl comes) = Below level entries w.stub fits has comes.0 comes.1
+    by entries fits has (inr here) = Beside level entries w.stub fits has here
 
 -- a child on the medium is a place on the way
 pub wrong_kept : (pages : List (List ℕ)) (order block wrong level high low addr : ℕ) (key : List ℕ) → low ≤ block → block < high →
@@ -90,7 +94,7 @@ pub wrong_kept : (pages : List (List ℕ)) (order block wrong level high low add
 unfolding stubs
 wrong_kept pages order block wrong level high low addr key from to w =
     subst (λ x. WrongOnWay pages order block wrong (stubs_in (stubs level) (suc level) high x)) (sym (made.outs-Kept low addr key))
-    (record { stub = stub_at (suc level) low high addr key; has = record { among = (0, omega arith, refl); inner = omega arith; from = from; to = to }; comes = w })
+    (record { stub = stub_at (suc level) low high addr key; has = record { among = (0, omega arith, refl); inner = omega arith }; comes = inl ((from, to), w) })
 
 -- what is wanted of a root
 least_is : (below : ℕ) → top_least below ≡ (if suc below == 1 then 0 else 2)
@@ -107,3 +111,18 @@ wrong_root pages order block wrong level low high addr least key one low_is is w
     subst (WrongFromBy pages order block wrong (level - 1) high) (sym (made.outs-Kept low addr key))
     (subst (λ v. ComesToWrong pages order block wrong v key) (root_want order (level - 1) low high addr least low_is is)
     (subst (λ k. ComesToWrong pages order block wrong (want_root order k low high addr least) key) l w))
+
+-- a child on the medium where nothing fits
+pub wrong_beside : (pages : List (List ℕ)) (order block wrong level high low addr : ℕ) (key : List ℕ) →
+    IsWrongAt pages wrong (want_of order (stub_at (suc level) low high addr key)) key → WrongOnWay pages order block wrong (stubs (suc level) high (made.Kept low addr key))
+unfolding stubs
+wrong_beside pages order block wrong level high low addr key w =
+    subst (λ x. WrongOnWay pages order block wrong (stubs_in (stubs level) (suc level) high x)) (sym (made.outs-Kept low addr key))
+    (record { stub = stub_at (suc level) low high addr key; has = record { among = (0, omega arith, refl); inner = omega arith }; comes = inr w })
+
+-- where a child is wrong, so is the node on the way
+pub wrong_at : (pages : List (List ℕ)) (order level high block addr i : ℕ) (cs : List Child) (c : Child) → cs ≡ take i cs ++ c ∷ drop (suc i) cs →
+    WrongOnWay pages order block addr (stubs level (start_by low_of (drop (suc i) cs) high) c) → WrongOnWay pages order block addr (stubs_under level high cs)
+wrong_at pages order level high block addr i cs c split wrong =
+    subst (WrongOnWay pages order block addr) (sym (ap (stubs_under level high) split ∙ stubs_append low_of (stubs level) high (take i cs) (c ∷ drop (suc i) cs)))
+    (within pages order block addr (stubs_under level (low_of c) (take i cs)) (stubs level (start_by low_of (drop (suc i) cs) high) c) (stubs_under level high (drop (suc i) cs)) wrong)

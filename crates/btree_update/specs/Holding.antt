@@ -42,6 +42,7 @@ pub record CanHold (order level block high head : ℕ) (child : Child) : Type 0 
 pub record CanHoldBelow (order level block high head : ℕ) (twig : Twig) : Type 0 where
   pub least : ℕ
   pub low : ℕ
+  pub two : 1 ≤ level → 2 ≤ least
   pub four : 4 ≤ order
   pub most : order ≤ 64
   pub shaped : IsTwig order level least order low high twig

@@ -5,5 +5,6 @@ pub mod Opens
 pub mod Reading
 pub mod Roots
 pub mod Wrong
+pub mod Beside
 pub mod Groves
 pub mod Holding

@@ -7,6 +7,7 @@ mod laws;
 mod opening;
 mod reading;
 mod refusals;
+mod siblings;
 
 pub use groves::Grove;
 pub use laws::{opened_maps, put_maps, read_maps, sealed_is};
