@@ -9,3 +9,5 @@ pub mod HoldLaws
 pub mod RootHolds
 pub mod WrongLaws
 pub mod BesideLaws
+pub mod HelpLaws
+pub mod HelpingLaws

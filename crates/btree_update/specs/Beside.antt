@@ -7,7 +7,7 @@ use Rattle.btree_twigs.specs.Stubs.{Stub, start_by, low_of, children_of, stubs, 
 use Rattle.btree_twigs.specs.Shape.{IsChild, IsTwig}
 use Rattle.btree_update.specs.declared.siblings.Left.{Left}
 use Rattle.btree_update.specs.declared.siblings.Left.TheVariants.{Unmapped, Enough, Short}
-use Rattle.btree_update.specs.Held.{stub_at, AreBelow}
+use Rattle.btree_update.specs.Held.{stub_at, AreBelow, AnyRead, IsReadAs}
 
 -- a node that was read for a place
 pub record IsNodeAt (Reads : ℕ → Stub → Twig → Type 0) (order below low high addr : ℕ) (key : List ℕ) (twig : Twig) : Type 0 where
@@ -65,6 +65,16 @@ pub record HelpsFrom (Reads : ℕ → Stub → Twig → Type 0) (order block bel
   pub left : List Twig
   pub is_node : IsNodeHeld (out-Child c) node held left
   pub helps : HelpsBelow Reads order block below high node left beside loses
+
+-- and of a node with so many children
+pub record HelpsWide (Reads : ℕ → Stub → Twig → Type 0) (order block below high width : ℕ) (c : Child) (held : List Twig) (beside : List (Option Twig)) (loses : ℕ) : Type 0 where
+  pub from : HelpsFrom Reads order block below high c held beside loses
+  pub wide : length (children_of from.node) ≡ width
+
+-- what these pages say, or without pages anything
+abbrev pub ReadOver : Option (List (List ℕ)) → ℕ → ℕ → Stub → Twig → Type 0
+ReadOver None order = AnyRead
+ReadOver (Some pages) order = IsReadAs pages order
 
 -- what a removal leaves of a node with so many children: nothing is said where the block isn't mapped; else it keeps enough, or loses one at most
 abbrev pub IsLeft : (ℕ → Type 0) → ℕ → ℕ → Left → Type 0

@@ -6,5 +6,6 @@ pub mod Reading
 pub mod Roots
 pub mod Wrong
 pub mod Beside
+pub mod Helping
 pub mod Groves
 pub mod Holding

@@ -7,7 +7,7 @@ ghost use Rattle.btree_twigs.specs.declared.twigs.Child.TheVariants.{Kept};
 ghost use Rattle.btree_twigs.specs.Stubs.{stubs};
 ghost use Rattle.btree_twigs.specs.Updates.{IsOpen, HasSpares};
 ghost use Rattle.btree_twigs.specs.Top.{IsTop};
-ghost use Rattle.btree_update.specs.Maps.{MapPuts};
+ghost use Rattle.btree_update.specs.Maps.{MapPuts, MapTakes};
 ghost use Rattle.sdbt_base.specs.Faults.{Rose};
 ghost use Rattle.std.specs.declared.vec.Vec.{Vec};
 ghost use Rattle.std.specs.declared.alloc.Global.{Global};
@@ -18,11 +18,12 @@ ghost use Rattle.btree_update.specs.declared.refusals.ReadyRefusal.{ReadyRefusal
 ghost use Rattle.btree_update.specs.Held.{AreBelow};
 ghost use Rattle.btree_update.specs.Groves.{KeepsTree, IsSound, IsReadFrom, IsReadBeside, IsWrongOnWay, CanInsert, CanRemove, GroveMaps, places_of, grown_in, IsAddressOf, LetsGo, Goes};
 
+use crate::helping::help_root;
 use crate::holding::hold_root;
 use crate::opening::{note, open_root};
 use crate::refusals::ReadyRefusal;
 use crate::siblings::is_mapped;
-use btree_twigs::{Child, Spot, Twig, find, level_of, put_top};
+use btree_twigs::{Child, Spot, Twig, find, level_of, put_top, take_top};
 use node_cache::NodeCache;
 use page_store::Buffers;
 use platform::Platform;
@@ -184,6 +185,39 @@ impl Grove {
             key.bytes(),
             &mut self.spares,
         );
+        self.level = level_of(&self.top);
+    }
+
+    /// Maps a block to nothing, once all is at hand that this may need. The address of the record that it had is gone, where it
+    /// was committed, and else never committed.
+    pub fn remove(&mut self, block: u64)
+        requires can { CanRemove block self.old }
+        ensures sound { IsSound self.new }
+        ensures size { (self.new.order ≡ self.old.order) × (self.new.blocks ≡ self.old.blocks) × (self.new.head ≡ self.old.head) }
+        ensures level { (self.new.level ≡ self.old.level) ⊎ (self.new.level + 1 ≡ self.old.level) }
+        ensures maps { (pages : List (List ℕ)) (mapped : List Mapped) → IsReadFrom pages block self.old → IsReadBeside pages block self.old → GroveMaps pages self.old mapped
+            → (after : List Mapped) × GroveMaps pages self.new after × MapTakes block mapped after }
+        ensures goes { (pages : List (List ℕ)) → IsReadFrom pages block self.old → IsReadBeside pages block self.old
+            → Goes pages self.old.order self.old.head block (places_of self.old) self.old.gone.items self.new.gone.items self.old.never.items self.new.never.items }
+        ensures below { (head : ℕ) → AreBelow head (places_of self.old) → AreBelow head (places_of self.new) }
+    {
+        open_root(
+            &mut self.top,
+            self.level,
+            block,
+            &mut self.held,
+            &mut self.gone,
+        );
+        help_root(
+            &mut self.top,
+            self.level,
+            block,
+            &mut self.beside,
+            &mut self.gone,
+        );
+        let addr = address_of(&self.top, block, self.blocks);
+        let_go(self.head, block, addr, &mut self.gone, &mut self.never);
+        take_top(&mut self.top, self.order as usize, block);
         self.level = level_of(&self.top);
     }
 }

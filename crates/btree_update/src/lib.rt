@@ -2,6 +2,7 @@
 #![tactic(auto)]
 
 mod groves;
+mod helping;
 mod holding;
 mod laws;
 mod opening;
@@ -10,6 +11,6 @@ mod refusals;
 mod siblings;
 
 pub use groves::Grove;
-pub use laws::{opened_maps, put_maps, read_maps, sealed_is};
+pub use laws::{opened_maps, put_maps, read_maps, sealed_is, take_maps};
 pub use opening::open_way;
 pub use refusals::ReadyRefusal;

@@ -97,7 +97,7 @@ pub(crate) fn hold_beside<P: Platform>(
 }
 
 /// The place of the neighbour of the child before a place: the one that follows, or where there is none the one before.
-fn beside_of(at: usize, count: usize) -> usize
+pub(crate) fn beside_of(at: usize, count: usize) -> usize
     requires { (1 ≤ at) × (at ≤ count) × (2 ≤ count) }
     ensures next { at < count → result ≡ at }
     ensures last { at ≡ count → result + 2 ≡ at }
