@@ -1,15 +1,14 @@
 -- What is held beside the way, while the way is opened.
-use Rattle.std.proofs.Common.{◌≡◌, ◌⊎◌, ℕ, zero, suc, ◌+◌, ◌-◌, ◌/◌, ◌<◌, ◌≤◌, List, [], ◌∷◌, ◌++◌, Option, None, Some, length, take, drop, inl, inr, refl, sym, ap, subst, ◌∙◌, arith, length-append, append_assoc}
+use Rattle.std.proofs.Common.{◌≡◌, ◌⊎◌, ℕ, zero, suc, ◌+◌, ◌-◌, ◌/◌, ◌≤◌, List, [], ◌∷◌, ◌++◌, Option, None, length, take, drop, inl, inr, refl, sym, ap, subst, ◌∙◌, arith, length-append}
 use Rattle.std.proofs.lemmas.List.{same_from_push}
 use Rattle.btree_twigs.specs.declared.twigs.Child.{Child, Child-F, out-Child}
 use Rattle.btree_twigs.specs.declared.twigs.Child.TheOpen.{Kept, Grown}
 use Rattle.btree_twigs.specs.declared.twigs.Child.TheVariants as made
-use Rattle.btree_twigs.specs.declared.twigs.Twig.{Twig, Twig-F, out-Twig, roll-Twig}
-use Rattle.btree_twigs.specs.Stubs.{Stub, start_by, low_of, children_of, stubs}
+use Rattle.btree_twigs.specs.declared.twigs.Twig.{Twig}
+use Rattle.btree_twigs.specs.Stubs.{Stub, start_by, low_of, children_of}
 use Rattle.btree_twigs.specs.Shape.{EachBy, IsChild, IsTwig}
-use Rattle.btree_twigs.proofs.Nodes.{children_of_roll}
 use Rattle.btree_update.specs.Held.{IsTakenUp}
-use Rattle.btree_update.specs.Beside.{LendsFrom, HasHelp, HelpsBeside, IsNodeHeld, HelpsOnWay, HelpsBelow, HelpsFrom, HelpsWide}
+use Rattle.btree_update.specs.Beside.{LendsFrom, HasHelp, IsNodeHeld, HelpsOnWay, HelpsBelow, HelpsFrom, HelpsWide}
 use Rattle.btree_update.proofs.OpenLaws.{IsOnWay}
 use Rattle.btree_update.proofs.HoldLaws.{same_way}
 use Rattle.btree_update.proofs.BesideLaws.{same_split}

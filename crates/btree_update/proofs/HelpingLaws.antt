@@ -1,12 +1,11 @@
 -- How what is held beside the way comes into the tree.
 use Rattle.std.proofs.Common.{◌≡◌, ◌⊎◌, ℕ, zero, suc, ◌+◌, ◌-◌, ◌/◌, ◌<◌, ◌≤◌, List, [], ◌∷◌, ◌++◌, Option, None, Some, length, take, drop, get_or, set, vec_capacity, inl, inr, refl, sym, ap, subst, ◌∙◌, arith, length-append, append_assoc}
-use Rattle.std.specs.List.{AllByRecursion}
 use Rattle.std.proofs.lemmas.List.{same_from_push, length-take-le, get_or_at}
 use Rattle.btree_twigs.specs.declared.twigs.Child.{Child, Child-F, out-Child}
 use Rattle.btree_twigs.specs.declared.twigs.Child.TheOpen.{Kept, Grown}
 use Rattle.btree_twigs.specs.declared.twigs.Child.TheVariants as made
 use Rattle.btree_twigs.specs.declared.twigs.Twig.{Twig, out-Twig}
-use Rattle.btree_twigs.specs.Stubs.{Stub, start_by, low_in, low_of, level_of, children_of, stubs, stubs_in, stubs_below, nodes, nodes_in, nodes_below, sum_by}
+use Rattle.btree_twigs.specs.Stubs.{Stub, start_by, low_in, low_of, level_of, children_of, stubs, stubs_in, stubs_below, nodes, nodes_in, sum_by}
 use Rattle.btree_twigs.specs.Shape.{EachBy, IsChildBy, IsChild, IsTwig}
 use Rattle.btree_twigs.specs.Updates.{IsNode, IsOpen, stubs_under, width_in, width_of}
 use Rattle.btree_twigs.specs.Removal.{IsHeldIn, below_in, Lends, IsHelped, HelpsOne, Helps}
@@ -15,12 +14,11 @@ use Rattle.btree_twigs.proofs.Counts.{sum_append, nodes_grown}
 use Rattle.btree_twigs.proofs.Nodes.{low_of_grown, stubs_of_grown, grown_is_child}
 use Rattle.btree_twigs.specs.Top.{IsTopBy, top_least}
 use Rattle.btree_twigs.proofs.Ways.{open_front, open_back, child_is_twig}
-use Rattle.btree_update.specs.Held.{stub_at, AreBelow, AnyRead, IsReadAs, IsOpened}
+use Rattle.btree_update.specs.Held.{stub_at, AreBelow, AnyRead, IsReadAs}
 use Rattle.btree_update.specs.Opens.{Opens, Here, GivesWay}
 use Rattle.btree_update.specs.Beside.{LendsFrom, HasHelp, IsNodeHeld, HelpsOnWay, HelpsBelow, HelpsFrom}
 use Rattle.btree_update.specs.Helping.{IsPutBy, TakesHelp, IsHelpTaken, CanHelp, CanHelpWay, HelpedOut, HelpedWay, HelpedRoot}
-use Rattle.btree_update.proofs.OpenLaws.{IsOnWay, child_is, opened, still_opens, still_below, lower, gives_none, gives_then, on_way}
-use Rattle.btree_update.proofs.HoldLaws.{same_way}
+use Rattle.btree_update.proofs.OpenLaws.{child_is, opened, still_opens, still_below, lower, gives_none, gives_then}
 use Rattle.btree_update.proofs.BesideLaws.{same_split}
 
 -- a neighbour that took its node

@@ -200,6 +200,7 @@ impl Grove {
         ensures goes { (pages : List (List ℕ)) → IsReadFrom pages block self.old → IsReadBeside pages block self.old
             → Goes pages self.old.order self.old.head block (places_of self.old) self.old.gone.items self.new.gone.items self.old.never.items self.new.never.items }
         ensures below { (head : ℕ) → AreBelow head (places_of self.old) → AreBelow head (places_of self.new) }
+        ensures grown { grown_in self.new ≤ grown_in self.old + 2 * self.old.level }
     {
         open_root(
             &mut self.top,

@@ -1,9 +1,7 @@
-use Rattle.std.proofs.Common.{◌≡◌, ℕ, zero, suc, ◌<◌, ◌≤◌, ◌+◌, ◌-◌, ◌/◌, ◌++◌, [], ◌∷◌, List, Option, length, take, drop, set, get_or, refl, sym, ap, subst, ◌∙◌, rules, arith, vec_capacity}
+use Rattle.std.proofs.Common.{◌≡◌, ℕ, suc, ◌<◌, ◌≤◌, ◌+◌, ◌-◌, ◌/◌, ◌++◌, ◌∷◌, List, Option, length, take, drop, set, sym, ap, subst, ◌∙◌, rules, arith}
 use Rattle.std.specs.Vec.{with_item}
 use Rattle.std.proofs.lemmas.List.{length-take-le}
-use Rattle.std.specs.declared.vec.Vec.{Vec}
-use Rattle.std.specs.declared.alloc.Global.{Global}
-use Rattle.btree_twigs.specs.declared.twigs.Child.{Child, out-Child}
+use Rattle.btree_twigs.specs.declared.twigs.Child.{Child}
 use Rattle.btree_twigs.specs.declared.twigs.Child.TheVariants as made
 use Rattle.btree_twigs.specs.declared.twigs.Twig.{Twig, Twig-F, out-Twig, roll-Twig}
 use Rattle.btree_twigs.specs.Stubs.{start_by, low_of, children_of, stubs, stubs_below}
@@ -13,7 +11,7 @@ use Rattle.btree_twigs.proofs.Nodes.{children_of_roll}
 use Rattle.btree_twigs.proofs.Ways.{open_is_grown}
 use Rattle.btree_update.specs.Held.{AnyRead}
 use Rattle.btree_update.specs.Beside.{HelpsFrom}
-use Rattle.btree_update.specs.Helping.{CanHelp, CanHelpWay, HelpedOut, HelpedWay}
+use Rattle.btree_update.specs.Helping.{CanHelpWay, HelpedOut}
 use Rattle.btree_update.proofs.OpenLaws.{on_way, twig_opened}
 use Rattle.btree_update.proofs.HelpingLaws.{nth, set_at, way_asks, taken_level, q, way_can, out_node, helped_out, way_out, leaf_out, grown_can}
 use Rattle.btree_update.proofs.helping.+help.Goals as goal

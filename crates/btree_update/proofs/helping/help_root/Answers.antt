@@ -1,4 +1,4 @@
-use Rattle.std.proofs.Common.{◌≡◌, ℕ, zero, suc, ◌<◌, ◌≤◌, ◌+◌, ◌-◌, ◌/◌, List, Option, sym, ap, subst, ◌∙◌, rules, arith}
+use Rattle.std.proofs.Common.{◌≡◌, ℕ, zero, suc, ◌≤◌, ◌-◌, List, Option, sym, subst, arith}
 use Rattle.btree_twigs.specs.declared.twigs.Child.{Child, out-Child}
 use Rattle.btree_twigs.specs.declared.twigs.Child.TheVariants as made
 use Rattle.btree_twigs.specs.declared.twigs.Twig.{Twig}
@@ -8,8 +8,8 @@ use Rattle.btree_twigs.specs.Updates.{IsOpen}
 use Rattle.btree_twigs.specs.Top.{IsTop, IsTopBy, top_least}
 use Rattle.btree_twigs.proofs.Nodes.{stubs_of_grown}
 use Rattle.btree_update.specs.Held.{AnyRead}
-use Rattle.btree_update.specs.Beside.{IsNodeHeld, HelpsBelow, HelpsFrom}
-use Rattle.btree_update.specs.Helping.{CanHelp, CanHelpRoot, HelpedOut, HelpedRoot}
+use Rattle.btree_update.specs.Beside.{IsNodeHeld, HelpsBelow}
+use Rattle.btree_update.specs.Helping.{CanHelp, CanHelpRoot, HelpedOut}
 use Rattle.btree_update.proofs.HelpingLaws.{root_out}
 use Rattle.btree_update.proofs.helping.help_root.Goals as goal
 

@@ -1,9 +1,9 @@
-use Rattle.std.proofs.Common.{◌≡◌, ℕ, suc, ◌<◌, ◌≤◌, ◌+◌, ◌++◌, [], ◌∷◌, List, Option, None, Some, length, take, drop, set, get_or, refl, sym, ap, subst, ◌∙◌, rules, arith, vec_capacity}
+use Rattle.std.proofs.Common.{◌<◌, ◌++◌, [], ◌∷◌, Some, length, sym, ap, subst, ◌∙◌, arith, vec_capacity}
 use Rattle.std.specs.Vec.{with_item}
 use Rattle.std.proofs.lemmas.List.{same_from_push, set_split}
 use Rattle.btree_twigs.specs.declared.twigs.Twig.{Twig, Twig-F, out-Twig, roll-Twig, out-roll-Twig}
 use Rattle.btree_twigs.specs.declared.twigs.Child.{Child}
-use Rattle.btree_twigs.specs.Stubs.{children_of, level_of}
+use Rattle.btree_twigs.specs.Stubs.{children_of}
 use Rattle.btree_twigs.proofs.ListLaws.{split_here}
 use Rattle.btree_twigs.proofs.Nodes.{children_of_roll}
 use Rattle.btree_update.specs.Helping.{IsHelpTaken, TakesHelp}

@@ -1,8 +1,8 @@
-use Rattle.std.proofs.Common.{◌≡◌, ℕ, suc, ◌<◌, ◌≤◌, ◌+◌, ◌-◌, ◌/◌, ◌++◌, ◌∷◌, List, Err, length, take, drop, get_or, refl, sym, ap, subst, ◌∙◌, rules, arith}
+use Rattle.std.proofs.Common.{◌≡◌, ℕ, suc, ◌<◌, ◌≤◌, ◌+◌, ◌-◌, ◌++◌, ◌∷◌, List, Err, length, take, drop, sym, ap, subst, ◌∙◌, arith}
 use Rattle.std.proofs.lemmas.Result.{err_from_is_err_and}
 use Rattle.btree_twigs.specs.declared.twigs.Child.{Child, out-Child}
 use Rattle.btree_twigs.specs.declared.twigs.Twig.{Twig}
-use Rattle.btree_twigs.specs.Stubs.{Stub, start_by, low_of, children_of, stubs, stubs_below}
+use Rattle.btree_twigs.specs.Stubs.{start_by, low_of, children_of, stubs}
 use Rattle.btree_twigs.specs.Shape.{EachBy, IsChild}
 use Rattle.btree_twigs.specs.Updates.{stubs_under}
 use Rattle.btree_twigs.proofs.ListLaws.{split_here, stubs_append, each_back}

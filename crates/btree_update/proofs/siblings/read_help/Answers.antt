@@ -1,11 +1,11 @@
-use Rattle.std.proofs.Common.{◌≡◌, ℕ, suc, ◌<◌, ◌≤◌, ◌+◌, ◌-◌, ◌/◌, ◌^◌, List, Err, Some, length, refl, sym, ap, subst, ◌∙◌, rules, arith}
+use Rattle.std.proofs.Common.{◌≡◌, suc, ◌<◌, ◌-◌, ◌/◌, ◌^◌, Err, Some, length, sym, ap, subst, arith}
 use Rattle.std.proofs.lemmas.Result.{err_from_is_err_and}
 use Rattle.page_store.specs.Places.{NothingFits}
-use Rattle.btree_twigs.specs.declared.twigs.Child.{Child, out-Child}
+use Rattle.btree_twigs.specs.declared.twigs.Child.{out-Child}
 use Rattle.btree_twigs.specs.declared.twigs.Child.TheVariants as made
 use Rattle.btree_twigs.specs.Stubs.{children_of, stubs}
 use Rattle.btree_update.specs.declared.refusals.ReadyRefusal.TheVariants.{BadRecord}
-use Rattle.btree_update.specs.Held.{stub_at, AnyRead, IsReadAs}
+use Rattle.btree_update.specs.Held.{AnyRead, IsReadAs}
 use Rattle.btree_update.specs.Holding.{IsNodeOf}
 use Rattle.btree_update.specs.Wrong.{WrongOnWay}
 use Rattle.btree_update.specs.Beside.{CanRead, LendsFrom}

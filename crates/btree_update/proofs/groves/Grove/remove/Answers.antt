@@ -1,18 +1,16 @@
-use Rattle.std.proofs.Common.{◌≡◌, ◌⊎◌, ℕ, suc, ◌+◌, ◌-◌, ◌<◌, ◌≤◌, ◌++◌, List, [], ◌∷◌, Option, None, Some, inl, inr, sym, ap, subst, ◌∙◌, rules, arith}
-use Rattle.page_store.specs.Tree.{Mapped}
-use Rattle.btree_twigs.specs.declared.twigs.Child.{Child, out-Child}
+use Rattle.std.proofs.Common.{◌≡◌, ◌⊎◌, ℕ, suc, ◌+◌, ◌-◌, ◌*◌, ◌≤◌, List, None, Some, inl, inr, sym, subst, ◌∙◌, arith}
+use Rattle.btree_twigs.specs.declared.twigs.Child.{Child}
 use Rattle.btree_twigs.specs.declared.twigs.Twig.{Twig}
 use Rattle.btree_twigs.specs.Stubs.{stubs, nodes}
-use Rattle.btree_twigs.specs.Updates.{IsOpen}
-use Rattle.btree_twigs.specs.Top.{IsTop, CanTakeTop, IsTopTaken}
+use Rattle.btree_twigs.specs.Top.{CanTakeTop}
 use Rattle.btree_update.specs.declared.groves.Grove.{Grove}
 use Rattle.btree_update.specs.GroveTree.{Maps}
 use Rattle.btree_update.specs.Held.{AreBelow, AnyRead}
 use Rattle.btree_update.specs.Opens.{GivesWay}
 use Rattle.btree_update.specs.Roots.{IsRoot, RootMaps, CanOpenRoot, IsRootOpened}
-use Rattle.btree_update.specs.Beside.{HelpsFrom, ReadOver}
+use Rattle.btree_update.specs.Beside.{HelpsFrom}
 use Rattle.btree_update.specs.Helping.{CanHelpRoot, HelpedRoot}
-use Rattle.btree_update.specs.Groves.{IsSound, CanRemove, IsAddressOf, LetsGo, Goes}
+use Rattle.btree_update.specs.Groves.{CanRemove, IsAddressOf, LetsGo}
 use Rattle.btree_update.proofs.Places.{takes_maps}
 use Rattle.btree_update.proofs.OpenMaps.{opened_maps}
 use Rattle.btree_update.proofs.OpenLaws.{gives_then}
@@ -141,3 +139,14 @@ returns-clause-below c head below =
     let l = c.level_of-self.ensures ∙ top_level c.args.self.now.order p.new_level c.args.self.now.blocks c.take_top.new.top p.shaped in
     let opened = subst (λ k. AreBelow head (stubs k c.args.self.now.blocks c.open_root.new.top)) can.level_is (c.open_root.ensures.below head can below) in
     subst (λ k. AreBelow head (stubs k c.args.self.now.blocks c.take_top.new.top)) (sym l) (takes_below 0 c.args.self.now.blocks c.args.block head _ _ p.takes (h.below_it head opened))
+
+pub returns-clause-grown : goal.returns-clause-grown
+returns-clause-grown c =
+    let can = can_open c.args.block c.args.self.now c.requires.can in
+    let h = c.help_root.ensures.helped (can_help c.args.block c.args.self.now c.open_root.new.top c.open_root.new.held.items c.requires.can (c.open_root.ensures.opened can) (c.open_root.ensures.helps can None c.args.self.now.beside.items c.requires.can.loses c.requires.can.beside)) in
+    let p = c.take_top.ensures (can_take c.args.block c.args.self.now c.open_root.new.top c.help_root.new.top _ _ c.requires.can h) in
+    let l = c.level_of-self.ensures ∙ top_level c.args.self.now.order p.new_level c.args.self.now.blocks c.take_top.new.top p.shaped in
+    let few = subst (λ k. nodes k c.open_root.new.top ≤ nodes c.args.self.now.level c.args.self.now.top + c.args.self.now.level) can.level_is (c.open_root.ensures.nodes can) in
+    let r : nodes (suc p.new_level) c.take_top.new.top ≤ nodes c.args.self.now.level c.args.self.now.top + 2 * c.args.self.now.level
+    = omega (arith, p.few, h.few, few, c.requires.can.sound.one) in
+    subst (λ k. nodes k c.take_top.new.top ≤ nodes c.args.self.now.level c.args.self.now.top + 2 * c.args.self.now.level) (sym l) r
