@@ -11,3 +11,4 @@ pub mod WrongLaws
 pub mod BesideLaws
 pub mod HelpLaws
 pub mod HelpingLaws
+pub mod MappedLaws

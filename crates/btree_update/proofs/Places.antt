@@ -171,11 +171,11 @@ tiles_in pages order low high (s ∷ ss) (p ∷ ps) h k =
     (in_wider s.low (end_of s.level (want_of order s)) low high p.mapped h.0 (omega (arith, end, le)) (maps_within pages order s.level (want_of order s) s.key p k.0))
     (in_wider s.high high low high (joined ps).mapped (omega (arith, h.0, h.1)) (omega arith) (tiles_in pages order s.high high ss ps h.2 k.1))
 
-weaker : (P Q : Mapped → Type 0) → ((m : Mapped) → P m → Q m) → (xs : List Mapped) → AllByRecursion P xs → AllByRecursion Q xs
+pub weaker : (P Q : Mapped → Type 0) → ((m : Mapped) → P m → Q m) → (xs : List Mapped) → AllByRecursion P xs → AllByRecursion Q xs
 weaker P Q f [] h = tt
 weaker P Q f (x ∷ xs) h = (f x h.0, weaker P Q f xs h.1)
 
-in_maps : (pages : List (List ℕ)) (order low high : ℕ) (ss : List Stub) (m : List Mapped) → Tiles low high ss → Maps pages order ss m → AllByRecursion (IsIn low high) m
+pub in_maps : (pages : List (List ℕ)) (order low high : ℕ) (ss : List Stub) (m : List Mapped) → Tiles low high ss → Maps pages order ss m → AllByRecursion (IsIn low high) m
 in_maps pages order low high ss m h k = subst (AllByRecursion (IsIn low high)) (sym k.is) (tiles_in pages order low high ss k.each h k.has)
 
 -- where the places have one more, the blocks have it: the map law of an insert

@@ -7,6 +7,8 @@ use Rattle.btree_twigs.specs.Stubs.{Stub, start_by, low_of, children_of, stubs, 
 use Rattle.btree_twigs.specs.Shape.{IsChild, IsTwig}
 use Rattle.btree_update.specs.declared.siblings.Left.{Left}
 use Rattle.btree_update.specs.declared.siblings.Left.TheVariants.{Unmapped, Enough, Short}
+use Rattle.page_store.specs.Tree.{Mapped}
+use Rattle.btree_update.specs.Maps.{HasBlock, LacksBlock}
 use Rattle.btree_update.specs.Held.{stub_at, AreBelow, AnyRead, IsReadAs}
 
 -- a node that was read for a place
@@ -119,3 +121,9 @@ pub record CanRead (order level high head : ℕ) (child : Child) : Type 0 where
   pub shaped : IsChild order level high child
   pub starts : low_of child < high
   pub within : AreBelow head (stubs level high child)
+
+-- a removal leaves all where the block isn't mapped, and there alone
+abbrev pub IsMappedBy : ℕ → List Mapped → Left → Type 0
+IsMappedBy block mapped Unmapped = LacksBlock block mapped
+IsMappedBy block mapped Enough = HasBlock block mapped
+IsMappedBy block mapped Short = HasBlock block mapped

@@ -1,5 +1,5 @@
 -- What an update makes of the blocks that a tree maps.
-use Rattle.std.specs.Prelude.{◌≡◌, ℕ, ◌<◌, List, ◌∷◌, ◌++◌}
+use Rattle.std.specs.Prelude.{◌≡◌, ◌≢◌, ℕ, Contains, ◌<◌, List, ◌∷◌, ◌++◌}
 use Rattle.std.specs.List.{AllByRecursion}
 use Rattle.page_store.specs.Tree.{Mapped}
 
@@ -24,3 +24,10 @@ pub record MapTakes (block : ℕ) (old new : List Mapped) : Type 0 where
   pub before : AllByRecursion (λ k. k.block < block) front
   pub here : AllByRecursion (λ k. k.block ≡ block) mid
   pub after : AllByRecursion (λ k. block < k.block) back
+
+-- the block is among these, or it isn't
+abbrev pub HasBlock : ℕ → List Mapped → Type 0
+HasBlock block mapped = (m : Mapped) × Contains mapped m × (m.block ≡ block)
+
+abbrev pub LacksBlock : ℕ → List Mapped → Type 0
+LacksBlock block mapped = AllByRecursion (λ m. m.block ≢ block) mapped

@@ -7,8 +7,9 @@ ghost use Rattle.btree_twigs.specs.declared.twigs.Child.TheVariants.{Kept};
 ghost use Rattle.btree_twigs.specs.Stubs.{stubs};
 ghost use Rattle.btree_twigs.specs.Updates.{IsOpen, HasSpares};
 ghost use Rattle.btree_twigs.specs.Top.{IsTop};
-ghost use Rattle.btree_update.specs.Maps.{MapPuts, MapTakes};
+ghost use Rattle.btree_update.specs.Maps.{MapPuts, MapTakes, HasBlock, LacksBlock};
 ghost use Rattle.sdbt_base.specs.Faults.{Rose};
+ghost use Rattle.std.specs.Bool.{OnTrue, OnFalse};
 ghost use Rattle.std.specs.declared.vec.Vec.{Vec};
 ghost use Rattle.std.specs.declared.alloc.Global.{Global};
 ghost use Rattle.btree_walk.specs.Looks.{Looks};
@@ -119,6 +120,8 @@ impl Grove {
         ensures can { IfOk result (λ mapped. CanInsert block self.new × (IsTrue mapped → CanRemove block self.new)) }
         ensures reads { P.tells → StandsOver (P.history platform.old).present.readable cache.old →
             IfOk result (λ mapped. IsReadFrom (P.history platform.old).present.readable block self.new × (IsTrue mapped → IsReadBeside (P.history platform.old).present.readable block self.new)) }
+        ensures mapped { P.tells → StandsOver (P.history platform.old).present.readable cache.old →
+            IfOk result (λ mapped. (map : List Mapped) → GroveMaps (P.history platform.old).present.readable self.old map → OnTrue mapped (HasBlock block map) × OnFalse mapped (LacksBlock block map)) }
         ensures bad { P.tells → StandsOver (P.history platform.old).present.readable cache.old → (addr : ℕ) → IsErrOf result (ReadyRefusal.BadRecord addr) →
             IsWrongOnWay (P.history platform.old).present.readable block self.old addr }
         ensures sound { IsSound self.new }

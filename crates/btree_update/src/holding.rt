@@ -5,10 +5,12 @@ ghost use Rattle.btree_walk.specs.Looks.{Looks};
 ghost use Rattle.btree_walk.specs.Sights.{StandsOver};
 ghost use Rattle.btree_update.specs.Held.{AnyRead, IsReadAs, OnWay, HeldFor};
 ghost use Rattle.btree_twigs.specs.Top.{top_least};
-ghost use Rattle.btree_update.specs.Roots.{HeldRoot};
+ghost use Rattle.btree_update.specs.Roots.{HeldRoot, RootMaps};
 ghost use Rattle.btree_twigs.specs.Stubs.{stubs, stubs_below, children_of};
+ghost use Rattle.page_store.specs.Tree.{Mapped};
+ghost use Rattle.btree_update.specs.GroveTree.{Maps};
 ghost use Rattle.btree_update.specs.Wrong.{WrongOnWay, WrongFrom};
-ghost use Rattle.btree_update.specs.Beside.{IsLeft, HelpsBelow, LeftOf};
+ghost use Rattle.btree_update.specs.Beside.{IsLeft, HelpsBelow, LeftOf, IsMappedBy};
 ghost use Rattle.btree_update.specs.Holding.{CanHold, CanHoldBelow, CanHoldRoot};
 
 use crate::reading::read_node;
@@ -46,6 +48,8 @@ pub(crate) fn hold_way<P: Platform>(
         IfOk result (LeftOf (IsReadAs (P.history platform.old).present.readable order) order block (level - 1) high child.now held.new.items beside.new.items) }
     ensures bad { P.tells → StandsOver (P.history platform.old).present.readable cache.old → (addr : ℕ) → IsErrOf result (ReadyRefusal.BadRecord addr) →
         WrongOnWay (P.history platform.old).present.readable order block addr (stubs level high child.now) }
+    ensures mapped { P.tells → StandsOver (P.history platform.old).present.readable cache.old →
+        IfOk result (λ left. (mapped : List Mapped) → Maps (P.history platform.old).present.readable order (stubs level high child.now) mapped → IsMappedBy block mapped left) }
     ensures stands { P.tells → StandsOver (P.history platform.old).present.readable cache.old → StandsOver (P.history platform.old).present.readable cache.new }
     ensures looks { Looks P.Platform (2 * level - 1) platform.old platform.new }
     ensures cause { IsErrOf result ReadyRefusal.PlatformFault → Rose (P.faults platform.old) (P.faults platform.new) }
@@ -119,6 +123,8 @@ pub(crate) fn hold_below<P: Platform>(
         IfOk result (IsLeft (λ loses. HelpsBelow (IsReadAs (P.history platform.old).present.readable order) order block level high twig.now held.new.items beside.new.items loses) order (length (children_of twig.now))) }
     ensures bad { P.tells → StandsOver (P.history platform.old).present.readable cache.old → (addr : ℕ) → IsErrOf result (ReadyRefusal.BadRecord addr) →
         WrongOnWay (P.history platform.old).present.readable order block addr (stubs_below level high twig.now) }
+    ensures mapped { P.tells → StandsOver (P.history platform.old).present.readable cache.old →
+        IfOk result (λ left. (mapped : List Mapped) → Maps (P.history platform.old).present.readable order (stubs_below level high twig.now) mapped → IsMappedBy block mapped left) }
     ensures stands { P.tells → StandsOver (P.history platform.old).present.readable cache.old → StandsOver (P.history platform.old).present.readable cache.new }
     ensures looks { Looks P.Platform (2 * level) platform.old platform.new }
     ensures cause { IsErrOf result ReadyRefusal.PlatformFault → Rose (P.faults platform.old) (P.faults platform.new) }
@@ -164,6 +170,8 @@ pub(crate) fn hold_root<P: Platform>(
         IfOk result (LeftOf (IsReadAs (P.history platform.old).present.readable order) order block (level - 1) high top.now held.new.items beside.new.items) }
     ensures bad { P.tells → StandsOver (P.history platform.old).present.readable cache.old → (addr : ℕ) → IsErrOf result (ReadyRefusal.BadRecord addr) →
         WrongFrom (P.history platform.old).present.readable order block addr (level - 1) high top.now }
+    ensures mapped { P.tells → StandsOver (P.history platform.old).present.readable cache.old →
+        IfOk result (λ left. (mapped : List Mapped) → RootMaps (P.history platform.old).present.readable order (level - 1) high top.now mapped → IsMappedBy block mapped left) }
     ensures stands { P.tells → StandsOver (P.history platform.old).present.readable cache.old → StandsOver (P.history platform.old).present.readable cache.new }
     ensures looks { Looks P.Platform (2 * level) platform.old platform.new }
     ensures cause { IsErrOf result ReadyRefusal.PlatformFault → Rose (P.faults platform.old) (P.faults platform.new) }

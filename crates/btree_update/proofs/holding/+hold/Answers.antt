@@ -25,6 +25,12 @@ use Rattle.btree_update.proofs.WrongLaws.{wrong_child, wrong_below, wrong_kept}
 use Rattle.page_store.specs.Places.{NothingFits}
 use Rattle.std.proofs.Common.{Err}
 use Rattle.std.proofs.lemmas.Result.{err_from_is_err_and}
+use Rattle.std.proofs.Common.{◌==◌}
+use Rattle.std.proofs.lemmas.Bool.{eqb-true, eq-eqb}
+use Rattle.page_store.specs.Tree.{Mapped}
+use Rattle.btree_update.specs.GroveTree.{Maps}
+use Rattle.btree_update.specs.Beside.{IsMappedBy}
+use Rattle.btree_update.proofs.MappedLaws.{first_lacks, leaf_mapped, leaf_not, beside_mapped, way_mapped, kept_mapped}
 use Rattle.btree_update.proofs.holding.+hold.Goals as goal
 
 nothing_before : (block high n : ℕ) (ds cs : List Child) → ds ≡ cs → n ≡ 0 → ((high : ℕ) → block < high → block < start_by low_of (drop n ds) high) → block < high → block < start_by low_of cs high
@@ -378,3 +384,63 @@ hold_way-returns-in_err-left-in-Kept-clause-bad g t c =
     subst (λ x. WrongOnWay pages c.args.order c.args.block addr (stubs c.args.level c.args.high x)) (sym c.in-Kept.is)
     (wrong_here pages c.args.order c.args.level c.args.block c.args.high (g.P.Platform.head c.args.platform.now) c.in-Kept.low c.in-Kept.addr addr c.in-Kept.key at
     (subst (λ k. ComesToWrong pages c.args.order c.args.block addr (want_here c.args.order k c.in-Kept.low c.args.high c.in-Kept.addr) c.in-Kept.key) (sym at.level_is) comes)))
+
+pub hold_below-returns-then-at-eq0-clause-mapped : goal.hold_below-returns-then-at-eq0-clause-mapped
+hold_below-returns-then-at-eq0-clause-mapped g t c = λ tells stands mapped m.
+    (let at = c.requires.can in
+    first_lacks (g.P.Platform.history c.args.platform.now).present.readable c.args.order c.args.level at.least at.low c.args.high c.args.block c.args.twig.now at.shaped
+    (nothing_before c.args.block c.args.high c.place-at.result _ (children_of c.args.twig.now) c.deref.ensures.value c.if-at-eq0.true c.place-at.ensures.after at.to) mapped m)
+
+pub hold_below-returns-then-level-eq0-clause-mapped : goal.hold_below-returns-then-level-eq0-clause-mapped
+hold_below-returns-then-level-eq0-clause-mapped g t c = λ tells stands mapped m.
+    (let at = c.requires.can in
+    let w = on_way c.args.order c.args.block c.args.level c.args.high c.place-at.result (children_of c.args.twig.now) c.deref.result.now c.index-child.result.now c.deref.ensures.value c.if-at-eq0.false
+    c.place-at.ensures.within c.place-at.ensures.before c.place-at.ensures.after at.to c.index-child.ensures in
+    leaf_mapped (g.P.Platform.history c.args.platform.now).present.readable c.args.order c.args.level at.least at.low c.args.high c.args.block c.place-at.result c.args.twig.now c.index-child.result.now c.if-level-eq0.true at.shaped w c.left_of_leaf.result
+    (c.low_of.result == c.args.block) (λ e. sym c.low_of.ensures ∙ eqb-true c.low_of.result c.args.block e) (λ e. eq-eqb c.low_of.result c.args.block (c.low_of.ensures ∙ e))
+    (leaf_not c.args.order (length (children_of c.args.twig.now)) (c.low_of.result == c.args.block) c.left_of_leaf.result c.left_of_leaf.ensures.mapped) c.left_of_leaf.ensures.unmapped mapped m)
+
+pub hold_below-returns-clause-mapped : goal.hold_below-returns-clause-mapped
+hold_below-returns-clause-mapped g t c = λ tells stands.
+    (let at = c.requires.can in
+    let w = on_way c.args.order c.args.block c.args.level c.args.high c.place-at.result (children_of c.args.twig.now) c.deref.result.now c.index-child.result.now c.deref.ensures.value c.if-at-eq0.false
+    c.place-at.ensures.within c.place-at.ensures.before c.place-at.ensures.after at.to c.index-child.ensures in
+    let e = end_is c.args.high c.place-at.result w.at c.end_of-end.result c.deref-2.result.now (children_of c.args.twig.now) c.deref-2.ensures.value w.at_is c.end_of-end.ensures in
+    let cs = children_of c.args.twig.now in
+    let pages = (g.P.Platform.history c.args.platform.now).present.readable in
+    let one = subst (λ m. (mapped : List Mapped) → Maps pages c.args.order (stubs c.args.level m c.index-child.result.now) mapped → IsMappedBy c.args.block mapped c.in_ok-left.left) e (c.in_ok-left.ensures.mapped tells stands) in
+    IfOk_map _ _ c.hold_beside.result
+    (λ after h mapped m. beside_mapped AnyRead c.args.order (c.args.level - 1) (length cs) c.args.high c.args.block (take w.at cs) c.index-child.result.now (drop (suc w.at) cs) c.hold_way.new.beside.items c.hold_beside.new.beside.items c.in_ok-left.left after mapped h
+    (way_mapped pages c.args.order c.args.level at.least at.low c.args.high c.args.block c.place-at.result c.args.twig.now c.index-child.result.now at.shaped w c.in_ok-left.left one mapped m))
+    (c.hold_beside.ensures.helps (take w.at cs) c.index-child.result.now (drop (suc w.at) cs) w.split (before_is w.at c.place-at.result cs w.within w.at_is)))
+
+pub hold_way-returns-in-Grown-clause-mapped : goal.hold_way-returns-in-Grown-clause-mapped
+hold_way-returns-in-Grown-clause-mapped g t c = λ tells stands.
+    (let at = c.requires.can in
+    let l : c.args.level - 1 ≡ at.below = omega (arith, at.level_is) in
+    let pages = (g.P.Platform.history c.args.platform.now).present.readable in
+    IfOk_map _ _ c.hold_below.result
+    (λ left h mapped m. h mapped
+    (subst (λ k. Maps pages c.args.order (stubs_below k c.args.high c.in-Grown.twig) mapped) (sym l)
+    (subst (λ ss. Maps pages c.args.order ss mapped) (stubs_of_grown at.below c.args.high c.in-Grown.low c.in-Grown.twig)
+    (subst (λ k. Maps pages c.args.order (stubs k c.args.high (made.Grown c.in-Grown.low c.in-Grown.twig)) mapped) at.level_is
+    (subst (λ x. Maps pages c.args.order (stubs c.args.level c.args.high x) mapped) c.in-Grown.is m)))))
+    (c.hold_below.ensures.mapped tells stands))
+
+pub hold_way-returns-in_ok-hold-in-Kept-clause-mapped : goal.hold_way-returns-in_ok-hold-in-Kept-clause-mapped
+hold_way-returns-in_ok-hold-in-Kept-clause-mapped g t c = λ tells stands mapped m.
+    (let at = subst (CanHold c.args.order c.args.level c.args.block c.args.high (g.P.Platform.head c.args.platform.now)) c.in-Kept.is c.requires.can in
+    let twig = c.in_ok-twig-in-Kept.twig in
+    let pages = (g.P.Platform.history c.args.platform.now).present.readable in
+    let l : c.args.level - 1 ≡ at.below = omega (arith, at.level_is) in
+    let same : (g.P.Platform.history c.read_node.new.platform).present.readable ≡ pages = ap (λ i. i.readable) (c.in_ok-twig-in-Kept.ensures.looks.image tells) in
+    let stands' = subst (λ p. StandsOver p c.read_node.new.cache) (sym same) (c.in_ok-twig-in-Kept.ensures.stands tells stands) in
+    let lt = head_of_kept c.args.order c.args.level c.args.block c.args.high (g.P.Platform.head c.args.platform.now) c.in-Kept.low c.in-Kept.addr c.in-Kept.key at in
+    let small : c.in-Kept.addr < 2 ^ 64 = omega (arith, lt, g.met.P.Platform.has_room c.args.platform.now, g.met.P.Platform.is_limited c.args.platform.now) in
+    let node = subst (λ k. IsNodeOf pages (want_here c.args.order k c.in-Kept.low c.args.high c.in-Kept.addr) c.in-Kept.key twig) at.level_is
+    (subst (λ k. IsNodeOf pages (want_here c.args.order c.args.level c.in-Kept.low c.args.high c.in-Kept.addr) k twig) c.from_bytes-key.ensures (c.in_ok-twig-in-Kept.ensures.reads tells stands)) in
+    let reads = read_as pages c.args.order at.below c.in-Kept.low c.args.high c.in-Kept.addr (c.args.order / 2) c.in-Kept.key twig small node in
+    let k = kept_mapped pages c.args.order at.below c.args.high c.in-Kept.low c.in-Kept.addr c.in-Kept.key twig reads mapped
+    (subst (λ k. Maps pages c.args.order (stubs k c.args.high (made.Kept c.in-Kept.low c.in-Kept.addr c.in-Kept.key)) mapped) at.level_is (subst (λ x. Maps pages c.args.order (stubs c.args.level c.args.high x) mapped) c.in-Kept.is m)) in
+    c.in_ok-left-in-Kept.ensures.mapped tells stands' mapped
+    (subst (λ p. Maps p c.args.order (stubs_below (c.args.level - 1) c.args.high twig) mapped) (sym same) (subst (λ j. Maps pages c.args.order (stubs_below j c.args.high twig) mapped) (sym l) k)))

@@ -17,6 +17,9 @@ use Rattle.btree_update.proofs.WrongLaws.{wrong_below, wrong_root}
 use Rattle.page_store.specs.Places.{NothingFits}
 use Rattle.std.proofs.Common.{Err}
 use Rattle.std.proofs.lemmas.Result.{err_from_is_err_and}
+use Rattle.btree_update.specs.GroveTree.{Maps}
+use Rattle.btree_update.specs.Roots.{RootMaps}
+use Rattle.btree_update.proofs.MappedLaws.{root_kept_mapped, root_grown_mapped}
 use Rattle.btree_update.proofs.holding.hold_root.Goals as goal
 
 above : (level : ℕ) → 1 ≤ level → level ≡ suc (level - 1)
@@ -149,3 +152,27 @@ returns-in_ok-hold-in-Kept-clause-beside g c = λ tells stands.
     subst (λ x. LeftOf (IsReadAs pages c.args.order) c.args.order c.args.block (c.args.level - 1) c.args.high x c.hold.new.held.items c.hold_below-in-Kept.new.beside.items c.in_ok-left-in-Kept.left) (sym c.in-Kept.is)
     (left_kept (IsReadAs pages c.args.order) c.args.order c.args.block (c.args.level - 1) c.args.high c.in-Kept.low c.in-Kept.addr c.in-Kept.key twig c.hold_below-in-Kept.new.held.items c.hold.new.held.items c.hold_below-in-Kept.new.beside.items c.in_ok-left-in-Kept.left
     c.in_ok-hold-in-Kept.ensures.held left))
+
+pub returns-in_ok-hold-in-Kept-clause-mapped : goal.returns-in_ok-hold-in-Kept-clause-mapped
+returns-in_ok-hold-in-Kept-clause-mapped g c = λ tells stands mapped m.
+    (let at = subst (CanHoldRoot c.args.order c.args.level c.args.block c.args.high (g.P.Platform.head c.args.platform.now)) c.in-Kept.is c.requires.can in
+    let twig = c.in_ok-twig-in-Kept.twig in
+    let pages = (g.P.Platform.history c.args.platform.now).present.readable in
+    let same : (g.P.Platform.history c.read_node.new.platform).present.readable ≡ pages = ap (λ i. i.readable) (c.in_ok-twig-in-Kept.ensures.looks.image tells) in
+    let stands' = subst (λ p. StandsOver p c.read_node.new.cache) (sym same) (c.in_ok-twig-in-Kept.ensures.stands tells stands) in
+    let lt = root_lt c.args.order c.args.level c.args.block c.args.high (g.P.Platform.head c.args.platform.now) c.in-Kept.low c.in-Kept.addr c.in-Kept.key at in
+    let small : c.in-Kept.addr < 2 ^ 64 = omega (arith, lt, g.met.P.Platform.has_room c.args.platform.now, g.met.P.Platform.is_limited c.args.platform.now) in
+    let low_is = root_starts c.args.order c.args.level c.args.block c.args.high (g.P.Platform.head c.args.platform.now) c.in-Kept.low c.in-Kept.addr c.in-Kept.key at in
+    let node = subst (λ k. IsNodeOf pages (want_root c.args.order k c.in-Kept.low c.args.high c.in-Kept.addr c.least_of_root.result) c.in-Kept.key twig) (above c.args.level at.one)
+    (subst (λ k. IsNodeOf pages (want_root c.args.order c.args.level c.in-Kept.low c.args.high c.in-Kept.addr c.least_of_root.result) k twig) c.from_bytes-key.ensures (c.in_ok-twig-in-Kept.ensures.reads tells stands)) in
+    let reads0 = read_as pages c.args.order (c.args.level - 1) c.in-Kept.low c.args.high c.in-Kept.addr c.least_of_root.result c.in-Kept.key twig small node in
+    let reads = subst (λ l. IsReadAs pages c.args.order (c.args.level - 1) (stub_at (suc (c.args.level - 1)) l c.args.high c.in-Kept.addr c.in-Kept.key) twig) low_is reads0 in
+    let k = root_kept_mapped pages c.args.order (c.args.level - 1) c.args.high c.in-Kept.low c.in-Kept.addr c.in-Kept.key twig reads mapped (subst (λ x. RootMaps pages c.args.order (c.args.level - 1) c.args.high x mapped) c.in-Kept.is m) in
+    c.in_ok-left-in-Kept.ensures.mapped tells stands' mapped (subst (λ p. Maps p c.args.order (stubs_below (c.args.level - 1) c.args.high twig) mapped) (sym same) k))
+
+pub returns-in-Grown-clause-mapped : goal.returns-in-Grown-clause-mapped
+returns-in-Grown-clause-mapped g c = λ tells stands.
+    (let pages = (g.P.Platform.history c.args.platform.now).present.readable in
+    IfOk_map _ _ c.hold_below.result
+    (λ left h mapped m. h mapped (root_grown_mapped pages c.args.order (c.args.level - 1) c.args.high c.in-Grown.low c.in-Grown.twig mapped (subst (λ x. RootMaps pages c.args.order (c.args.level - 1) c.args.high x mapped) c.in-Grown.is m)))
+    (c.hold_below.ensures.mapped tells stands))

@@ -2,6 +2,7 @@ use Rattle.std.proofs.Common.{◌-◌, arith}
 use Rattle.btree_update.specs.Groves.{IsSound}
 use Rattle.btree_update.specs.Held.{AnyRead, IsReadAs}
 use Rattle.btree_update.proofs.BesideLaws.{loses_of}
+use Rattle.btree_update.proofs.MappedLaws.{told}
 use Rattle.btree_update.proofs.groves.Grove.ready.Goals as goal
 
 pub returns-in_err-make_spares-clause-sound : goal.returns-in_err-make_spares-clause-sound
@@ -75,3 +76,6 @@ returns-clause-sound g c = record {
   shaped = c.requires.sound.shaped;
   spares = c.make_spares.ensures.kept c.args.self.now.order c.requires.sound.most c.requires.sound.spares;
 }
+
+pub returns-clause-mapped : goal.returns-clause-mapped
+returns-clause-mapped g c = λ tells stands map m. told c.args.block map c.in_ok-left.left c.is_mapped.result c.is_mapped.ensures (c.in_ok-left.ensures.mapped tells stands map m)
