@@ -1,16 +1,16 @@
 -- Whether a block is mapped below the way to it.
-use Rattle.std.proofs.Common.{Option, ◌≡◌, ◌≢◌, ◌↔◌, ℕ, zero, suc, ◌+◌, ◌-◌, ◌<◌, ◌≤◌, List, [], ◌∷◌, ◌++◌, Bool, true, false, IsTrue, length, take, drop, Contains, refl, sym, ap, subst, ◌∙◌, arith}
+use Rattle.std.proofs.Common.{Option, ◌≡◌, ◌≢◌, ◌↔◌, ℕ, zero, suc, ◌<◌, List, [], ◌∷◌, ◌++◌, Bool, true, false, IsTrue, take, drop, refl, sym, ap, subst, ◌∙◌, arith}
 use Rattle.std.specs.Bool.{OnTrue, OnFalse}
 use Rattle.std.specs.List.{AllByRecursion}
 use Rattle.std.proofs.lemmas.Bool.{false≢true}
 use Rattle.std.proofs.lemmas.List.Elements.{Contains-append_left, Contains-append_right}
 use Rattle.page_store.specs.Tree.{Parts, Mapped, Subtree, joined}
-use Rattle.btree_twigs.specs.declared.twigs.Child.{Child, out-Child}
+use Rattle.btree_twigs.specs.declared.twigs.Child.{Child}
 use Rattle.btree_twigs.specs.declared.twigs.Child.TheVariants as made
 use Rattle.btree_twigs.specs.declared.twigs.Twig.{Twig}
 use Rattle.btree_twigs.specs.Stubs.{Stub, Tiles, datum, start_by, low_of, children_of, stubs, stubs_in, stubs_below}
 use Rattle.btree_twigs.specs.Shape.{EachBy, IsChild, IsTwig}
-use Rattle.btree_twigs.specs.Updates.{IsNode, stubs_under}
+use Rattle.btree_twigs.specs.Updates.{stubs_under}
 use Rattle.btree_twigs.proofs.ListLaws.{stubs_append, each_front, each_back, tiles_by}
 use Rattle.btree_twigs.proofs.Children.{tiles_child, one_datum}
 use Rattle.btree_update.specs.declared.siblings.Left.{Left}
