@@ -16,7 +16,7 @@ use Rattle.btree_update.specs.GroveTree.{want_of, top_want, stubs_at}
 use Rattle.btree_update.specs.Reading.{kept_of, all_kept}
 use Rattle.btree_update.specs.Held.{stub_at}
 use Rattle.btree_update.specs.Holding.{IsNodeFor, IsNodeOf}
-use Rattle.btree_update.specs.Wrong.{HasNode, HasBlock, IsWrongAt, ComesToWrong, Below, Beside, WrongOnWay, WrongFrom, WrongFromBy}
+use Rattle.btree_update.specs.Wrong.{HasNode, SpansBlock, IsWrongAt, ComesToWrong, Below, Beside, WrongOnWay, WrongFrom, WrongFromBy}
 use Rattle.btree_update.proofs.OpenLaws.{IsOnWay}
 use Rattle.btree_update.proofs.Readings.{kept_stubs}
 use Rattle.btree_update.proofs.RootHolds.{want_root}
@@ -83,7 +83,7 @@ wrong_below pages order block wrong level low high addr least most key twig h o 
     by f.0 f.1 (subst (λ ss. HasNode ss w.stub) f.2 w.has) w.comes
   where
     by : (entries : List Entry) → FitsAt pages (record { addr = addr; level = suc level; low = low; high = high; least = least; most = most }) key (NodeRecord (suc level) entries) → HasNode (stubs_at level high entries) w.stub →
-        (HasBlock block w.stub × ComesToWrong pages order block wrong (want_of order w.stub) w.stub.key) ⊎ IsWrongAt pages wrong (want_of order w.stub) w.stub.key →
+        (SpansBlock block w.stub × ComesToWrong pages order block wrong (want_of order w.stub) w.stub.key) ⊎ IsWrongAt pages wrong (want_of order w.stub) w.stub.key →
         ComesToWrong pages order block wrong (record { addr = addr; level = suc level; low = low; high = high; least = least; most = most }) key
     by entries fits has (inl comes) = Below level entries w.stub fits has comes.0 comes.1
     by entries fits has (inr here) = Beside level entries w.stub fits has here

@@ -16,8 +16,8 @@ pub record HasNode (stubs : List Stub) (stub : Stub) : Type 0 where
   pub inner : 1 ≤ stub.level
 
 -- it has the block
-abbrev pub HasBlock : ℕ → Stub → Type 0
-HasBlock block stub = (stub.low ≤ block) × (block < stub.high)
+abbrev pub SpansBlock : ℕ → Stub → Type 0
+SpansBlock block stub = (stub.low ≤ block) × (block < stub.high)
 
 -- nothing fits at a place, which has this address
 abbrev pub IsWrongAt : List (List ℕ) → ℕ → Want → List ℕ → Type 0
@@ -27,7 +27,7 @@ IsWrongAt pages addr want key = (addr ≡ want.addr) × NothingFits pages want k
 pub data ComesToWrong (pages : List (List ℕ)) (order block addr : ℕ) : Want → List ℕ → Type 0 where
   Here : {want : Want} {key : List ℕ} → IsWrongAt pages addr want key → ComesToWrong pages order block addr want key
   Below : {want : Want} {key : List ℕ} (level : ℕ) (entries : List Entry) (stub : Stub) → FitsAt pages want key (NodeRecord (suc level) entries) → HasNode (stubs_at level want.high entries) stub →
-      HasBlock block stub → ComesToWrong pages order block addr (want_of order stub) stub.key → ComesToWrong pages order block addr want key
+      SpansBlock block stub → ComesToWrong pages order block addr (want_of order stub) stub.key → ComesToWrong pages order block addr want key
   Beside : {want : Want} {key : List ℕ} (level : ℕ) (entries : List Entry) (stub : Stub) → FitsAt pages want key (NodeRecord (suc level) entries) → HasNode (stubs_at level want.high entries) stub →
       IsWrongAt pages addr (want_of order stub) stub.key → ComesToWrong pages order block addr want key
 
@@ -35,7 +35,7 @@ pub data ComesToWrong (pages : List (List ℕ)) (order block addr : ℕ) : Want 
 pub record WrongOnWay (pages : List (List ℕ)) (order block addr : ℕ) (stubs : List Stub) : Type 0 where
   pub stub : Stub
   pub has : HasNode stubs stub
-  pub comes : (HasBlock block stub × ComesToWrong pages order block addr (want_of order stub) stub.key) ⊎ IsWrongAt pages addr (want_of order stub) stub.key
+  pub comes : (SpansBlock block stub × ComesToWrong pages order block addr (want_of order stub) stub.key) ⊎ IsWrongAt pages addr (want_of order stub) stub.key
 
 abbrev pub WrongFromBy : List (List ℕ) → ℕ → ℕ → ℕ → ℕ → ℕ → Child-F Child Twig → Type 0
 WrongFromBy pages order block addr below high (Kept low at key) = ComesToWrong pages order block addr (top_want order high (suc below) at) key
