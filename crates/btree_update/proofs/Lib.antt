@@ -7,3 +7,8 @@ pub mod GroveLaws
 pub mod CacheLaws
 pub mod HoldLaws
 pub mod RootHolds
+pub mod WrongLaws
+pub mod BesideLaws
+pub mod HelpLaws
+pub mod HelpingLaws
+pub mod MappedLaws

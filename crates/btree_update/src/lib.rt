@@ -2,13 +2,15 @@
 #![tactic(auto)]
 
 mod groves;
+mod helping;
 mod holding;
 mod laws;
 mod opening;
 mod reading;
 mod refusals;
+mod siblings;
 
 pub use groves::Grove;
-pub use laws::{opened_maps, put_maps, read_maps, sealed_is};
+pub use laws::{opened_maps, put_maps, read_maps, sealed_is, take_maps};
 pub use opening::open_way;
 pub use refusals::ReadyRefusal;
