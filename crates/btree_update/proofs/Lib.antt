@@ -7,3 +7,5 @@ pub mod GroveLaws
 pub mod CacheLaws
 pub mod HoldLaws
 pub mod RootHolds
+pub mod FoundLaws
+pub mod FoundMaps

@@ -175,7 +175,7 @@ weaker : (P Q : Mapped → Type 0) → ((m : Mapped) → P m → Q m) → (xs : 
 weaker P Q f [] h = tt
 weaker P Q f (x ∷ xs) h = (f x h.0, weaker P Q f xs h.1)
 
-in_maps : (pages : List (List ℕ)) (order low high : ℕ) (ss : List Stub) (m : List Mapped) → Tiles low high ss → Maps pages order ss m → AllByRecursion (IsIn low high) m
+pub in_maps : (pages : List (List ℕ)) (order low high : ℕ) (ss : List Stub) (m : List Mapped) → Tiles low high ss → Maps pages order ss m → AllByRecursion (IsIn low high) m
 in_maps pages order low high ss m h k = subst (AllByRecursion (IsIn low high)) (sym k.is) (tiles_in pages order low high ss k.each h k.has)
 
 -- where the places have one more, the blocks have it: the map law of an insert

@@ -6,3 +6,4 @@ pub mod Reading
 pub mod Roots
 pub mod Groves
 pub mod Holding
+pub mod Finding
