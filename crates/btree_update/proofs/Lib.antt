@@ -9,3 +9,4 @@ pub mod HoldLaws
 pub mod RootHolds
 pub mod FoundLaws
 pub mod FoundMaps
+pub mod CountLaws

@@ -20,6 +20,7 @@ ghost use Rattle.btree_update.specs.Held.{AreBelow};
 ghost use Rattle.btree_update.specs.Finding.{GroveFinds, GroveStops};
 ghost use Rattle.btree_update.specs.Groves.{KeepsTree, IsSound, IsReadFrom, CanInsert, GroveMaps, places_of, grown_in, IsAddressOf, LetsGo, Goes};
 
+use crate::counting::count;
 use crate::finding::find_root;
 use crate::holding::hold_root;
 use crate::opening::{note, open_root};
@@ -101,6 +102,16 @@ impl Grove {
         ensures { result ≡ self.now.level }
     {
         self.level
+    }
+
+    /// How many nodes are in memory.
+    pub fn grown(&self) -> u64
+        requires { IsSound self.now }
+        ensures { result ≡ grown_in self.now }
+    {
+        // There are fewer than blocks, whose number is in range.
+        let _blocks = self.blocks;
+        count(&self.top, self.level)
     }
 
     /// The entry of a block, or `None` where it isn't mapped: from the nodes in memory, and below them from the medium, through the

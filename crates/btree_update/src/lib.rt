@@ -1,6 +1,7 @@
 //! Trees that are partly in memory, over pages: what they map, and how the way of an update is brought into memory.
 #![tactic(auto)]
 
+mod counting;
 mod finding;
 mod groves;
 mod holding;
