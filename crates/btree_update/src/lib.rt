@@ -14,3 +14,14 @@ pub use groves::Grove;
 pub use laws::{opened_maps, put_maps, read_maps, sealed_is};
 pub use opening::open_way;
 pub use refusals::ReadyRefusal;
+
+#[cfg(test)]
+mod test_bed;
+#[cfg(test)]
+mod test_device;
+#[cfg(test)]
+mod test_pair;
+#[cfg(test)]
+mod test_shape;
+#[cfg(test)]
+mod tests;
