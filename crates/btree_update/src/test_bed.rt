@@ -6,7 +6,7 @@ ghost use Rattle.btree_update.specs.Held.{AreBelow};
 
 use crate::Grove;
 use crate::refusals::ReadyRefusal;
-use crate::test_device::Device;
+use crate::test_device::{Device, key_of};
 use crate::test_shape::nodes_of;
 use node_cache::NodeCache;
 use node_codec::Entry;
@@ -68,7 +68,7 @@ impl Bed {
         if !root.is_in_range() {
             return None;
         }
-        let cache = NodeCache::new(alloc, 64).ok()?;
+        let cache = NodeCache::new(alloc, 16).ok()?;
         let grove = Grove::of(alloc, &root);
         Some(Bed {
             device,
@@ -110,9 +110,17 @@ impl Bed {
         )
     }
 
-    /// Maps a block to a new data record, and answers the address of that.
-    pub(crate) fn put(&mut self, alloc: Global, block: u64) -> Option<u64> {
+    /// Appends a page for a data record, and answers its address.
+    pub(crate) fn datum(&mut self) -> Option<u64> {
+        self.device.datum()
+    }
+
+    /// Maps a block to a data record at an address below the head.
+    pub(crate) fn put(&mut self, alloc: Global, block: u64, addr: u64) -> Option<()> {
         if block >= self.root.blocks || self.grove.level() == 255 {
+            return None;
+        }
+        if addr >= self.device.platform.head() {
             return None;
         }
         let _is_mapped = self
@@ -125,25 +133,27 @@ impl Bed {
                 &mut self.device.buffers,
             )
             .ok()?;
-        let placed = self.device.datum()?;
-        self.grove.insert(block, placed.addr, placed.key);
-        Some(placed.addr)
+        self.grove.insert(block, addr, key_of(addr));
+        Some(())
     }
 
-    /// The address of the data record of a block, or 0 for none.
-    pub(crate) fn find(&mut self, block: u64) -> Option<Result<u64, FetchRefusal>> {
+    /// The address of the data record of a block, if it is mapped; none where the block is not one of the device.
+    pub(crate) fn find(&mut self, block: u64) -> Result<Option<u64>, FetchRefusal> {
         if block >= self.root.blocks {
-            return None;
+            return Ok(None);
         }
-        match self.grove.find(
+        let found = self.grove.find(
             block,
             &mut self.device.platform,
             &mut self.cache,
             &mut self.device.buffers,
-        ) {
-            Ok(found) => Some(Ok(found.map_or(0, |entry| entry.addr))),
-            Err(refusal) => Some(Err(refusal)),
-        }
+        )?;
+        Ok(found.map(|entry| entry.addr))
+    }
+
+    /// The number of pages on the medium.
+    pub(crate) fn head(&self) -> u64 {
+        self.device.platform.head()
     }
 
     /// How many nodes are in memory.

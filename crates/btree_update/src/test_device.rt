@@ -1,10 +1,10 @@
 //! A device in memory that tests build page by page, and seal trees on.
-ghost use Rattle.std.specs.Prelude.{◌<◌, ◌≤◌, IfSome, length};
+ghost use Rattle.std.specs.Prelude.{◌≤◌, length};
 ghost use Rattle.platform.specs.Mem.{image_of_now};
 
 use btree_twigs::{Child, Twig};
 use node_codec::{Entry, fits_node};
-use page_store::{Buffers, Placed};
+use page_store::Buffers;
 use platform::{MemPlatform, Platform};
 use sdbt_base::{Key, ListTape, RECORD};
 use std::alloc::Global;
@@ -15,6 +15,11 @@ pub(crate) struct Device {
     pub(crate) platform: MemPlatform,
     pub(crate) buffers: Buffers,
     tape: ListTape,
+}
+
+/// The key that tests name data records by.
+pub(crate) fn key_of(addr: u64) -> Key {
+    Key::from_bytes([(addr % 256) as u8; 32])
 }
 
 impl Device {
@@ -36,41 +41,29 @@ impl Device {
         })
     }
 
-    /// Seals what the buffers hold and appends it.
-    fn place(&mut self) -> Option<Placed>
-        ensures rises { length (image_of_now self.old.platform).recorded ≤ length (image_of_now self.new.platform).recorded }
-        ensures below { IfSome result (λ placed. placed.addr < length (image_of_now self.new.platform).recorded) }
-    {
-        if self.platform.head() >= self.platform.capacity() {
-            return None;
-        }
-        self.buffers.append(&mut self.platform, &mut self.tape).ok()
-    }
-
-    /// Appends a page of zeros in the place of a data record, which no call of a tree reads.
-    pub(crate) fn datum(&mut self) -> Option<Placed>
-        ensures rises { length (image_of_now self.old.platform).recorded ≤ length (image_of_now self.new.platform).recorded }
-        ensures below { IfSome result (λ placed. placed.addr < length (image_of_now self.new.platform).recorded) }
+    /// Appends a page of zeros in the place of a data record, which no call of a tree reads, and answers its address.
+    pub(crate) fn datum(&mut self) -> Option<u64>
+        ensures { length (image_of_now self.old.platform).recorded ≤ length (image_of_now self.new.platform).recorded }
     {
         let addr = self.platform.head();
         if addr >= self.platform.capacity() {
             return None;
         }
         self.platform.append(&[0; RECORD]).ok()?;
-        Some(Placed {
-            addr,
-            key: Key::from_bytes([(addr % 256) as u8; 32]),
-        })
+        Some(addr)
     }
 
     /// Appends a node, and answers the entry that names it.
     pub(crate) fn node(&mut self, low: u64, level: u8, entries: &[Entry]) -> Option<Entry> {
         let addr = self.platform.head();
-        if !fits_node(addr, level, entries) {
+        if addr >= self.platform.capacity() || !fits_node(addr, level, entries) {
             return None;
         }
         self.buffers.put_node(addr, level, entries);
-        let placed = self.place()?;
+        let placed = self
+            .buffers
+            .append(&mut self.platform, &mut self.tape)
+            .ok()?;
         Some(Entry {
             low,
             addr: placed.addr,

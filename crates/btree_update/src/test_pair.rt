@@ -30,10 +30,14 @@ pub(crate) struct Pair {
 }
 
 impl Pair {
-    /// Both without any block.
+    /// Both without any block, over a medium that has a few pages.
     pub(crate) fn new(alloc: Global, order: u16, blocks: u64, seed: u64) -> Option<Pair> {
+        let mut bed = Bed::new(alloc, order, blocks, 64)?;
+        for _ in 0..8 {
+            bed.datum()?;
+        }
         Some(Pair {
-            bed: Bed::new(alloc, order, blocks, 8192)?,
+            bed,
             map: BTreeMap::new(alloc),
             blocks,
             numbers: Numbers { state: seed },
@@ -44,9 +48,10 @@ impl Pair {
     /// differs from the map in this block or in another one.
     pub(crate) fn put(&mut self, alloc: Global) -> Option<()> {
         let block = self.numbers.below(self.blocks);
+        let addr = self.numbers.below(self.bed.head());
         let before = self.bed.grown();
         let level = self.bed.grove().level() as u64;
-        let addr = self.bed.put(alloc, block)?;
+        self.bed.put(alloc, block, addr)?;
         self.map.insert(block, addr).ok()?;
         let grown = self.bed.grown();
         if self.bed.shape() != Some(grown) || grown.saturating_sub(before) > 2 * level + 1 {
@@ -59,8 +64,8 @@ impl Pair {
 
     /// `None` where tree and map differ in a block.
     fn compare(&mut self, block: u64) -> Option<()> {
-        let wanted = self.map.get(&block).copied().unwrap_or(0);
-        if self.bed.find(block) == Some(Ok(wanted)) {
+        let wanted = self.map.get(&block).copied();
+        if self.bed.find(block) == Ok(wanted) {
             Some(())
         } else {
             None

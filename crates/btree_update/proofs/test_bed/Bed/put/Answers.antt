@@ -14,9 +14,9 @@ still_below head old new keeps below =
 
 pub invariant_of-self-2 : goal.invariant_of-self-2
 invariant_of-self-2 c =
-    let head = length c.datum.new.self.platform.store.medium.recorded in
     let old = c.self.inside.grove in
-    let rises : length c.self.inside.device.platform.store.medium.recorded ≤ head = omega (arith, c.ready.ensures.looks.head, c.datum.ensures.rises) in
-    let below = lower (length c.self.inside.device.platform.store.medium.recorded) head (places_of old) rises c.self.invariant.2 in
-    let still = still_below head old c.ready.new.self c.ready.ensures.tree below in
-    (c.insert.ensures.sound, c.insert.ensures.size.1 ∙ c.ready.ensures.tree.blocks ∙ c.self.invariant.1, c.insert.ensures.below head still c.in_ok-placed.ensures.below)
+    let head = length c.ready.new.platform.store.medium.recorded in
+    let same = c.ready.ensures.looks.head in
+    let below = lower (length c.self.inside.device.platform.store.medium.recorded) head (places_of old) (omega (arith, same)) c.self.invariant.2 in
+    let lt : c.args.addr < head = omega (arith, c.if-addr-head.false, c.head.ensures.value, same) in
+    (c.insert.ensures.sound, c.insert.ensures.size.1 ∙ c.ready.ensures.tree.blocks ∙ c.self.invariant.1, c.insert.ensures.below head (still_below head old c.ready.new.self c.ready.ensures.tree below) lt)
