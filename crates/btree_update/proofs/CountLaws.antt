@@ -4,10 +4,9 @@ use Rattle.std.proofs.lemmas.List.{take_more}
 use Rattle.btree_twigs.specs.declared.twigs.Child.{Child, Child-F, out-Child}
 use Rattle.btree_twigs.specs.declared.twigs.Child.TheOpen.{Kept, Grown}
 use Rattle.btree_twigs.specs.declared.twigs.Child.TheVariants as made
-use Rattle.btree_twigs.specs.declared.twigs.Twig.{Twig, out-Twig}
+use Rattle.btree_twigs.specs.declared.twigs.Twig.{Twig}
 use Rattle.btree_twigs.specs.Stubs.{start_by, low_in, low_of, children_of, sum_by, nodes_in, nodes, nodes_below}
 use Rattle.btree_twigs.specs.Shape.{EachBy, IsChildBy, IsChild, IsTwig}
-use Rattle.btree_twigs.specs.Top.{top_least}
 use Rattle.btree_twigs.proofs.ListLaws.{split_here}
 use Rattle.btree_twigs.proofs.Children.{begins_le}
 use Rattle.btree_twigs.proofs.Counts.{sum_append, no_nodes}

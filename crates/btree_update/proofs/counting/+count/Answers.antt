@@ -1,4 +1,4 @@
-use Rattle.std.proofs.Common.{rules, ◌≡◌, ◌<◌, ◌≤◌, ◌^◌, ℕ, suc, ◌+◌, ◌-◌, ap, sym, ◌∙◌, arith}
+use Rattle.std.proofs.Common.{rules, ◌-◌, ap, sym, arith}
 use Rattle.btree_twigs.specs.Stubs.{nodes, sum_by}
 use Rattle.btree_update.proofs.CountLaws.{sum_more, sum_within, none_in_leaf, none_in_kept, one_in_grown}
 use Rattle.btree_update.proofs.counting.+count.Goals as goal

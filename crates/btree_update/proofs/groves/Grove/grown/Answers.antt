@@ -1,4 +1,4 @@
-use Rattle.std.proofs.Common.{◌<◌, ◌^◌, rules}
+use Rattle.std.proofs.Common.{rules}
 use Rattle.btree_update.proofs.CountLaws.{few_in_root}
 use Rattle.btree_update.proofs.groves.Grove.grown.Goals as goal
 

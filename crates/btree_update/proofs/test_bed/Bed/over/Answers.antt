@@ -1,5 +1,4 @@
-use Rattle.std.proofs.Common.{◌≡◌, ◌<◌, length, refl, arith, rules}
-use Rattle.root_codec.specs.RootRecord.{FitsRoot}
+use Rattle.std.proofs.Common.{◌<◌, length, refl, arith}
 use Rattle.btree_update.proofs.test_bed.Bed.over.Goals as goal
 
 pub invariant_of-result : goal.invariant_of-result
