@@ -12,3 +12,6 @@ pub mod BesideLaws
 pub mod HelpLaws
 pub mod HelpingLaws
 pub mod MappedLaws
+pub mod FoundLaws
+pub mod FoundMaps
+pub mod CountLaws

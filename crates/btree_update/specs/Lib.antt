@@ -9,3 +9,4 @@ pub mod Beside
 pub mod Helping
 pub mod Groves
 pub mod Holding
+pub mod Finding

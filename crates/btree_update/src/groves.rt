@@ -1,4 +1,4 @@
-ghost use Rattle.std.specs.Prelude.{◌≡◌, ◌⊎◌, ◌<◌, ◌≤◌, ◌+◌, ◌-◌, ◌*◌, ℕ, List, [], ◌∷◌, ◌++◌, suc, vec_len, vec_capacity, IfOk, IsErr, IsErrOf, IsTrue};
+ghost use Rattle.std.specs.Prelude.{◌≡◌, ◌⊎◌, ◌<◌, ◌≤◌, ◌+◌, ◌-◌, ◌*◌, ℕ, List, [], ◌∷◌, ◌++◌, suc, vec_len, vec_capacity, IfOk, IfSome, IsErr, IsErrOf, IsTrue};
 ghost use Rattle.root_codec.specs.RootRecord.{FitsRoot};
 ghost use Rattle.node_codec.specs.Record.{DataRecord};
 ghost use Rattle.page_store.specs.Places.{IsRecordAt};
@@ -13,12 +13,16 @@ ghost use Rattle.std.specs.Bool.{OnTrue, OnFalse};
 ghost use Rattle.std.specs.declared.vec.Vec.{Vec};
 ghost use Rattle.std.specs.declared.alloc.Global.{Global};
 ghost use Rattle.btree_walk.specs.Looks.{Looks};
+ghost use Rattle.btree_walk.specs.Mapped.{IsMappedAs};
 ghost use Rattle.btree_walk.specs.Sights.{StandsOver};
 ghost use Rattle.btree_twigs.specs.declared.twigs.Child.{Child};
 ghost use Rattle.btree_update.specs.declared.refusals.ReadyRefusal.{ReadyRefusal};
 ghost use Rattle.btree_update.specs.Held.{AreBelow};
+ghost use Rattle.btree_update.specs.Finding.{GroveFinds, GroveStops};
 ghost use Rattle.btree_update.specs.Groves.{KeepsTree, IsSound, IsReadFrom, IsReadBeside, IsWrongOnWay, CanInsert, CanRemove, GroveMaps, places_of, grown_in, IsAddressOf, LetsGo, Goes};
 
+use crate::counting::count;
+use crate::finding::find_root;
 use crate::helping::help_root;
 use crate::holding::hold_root;
 use crate::opening::{note, open_root};
@@ -26,7 +30,8 @@ use crate::refusals::ReadyRefusal;
 use crate::siblings::is_mapped;
 use btree_twigs::{Child, Spot, Twig, find, level_of, put_top, take_top};
 use node_cache::NodeCache;
-use page_store::Buffers;
+use node_codec::Entry;
+use page_store::{Buffers, FetchRefusal};
 use platform::Platform;
 use root_codec::Root;
 use sdbt_base::{Key, Unkept};
@@ -102,6 +107,53 @@ impl Grove {
         ensures { result ≡ self.now.level }
     {
         self.level
+    }
+
+    /// How many nodes are in memory.
+    pub fn grown(&self) -> u64
+        requires { IsSound self.now }
+        ensures { result ≡ grown_in self.now }
+    {
+        // There are fewer than blocks, whose number is in range.
+        let _blocks = self.blocks;
+        count(&self.top, self.level)
+    }
+
+    /// The entry of a block, or `None` where it isn't mapped: from the nodes in memory, and below them from the medium, through the
+    /// cache. `BadRecord` names a node on the way to the block that does not fit.
+    pub fn find<P: Platform>(
+        &self,
+        block: u64,
+        platform: &mut P,
+        cache: &mut NodeCache,
+        buf: &mut Buffers,
+    ) -> Result<Option<Entry>, FetchRefusal>
+        requires sound { IsSound self.now }
+        requires to { block < self.now.blocks }
+        requires within { AreBelow (P.head platform.old) (places_of self.now) }
+        ensures found { P.tells → StandsOver (P.history platform.old).present.readable cache.old → IfOk result (GroveFinds (P.history platform.old).present.readable block self.now) }
+        ensures maps { P.tells → StandsOver (P.history platform.old).present.readable cache.old → (mapped : List Mapped) → GroveMaps (P.history platform.old).present.readable self.now mapped →
+            IfOk result (IsMappedAs mapped block) }
+        ensures bad { P.tells → StandsOver (P.history platform.old).present.readable cache.old → (addr : ℕ) → IsErrOf result (FetchRefusal.BadRecord addr) →
+            GroveStops (P.history platform.old).present.readable block addr self.now }
+        // Where the tree maps anything at all, no node is refused.
+        ensures fits { P.tells → StandsOver (P.history platform.old).present.readable cache.old → (mapped : List Mapped) → GroveMaps (P.history platform.old).present.readable self.now mapped →
+            (addr : ℕ) → ¬ (IsErrOf result (FetchRefusal.BadRecord addr)) }
+        ensures entry { IfOk result (λ found. IfSome found (λ e. (e.low ≡ block) × (e.addr < P.head platform.old))) }
+        ensures stands { P.tells → StandsOver (P.history platform.old).present.readable cache.old → StandsOver (P.history platform.old).present.readable cache.new }
+        ensures looks { Looks P.Platform self.now.level platform.old platform.new }
+        ensures cause { IsErrOf result FetchRefusal.PlatformFault → Rose (P.faults platform.old) (P.faults platform.new) }
+    {
+        find_root(
+            platform,
+            cache,
+            buf,
+            self.order,
+            block,
+            &self.top,
+            self.level,
+            self.blocks,
+        )
     }
 
     /// Reads what an update of a block may need, through the cache, and takes all memory that it may take; the tree is the same.

@@ -221,7 +221,7 @@ pub(crate) fn hold_root<P: Platform>(
 }
 
 /// The least number of children of a root.
-fn least_of_root(level: u8) -> u16
+pub(crate) fn least_of_root(level: u8) -> u16
     requires { 1 ≤ level }
     ensures { result ≡ top_least (level - 1) }
 {
