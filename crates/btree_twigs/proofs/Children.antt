@@ -1,11 +1,11 @@
 -- What is below a child.
-use Rattle.std.proofs.Common.{◌≡◌, ℕ, zero, suc, ◌+◌, ◌/◌, ◌<◌, ◌≤◌, List, [], ◌∷◌, ◌++◌, length, refl, sym, ap, subst, ◌∙◌, arith, rules}
+use Rattle.std.proofs.Common.{◌≡◌, ℕ, zero, suc, ◌<◌, ◌≤◌, List, [], ◌∷◌, refl, sym, ap, subst, arith}
 use Rattle.btree_twigs.specs.declared.twigs.Child.{Child, Child-F, out-Child}
 use Rattle.btree_twigs.specs.declared.twigs.Child.TheOpen.{Kept, Grown}
 use Rattle.btree_twigs.specs.declared.twigs.Child.TheVariants as made
 use Rattle.btree_twigs.specs.declared.twigs.Twig.{Twig}
-use Rattle.btree_twigs.specs.Stubs.{Stub, Tiles, Puts, datum, start_by, stubs_by, stubs_in, low_in, low_of, children_of, datum_in, stubs}
-use Rattle.btree_twigs.specs.Shape.{EachBy, Begins, IsNodeBy, IsDatum, IsTwigBy, IsChildBy, IsChild}
+use Rattle.btree_twigs.specs.Stubs.{Tiles, datum, start_by, stubs_in, low_in, low_of, children_of, datum_in, stubs}
+use Rattle.btree_twigs.specs.Shape.{Begins, IsDatum, IsChildBy, IsChild}
 use Rattle.btree_twigs.proofs.ListLaws.{tiles_by, tiles_from}
 
 pub begins_le : (level low start : ℕ) → Begins level low start → low ≤ start

@@ -1,13 +1,13 @@
 -- How many nodes are in memory.
-use Rattle.std.proofs.Common.{◌≡◌, ℕ, zero, suc, ◌+◌, ◌-◌, ◌/◌, ◌<◌, ◌≤◌, List, [], ◌∷◌, ◌++◌, length, take, drop, get_or, set, refl, sym, ap, subst, ◌∙◌, arith, rules}
+use Rattle.std.proofs.Common.{◌≡◌, ℕ, zero, suc, ◌+◌, ◌-◌, ◌<◌, ◌≤◌, List, [], ◌∷◌, ◌++◌, length, take, drop, get_or, set, refl, sym, ap, ◌∙◌, arith}
 use Rattle.std.specs.List.{insert}
 use Rattle.std.proofs.lemmas.List.{take-append-drop}
 use Rattle.std.specs.declared.vec.Vec.{Vec}
 use Rattle.std.specs.declared.alloc.Global.{Global}
-use Rattle.btree_twigs.specs.declared.twigs.Child.{Child, out-Child}
+use Rattle.btree_twigs.specs.declared.twigs.Child.{Child}
 use Rattle.btree_twigs.specs.declared.twigs.Child.TheVariants as made
-use Rattle.btree_twigs.specs.declared.twigs.Twig.{Twig, Twig-F, out-Twig, roll-Twig}
-use Rattle.btree_twigs.specs.Stubs.{low_of, children_of, sum_by, nodes_in, nodes, nodes_below}
+use Rattle.btree_twigs.specs.declared.twigs.Twig.{Twig, Twig-F, roll-Twig}
+use Rattle.btree_twigs.specs.Stubs.{children_of, sum_by, nodes_in, nodes, nodes_below}
 use Rattle.btree_twigs.proofs.ListLaws.{split_here}
 use Rattle.btree_twigs.proofs.Nodes.{children_of_roll}
 use Rattle.btree_twigs.proofs.Ways.{set_on_way, insert_on_way}

@@ -1,16 +1,16 @@
 -- Where a search ends.
-use Rattle.std.proofs.Common.{◌≡◌, ℕ, zero, suc, ◌+◌, ◌-◌, ◌/◌, ◌<◌, ◌≤◌, List, [], ◌∷◌, ◌++◌, length, take, drop, get_or, refl, sym, ap, subst, ◌∙◌, arith, rules, append_assoc}
+use Rattle.std.proofs.Common.{◌≡◌, ℕ, zero, suc, ◌-◌, ◌/◌, ◌<◌, ◌≤◌, List, [], ◌∷◌, ◌++◌, length, take, drop, get_or, refl, sym, ap, subst, ◌∙◌, arith, append_assoc}
 use Rattle.std.specs.List.{AllByRecursion}
 use Rattle.btree_twigs.specs.declared.twigs.Child.{Child, out-Child}
 use Rattle.btree_twigs.specs.declared.twigs.Child.TheVariants as made
-use Rattle.btree_twigs.specs.declared.twigs.Twig.{Twig, out-Twig}
+use Rattle.btree_twigs.specs.declared.twigs.Twig.{Twig}
 use Rattle.btree_twigs.specs.declared.twigs.Spot.{Spot}
 use Rattle.btree_twigs.specs.declared.twigs.Spot.TheVariants.{Found, Absent, Below}
-use Rattle.btree_twigs.specs.Stubs.{Stub, Tiles, datum, start_by, stubs_by, stubs_in, low_in, low_of, children_of, stubs, stubs_below}
-use Rattle.btree_twigs.specs.Shape.{EachBy, IsNodeBy, IsDatum, IsChildBy, IsChild, IsTwig}
+use Rattle.btree_twigs.specs.Stubs.{Stub, Tiles, datum, start_by, stubs_in, low_in, low_of, stubs, stubs_below}
+use Rattle.btree_twigs.specs.Shape.{EachBy, IsDatum, IsChild, IsTwig}
 use Rattle.btree_twigs.specs.Updates.{IsNode, stubs_under}
 use Rattle.btree_twigs.specs.Search.{IsAt, IsSpot}
-use Rattle.btree_twigs.proofs.ListLaws.{start_append, stubs_append, each_front, each_back, tiles_by, split_here, at_end}
+use Rattle.btree_twigs.proofs.ListLaws.{stubs_append, each_front, each_back, tiles_by, split_here}
 use Rattle.btree_twigs.proofs.Children.{tiles_child, low_of_kept, stubs_of_kept}
 use Rattle.btree_twigs.proofs.Nodes.{stubs_of_grown}
 use Rattle.btree_twigs.proofs.Ways.{child_is_twig}

@@ -1,13 +1,11 @@
 -- A data record that is put into a leaf.
-use Rattle.std.proofs.Common.{◌≡◌, ◌≢◌, ℕ, zero, suc, ◌+◌, ◌-◌, ◌<◌, ◌≤◌, List, [], ◌∷◌, ◌++◌, length, take, drop, get_or, set, refl, sym, ap, subst, ◌∙◌, arith, rules, append_assoc, append-nil, add-one}
-use Rattle.std.specs.List.{insert}
-use Rattle.std.proofs.lemmas.List.{set_split}
+use Rattle.std.proofs.Common.{◌≡◌, ℕ, suc, ◌+◌, ◌<◌, ◌≤◌, List, [], ◌∷◌, ◌++◌, refl, sym, ap, subst, ◌∙◌, arith, append_assoc, append-nil}
 use Rattle.btree_twigs.specs.declared.twigs.Child.{Child}
 use Rattle.btree_twigs.specs.declared.twigs.Child.TheVariants as made
-use Rattle.btree_twigs.specs.Stubs.{Stub, Tiles, Puts, datum, start_by, stubs_by, low_of, stubs}
-use Rattle.btree_twigs.specs.Shape.{EachBy, Begins, IsNodeBy, IsChild}
+use Rattle.btree_twigs.specs.Stubs.{Stub, Puts, datum, start_by, low_of, stubs}
+use Rattle.btree_twigs.specs.Shape.{IsChild}
 use Rattle.btree_twigs.specs.Updates.{IsNode, IsPut, stubs_under}
-use Rattle.btree_twigs.proofs.ListLaws.{each_back, each_le, tiles_by, tiles_from, start_append, stubs_append, node_with, node_with_two, node_puts, split_here, insert_here}
+use Rattle.btree_twigs.proofs.ListLaws.{each_back, tiles_by, tiles_from, stubs_append, node_with, node_with_two, node_puts}
 use Rattle.btree_twigs.proofs.Children.{tiles_child, low_of_kept, stubs_of_kept, kept_is_datum, one_datum}
 
 abbrev pub IsLeaf : ℕ → ℕ → ℕ → ℕ → ℕ → List Child → Type 0

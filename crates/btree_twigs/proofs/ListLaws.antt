@@ -1,7 +1,7 @@
 -- Laws of lists of children, whatever a child is.
-use Rattle.std.proofs.Common.{◌≡◌, ℕ, zero, suc, ◌+◌, ◌<◌, ◌≤◌, List, [], ◌∷◌, ◌++◌, length, take, drop, get_or, refl, sym, ap, subst, ◌∙◌, append_assoc, add-one, arith, length-append, rules}
+use Rattle.std.proofs.Common.{◌≡◌, ℕ, zero, suc, ◌+◌, ◌<◌, ◌≤◌, List, [], ◌∷◌, ◌++◌, length, take, drop, get_or, refl, sym, ap, subst, ◌∙◌, append_assoc, add-one, arith, length-append}
 use Rattle.std.specs.List.{AllByRecursion, insert, remove}
-use Rattle.std.proofs.lemmas.List.{take-append-drop, drop_more, take_more, set_split, take_at, drop_at, get_or_at}
+use Rattle.std.proofs.lemmas.List.{take-append-drop, drop_more, take_more, take_at, drop_at, get_or_at}
 use Rattle.btree_twigs.specs.Stubs.{Stub, Tiles, Puts, start_by, stubs_by}
 use Rattle.btree_twigs.specs.Shape.{EachBy, Begins, IsNodeBy}
 

@@ -1,16 +1,15 @@
 -- How neighbours are evened out.
-use Rattle.std.proofs.Common.{◌≡◌, ℕ, zero, suc, ◌+◌, ◌-◌, ◌/◌, ◌<◌, ◌≤◌, List, [], ◌∷◌, ◌++◌, length, take, drop, get_or, vec_capacity, refl, sym, ap, subst, ◌∙◌, arith, rules, append_assoc, append-nil, length-append}
-use Rattle.std.specs.declared.vec.Vec.{Vec}
-use Rattle.std.specs.declared.alloc.Global.{Global}
-use Rattle.btree_twigs.specs.declared.twigs.Child.{Child, out-Child}
+use Rattle.std.proofs.Common.{◌≡◌, ℕ, zero, suc, ◌+◌, ◌/◌, ◌≤◌, List, [], ◌∷◌, ◌++◌, length, get_or, refl, sym, ap, subst, ◌∙◌, arith, append-nil, length-append}
+use Rattle.btree_twigs.specs.declared.twigs.Child.{Child}
 use Rattle.btree_twigs.specs.declared.twigs.Child.TheVariants as made
-use Rattle.btree_twigs.specs.declared.twigs.Twig.{Twig, Twig-F, out-Twig, roll-Twig}
-use Rattle.btree_twigs.specs.Stubs.{Stub, start_by, stubs_by, low_of, children_of, level_of, stubs, stubs_below}
-use Rattle.btree_twigs.specs.Shape.{EachBy, Begins, IsNodeBy, IsTwigBy, IsChild, IsTwig}
+use Rattle.btree_twigs.specs.declared.twigs.Twig.{Twig}
+use Rattle.btree_twigs.specs.Stubs.{start_by, low_of, children_of, level_of, stubs, nodes, sum_by}
+use Rattle.btree_twigs.specs.Shape.{EachBy, Begins, IsChild, IsTwig}
 use Rattle.btree_twigs.specs.Updates.{IsNode, IsMended, HasRoom, stubs_under}
-use Rattle.btree_twigs.proofs.ListLaws.{start_append, stubs_append, each_append, each_le}
+use Rattle.btree_twigs.proofs.ListLaws.{start_append, each_append}
+use Rattle.btree_twigs.proofs.Counts.{sum_append, nodes_grown}
 use Rattle.btree_twigs.proofs.Children.{begins_le, one_datum}
-use Rattle.btree_twigs.proofs.Nodes.{cut, start_lt, stubs_cut, start_first, twig_of, children_of_roll, low_of_grown, stubs_of_grown, grown_is_child}
+use Rattle.btree_twigs.proofs.Nodes.{cut, start_lt, stubs_cut, start_first, low_of_grown, stubs_of_grown, grown_is_child}
 
 -- in a leaf the last child may end later
 pub widen : (order mid high : ℕ) (xs : List Child) → mid ≤ high → EachBy low_of (IsChild order 0) mid xs → EachBy low_of (IsChild order 0) high xs
@@ -70,6 +69,7 @@ module _ (order level low mid high : ℕ) (left right : Twig) (four : 4 ≤ orde
         begins = low_of_grown low new ∙ sym (low_of_grown low left);
         each = (omega (arith, lt, begins_le level low _ begins, low_of_grown low new), grown_is_child order level low high new shaped, tt);
         same = append-nil (stubs (suc level) high m) ∙ stubs_are;
+        none_more = omega (arith, nodes_grown level low new, nodes_grown level low left, nodes_grown level mid right, ap (sum_by (nodes level)) all, sum_append (nodes level) (children_of left) (children_of right));
       }
 
   -- two, cut elsewhere
@@ -102,4 +102,5 @@ module _ (order level low mid high : ℕ) (left right : Twig) (four : 4 ≤ orde
         same = ap (λ s. stubs (suc level) (low_of b) a ++ s) (append-nil (stubs (suc level) high b))
             ∙ ap (λ s. s ++ stubs (suc level) high b) (sym on_left) ∙ ap (λ s. stubs_under level (start_by low_of (children_of to) high) (children_of from) ++ s) (sym on_right)
             ∙ sym (stubs_cut level high (children_of from) (children_of to)) ∙ ap (stubs_under level high) all ∙ j.same ∙ olds;
+        none_more = omega (arith, nodes_grown level low from, nodes_grown level lo to, nodes_grown level low left, nodes_grown level mid right, ap (sum_by (nodes level)) all, sum_append (nodes level) (children_of from) (children_of to), sum_append (nodes level) (children_of left) (children_of right));
       }

@@ -1,15 +1,15 @@
 -- Nodes in memory: how they are cut.
-use Rattle.std.proofs.Common.{◌≡◌, ℕ, zero, suc, ◌+◌, ◌/◌, ◌<◌, ◌≤◌, List, [], ◌∷◌, ◌++◌, length, take, drop, get_or, vec_capacity, refl, sym, ap, subst, ◌∙◌, arith, rules, length-append}
-use Rattle.std.proofs.lemmas.List.{take-append-drop, length-take-le, length-drop}
-use Rattle.btree_twigs.specs.declared.twigs.Child.{Child, out-Child}
+use Rattle.std.proofs.Common.{◌≡◌, ℕ, zero, suc, ◌+◌, ◌/◌, ◌<◌, ◌≤◌, List, [], ◌∷◌, ◌++◌, length, take, drop, get_or, vec_capacity, refl, sym, ap, subst, ◌∙◌, arith, length-append}
+use Rattle.std.proofs.lemmas.List.{take-append-drop, length-take-le}
+use Rattle.btree_twigs.specs.declared.twigs.Child.{Child}
 use Rattle.btree_twigs.specs.declared.twigs.Child.TheVariants as made
-use Rattle.btree_twigs.specs.declared.twigs.Twig.{Twig, Twig-F, out-Twig, roll-Twig, out-roll-Twig}
-use Rattle.btree_twigs.specs.Stubs.{Stub, Tiles, Puts, start_by, stubs_by, stubs_in, low_in, low_of, children_of, stubs, stubs_below}
-use Rattle.btree_twigs.specs.Shape.{EachBy, Begins, IsNodeBy, IsTwigBy, IsChildBy, IsChild, IsTwig}
+use Rattle.btree_twigs.specs.declared.twigs.Twig.{Twig, Twig-F, roll-Twig, out-roll-Twig}
+use Rattle.btree_twigs.specs.Stubs.{start_by, stubs_in, low_in, low_of, children_of, stubs, stubs_below}
+use Rattle.btree_twigs.specs.Shape.{EachBy, Begins, IsTwigBy, IsChildBy, IsChild, IsTwig}
 use Rattle.std.specs.declared.vec.Vec.{Vec}
 use Rattle.std.specs.declared.alloc.Global.{Global}
 use Rattle.btree_twigs.specs.Updates.{IsNode, IsSplit, stubs_under}
-use Rattle.btree_twigs.proofs.ListLaws.{start_append, stubs_append, each_front, each_back, each_le, start_least}
+use Rattle.btree_twigs.proofs.ListLaws.{start_append, stubs_append, each_front, each_back, start_least}
 use Rattle.btree_twigs.proofs.Children.{begins_le}
 
 pub begins_same : (level low : ℕ) → Begins level low low

@@ -1,20 +1,19 @@
 -- The way of a removal, and what it leaves on the way up.
-use Rattle.std.proofs.Common.{◌≡◌, ◌⊎◌, ℕ, zero, suc, ◌+◌, ◌-◌, ◌/◌, ◌<◌, ◌≤◌, List, [], ◌∷◌, ◌++◌, length, take, drop, get_or, set, inl, inr, refl, sym, ap, subst, ◌∙◌, arith, rules, append_assoc, append-nil, length-append, vec_capacity}
-use Rattle.std.proofs.lemmas.List.{length-take-le}
+use Rattle.std.proofs.Common.{◌≡◌, ◌⊎◌, ℕ, zero, suc, ◌+◌, ◌-◌, ◌/◌, ◌<◌, ◌≤◌, List, [], ◌∷◌, ◌++◌, length, take, inl, inr, refl, sym, ap, subst, ◌∙◌, arith, append_assoc, append-nil, length-append, vec_capacity}
 use Rattle.std.specs.declared.vec.Vec.{Vec}
 use Rattle.std.specs.declared.alloc.Global.{Global}
 use Rattle.btree_twigs.specs.declared.twigs.Child.{Child, Child-F, out-Child}
 use Rattle.btree_twigs.specs.declared.twigs.Child.TheOpen.{Kept, Grown}
 use Rattle.btree_twigs.specs.declared.twigs.Child.TheVariants as made
-use Rattle.btree_twigs.specs.declared.twigs.Twig.{Twig, out-Twig, roll-Twig}
-use Rattle.btree_twigs.specs.Stubs.{Stub, Tiles, Takes, start_by, stubs_by, low_in, low_of, children_of, stubs, stubs_below}
-use Rattle.btree_twigs.specs.Shape.{EachBy, Begins, IsNodeBy, IsTwigBy, IsChildBy, IsChild, IsTwig}
+use Rattle.btree_twigs.specs.declared.twigs.Twig.{Twig, roll-Twig}
+use Rattle.btree_twigs.specs.Stubs.{Tiles, Takes, start_by, low_of, children_of, stubs, stubs_below, nodes, nodes_below, sum_by}
+use Rattle.btree_twigs.specs.Shape.{EachBy, Begins, IsChildBy, IsChild, IsTwig}
 use Rattle.btree_twigs.specs.Updates.{IsNode, IsGrownBy, IsGrown, width_in, width_of, CanMend, IsMended, OneShort, stubs_under}
-use Rattle.btree_twigs.specs.Removal.{IsTaken, IsHeldIn, below_in, Lends, IsHelped, HelpsOne, Helps, MendsAt, AreMended, CanTake, CanTakeBelow, IsTwigTaken, IsChildTaken, CanMendBeside}
-use Rattle.btree_twigs.proofs.ListLaws.{start_append, stubs_append, each_append, each_front, each_back, tiles_by, tiles_from, tiles_append, split_here, node_with}
-use Rattle.btree_twigs.proofs.Children.{begins_le, tiles_child}
+use Rattle.btree_twigs.specs.Removal.{IsTaken, IsHeldIn, IsHelped, HelpsOne, Helps, MendsAt, AreMended, IsTwigTaken, IsChildTaken, CanMendBeside}
+use Rattle.btree_twigs.proofs.ListLaws.{start_append, stubs_append, each_append, each_front, each_back, tiles_by, node_with}
+use Rattle.btree_twigs.proofs.Children.{tiles_child}
 use Rattle.btree_twigs.proofs.Nodes.{low_of_grown, stubs_of_grown, twig_of, children_of_roll}
-use Rattle.btree_twigs.proofs.Ways.{IsWay}
+use Rattle.btree_twigs.proofs.Counts.{sum_append, nodes_grown}
 use Rattle.btree_twigs.proofs.Takings.{takes_lift}
 
 -- a child in memory, by how many children it has
@@ -129,6 +128,7 @@ module _ (order l least low high block : ℕ) (fs : List Child) (c : Child) (bs 
         takes = subst (Takes low high block (stubs_under (suc l) high (fs ++ c ∷ bs)))
             (ap (λ m. stubs_under (suc l) m fs ++ (stubs (suc l) (start_by low_of bs high) d ++ stubs_under (suc l) high bs)) (sym t.low_is) ∙ sym (stubs_append low_of (stubs (suc l)) high fs (d ∷ bs)))
             takes_node;
+        few = omega (arith, sum_append (nodes (suc l)) fs (c ∷ bs), sum_append (nodes (suc l)) fs (d ∷ bs), t.few);
       }
 
 -- it is mended with the one that follows
@@ -154,6 +154,7 @@ module _ (order l least low high block : ℕ) (four : 4 ≤ order) (fs : List Ch
             ∙ ap (λ s. stubs_under (suc l) s fs ++ stubs_under (suc l) high (news ++ bs)) (sym start ∙ sym (start_append low_of news bs high))
             ∙ sym (stubs_append low_of (stubs (suc l)) high fs (news ++ bs)))
             (takes_node order l least low high block fs c (b ∷ bs) d h fewer t);
+        few = omega (arith, sum_append (nodes (suc l)) fs (news ++ bs), sum_append (nodes (suc l)) news bs, sum_append (nodes (suc l)) fs (c ∷ b ∷ bs), m.none_more, t.few);
       }
 
 -- or with the one before
@@ -174,6 +175,7 @@ module _ (order l least low high block : ℕ) (four : 4 ≤ order) (fs : List Ch
   last_mended news some few m = record {
     node = other_node order (suc l) least order low high fs (g ∷ c ∷ []) news [] regrouped (omega arith) (omega (arith, some)) m.begins m.each (omega (arith, few)) (omega (arith, some));
     takes = subst (Takes low high block (stubs_under (suc l) high ((fs ++ g ∷ []) ++ c ∷ []))) news_are (takes_node order l least low high block (fs ++ g ∷ []) c [] d h fewer t);
+    few = omega (arith, sum_append (nodes (suc l)) (fs ++ g ∷ []) (c ∷ []), sum_append (nodes (suc l)) fs (g ∷ []), sum_append (nodes (suc l)) fs (news ++ []), sum_append (nodes (suc l)) news [], m.none_more, t.few);
   }
     where
       news_are : stubs_under (suc l) (low_of c) (fs ++ g ∷ []) ++ (stubs (suc l) high d ++ []) ≡ stubs_under (suc l) high (fs ++ (news ++ []))
@@ -196,6 +198,7 @@ twig_taken order level least low high block loses lev t new is room p wide = rec
   shaped = twig_of order level (least - 1) order low high (record { level = lev; children = new }) (record { level_is = is; room = room; node = p.node });
   takes = subst (λ xs. Takes low high block (stubs_below level high t) (stubs_under level high xs)) (sym (children_of_roll (record { level = lev; children = new }))) p.takes;
   wide = subst (λ xs. length (children_of t) ≤ length xs + loses) (sym (children_of_roll (record { level = lev; children = new }))) wide;
+  few = subst (λ xs. sum_by (nodes level) xs ≤ nodes_below level t) (sym (children_of_roll (record { level = lev; children = new }))) p.few;
 }
 
 -- a node without the place is a child without it
@@ -208,6 +211,7 @@ child_taken order level low high block loses old new p = record {
       (subst (λ xs. Takes low high block xs (stubs (suc level) high (made.Grown low new))) (sym (stubs_of_grown level high low old))
       (subst (Takes low high block (stubs_below level high old)) (sym (stubs_of_grown level high low new)) p.takes));
   wide = omega (arith, width_of_grown low old, width_of_grown low new, p.wide);
+  few = omega (arith, nodes_grown level low new, nodes_grown level low old, p.few);
 }
 
 -- the last of a list

@@ -1,13 +1,13 @@
 -- A data record that is taken out.
-use Rattle.std.proofs.Common.{◌≡◌, ◌≢◌, ℕ, zero, suc, ◌+◌, ◌-◌, ◌/◌, ◌<◌, ◌≤◌, List, [], ◌∷◌, ◌++◌, length, take, drop, get_or, refl, sym, ap, subst, ◌∙◌, arith, rules, append_assoc, append-nil, length-append}
-use Rattle.std.specs.List.{AllByRecursion, remove}
-use Rattle.btree_twigs.specs.declared.twigs.Child.{Child, out-Child}
-use Rattle.btree_twigs.specs.Stubs.{Stub, Tiles, Takes, datum, start_by, stubs_by, low_of, children_of, stubs, stubs_below}
-use Rattle.btree_twigs.specs.Shape.{EachBy, Begins, IsNodeBy, IsChild, IsTwig}
+use Rattle.std.proofs.Common.{◌≡◌, ℕ, suc, ◌<◌, ◌≤◌, List, [], ◌∷◌, ◌++◌, refl, sym, ap, subst, ◌∙◌, arith, append_assoc, length-append}
+use Rattle.btree_twigs.specs.declared.twigs.Child.{Child}
+use Rattle.btree_twigs.specs.Stubs.{Stub, Tiles, Takes, start_by, low_of, stubs}
+use Rattle.btree_twigs.specs.Shape.{IsChild}
 use Rattle.btree_twigs.specs.Updates.{IsNode, stubs_under}
+use Rattle.btree_twigs.proofs.Counts.{no_nodes}
 use Rattle.btree_twigs.specs.Removal.{IsTaken}
-use Rattle.btree_twigs.proofs.ListLaws.{start_append, stubs_append, each_append, each_front, each_back, each_le, tiles_by, tiles_from, tiles_append, split_here, at_end}
-use Rattle.btree_twigs.proofs.Children.{begins_le, tiles_child, one_datum}
+use Rattle.btree_twigs.proofs.ListLaws.{start_append, stubs_append, each_append, each_front, each_back, tiles_by, tiles_from, tiles_append}
+use Rattle.btree_twigs.proofs.Children.{tiles_child, one_datum}
 use Rattle.btree_twigs.proofs.Mends.{widen, widen_stubs}
 
 pub takes_lift : (low from to high block : ℕ) (xs old new bs : List Stub) → Tiles low from xs → Takes from to block old new → Tiles to high bs →
@@ -41,6 +41,7 @@ module _ (order least low high block : ℕ) where
       here = omega arith;
       after = tiles_from (start_by low_of cs high) (suc block) high _ (omega (arith, lt)) (tiles_by low_of (IsChild order 0) (stubs 0) (one_tiles order 0) high cs h.each);
     };
+    few = omega arith;
   }
 
   pub nothing_behind : (fs : List Child) (c : Child) (bs : List Child) → IsNode order 0 least order low high (fs ++ c ∷ bs) → low_of c < block → block < start_by low_of bs high →
@@ -63,6 +64,7 @@ module _ (order least low high block : ℕ) where
           here = omega arith;
           after = tiles_from (start_by low_of bs high) (suc block) high _ (omega (arith, lt)) (tiles_by low_of (IsChild order 0) (stubs 0) (one_tiles order 0) high bs back.2);
         };
+        few = omega arith;
       }
 
   -- it is taken
@@ -90,6 +92,7 @@ module _ (order least low high block : ℕ) where
           here = rw (one.stubs_are (start_by low_of bs high)) (omega (arith, same), omega arith, omega (arith, same));
           after = tiles_from (start_by low_of bs high) (suc block) high _ (omega (arith, back.0, same)) (tiles_by low_of (IsChild order 0) (stubs 0) (one_tiles order 0) high bs back.2);
         };
+        few = omega (arith, no_nodes (fs ++ bs));
       }
     where
       later : (fs : List Child) → low ≤ start_by low_of fs (low_of c) → low_of c < start_by low_of bs high → low ≤ start_by low_of fs (start_by low_of bs high)

@@ -1,13 +1,13 @@
 -- The root node in memory.
-use Rattle.std.proofs.Common.{◌≡◌, ℕ, zero, suc, ◌+◌, ◌-◌, ◌/◌, ◌<◌, ◌≤◌, List, [], ◌∷◌, ◌++◌, length, inl, inr, refl, sym, ap, subst, ◌∙◌, arith, rules, append-nil}
+use Rattle.std.proofs.Common.{◌≡◌, ℕ, zero, suc, ◌+◌, ◌/◌, ◌<◌, ◌≤◌, List, [], ◌∷◌, ◌++◌, length, inl, inr, refl, sym, ap, subst, ◌∙◌, arith, append-nil}
 use Rattle.btree_twigs.specs.declared.twigs.Child.{Child, Child-F, out-Child}
 use Rattle.btree_twigs.specs.declared.twigs.Child.TheOpen.{Kept, Grown}
 use Rattle.btree_twigs.specs.declared.twigs.Child.TheVariants as made
-use Rattle.btree_twigs.specs.declared.twigs.Twig.{Twig, out-Twig}
-use Rattle.btree_twigs.specs.Stubs.{Stub, Puts, Takes, nodes, nodes_in, nodes_below, sum_by, start_by, low_in, low_of, level_of, children_of, stubs, stubs_in, stubs_below}
-use Rattle.btree_twigs.specs.Shape.{EachBy, Begins, IsNodeBy, IsTwigBy, IsChildBy, IsChild, IsTwig}
+use Rattle.btree_twigs.specs.declared.twigs.Twig.{Twig}
+use Rattle.btree_twigs.specs.Stubs.{Stub, Puts, Takes, nodes, nodes_in, nodes_below, sum_by, start_by, low_in, low_of, children_of, stubs, stubs_in, stubs_below}
+use Rattle.btree_twigs.specs.Shape.{EachBy, IsChildBy, IsChild, IsTwig}
 use Rattle.btree_twigs.specs.Updates.{IsNode, IsOpen, IsSplit, IsTwigPut, stubs_under}
-use Rattle.btree_twigs.specs.Top.{IsTop, IsTopBy, top_least, child_level, IsRaised, IsTopPut, IsTopTaken}
+use Rattle.btree_twigs.specs.Top.{IsTop, IsTopBy, top_least, IsRaised, IsTopPut, IsTopTaken}
 use Rattle.btree_twigs.specs.Removal.{IsTwigTaken}
 use Rattle.btree_twigs.proofs.Ways.{open_front, open_back}
 use Rattle.btree_twigs.proofs.Counts.{nodes_grown}
@@ -89,6 +89,7 @@ top_taken order level high block loses old new low zero_is p two = record {
   );
   takes = subst (λ xs. Takes 0 high block xs (stubs (suc level) high (made.Grown low new))) (sym (stubs_of_grown level high low old))
       (subst (Takes 0 high block (stubs_below level high old)) (sym (stubs_of_grown level high low new)) p.takes);
+  few = omega (arith, nodes_grown level low new, nodes_grown level low old, p.few);
 }
 
 least_half : (order level : ℕ) → 4 ≤ order → top_least level ≤ order / 2
@@ -133,4 +134,5 @@ top_gone order level high block loses old new low x four zero_is lt is_open p e 
       level_is = inr refl;
       shaped = only_is_top order level high block x four each.1 begins opened lt;
       takes = subst (λ xs. Takes 0 high block xs (stubs (suc level) high x)) (sym (stubs_of_grown (suc level) high low old)) (subst (Takes 0 high block (stubs_below (suc level) high old)) stubs_are p.takes);
+      few = omega (arith, nodes_grown (suc level) low old, p.few, ap (sum_by (nodes (suc level))) e);
     }

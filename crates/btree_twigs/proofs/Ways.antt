@@ -1,16 +1,16 @@
 -- The way that an update takes down, and what it leaves on the way up.
-use Rattle.std.proofs.Common.{◌≡◌, ℕ, zero, suc, ◌+◌, ◌-◌, ◌/◌, ◌<◌, ◌≤◌, List, [], ◌∷◌, ◌++◌, Option, None, Some, length, take, drop, get_or, set, refl, sym, ap, subst, ◌∙◌, arith, rules, append_assoc, length-append, length-take, add-one, vec_capacity}
+use Rattle.std.proofs.Common.{◌≡◌, ℕ, zero, suc, ◌+◌, ◌-◌, ◌/◌, ◌<◌, ◌≤◌, List, [], ◌∷◌, ◌++◌, None, Some, length, take, drop, get_or, set, refl, sym, ap, subst, ◌∙◌, arith, append_assoc, length-append, add-one, vec_capacity}
 use Rattle.std.specs.List.{AllByRecursion, insert}
 use Rattle.std.proofs.lemmas.List.{set_split, length-take-le, get_or_at, take_at, drop_at}
 use Rattle.std.specs.declared.vec.Vec.{Vec}
 use Rattle.std.specs.declared.alloc.Global.{Global}
-use Rattle.btree_twigs.specs.declared.twigs.Child.{Child, out-Child}
+use Rattle.btree_twigs.specs.declared.twigs.Child.{Child}
 use Rattle.btree_twigs.specs.declared.twigs.Child.TheVariants as made
-use Rattle.btree_twigs.specs.declared.twigs.Twig.{Twig, Twig-F, out-Twig, roll-Twig, out-roll-Twig}
-use Rattle.btree_twigs.specs.Stubs.{Stub, Tiles, Puts, datum, start_by, stubs_by, stubs_in, low_in, low_of, children_of, stubs, stubs_below}
-use Rattle.btree_twigs.specs.Shape.{EachBy, Begins, IsNodeBy, IsTwigBy, IsChildBy, IsChild, IsTwig}
-use Rattle.btree_twigs.specs.Updates.{IsNode, IsOpen, HasSpares, IsSplit, IsTwigPut, IsChildPut, IsPut, CanPut, CanPutBelow, stubs_under}
-use Rattle.btree_twigs.proofs.ListLaws.{start_append, stubs_append, each_front, each_back, each_le, start_least, split_here, insert_here, at_end, node_with, node_with_two, node_puts}
+use Rattle.btree_twigs.specs.declared.twigs.Twig.{Twig, roll-Twig}
+use Rattle.btree_twigs.specs.Stubs.{Stub, Puts, datum, start_by, stubs_in, low_in, low_of, children_of, stubs, stubs_below}
+use Rattle.btree_twigs.specs.Shape.{EachBy, IsChildBy, IsChild, IsTwig}
+use Rattle.btree_twigs.specs.Updates.{IsNode, IsOpen, HasSpares, IsSplit, IsTwigPut, IsChildPut, IsPut, stubs_under}
+use Rattle.btree_twigs.proofs.ListLaws.{stubs_append, each_back, split_here, insert_here, at_end, node_with, node_with_two, node_puts}
 use Rattle.btree_twigs.proofs.Children.{begins_le, tiles_child}
 use Rattle.btree_twigs.proofs.Nodes.{low_of_grown, stubs_of_grown, grown_is_child, twig_of, children_of_roll}
 

@@ -1,9 +1,9 @@
 -- The shape of a tree that is partly in memory.
-use Rattle.std.specs.Prelude.{◌≡◌, ℕ, zero, suc, ◌+◌, ◌/◌, ◌<◌, ◌≤◌, List, [], ◌∷◌, ◌++◌, length, vec_capacity}
+use Rattle.std.specs.Prelude.{◌≡◌, ℕ, zero, suc, ◌/◌, ◌<◌, ◌≤◌, List, [], ◌∷◌, length, vec_capacity}
 use Rattle.btree_twigs.specs.declared.twigs.Child.{Child, Child-F, out-Child}
 use Rattle.btree_twigs.specs.declared.twigs.Child.TheOpen.{Kept, Grown}
 use Rattle.btree_twigs.specs.declared.twigs.Twig.{Twig, Twig-F, out-Twig}
-use Rattle.btree_twigs.specs.Stubs.{start_by, low_of, children_of}
+use Rattle.btree_twigs.specs.Stubs.{start_by, low_of}
 
 -- each child is as it should be, up to where the next one begins, and has room there
 abbrev pub EachBy : {C : Type 0} → (C → ℕ) → (ℕ → C → Type 0) → ℕ → List C → Type 0

@@ -1,14 +1,13 @@
 -- The root node in memory.
-use Rattle.std.specs.Prelude.{◌≡◌, ◌==◌, ℕ, zero, suc, ◌+◌, ◌^◌, ◌/◌, ◌<◌, ◌≤◌, ◌⊎◌, List, [], ◌∷◌, length, vec_capacity, if◌then◌else◌}
-use Rattle.std.specs.List.{AllByRecursion}
+use Rattle.std.specs.Prelude.{◌≡◌, ℕ, zero, suc, ◌+◌, ◌<◌, ◌≤◌, ◌⊎◌, List, [], ◌∷◌, length, vec_capacity}
 use Rattle.std.specs.declared.vec.Vec.{Vec}
 use Rattle.std.specs.declared.alloc.Global.{Global}
 use Rattle.btree_twigs.specs.declared.twigs.Child.{Child, Child-F, out-Child}
 use Rattle.btree_twigs.specs.declared.twigs.Child.TheOpen.{Kept, Grown}
 use Rattle.btree_twigs.specs.declared.twigs.Twig.{Twig, out-Twig}
-use Rattle.btree_twigs.specs.Stubs.{Stub, Puts, Takes, nodes, low_of, level_of, children_of, stubs, stubs_by}
-use Rattle.btree_twigs.specs.Shape.{IsChild, IsTwig, EachBy}
-use Rattle.btree_twigs.specs.Updates.{IsOpen, HasSpares, stubs_under}
+use Rattle.btree_twigs.specs.Stubs.{Stub, Puts, Takes, nodes, level_of, children_of, stubs}
+use Rattle.btree_twigs.specs.Shape.{IsTwig}
+use Rattle.btree_twigs.specs.Updates.{IsOpen, HasSpares}
 use Rattle.btree_twigs.specs.Removal.{below_in, Helps}
 
 abbrev pub level_in : Child-F Child Twig → ℕ
@@ -83,6 +82,7 @@ pub record IsTopTaken (order level high block : ℕ) (old new : Child) : Type 0 
   pub level_is : (new_level ≡ level) ⊎ (suc new_level ≡ level)
   pub shaped : IsTop order new_level high new
   pub takes : Takes 0 high block (stubs (suc level) high old) (stubs (suc new_level) high new)
+  pub few : nodes (suc new_level) new ≤ nodes (suc level) old
 
 -- a node in memory with one child
 abbrev pub HasOnlyBy : Child-F Child Twig → Type 0

@@ -1,12 +1,12 @@
 -- What an update makes of a node in memory.
-use Rattle.std.specs.Prelude.{◌≡◌, ℕ, suc, ◌+◌, ◌/◌, List, [], ◌∷◌, ◌++◌, ◌⊎◌, Option, None, Some, ◌≤◌, ◌<◌, length, vec_capacity}
+use Rattle.std.specs.Prelude.{◌≡◌, ℕ, suc, ◌+◌, ◌/◌, List, [], ◌++◌, ◌⊎◌, Option, None, Some, ◌≤◌, ◌<◌, length, vec_capacity}
 use Rattle.std.specs.List.{AllByRecursion}
 use Rattle.std.specs.declared.vec.Vec.{Vec}
 use Rattle.std.specs.declared.alloc.Global.{Global}
 use Rattle.btree_twigs.specs.declared.twigs.Child.{Child, Child-F, out-Child}
 use Rattle.btree_twigs.specs.declared.twigs.Child.TheOpen.{Kept, Grown}
 use Rattle.btree_twigs.specs.declared.twigs.Twig.{Twig, out-Twig}
-use Rattle.btree_twigs.specs.Stubs.{Stub, Puts, start_by, low_of, children_of, stubs, stubs_by, stubs_below}
+use Rattle.btree_twigs.specs.Stubs.{Stub, Puts, start_by, low_of, children_of, stubs, stubs_by, stubs_below, nodes, sum_by}
 use Rattle.btree_twigs.specs.Shape.{EachBy, IsNodeBy, IsChild, IsTwig}
 
 -- so many children of this level, over the bounds
@@ -111,3 +111,4 @@ pub record IsMended (order level high : ℕ) (left right : Child) (news : List C
   pub begins : start_by low_of news high ≡ low_of left
   pub each : EachBy low_of (IsChild order level) high news
   pub same : stubs_under level high news ≡ stubs level (low_of right) left ++ stubs level high right
+  pub none_more : sum_by (nodes level) news ≤ nodes level left + nodes level right

@@ -1,8 +1,8 @@
 -- What a cache keeps, over pages.
-use Rattle.std.proofs.Common.{◌≡◌, ◌⊎◌, ℕ, ◌<◌, ◌^◌, List, All, Contains, sym, subst, inl, inr}
+use Rattle.std.proofs.Common.{◌≡◌, ◌⊎◌, ℕ, ◌<◌, ◌^◌, List, Contains, subst, inl, inr}
 use Rattle.std.proofs.lemmas.List.Elements.{All-weaker, All-contains}
 use Rattle.node_codec.specs.declared.body.NodeBody.{NodeBody}
-use Rattle.node_codec.specs.Record.{Record, NodeRecord}
+use Rattle.node_codec.specs.Record.{NodeRecord}
 use Rattle.page_store.specs.declared.wants.Want.{Want}
 use Rattle.page_store.specs.Places.{IsRecordAt, FitsAt, NothingFits}
 use Rattle.page_store.proofs.RecordLaws.{one_record}

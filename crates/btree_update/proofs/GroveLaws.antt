@@ -1,5 +1,5 @@
 -- What an update does to a grove, from what it does to its root.
-use Rattle.std.proofs.Common.{◌≡◌, ℕ, zero, suc, ◌+◌, ◌-◌, ◌/◌, ◌<◌, ◌≤◌, List, [], ◌∷◌, ◌++◌, Option, None, Some, refl, sym, ap, subst, ◌∙◌, arith, length, vec_capacity}
+use Rattle.std.proofs.Common.{◌≡◌, ℕ, zero, suc, ◌-◌, ◌<◌, ◌≤◌, List, [], ◌∷◌, ◌++◌, sym, subst, arith, length, vec_capacity}
 use Rattle.std.specs.List.{AllByRecursion}
 use Rattle.std.specs.declared.vec.Vec.{Vec}
 use Rattle.std.specs.declared.alloc.Global.{Global}
@@ -9,7 +9,7 @@ use Rattle.btree_twigs.specs.declared.twigs.Child.TheOpen.{Kept, Grown}
 use Rattle.btree_twigs.specs.declared.twigs.Child.TheVariants as made
 use Rattle.btree_twigs.specs.declared.twigs.Twig.{Twig}
 use Rattle.btree_twigs.specs.declared.twigs.Spot.{Spot}
-use Rattle.btree_twigs.specs.Stubs.{Stub, Puts, datum, stubs, stubs_in, stubs_below}
+use Rattle.btree_twigs.specs.Stubs.{Stub, Puts, Takes, datum, stubs, stubs_in, stubs_below}
 use Rattle.btree_twigs.specs.Shape.{IsTwig}
 use Rattle.btree_twigs.specs.Updates.{IsOpen, HasSpares}
 use Rattle.btree_twigs.specs.Search.{IsAt, IsSpot}
@@ -81,3 +81,8 @@ pub kept_place : (level high low addr head : ℕ) (key : List ℕ) → 1 ≤ lev
 unfolding stubs
 kept_place zero high low addr head key one lt = absurd (omega (arith, one))
 kept_place (suc level) high low addr head key one lt = subst (λ x. AreBelow head (stubs_in (stubs level) (suc level) high x)) (sym (made.outs-Kept low addr key)) (lt, tt)
+
+pub takes_below : (low high block head : ℕ) (old new : List Stub) → Takes low high block old new → AreBelow head old → AreBelow head new
+takes_below low high block head old new p h =
+    let all = subst (AreBelow head) p.was h in
+    subst (AreBelow head) (sym p.now) (below_append head p.front p.back (below_front head p.front (p.mid ++ p.back) all) (below_back head p.mid p.back (below_back head p.front (p.mid ++ p.back) all)))

@@ -1,24 +1,19 @@
 -- What is held of the way to a block.
-use Rattle.std.proofs.Common.{◌≡◌, ℕ, zero, suc, ◌+◌, ◌-◌, ◌/◌, ◌<◌, ◌≤◌, ◌^◌, List, [], ◌∷◌, ◌++◌, length, take, drop, refl, sym, ap, subst, ◌∙◌, arith, All}
+use Rattle.std.proofs.Common.{◌≡◌, ℕ, zero, suc, ◌/◌, ◌<◌, ◌≤◌, ◌^◌, List, [], ◌∷◌, ◌++◌, take, drop, refl, sym, ap, subst, ◌∙◌, arith}
 use Rattle.std.specs.List.{AllByRecursion}
 use Rattle.std.proofs.lemmas.List.Elements.{recursion_from_All}
 use Rattle.node_codec.specs.declared.body.Entry.{Entry}
-use Rattle.node_codec.specs.Record.{NodeRecord, FitsNode}
 use Rattle.page_store.specs.declared.wants.Want.{Want}
-use Rattle.page_store.specs.Places.{IsRecordAt}
-use Rattle.btree_twigs.specs.declared.twigs.Child.{Child, Child-F, out-Child}
-use Rattle.btree_twigs.specs.declared.twigs.Child.TheOpen.{Kept, Grown}
+use Rattle.btree_twigs.specs.declared.twigs.Child.{Child}
 use Rattle.btree_twigs.specs.declared.twigs.Child.TheVariants as made
 use Rattle.btree_twigs.specs.declared.twigs.Twig.{Twig}
 use Rattle.btree_twigs.specs.Stubs.{Stub, start_by, low_of, children_of, stubs, stubs_in, stubs_below, nodes, nodes_in, nodes_below, sum_by}
-use Rattle.btree_twigs.specs.Shape.{EachBy, IsNodeBy, IsChild, IsTwig}
-use Rattle.btree_twigs.specs.Updates.{IsNode, stubs_under}
+use Rattle.btree_twigs.specs.Shape.{EachBy, IsChild, IsTwig}
+use Rattle.btree_twigs.specs.Updates.{stubs_under}
 use Rattle.btree_twigs.proofs.ListLaws.{start_append, stubs_append, each_front, each_le}
-use Rattle.btree_twigs.proofs.Nodes.{stubs_of_grown}
-use Rattle.btree_twigs.proofs.Ways.{child_is_twig}
 use Rattle.btree_update.specs.GroveTree.{stubs_at}
 use Rattle.btree_update.specs.Reading.{kept_of, all_kept}
-use Rattle.btree_update.specs.Held.{stub_at, IsReadAs, OnWay, TakesHeld, HeldIn, HeldFor, AnyRead}
+use Rattle.btree_update.specs.Held.{stub_at, IsReadAs, OnWay, HeldIn, HeldFor}
 use Rattle.btree_update.specs.Holding.{IsNodeFor, IsNodeOf}
 use Rattle.btree_update.specs.Held.{AreBelow}
 use Rattle.btree_update.proofs.OpenLaws.{IsOnWay, below_front, below_back, lower}

@@ -7,3 +7,11 @@ pub mod GroveLaws
 pub mod CacheLaws
 pub mod HoldLaws
 pub mod RootHolds
+pub mod WrongLaws
+pub mod BesideLaws
+pub mod HelpLaws
+pub mod HelpingLaws
+pub mod MappedLaws
+pub mod FoundLaws
+pub mod FoundMaps
+pub mod CountLaws

@@ -1,20 +1,20 @@
 -- How the way to a block is opened.
-use Rattle.std.proofs.Common.{◌≡◌, ℕ, zero, suc, ◌+◌, ◌-◌, ◌/◌, ◌<◌, ◌≤◌, List, [], ◌∷◌, ◌++◌, length, take, drop, get_or, refl, sym, ap, subst, ◌∙◌, arith, append_assoc, append-nil, length-append, vec_capacity, None, Some}
+use Rattle.std.proofs.Common.{◌≡◌, ℕ, zero, suc, ◌-◌, ◌/◌, ◌<◌, ◌≤◌, List, [], ◌∷◌, ◌++◌, length, take, drop, get_or, refl, sym, ap, subst, ◌∙◌, arith, append_assoc, append-nil, length-append, vec_capacity, Some}
 use Rattle.std.specs.List.{AllByRecursion}
 use Rattle.std.proofs.lemmas.List.{same_from_push}
 use Rattle.std.proofs.lemmas.Option.{none-some}
 use Rattle.btree_twigs.specs.declared.twigs.Child.{Child, Child-F, out-Child}
 use Rattle.btree_twigs.specs.declared.twigs.Child.TheOpen.{Kept, Grown}
-use Rattle.btree_twigs.specs.declared.twigs.Twig.{Twig, out-Twig, roll-Twig}
+use Rattle.btree_twigs.specs.declared.twigs.Twig.{Twig, roll-Twig}
 use Rattle.std.specs.declared.vec.Vec.{Vec}
 use Rattle.std.specs.declared.alloc.Global.{Global}
 use Rattle.btree_twigs.proofs.Nodes.{twig_of, children_of_roll}
-use Rattle.btree_twigs.specs.Stubs.{Stub, Tiles, start_by, stubs_by, stubs_in, datum_in, low_in, addr_in, low_of, children_of, stubs, stubs_below, nodes, nodes_in, nodes_below}
-use Rattle.btree_twigs.specs.Shape.{EachBy, Begins, IsNodeBy, IsTwigBy, IsChildBy, IsChild, IsTwig}
+use Rattle.btree_twigs.specs.Stubs.{Stub, Tiles, start_by, stubs_in, datum_in, low_in, addr_in, low_of, stubs, stubs_below, nodes, nodes_in, nodes_below}
+use Rattle.btree_twigs.specs.Shape.{EachBy, IsChildBy, IsChild, IsTwig}
 use Rattle.btree_twigs.specs.Updates.{IsNode, IsOpen, stubs_under}
-use Rattle.btree_twigs.proofs.ListLaws.{stubs_append, start_append, each_front, each_back, tiles_by, tiles_le, split_here, at_end, node_with}
+use Rattle.btree_twigs.proofs.ListLaws.{stubs_append, each_front, each_back, tiles_by, tiles_le, split_here, at_end, node_with}
 use Rattle.btree_twigs.proofs.Children.{tiles_child}
-use Rattle.btree_update.specs.Held.{stub_at, AreBelow, IsReadAs, OnWay, TakesHeld, HeldIn, HeldFor, AnyRead, CanOpen, IsOpened, IsTakenUp, IsNoted, IsAtHand, CanOpenBelow, IsOpenedBelow}
+use Rattle.btree_update.specs.Held.{stub_at, AreBelow, IsReadAs, OnWay, HeldIn, HeldFor, AnyRead, IsOpened, IsTakenUp, IsNoted, IsAtHand, IsOpenedBelow}
 use Rattle.btree_update.specs.Opens.{Opens, Same, Here, Within, Then, GivesWay}
 
 -- places before the block or behind it are no hindrance

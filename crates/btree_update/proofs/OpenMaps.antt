@@ -1,12 +1,12 @@
 -- What is opened maps what it mapped.
-use Rattle.std.proofs.Common.{◌≡◌, ℕ, zero, suc, ◌+◌, List, [], ◌∷◌, ◌++◌, refl, sym, ap, subst, ◌∙◌, append_assoc, append-nil}
+use Rattle.std.proofs.Common.{◌≡◌, ℕ, suc, List, [], ◌∷◌, ◌++◌, sym, ap, subst, ◌∙◌, append-nil}
 use Rattle.page_store.specs.Tree.{Parts, Mapped, joined}
 use Rattle.btree_twigs.specs.declared.twigs.Twig.{Twig}
-use Rattle.btree_twigs.specs.Stubs.{Stub, stubs_below}
+use Rattle.btree_twigs.specs.Stubs.{Stub}
 use Rattle.btree_update.specs.GroveTree.{want_of, HasEach, Maps, stubs_at}
 use Rattle.btree_update.specs.Held.{stub_at, IsReadAs}
 use Rattle.btree_update.specs.Opens.{Opens, Same, Here, Within, Then}
-use Rattle.btree_update.proofs.Places.{AreMaps, maps_append, maps_split, read_maps}
+use Rattle.btree_update.proofs.Places.{maps_append, maps_split, read_maps}
 
 of_one : (pages : List (List ℕ)) (order l : ℕ) (s : Stub) (twig : Twig) (mapped : List Mapped) (r : IsReadAs pages order l s twig) (ps : List Parts) → HasEach pages order (record s { level = suc l } ∷ []) ps → mapped ≡ (joined ps).mapped →
     Maps pages order (stubs_at l s.high r.entries) mapped

@@ -1,17 +1,17 @@
 -- What stands at the places below the nodes in memory.
-use Rattle.std.proofs.Common.{◌≡◌, ℕ, zero, suc, ◌+◌, ◌/◌, ◌<◌, ◌≤◌, ◌^◌, List, [], ◌∷◌, ◌++◌, map, refl, sym, ap, subst, ◌∙◌, arith, append_assoc, append-nil}
-use Rattle.std.specs.List.{AllZip, AllByRecursion}
+use Rattle.std.proofs.Common.{◌≡◌, ℕ, zero, suc, ◌<◌, ◌≤◌, ◌^◌, List, [], ◌∷◌, ◌++◌, refl, sym, ap, subst, ◌∙◌, arith, append_assoc}
+use Rattle.std.specs.List.{AllByRecursion}
 use Rattle.node_codec.specs.declared.body.Entry.{Entry}
-use Rattle.node_codec.specs.Record.{Record, DataRecord, NodeRecord}
+use Rattle.node_codec.specs.Record.{DataRecord, NodeRecord}
 use Rattle.page_store.specs.declared.wants.Want.{Want}
 use Rattle.page_store.specs.Places.{IsRecordAt, FitsAt, child_want}
-use Rattle.page_store.specs.Tree.{Parts, Mapped, Subtree, EachChild, IsData, IsNode, joined, data_parts, node_parts, bound_of}
+use Rattle.page_store.specs.Tree.{Parts, Mapped, Subtree, EachChild, joined, data_parts, node_parts, bound_of}
 use Rattle.page_store.proofs.RecordLaws.{one_record}
-use Rattle.btree_twigs.specs.Stubs.{Stub, Tiles, Puts, datum}
+use Rattle.btree_twigs.specs.Stubs.{Stub, Tiles, Puts, Takes, datum}
 use Rattle.std.proofs.lemmas.List.Elements.{recursion_from_All}
 use Rattle.btree_twigs.proofs.ListLaws.{tiles_le}
 use Rattle.btree_update.specs.GroveTree.{want_of, HasEach, Maps, stubs_at}
-use Rattle.btree_update.specs.Maps.{MapPuts}
+use Rattle.btree_update.specs.Maps.{MapPuts, MapTakes}
 
 -- below the entries of a node stands what is below its places
 pub entries_have : (pages : List (List ℕ)) (order level high : ℕ) (es : List Entry) (ps : List Parts) → EachChild (Subtree pages order level) order level high es ps →
@@ -171,11 +171,11 @@ tiles_in pages order low high (s ∷ ss) (p ∷ ps) h k =
     (in_wider s.low (end_of s.level (want_of order s)) low high p.mapped h.0 (omega (arith, end, le)) (maps_within pages order s.level (want_of order s) s.key p k.0))
     (in_wider s.high high low high (joined ps).mapped (omega (arith, h.0, h.1)) (omega arith) (tiles_in pages order s.high high ss ps h.2 k.1))
 
-weaker : (P Q : Mapped → Type 0) → ((m : Mapped) → P m → Q m) → (xs : List Mapped) → AllByRecursion P xs → AllByRecursion Q xs
+pub weaker : (P Q : Mapped → Type 0) → ((m : Mapped) → P m → Q m) → (xs : List Mapped) → AllByRecursion P xs → AllByRecursion Q xs
 weaker P Q f [] h = tt
 weaker P Q f (x ∷ xs) h = (f x h.0, weaker P Q f xs h.1)
 
-in_maps : (pages : List (List ℕ)) (order low high : ℕ) (ss : List Stub) (m : List Mapped) → Tiles low high ss → Maps pages order ss m → AllByRecursion (IsIn low high) m
+pub in_maps : (pages : List (List ℕ)) (order low high : ℕ) (ss : List Stub) (m : List Mapped) → Tiles low high ss → Maps pages order ss m → AllByRecursion (IsIn low high) m
 in_maps pages order low high ss m h k = subst (AllByRecursion (IsIn low high)) (sym k.is) (tiles_in pages order low high ss k.each h k.has)
 
 -- where the places have one more, the blocks have it: the map law of an insert
@@ -192,6 +192,26 @@ puts_maps pages order low high block addr key content old new mapped p h there =
     let all = maps_append pages order p.front (datum block addr key ∷ p.back) one.left (m ∷ two.right) one.on_left (maps_append pages order (datum block addr key ∷ []) p.back (m ∷ []) two.right here two.on_right) in (
       one.left ++ (m ∷ two.right),
       subst (λ ss. Maps pages order ss (one.left ++ (m ∷ two.right))) (sym p.now) all,
+      record {
+        front = one.left;
+        mid = two.left;
+        back = two.right;
+        was = one.is ∙ ap (λ xs. one.left ++ xs) two.is;
+        now = refl;
+        before = weaker (IsIn low block) (λ k. k.block < block) (λ k i. i.1) one.left (in_maps pages order low block p.front one.left p.before one.on_left);
+        here = weaker (IsIn block (suc block)) (λ k. k.block ≡ block) (λ k i. omega (arith, i.0, i.1)) two.left (in_maps pages order block (suc block) p.mid two.left p.here two.on_left);
+        after = weaker (IsIn (suc block) high) (λ k. block < k.block) (λ k i. omega (arith, i.0)) two.right (in_maps pages order (suc block) high p.back two.right p.after two.on_right);
+      },
+    )
+
+-- where a place is taken away, the blocks are without its block: the map law of a removal
+pub takes_maps : (pages : List (List ℕ)) (order low high block : ℕ) (old new : List Stub) (mapped : List Mapped) → Takes low high block old new → Maps pages order old mapped →
+    (after : List Mapped) × Maps pages order new after × MapTakes block mapped after
+takes_maps pages order low high block old new mapped p h =
+    let one = maps_split pages order p.front (p.mid ++ p.back) mapped (subst (λ ss. Maps pages order ss mapped) p.was h) in
+    let two = maps_split pages order p.mid p.back one.right one.on_right in (
+      one.left ++ two.right,
+      subst (λ ss. Maps pages order ss (one.left ++ two.right)) (sym p.now) (maps_append pages order p.front p.back one.left two.right one.on_left two.on_right),
       record {
         front = one.left;
         mid = two.left;

@@ -1,20 +1,19 @@
 -- A node that was read is a node in memory.
-use Rattle.std.proofs.Common.{◌≡◌, ℕ, zero, suc, ◌+◌, ◌/◌, ◌<◌, ◌≤◌, List, [], ◌∷◌, ◌++◌, Some, length, map, refl, sym, ap, subst, ◌∙◌, arith, add-one, vec_capacity}
-use Rattle.std.specs.Prelude.{IfSome, All, slice_get, slice_index}
+use Rattle.std.proofs.Common.{◌≡◌, ℕ, zero, suc, ◌+◌, ◌<◌, ◌≤◌, List, [], ◌∷◌, ◌++◌, length, map, refl, sym, ap, subst, ◌∙◌, arith, vec_capacity}
+use Rattle.std.specs.Prelude.{IfSome, slice_get, slice_index}
 use Rattle.std.specs.List.{AllByRecursion}
 use Rattle.std.specs.List.Sorted.{IsStrictlyIncreasing}
 use Rattle.std.proofs.lemmas.List.{length-map}
 use Rattle.std.proofs.lemmas.List.Elements.{recursion_from_All}
 use Rattle.node_codec.specs.declared.body.Entry.{Entry}
-use Rattle.node_codec.specs.Record.{NodeRecord, FitsNode}
+use Rattle.node_codec.specs.Record.{FitsNode}
 use Rattle.page_store.specs.declared.wants.Want.{Want}
 use Rattle.page_store.specs.Places.{IsNodeWanted}
 use Rattle.page_store.specs.Tree.{bound_of}
-use Rattle.btree_twigs.specs.declared.twigs.Child.{Child, out-Child}
 use Rattle.btree_twigs.specs.declared.twigs.Child.TheVariants as made
 use Rattle.btree_twigs.specs.declared.twigs.Twig.{Twig, out-Twig}
-use Rattle.btree_twigs.specs.Stubs.{Stub, datum, start_by, stubs_by, stubs_in, low_of, level_of, children_of, stubs, stubs_below}
-use Rattle.btree_twigs.specs.Shape.{EachBy, Begins, IsNodeBy, IsChildBy, IsChild, IsTwig}
+use Rattle.btree_twigs.specs.Stubs.{datum, start_by, low_of, level_of, children_of}
+use Rattle.btree_twigs.specs.Shape.{EachBy, Begins, IsChildBy, IsChild, IsTwig}
 use Rattle.btree_twigs.specs.Updates.{IsNode, stubs_under}
 use Rattle.btree_twigs.proofs.Children.{low_of_kept, stubs_of_kept, kept_is_datum}
 use Rattle.btree_twigs.proofs.Finds.{kept_stub}

@@ -1,11 +1,9 @@
 -- What is held for a root.
-use Rattle.std.proofs.Common.{◌≡◌, ℕ, zero, suc, ◌+◌, ◌-◌, ◌/◌, ◌<◌, ◌≤◌, List, [], ◌∷◌, ◌++◌, refl, sym, ap, subst, ◌∙◌, arith}
+use Rattle.std.proofs.Common.{◌≡◌, ℕ, zero, suc, ◌-◌, ◌<◌, ◌≤◌, List, [], ◌∷◌, ◌++◌, sym, subst, arith}
 use Rattle.page_store.specs.declared.wants.Want.{Want}
-use Rattle.btree_twigs.specs.declared.twigs.Child.{Child, Child-F, out-Child}
-use Rattle.btree_twigs.specs.declared.twigs.Child.TheOpen.{Kept, Grown}
 use Rattle.btree_twigs.specs.declared.twigs.Child.TheVariants as made
 use Rattle.btree_twigs.specs.declared.twigs.Twig.{Twig}
-use Rattle.btree_twigs.specs.Stubs.{Stub, stubs, stubs_below, nodes_below}
+use Rattle.btree_twigs.specs.Stubs.{Stub, stubs, nodes_below}
 use Rattle.btree_twigs.specs.Shape.{IsTwig}
 use Rattle.btree_twigs.specs.Top.{top_least}
 use Rattle.btree_twigs.proofs.Nodes.{stubs_of_grown}
@@ -18,6 +16,10 @@ use Rattle.btree_update.proofs.HoldLaws.{bare_of, read_below, read_lower, node_i
 above_root : (level : ℕ) → 1 ≤ level → level ≡ suc (level - 1)
 above_root level one = omega (arith, one)
 
+least_two : (level : ℕ) → 1 ≤ level → 2 ≤ top_least level
+least_two zero one = absurd (omega (arith, one))
+least_two (suc level) one = omega arith
+
 -- a root in memory
 pub root_grown : (order level block high head low : ℕ) (twig : Twig) → CanHoldRoot order level block high head (made.Grown low twig) → CanHoldBelow order (level - 1) block high head twig
 root_grown order level block high head low twig at =
@@ -25,6 +27,7 @@ root_grown order level block high head low twig at =
     record {
       least = top_least (level - 1);
       low = 0;
+      two = least_two (level - 1);
       four = at.four;
       most = at.most;
       shaped = h.1;
@@ -42,6 +45,10 @@ want_root order level low high addr least = record { addr = addr; level = level;
 least_some : (level : ℕ) → 1 ≤ level → 1 ≤ top_least level
 least_some zero one = absurd (omega (arith, one))
 least_some (suc level) one = omega arith
+
+-- a root on the medium begins at 0
+pub root_starts : (order level block high head low addr : ℕ) (key : List ℕ) → CanHoldRoot order level block high head (made.Kept low addr key) → low ≡ 0
+root_starts order level block high head low addr key at = subst (IsRootBy order (level - 1) high) (made.outs-Kept low addr key) at.shaped
 
 -- a root on the medium
 module _ (order level block high head low addr least : ℕ) (key : List ℕ) (twig : Twig) (at : CanHoldRoot order level block high head (made.Kept low addr key)) (least_is : least ≡ top_least (level - 1)) (h : IsNodeFor (want_root order level low high addr least) twig) where
@@ -62,6 +69,7 @@ module _ (order level block high head low addr least : ℕ) (key : List ℕ) (tw
   root_read = record {
     least = top_least (level - 1);
     low = 0;
+    two = least_two (level - 1);
     four = at.four;
     most = at.most;
     shaped = root_shaped;

@@ -1,7 +1,7 @@
 -- How a root is opened.
-use Rattle.std.proofs.Common.{◌≡◌, ℕ, zero, suc, ◌+◌, ◌-◌, ◌/◌, ◌<◌, ◌≤◌, List, [], ◌∷◌, ◌++◌, length, refl, sym, ap, subst, ◌∙◌, arith, length-append}
+use Rattle.std.proofs.Common.{◌≡◌, ℕ, suc, ◌<◌, ◌≤◌, List, [], ◌∷◌, length, sym, ap, subst, ◌∙◌, arith, length-append}
 use Rattle.std.proofs.lemmas.List.{same_from_push}
-use Rattle.page_store.specs.Tree.{Parts, Mapped, Subtree}
+use Rattle.page_store.specs.Tree.{Mapped}
 use Rattle.btree_twigs.specs.declared.twigs.Child.{Child, Child-F, out-Child}
 use Rattle.btree_twigs.specs.declared.twigs.Child.TheOpen.{Kept, Grown}
 use Rattle.btree_twigs.specs.declared.twigs.Twig.{Twig}
@@ -10,8 +10,8 @@ use Rattle.btree_twigs.specs.Shape.{IsTwig}
 use Rattle.btree_twigs.specs.Top.{top_least}
 use Rattle.btree_update.specs.GroveTree.{Maps, top_want}
 use Rattle.btree_update.specs.Held.{stub_at, AreBelow, IsReadAs, OnWay, HeldFor, AnyRead, IsTakenUp, IsNoted, IsAtHand, CanOpenBelow}
-use Rattle.btree_update.specs.Opens.{Opens, Same, Here, Within, Then, GivesWay}
-use Rattle.btree_update.specs.Roots.{IsRootBy, TakesRoot, HeldRootBy, RootMapsBy}
+use Rattle.btree_update.specs.Opens.{Opens, Here, GivesWay}
+use Rattle.btree_update.specs.Roots.{IsRootBy, HeldRootBy, RootMapsBy}
 use Rattle.btree_update.proofs.Places.{read_maps}
 use Rattle.btree_update.proofs.OpenLaws.{gives_none, lower}
 

@@ -1,6 +1,6 @@
 -- The tree of which some nodes are in memory, over readable pages.
-use Rattle.std.specs.Prelude.{◌≡◌, ◌==◌, ℕ, zero, suc, ◌+◌, ◌/◌, ◌<◌, ◌≤◌, List, [], ◌∷◌, ◌++◌, if◌then◌else◌}
-use Rattle.std.specs.List.{AllZip, AllByRecursion}
+use Rattle.std.specs.Prelude.{◌≡◌, ◌==◌, ℕ, zero, suc, ◌/◌, List, [], ◌∷◌, if◌then◌else◌}
+use Rattle.std.specs.List.{AllZip}
 use Rattle.node_codec.specs.declared.body.Entry.{Entry}
 use Rattle.page_store.specs.declared.wants.Want.{Want}
 use Rattle.page_store.specs.Tree.{Parts, Mapped, Subtree, joined, bound_of}

@@ -1,16 +1,16 @@
 -- A device's tree while it is updated: when it is sound, when an update can't fail, and what an update lets go.
-use Rattle.std.specs.Prelude.{◌≡◌, ◌⊎◌, ℕ, suc, ◌+◌, ◌-◌, ◌<◌, ◌≤◌, List, [], ◌∷◌, ◌++◌, Option, None, Some, vec_len, vec_capacity}
+use Rattle.std.specs.Prelude.{◌≡◌, ℕ, ◌+◌, ◌-◌, ◌<◌, ◌≤◌, List, [], ◌∷◌, ◌++◌, Option, None, Some, vec_len, vec_capacity}
 use Rattle.sdbt_base.specs.declared.lists.Unkept.{Unkept}
 use Rattle.page_store.specs.Tree.{Mapped}
-use Rattle.btree_twigs.specs.declared.twigs.Child.{Child}
 use Rattle.btree_twigs.specs.Stubs.{Stub, datum, stubs, nodes}
 use Rattle.btree_twigs.specs.Updates.{HasSpares}
 use Rattle.btree_twigs.specs.Search.{IsAt}
 use Rattle.btree_update.specs.declared.groves.Grove.{Grove}
-use Rattle.btree_update.specs.GroveTree.{Maps}
 use Rattle.btree_update.specs.Held.{AnyRead, IsReadAs}
 use Rattle.btree_update.specs.Opens.{Opens}
 use Rattle.btree_update.specs.Roots.{IsRoot, HeldRoot, RootMaps}
+use Rattle.btree_update.specs.Wrong.{WrongFrom}
+use Rattle.btree_update.specs.Beside.{HelpsFrom}
 
 -- the order and the root are as they may be, and the lists for new nodes have room for them
 pub record IsSound (grove : Grove) : Type 0 where
@@ -37,9 +37,31 @@ pub record CanInsert (block : ℕ) (grove : Grove) : Type 0 where
   pub gone_room : vec_len grove.gone + vec_len grove.held < vec_capacity grove.gone
   pub never_room : vec_len grove.never < vec_capacity grove.never
 
+-- the neighbours that a removal of a block needs are in memory or held
+abbrev pub HasBeside : ℕ → Grove → ℕ → Type 0
+HasBeside block grove loses = HelpsFrom AnyRead grove.order block (grove.level - 1) grove.blocks grove.top grove.held.items grove.beside.items loses
+
+-- and those that are held are what these pages say
+abbrev pub IsReadBeside : List (List ℕ) → ℕ → Grove → Type 0
+IsReadBeside pages block grove = (loses : ℕ) × HelpsFrom (IsReadAs pages grove.order) grove.order block (grove.level - 1) grove.blocks grove.top grove.held.items grove.beside.items loses
+
+-- all is at hand that a removal of this block may need
+pub record CanRemove (block : ℕ) (grove : Grove) : Type 0 where
+  pub sound : IsSound grove
+  pub to : block < grove.blocks
+  pub at_hand : IsAtHand block grove
+  pub loses : ℕ
+  pub beside : HasBeside block grove loses
+  pub gone_room : vec_len grove.gone + (vec_len grove.held + vec_len grove.beside) < vec_capacity grove.gone
+  pub never_room : vec_len grove.never < vec_capacity grove.never
+
 -- the mapped blocks of the tree over these pages, in order
 abbrev pub GroveMaps : List (List ℕ) → Grove → List Mapped → Type 0
 GroveMaps pages grove mapped = RootMaps pages grove.order (grove.level - 1) grove.blocks grove.top mapped
+
+-- over these pages, a place at this address is on the way to a block or beside it, and nothing fits there
+abbrev pub IsWrongOnWay : List (List ℕ) → ℕ → Grove → ℕ → Type 0
+IsWrongOnWay pages block grove addr = WrongFrom pages grove.order block addr (grove.level - 1) grove.blocks grove.top
 
 -- the places on the medium, from left to right
 abbrev pub places_of : Grove → List Stub

@@ -6,7 +6,7 @@ use Rattle.page_store.specs.declared.wants.Want.{Want}
 use Rattle.page_store.specs.Places.{IsRecordAt, IsNodeWanted}
 use Rattle.btree_twigs.specs.declared.twigs.Child.{Child}
 use Rattle.btree_twigs.specs.declared.twigs.Twig.{Twig, out-Twig}
-use Rattle.btree_twigs.specs.Stubs.{Stub, low_of, level_of, children_of, stubs, stubs_below}
+use Rattle.btree_twigs.specs.Stubs.{low_of, level_of, children_of, stubs, stubs_below}
 use Rattle.btree_twigs.specs.Shape.{IsChild, IsTwig}
 use Rattle.btree_update.specs.Reading.{all_kept}
 use Rattle.btree_update.specs.Held.{AreBelow}
@@ -42,6 +42,7 @@ pub record CanHold (order level block high head : ℕ) (child : Child) : Type 0 
 pub record CanHoldBelow (order level block high head : ℕ) (twig : Twig) : Type 0 where
   pub least : ℕ
   pub low : ℕ
+  pub two : 1 ≤ level → 2 ≤ least
   pub four : 4 ≤ order
   pub most : order ≤ 64
   pub shaped : IsTwig order level least order low high twig

@@ -4,5 +4,9 @@ pub mod Held
 pub mod Opens
 pub mod Reading
 pub mod Roots
+pub mod Wrong
+pub mod Beside
+pub mod Helping
 pub mod Groves
 pub mod Holding
+pub mod Finding

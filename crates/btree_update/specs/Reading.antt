@@ -1,5 +1,5 @@
 -- The children that a node's entries are.
-use Rattle.std.specs.Prelude.{ℕ, List, map}
+use Rattle.std.specs.Prelude.{List, map}
 use Rattle.node_codec.specs.declared.body.Entry.{Entry}
 use Rattle.btree_twigs.specs.declared.twigs.Child.{Child}
 use Rattle.btree_twigs.specs.declared.twigs.Child.TheVariants.{Kept}

@@ -1,4 +1,4 @@
-ghost use Rattle.std.specs.Prelude.{◌≡◌, ◌⊎◌, ◌<◌, ◌≤◌, ◌+◌, ◌-◌, ◌*◌, ℕ, List, [], ◌∷◌, ◌++◌, suc, vec_len, vec_capacity, IfOk, IsErr, IsErrOf};
+ghost use Rattle.std.specs.Prelude.{◌≡◌, ◌⊎◌, ◌<◌, ◌≤◌, ◌+◌, ◌-◌, ◌*◌, ℕ, List, [], ◌∷◌, ◌++◌, suc, vec_len, vec_capacity, IfOk, IfSome, IsErr, IsErrOf, IsTrue};
 ghost use Rattle.root_codec.specs.RootRecord.{FitsRoot};
 ghost use Rattle.node_codec.specs.Record.{DataRecord};
 ghost use Rattle.page_store.specs.Places.{IsRecordAt};
@@ -7,23 +7,31 @@ ghost use Rattle.btree_twigs.specs.declared.twigs.Child.TheVariants.{Kept};
 ghost use Rattle.btree_twigs.specs.Stubs.{stubs};
 ghost use Rattle.btree_twigs.specs.Updates.{IsOpen, HasSpares};
 ghost use Rattle.btree_twigs.specs.Top.{IsTop};
-ghost use Rattle.btree_update.specs.Maps.{MapPuts};
+ghost use Rattle.btree_update.specs.Maps.{MapPuts, MapTakes, HasBlock, LacksBlock};
 ghost use Rattle.sdbt_base.specs.Faults.{Rose};
+ghost use Rattle.std.specs.Bool.{OnTrue, OnFalse};
 ghost use Rattle.std.specs.declared.vec.Vec.{Vec};
 ghost use Rattle.std.specs.declared.alloc.Global.{Global};
 ghost use Rattle.btree_walk.specs.Looks.{Looks};
+ghost use Rattle.btree_walk.specs.Mapped.{IsMappedAs};
 ghost use Rattle.btree_walk.specs.Sights.{StandsOver};
 ghost use Rattle.btree_twigs.specs.declared.twigs.Child.{Child};
 ghost use Rattle.btree_update.specs.declared.refusals.ReadyRefusal.{ReadyRefusal};
 ghost use Rattle.btree_update.specs.Held.{AreBelow};
-ghost use Rattle.btree_update.specs.Groves.{KeepsTree, IsSound, IsReadFrom, CanInsert, GroveMaps, places_of, grown_in, IsAddressOf, LetsGo, Goes};
+ghost use Rattle.btree_update.specs.Finding.{GroveFinds, GroveStops};
+ghost use Rattle.btree_update.specs.Groves.{KeepsTree, IsSound, IsReadFrom, IsReadBeside, IsWrongOnWay, CanInsert, CanRemove, GroveMaps, places_of, grown_in, IsAddressOf, LetsGo, Goes};
 
+use crate::counting::count;
+use crate::finding::find_root;
+use crate::helping::help_root;
 use crate::holding::hold_root;
 use crate::opening::{note, open_root};
 use crate::refusals::ReadyRefusal;
-use btree_twigs::{Child, Spot, Twig, find, level_of, put_top};
+use crate::siblings::is_mapped;
+use btree_twigs::{Child, Spot, Twig, find, level_of, put_top, take_top};
 use node_cache::NodeCache;
-use page_store::Buffers;
+use node_codec::Entry;
+use page_store::{Buffers, FetchRefusal};
 use platform::Platform;
 use root_codec::Root;
 use sdbt_base::{Key, Unkept};
@@ -41,6 +49,7 @@ pub struct Grove {
     gone: Vec<u64>,
     never: Vec<Unkept>,
     held: Vec<Twig>,
+    beside: Vec<Option<Twig>>,
     spares: Vec<Vec<Child>>,
 }
 
@@ -67,6 +76,7 @@ impl Grove {
             gone: Vec::new(alloc),
             never: Vec::new(alloc),
             held: Vec::new(alloc),
+            beside: Vec::new(alloc),
             spares: Vec::new(alloc),
         }
     }
@@ -99,8 +109,55 @@ impl Grove {
         self.level
     }
 
+    /// How many nodes are in memory.
+    pub fn grown(&self) -> u64
+        requires { IsSound self.now }
+        ensures { result ≡ grown_in self.now }
+    {
+        // There are fewer than blocks, whose number is in range.
+        let _blocks = self.blocks;
+        count(&self.top, self.level)
+    }
+
+    /// The entry of a block, or `None` where it isn't mapped: from the nodes in memory, and below them from the medium, through the
+    /// cache. `BadRecord` names a node on the way to the block that does not fit.
+    pub fn find<P: Platform>(
+        &self,
+        block: u64,
+        platform: &mut P,
+        cache: &mut NodeCache,
+        buf: &mut Buffers,
+    ) -> Result<Option<Entry>, FetchRefusal>
+        requires sound { IsSound self.now }
+        requires to { block < self.now.blocks }
+        requires within { AreBelow (P.head platform.old) (places_of self.now) }
+        ensures found { P.tells → StandsOver (P.history platform.old).present.readable cache.old → IfOk result (GroveFinds (P.history platform.old).present.readable block self.now) }
+        ensures maps { P.tells → StandsOver (P.history platform.old).present.readable cache.old → (mapped : List Mapped) → GroveMaps (P.history platform.old).present.readable self.now mapped →
+            IfOk result (IsMappedAs mapped block) }
+        ensures bad { P.tells → StandsOver (P.history platform.old).present.readable cache.old → (addr : ℕ) → IsErrOf result (FetchRefusal.BadRecord addr) →
+            GroveStops (P.history platform.old).present.readable block addr self.now }
+        // Where the tree maps anything at all, no node is refused.
+        ensures fits { P.tells → StandsOver (P.history platform.old).present.readable cache.old → (mapped : List Mapped) → GroveMaps (P.history platform.old).present.readable self.now mapped →
+            (addr : ℕ) → ¬ (IsErrOf result (FetchRefusal.BadRecord addr)) }
+        ensures entry { IfOk result (λ found. IfSome found (λ e. (e.low ≡ block) × (e.addr < P.head platform.old))) }
+        ensures stands { P.tells → StandsOver (P.history platform.old).present.readable cache.old → StandsOver (P.history platform.old).present.readable cache.new }
+        ensures looks { Looks P.Platform self.now.level platform.old platform.new }
+        ensures cause { IsErrOf result FetchRefusal.PlatformFault → Rose (P.faults platform.old) (P.faults platform.new) }
+    {
+        find_root(
+            platform,
+            cache,
+            buf,
+            self.order,
+            block,
+            &self.top,
+            self.level,
+            self.blocks,
+        )
+    }
+
     /// Reads what an update of a block may need, through the cache, and takes all memory that it may take; the tree is the same.
-    /// Answers whether the block is mapped. `BadRecord` names a node on the way to the block that does not fit.
+    /// Answers whether the block is mapped. `BadRecord` names a node on the way to the block, or beside it, that does not fit.
     pub fn ready<P: Platform>(
         &mut self,
         alloc: Global,
@@ -112,16 +169,22 @@ impl Grove {
         requires sound { IsSound self.old }
         requires to { block < self.old.blocks }
         requires within { AreBelow (P.head platform.old) (places_of self.old) }
-        ensures can { IfOk result (λ _. CanInsert block self.new) }
-        ensures reads { P.tells → StandsOver (P.history platform.old).present.readable cache.old → IfOk result (λ _. IsReadFrom (P.history platform.old).present.readable block self.new) }
+        ensures can { IfOk result (λ mapped. CanInsert block self.new × (IsTrue mapped → CanRemove block self.new)) }
+        ensures reads { P.tells → StandsOver (P.history platform.old).present.readable cache.old →
+            IfOk result (λ mapped. IsReadFrom (P.history platform.old).present.readable block self.new × (IsTrue mapped → IsReadBeside (P.history platform.old).present.readable block self.new)) }
+        ensures mapped { P.tells → StandsOver (P.history platform.old).present.readable cache.old →
+            IfOk result (λ mapped. (map : List Mapped) → GroveMaps (P.history platform.old).present.readable self.old map → OnTrue mapped (HasBlock block map) × OnFalse mapped (LacksBlock block map)) }
+        ensures bad { P.tells → StandsOver (P.history platform.old).present.readable cache.old → (addr : ℕ) → IsErrOf result (ReadyRefusal.BadRecord addr) →
+            IsWrongOnWay (P.history platform.old).present.readable block self.old addr }
         ensures sound { IsSound self.new }
         ensures tree { KeepsTree self.old self.new }
         ensures stands { P.tells → StandsOver (P.history platform.old).present.readable cache.old → StandsOver (P.history platform.old).present.readable cache.new }
-        ensures looks { Looks P.Platform self.old.level platform.old platform.new }
+        ensures looks { Looks P.Platform (2 * self.old.level) platform.old platform.new }
         ensures cause { IsErrOf result ReadyRefusal.PlatformFault → Rose (P.faults platform.old) (P.faults platform.new) }
     {
         self.held.clear();
-        let is_mapped = hold_root(
+        self.beside.clear();
+        let left = hold_root(
             alloc,
             platform,
             cache,
@@ -132,10 +195,16 @@ impl Grove {
             self.level,
             self.blocks,
             &mut self.held,
+            &mut self.beside,
         )?;
         make_spares(alloc, self.level, &mut self.spares)?;
-        make_room(self.held.len(), &mut self.gone, &mut self.never)?;
-        Ok(is_mapped)
+        make_room(
+            self.held.len(),
+            self.beside.len(),
+            &mut self.gone,
+            &mut self.never,
+        )?;
+        Ok(is_mapped(left))
     }
 
     /// Maps a block to a data record, once all is at hand that this may need. The address of the record that it had is gone, where it
@@ -171,6 +240,40 @@ impl Grove {
             key.bytes(),
             &mut self.spares,
         );
+        self.level = level_of(&self.top);
+    }
+
+    /// Maps a block to nothing, once all is at hand that this may need. The address of the record that it had is gone, where it
+    /// was committed, and else never committed.
+    pub fn remove(&mut self, block: u64)
+        requires can { CanRemove block self.old }
+        ensures sound { IsSound self.new }
+        ensures size { (self.new.order ≡ self.old.order) × (self.new.blocks ≡ self.old.blocks) × (self.new.head ≡ self.old.head) }
+        ensures level { (self.new.level ≡ self.old.level) ⊎ (self.new.level + 1 ≡ self.old.level) }
+        ensures maps { (pages : List (List ℕ)) (mapped : List Mapped) → IsReadFrom pages block self.old → IsReadBeside pages block self.old → GroveMaps pages self.old mapped
+            → (after : List Mapped) × GroveMaps pages self.new after × MapTakes block mapped after }
+        ensures goes { (pages : List (List ℕ)) → IsReadFrom pages block self.old → IsReadBeside pages block self.old
+            → Goes pages self.old.order self.old.head block (places_of self.old) self.old.gone.items self.new.gone.items self.old.never.items self.new.never.items }
+        ensures below { (head : ℕ) → AreBelow head (places_of self.old) → AreBelow head (places_of self.new) }
+        ensures grown { grown_in self.new ≤ grown_in self.old + 2 * self.old.level }
+    {
+        open_root(
+            &mut self.top,
+            self.level,
+            block,
+            &mut self.held,
+            &mut self.gone,
+        );
+        help_root(
+            &mut self.top,
+            self.level,
+            block,
+            &mut self.beside,
+            &mut self.gone,
+        );
+        let addr = address_of(&self.top, block, self.blocks);
+        let_go(self.head, block, addr, &mut self.gone, &mut self.never);
+        take_top(&mut self.top, self.order as usize, block);
         self.level = level_of(&self.top);
     }
 }
@@ -235,14 +338,22 @@ fn add_spare(alloc: Global, spares: &mut Vec<Vec<Child>>) -> Result<(), ReadyRef
     }
 }
 
-/// Makes room for what an update may let go: so many nodes, and a data record.
-fn make_room(nodes: usize, gone: &mut Vec<u64>, never: &mut Vec<Unkept>) -> Result<(), ReadyRefusal>
-    ensures gone { IfOk result (λ _. vec_len gone.new + nodes < vec_capacity gone.new) }
+/// Makes room for what an update may let go: so many nodes on the way and beside it, and a data record.
+fn make_room(
+    nodes: usize,
+    beside: usize,
+    gone: &mut Vec<u64>,
+    never: &mut Vec<Unkept>,
+) -> Result<(), ReadyRefusal>
+    ensures gone { IfOk result (λ _. vec_len gone.new + (nodes + beside) < vec_capacity gone.new) }
     ensures never { IfOk result (λ _. vec_len never.new < vec_capacity never.new) }
     ensures kept { (gone.new.items ≡ gone.old.items) × (never.new.items ≡ never.old.items) }
     ensures memory { (e : ReadyRefusal) → IsErrOf result e → e ≡ ReadyRefusal.Memory }
 {
-    let Some(more) = nodes.checked_add(1) else {
+    let Some(all) = nodes.checked_add(beside) else {
+        return Err(ReadyRefusal::Memory);
+    };
+    let Some(more) = all.checked_add(1) else {
         return Err(ReadyRefusal::Memory);
     };
     if gone.reserve(more).is_err() {

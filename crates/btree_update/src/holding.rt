@@ -1,15 +1,21 @@
-ghost use Rattle.std.specs.Prelude.{◌≡◌, ◌<◌, ◌≤◌, ◌+◌, ◌-◌, ℕ, List, [], ◌∷◌, ◌++◌, IfOk, IsErrOf};
+ghost use Rattle.std.specs.Prelude.{◌≡◌, ◌<◌, ◌≤◌, ◌+◌, ◌-◌, ◌*◌, length, ℕ, List, [], ◌∷◌, ◌++◌, IfOk, IsErrOf};
 ghost use Rattle.btree_update.specs.declared.refusals.ReadyRefusal.{ReadyRefusal};
 ghost use Rattle.sdbt_base.specs.Faults.{Rose};
 ghost use Rattle.btree_walk.specs.Looks.{Looks};
 ghost use Rattle.btree_walk.specs.Sights.{StandsOver};
 ghost use Rattle.btree_update.specs.Held.{AnyRead, IsReadAs, OnWay, HeldFor};
 ghost use Rattle.btree_twigs.specs.Top.{top_least};
-ghost use Rattle.btree_update.specs.Roots.{HeldRoot};
+ghost use Rattle.btree_update.specs.Roots.{HeldRoot, RootMaps};
+ghost use Rattle.btree_twigs.specs.Stubs.{stubs, stubs_below, children_of};
+ghost use Rattle.page_store.specs.Tree.{Mapped};
+ghost use Rattle.btree_update.specs.GroveTree.{Maps};
+ghost use Rattle.btree_update.specs.Wrong.{WrongOnWay, WrongFrom};
+ghost use Rattle.btree_update.specs.Beside.{IsLeft, HelpsBelow, LeftOf, IsMappedBy};
 ghost use Rattle.btree_update.specs.Holding.{CanHold, CanHoldBelow, CanHoldRoot};
 
 use crate::reading::read_node;
 use crate::refusals::ReadyRefusal;
+use crate::siblings::{Left, hold_beside, left_of_leaf};
 use btree_twigs::{Child, Twig, end_of, low_of, place};
 use node_cache::NodeCache;
 use page_store::{Buffers, Want};
@@ -17,8 +23,8 @@ use platform::Platform;
 use sdbt_base::Key;
 use std::alloc::Global;
 
-/// Reads the nodes on the way to a block that aren't in memory, from a child down, and holds them, the topmost last. Answers
-/// whether the block is mapped.
+/// Reads the nodes on the way to a block that aren't in memory, from a child down, and holds them, the topmost last, and with
+/// them what a removal may need beside the way. Answers what a removal leaves of the child.
 #[cycle(hold)]
 pub(crate) fn hold_way<P: Platform>(
     alloc: Global,
@@ -31,13 +37,21 @@ pub(crate) fn hold_way<P: Platform>(
     level: u8,
     high: u64,
     held: &mut Vec<Twig>,
-) -> Result<bool, ReadyRefusal>
+    beside: &mut Vec<Option<Twig>>,
+) -> Result<Left, ReadyRefusal>
     requires can { CanHold order level block high (P.head platform.old) child.now }
     ensures at_hand { IfOk result (λ _. HeldFor AnyRead order block level high child.now held.new.items) }
     ensures reads { P.tells → StandsOver (P.history platform.old).present.readable cache.old →
         IfOk result (λ _. HeldFor (IsReadAs (P.history platform.old).present.readable order) order block level high child.now held.new.items) }
+    ensures helps { IfOk result (LeftOf AnyRead order block (level - 1) high child.now held.new.items beside.new.items) }
+    ensures beside { P.tells → StandsOver (P.history platform.old).present.readable cache.old →
+        IfOk result (LeftOf (IsReadAs (P.history platform.old).present.readable order) order block (level - 1) high child.now held.new.items beside.new.items) }
+    ensures bad { P.tells → StandsOver (P.history platform.old).present.readable cache.old → (addr : ℕ) → IsErrOf result (ReadyRefusal.BadRecord addr) →
+        WrongOnWay (P.history platform.old).present.readable order block addr (stubs level high child.now) }
+    ensures mapped { P.tells → StandsOver (P.history platform.old).present.readable cache.old →
+        IfOk result (λ left. (mapped : List Mapped) → Maps (P.history platform.old).present.readable order (stubs level high child.now) mapped → IsMappedBy block mapped left) }
     ensures stands { P.tells → StandsOver (P.history platform.old).present.readable cache.old → StandsOver (P.history platform.old).present.readable cache.new }
-    ensures looks { Looks P.Platform level platform.old platform.new }
+    ensures looks { Looks P.Platform (2 * level - 1) platform.old platform.new }
     ensures cause { IsErrOf result ReadyRefusal.PlatformFault → Rose (P.faults platform.old) (P.faults platform.new) }
 {
     match child {
@@ -52,6 +66,7 @@ pub(crate) fn hold_way<P: Platform>(
             level - 1,
             high,
             held,
+            beside,
         ),
         Child::Kept { low, addr, key } => {
             let want = Want {
@@ -64,7 +79,7 @@ pub(crate) fn hold_way<P: Platform>(
             };
             let key = Key::from_bytes(*key);
             let twig = read_node(alloc, platform, cache, &want, &key, buf)?;
-            let is_mapped = hold_below(
+            let left = hold_below(
                 alloc,
                 platform,
                 cache,
@@ -75,14 +90,16 @@ pub(crate) fn hold_way<P: Platform>(
                 level - 1,
                 high,
                 held,
+                beside,
             )?;
             hold(twig, held)?;
-            Ok(is_mapped)
+            Ok(left)
         }
     }
 }
 
-/// Reads the nodes on the way to a block below a node, over children of a level.
+/// Reads the nodes on the way to a block below a node, over children of a level, and what a removal may need beside it.
+/// Answers what a removal leaves of the node.
 #[cycle(hold)]
 pub(crate) fn hold_below<P: Platform>(
     alloc: Global,
@@ -95,31 +112,42 @@ pub(crate) fn hold_below<P: Platform>(
     level: u8,
     high: u64,
     held: &mut Vec<Twig>,
-) -> Result<bool, ReadyRefusal>
+    beside: &mut Vec<Option<Twig>>,
+) -> Result<Left, ReadyRefusal>
     requires can { CanHoldBelow order level block high (P.head platform.old) twig.now }
     ensures at_hand { IfOk result (λ _. OnWay block (λ end c. HeldFor AnyRead order block level end c held.new.items) high twig.now) }
     ensures reads { P.tells → StandsOver (P.history platform.old).present.readable cache.old →
         IfOk result (λ _. OnWay block (λ end c. HeldFor (IsReadAs (P.history platform.old).present.readable order) order block level end c held.new.items) high twig.now) }
+    ensures helps { IfOk result (IsLeft (λ loses. HelpsBelow AnyRead order block level high twig.now held.new.items beside.new.items loses) order (length (children_of twig.now))) }
+    ensures beside { P.tells → StandsOver (P.history platform.old).present.readable cache.old →
+        IfOk result (IsLeft (λ loses. HelpsBelow (IsReadAs (P.history platform.old).present.readable order) order block level high twig.now held.new.items beside.new.items loses) order (length (children_of twig.now))) }
+    ensures bad { P.tells → StandsOver (P.history platform.old).present.readable cache.old → (addr : ℕ) → IsErrOf result (ReadyRefusal.BadRecord addr) →
+        WrongOnWay (P.history platform.old).present.readable order block addr (stubs_below level high twig.now) }
+    ensures mapped { P.tells → StandsOver (P.history platform.old).present.readable cache.old →
+        IfOk result (λ left. (mapped : List Mapped) → Maps (P.history platform.old).present.readable order (stubs_below level high twig.now) mapped → IsMappedBy block mapped left) }
     ensures stands { P.tells → StandsOver (P.history platform.old).present.readable cache.old → StandsOver (P.history platform.old).present.readable cache.new }
-    ensures looks { Looks P.Platform level platform.old platform.new }
+    ensures looks { Looks P.Platform (2 * level) platform.old platform.new }
     ensures cause { IsErrOf result ReadyRefusal.PlatformFault → Rose (P.faults platform.old) (P.faults platform.new) }
 {
     let at = place(&twig.children, block);
     if at == 0 {
-        return Ok(false);
+        return Ok(Left::Unmapped);
     }
     let child = &twig.children[at - 1];
     if level == 0 {
-        return Ok(low_of(child) == block);
+        return Ok(left_of_leaf(twig, order, low_of(child) == block));
     }
     let end = end_of(&twig.children, at, high);
-    hold_way(
-        alloc, platform, cache, buf, order, block, child, level, end, held,
+    let left = hold_way(
+        alloc, platform, cache, buf, order, block, child, level, end, held, beside,
+    )?;
+    hold_beside(
+        alloc, platform, cache, buf, order, twig, at, level, high, left, beside,
     )
 }
 
-/// Reads the root and the nodes on the way to a block that aren't in memory, and holds them, the root last. Answers whether the
-/// block is mapped.
+/// Reads the root and the nodes on the way to a block that aren't in memory, and holds them, the root last, and with them what
+/// a removal may need beside the way. Answers what a removal leaves of the root.
 pub(crate) fn hold_root<P: Platform>(
     alloc: Global,
     platform: &mut P,
@@ -131,13 +159,21 @@ pub(crate) fn hold_root<P: Platform>(
     level: u8,
     high: u64,
     held: &mut Vec<Twig>,
-) -> Result<bool, ReadyRefusal>
+    beside: &mut Vec<Option<Twig>>,
+) -> Result<Left, ReadyRefusal>
     requires can { CanHoldRoot order level block high (P.head platform.old) top.now }
     ensures at_hand { IfOk result (λ _. HeldRoot AnyRead order block (level - 1) high top.now held.new.items) }
     ensures reads { P.tells → StandsOver (P.history platform.old).present.readable cache.old →
         IfOk result (λ _. HeldRoot (IsReadAs (P.history platform.old).present.readable order) order block (level - 1) high top.now held.new.items) }
+    ensures helps { IfOk result (LeftOf AnyRead order block (level - 1) high top.now held.new.items beside.new.items) }
+    ensures beside { P.tells → StandsOver (P.history platform.old).present.readable cache.old →
+        IfOk result (LeftOf (IsReadAs (P.history platform.old).present.readable order) order block (level - 1) high top.now held.new.items beside.new.items) }
+    ensures bad { P.tells → StandsOver (P.history platform.old).present.readable cache.old → (addr : ℕ) → IsErrOf result (ReadyRefusal.BadRecord addr) →
+        WrongFrom (P.history platform.old).present.readable order block addr (level - 1) high top.now }
+    ensures mapped { P.tells → StandsOver (P.history platform.old).present.readable cache.old →
+        IfOk result (λ left. (mapped : List Mapped) → RootMaps (P.history platform.old).present.readable order (level - 1) high top.now mapped → IsMappedBy block mapped left) }
     ensures stands { P.tells → StandsOver (P.history platform.old).present.readable cache.old → StandsOver (P.history platform.old).present.readable cache.new }
-    ensures looks { Looks P.Platform level platform.old platform.new }
+    ensures looks { Looks P.Platform (2 * level) platform.old platform.new }
     ensures cause { IsErrOf result ReadyRefusal.PlatformFault → Rose (P.faults platform.old) (P.faults platform.new) }
 {
     match top {
@@ -152,6 +188,7 @@ pub(crate) fn hold_root<P: Platform>(
             level - 1,
             high,
             held,
+            beside,
         ),
         Child::Kept { low, addr, key } => {
             let want = Want {
@@ -164,7 +201,7 @@ pub(crate) fn hold_root<P: Platform>(
             };
             let key = Key::from_bytes(*key);
             let twig = read_node(alloc, platform, cache, &want, &key, buf)?;
-            let is_mapped = hold_below(
+            let left = hold_below(
                 alloc,
                 platform,
                 cache,
@@ -175,15 +212,16 @@ pub(crate) fn hold_root<P: Platform>(
                 level - 1,
                 high,
                 held,
+                beside,
             )?;
             hold(twig, held)?;
-            Ok(is_mapped)
+            Ok(left)
         }
     }
 }
 
 /// The least number of children of a root.
-fn least_of_root(level: u8) -> u16
+pub(crate) fn least_of_root(level: u8) -> u16
     requires { 1 ≤ level }
     ensures { result ≡ top_least (level - 1) }
 {

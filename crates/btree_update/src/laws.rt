@@ -5,9 +5,9 @@ ghost use Rattle.node_codec.specs.Record.{DataRecord, NodeRecord};
 ghost use Rattle.page_store.specs.declared.wants.Want.{Want};
 ghost use Rattle.page_store.specs.Places.{IsRecordAt, FitsAt};
 ghost use Rattle.page_store.specs.Tree.{Parts, Mapped, Subtree, joined, node_parts};
-ghost use Rattle.btree_twigs.specs.Stubs.{Stub, Puts, datum};
+ghost use Rattle.btree_twigs.specs.Stubs.{Stub, Puts, Takes, datum};
 ghost use Rattle.btree_update.specs.GroveTree.{HasEach, Maps, stubs_at};
-ghost use Rattle.btree_update.specs.Maps.{MapPuts};
+ghost use Rattle.btree_update.specs.Maps.{MapPuts, MapTakes};
 ghost use Rattle.btree_update.specs.Opens.{Opens};
 
 /// What is put among the places below the nodes in memory is put into what they map.
@@ -15,6 +15,12 @@ pub fn put_maps()
     ensures { (pages : List (List ℕ)) (order low high block addr : ℕ) (key content : List ℕ) (old new : List Stub) (mapped : List Mapped) →
         Puts low high (datum block addr key) old new → Maps pages order old mapped → IsRecordAt pages addr key (DataRecord block content) →
         (after : List Mapped) × Maps pages order new after × MapPuts (record { block = block; addr = addr; key = key; content = content }) mapped after }
+{}
+
+/// What is taken away among the places below the nodes in memory is taken out of what they map.
+pub fn take_maps()
+    ensures { (pages : List (List ℕ)) (order low high block : ℕ) (old new : List Stub) (mapped : List Mapped) → Takes low high block old new → Maps pages order old mapped →
+        (after : List Mapped) × Maps pages order new after × MapTakes block mapped after }
 {}
 
 /// The places below a node that was read from its page map what the node maps.

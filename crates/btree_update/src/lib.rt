@@ -1,14 +1,29 @@
 //! Trees that are partly in memory, over pages: what they map, and how the way of an update is brought into memory.
 #![tactic(auto)]
 
+mod counting;
+mod finding;
 mod groves;
+mod helping;
 mod holding;
 mod laws;
 mod opening;
 mod reading;
 mod refusals;
+mod siblings;
 
 pub use groves::Grove;
-pub use laws::{opened_maps, put_maps, read_maps, sealed_is};
+pub use laws::{opened_maps, put_maps, read_maps, sealed_is, take_maps};
 pub use opening::open_way;
 pub use refusals::ReadyRefusal;
+
+#[cfg(test)]
+mod test_bed;
+#[cfg(test)]
+mod test_device;
+#[cfg(test)]
+mod test_pair;
+#[cfg(test)]
+mod test_shape;
+#[cfg(test)]
+mod tests;

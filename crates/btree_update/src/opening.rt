@@ -1,10 +1,11 @@
-ghost use Rattle.std.specs.Prelude.{◌≡◌, ℕ, List, [], ◌∷◌, ◌++◌, ◌+◌, ◌<◌, ◌≤◌, suc, vec_len, vec_capacity};
-ghost use Rattle.btree_twigs.specs.Stubs.{stubs, stubs_below, nodes, nodes_below};
+ghost use Rattle.std.specs.Prelude.{◌≡◌, ℕ, List, [], ◌∷◌, ◌++◌, ◌+◌, ◌<◌, ◌≤◌, ◌-◌, suc, length, Option, vec_len, vec_capacity};
+ghost use Rattle.btree_twigs.specs.Stubs.{children_of, stubs, stubs_below, nodes, nodes_below};
 ghost use Rattle.btree_twigs.specs.declared.twigs.Child.{out-Child};
 ghost use Rattle.btree_twigs.specs.declared.twigs.Child.TheOpen.{Grown};
 ghost use Rattle.btree_twigs.specs.declared.twigs.Twig.{Twig};
 ghost use Rattle.btree_update.specs.Held.{AreBelow, IsReadAs, HeldFor, OnWay, CanOpen, IsOpened, IsTakenUp, IsNoted, IsAtHand, CanOpenBelow, IsOpenedBelow};
 ghost use Rattle.btree_update.specs.Opens.{GivesWay};
+ghost use Rattle.btree_update.specs.Beside.{HelpsBelow, HelpsFrom, HelpsWide, ReadOver};
 ghost use Rattle.btree_update.specs.Roots.{CanOpenRoot, IsRootOpened, HeldRoot, RootMaps};
 ghost use Rattle.btree_update.specs.GroveTree.{Maps};
 ghost use Rattle.page_store.specs.Tree.{Mapped};
@@ -24,6 +25,8 @@ pub fn open_way(child: &mut Child, level: u8, block: u64, held: &mut Vec<Twig>, 
     ensures room { vec_len gone.new + vec_len held.new ≤ vec_capacity gone.new }
     ensures spare { vec_len gone.new + vec_len held.new + vec_capacity gone.old ≤ vec_len gone.old + vec_len held.old + vec_capacity gone.new }
     ensures below { (head : ℕ) (at : CanOpen level block held.old.items child.old) → AreBelow head (stubs level at.high child.old) → AreBelow head (stubs level at.high child.new) }
+    ensures helps { (at : CanOpen level block held.old.items child.old) (pages : Option (List (List ℕ))) (width : ℕ) (beside : List (Option Twig)) (loses : ℕ) → HelpsWide (ReadOver pages at.order) at.order block (level - 1) at.high width child.old held.old.items beside loses
+        → HelpsWide (ReadOver pages at.order) at.order block (level - 1) at.high width child.new held.new.items beside loses }
     ensures nodes { (at : CanOpen level block held.old.items child.old) → nodes level child.new ≤ nodes level child.old + level }
 {
     if level == 0 {
@@ -54,6 +57,9 @@ pub(crate) fn open_below(
     ensures room { vec_len gone.new + vec_len held.new ≤ vec_capacity gone.new }
     ensures spare { vec_len gone.new + vec_len held.new + vec_capacity gone.old ≤ vec_len gone.old + vec_len held.old + vec_capacity gone.new }
     ensures below { (head : ℕ) (at : CanOpenBelow level block held.old.items twig.old) → AreBelow head (stubs_below level at.high twig.old) → AreBelow head (stubs_below level at.high twig.new) }
+    ensures helps { (at : CanOpenBelow level block held.old.items twig.old) (pages : Option (List (List ℕ))) (beside : List (Option Twig)) (loses : ℕ) → HelpsBelow (ReadOver pages at.order) at.order block level at.high twig.old held.old.items beside loses
+        → HelpsBelow (ReadOver pages at.order) at.order block level at.high twig.new held.new.items beside loses }
+    ensures wide { length (children_of twig.new) ≡ length (children_of twig.old) }
     ensures nodes { (at : CanOpenBelow level block held.old.items twig.old) → nodes_below level twig.new ≤ nodes_below level twig.old + level }
 {
     let at = place(&twig.children, block);
@@ -83,6 +89,8 @@ pub(crate) fn open_root(
     ensures room { vec_len gone.new + vec_len held.new ≤ vec_capacity gone.new }
     ensures spare { vec_len gone.new + vec_len held.new + vec_capacity gone.old ≤ vec_len gone.old + vec_len held.old + vec_capacity gone.new }
     ensures below { (head : ℕ) (at : CanOpenRoot level block held.old.items top.old) → AreBelow head (stubs level at.high top.old) → AreBelow head (stubs level at.high top.new) }
+    ensures helps { (at : CanOpenRoot level block held.old.items top.old) (pages : Option (List (List ℕ))) (beside : List (Option Twig)) (loses : ℕ) → HelpsFrom (ReadOver pages at.order) at.order block at.below at.high top.old held.old.items beside loses
+        → HelpsFrom (ReadOver pages at.order) at.order block at.below at.high top.new held.new.items beside loses }
     ensures nodes { (at : CanOpenRoot level block held.old.items top.old) → nodes level top.new ≤ nodes level top.old + level }
 {
     take_held(top, held, gone);

@@ -1,18 +1,14 @@
-use Rattle.std.proofs.Common.{◌≡◌, ℕ, zero, suc, ◌<◌, ◌≤◌, ◌+◌, ◌-◌, ◌/◌, ◌++◌, [], ◌∷◌, List, length, take, drop, get_or, sym, ap, subst, ◌∙◌, rules, arith}
+use Rattle.std.proofs.Common.{◌≡◌, ℕ, ◌<◌, ◌≤◌, ◌-◌, ◌/◌, [], ◌∷◌, List, length, take, drop, get_or, sym, ap, subst, ◌∙◌, arith}
 use Rattle.std.specs.List.{AllByRecursion}
 use Rattle.btree_twigs.specs.declared.twigs.Child.{Child}
-use Rattle.btree_twigs.specs.declared.twigs.Child.TheVariants as made
-use Rattle.btree_twigs.specs.declared.twigs.Twig.{Twig, out-Twig}
+use Rattle.btree_twigs.specs.declared.twigs.Twig.{Twig}
 use Rattle.btree_twigs.specs.declared.twigs.Spot.{Spot}
 use Rattle.btree_twigs.specs.declared.twigs.Spot.TheVariants.{Found, Absent, Below}
 use Rattle.btree_twigs.specs.Stubs.{datum, start_by, low_of, children_of, stubs, stubs_below}
 use Rattle.btree_twigs.specs.Shape.{IsChild, IsTwig}
 use Rattle.btree_twigs.specs.Search.{IsAt, IsSpot}
 use Rattle.btree_twigs.proofs.ListLaws.{at_end}
-use Rattle.btree_twigs.proofs.Children.{low_of_kept, stubs_of_kept}
-use Rattle.btree_twigs.proofs.Nodes.{stubs_of_grown, low_of_grown}
-use Rattle.btree_twigs.proofs.Ways.{child_is_twig}
-use Rattle.btree_twigs.proofs.Finds.{none_before, found_below, kept_stub, at_one, at_none, grown_spot, below_spot, datum_spot, low_of_is}
+use Rattle.btree_twigs.proofs.Finds.{none_before, found_below, at_one, at_none, grown_spot, below_spot, datum_spot, low_of_is}
 use Rattle.btree_twigs.proofs.finding.+find.Goals as goal
 
 pub returns-then-at-eq0 : goal.returns-then-at-eq0

@@ -1,10 +1,10 @@
-use Rattle.std.proofs.Common.{◌≡◌, ℕ, suc, ◌<◌, ◌≤◌, ◌+◌, ◌-◌, ◌/◌, ◌++◌, [], ◌∷◌, List, Option, None, Some, refl, length, take, drop, get_or, sym, ap, subst, ◌∙◌, rules, arith, append_assoc}
+use Rattle.std.proofs.Common.{◌≡◌, ℕ, suc, ◌<◌, ◌≤◌, ◌+◌, ◌-◌, ◌/◌, List, refl, length, take, drop, get_or, sym, subst, ◌∙◌, rules, arith}
 use Rattle.std.specs.List.{AllByRecursion}
 use Rattle.btree_twigs.specs.declared.twigs.Child.{Child}
 use Rattle.btree_twigs.specs.declared.twigs.Child.TheVariants as made
 use Rattle.btree_twigs.specs.declared.twigs.Child.{the_lemmas}
 use Rattle.btree_twigs.specs.declared.twigs.Twig.{Twig, out-Twig}
-use Rattle.btree_twigs.specs.Stubs.{datum, start_by, low_of, children_of, stubs, stubs_below}
+use Rattle.btree_twigs.specs.Stubs.{datum, start_by, low_of, children_of}
 use Rattle.btree_twigs.specs.Updates.{IsPut, IsOpen, IsChildPut, CanPut, CanPutBelow, HasSpares}
 use Rattle.btree_twigs.proofs.Nodes.{stubs_of_grown, low_of_grown}
 use Rattle.btree_twigs.proofs.Ways.{IsWay, way, fewer, child_is_twig, open_is_grown, put_alone, put_two, set_on_way, insert_on_way, twig_put, leaf_put, child_put, child_cut}

@@ -1,10 +1,10 @@
-use Rattle.std.proofs.Common.{◌≡◌, ◌≢◌, ℕ, zero, suc, ◌+◌, ◌-◌, ◌<◌, ◌≤◌, List, ◌∷◌, ◌++◌, length, take, drop, get_or, set, sym, ap, subst, ◌∙◌, rules, arith, add-one}
+use Rattle.std.proofs.Common.{◌≡◌, ℕ, suc, ◌+◌, ◌-◌, ◌<◌, ◌≤◌, List, ◌∷◌, ◌++◌, length, take, drop, get_or, set, sym, ap, subst, ◌∙◌, arith, add-one}
 use Rattle.std.specs.List.{AllByRecursion, insert}
 use Rattle.std.proofs.lemmas.List.{set_split}
 use Rattle.btree_twigs.specs.declared.twigs.Child.{Child}
 use Rattle.btree_twigs.specs.declared.twigs.Child.TheVariants as made
 use Rattle.btree_twigs.specs.Stubs.{datum, start_by, low_of}
-use Rattle.btree_twigs.specs.Updates.{IsNode, IsPut}
+use Rattle.btree_twigs.specs.Updates.{IsPut}
 use Rattle.btree_twigs.proofs.ListLaws.{split_here, insert_here, at_end}
 use Rattle.btree_twigs.proofs.Leaf.{IsLeaf, replaced, inserted, first}
 use Rattle.btree_twigs.proofs.putting.put_datum.Goals as goal

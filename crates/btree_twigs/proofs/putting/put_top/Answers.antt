@@ -1,11 +1,10 @@
-use Rattle.std.proofs.Common.{◌≡◌, ℕ, suc, ◌+◌, ◌<◌, ◌≤◌, ◌/◌, ◌++◌, [], ◌∷◌, List, length, inl, inr, sym, ap, subst, ◌∙◌, arith, rules}
-use Rattle.btree_twigs.specs.declared.twigs.Child.{Child, out-Child}
+use Rattle.std.proofs.Common.{ℕ, ◌+◌, ◌/◌, ap, subst, ◌∙◌, arith}
 use Rattle.btree_twigs.specs.declared.twigs.Child.TheVariants as made
-use Rattle.btree_twigs.specs.declared.twigs.Twig.{Twig, out-Twig}
-use Rattle.btree_twigs.specs.Stubs.{Puts, datum, low_of, level_of, children_of, stubs, stubs_below}
-use Rattle.btree_twigs.specs.Shape.{IsChild, IsTwig}
-use Rattle.btree_twigs.specs.Updates.{IsOpen, CanPut, HasSpares, IsTwigPut, IsSplit}
-use Rattle.btree_twigs.specs.Top.{IsTop, IsTopBy, top_least, level_in, child_level, CanPutTop, CanRaise, IsRaised, IsTopPut}
+use Rattle.btree_twigs.specs.declared.twigs.Twig.{Twig}
+use Rattle.btree_twigs.specs.Stubs.{datum}
+use Rattle.btree_twigs.specs.Shape.{IsTwig}
+use Rattle.btree_twigs.specs.Updates.{IsOpen, CanPut}
+use Rattle.btree_twigs.specs.Top.{IsTopBy, top_least, level_in, CanPutTop}
 use Rattle.btree_twigs.proofs.Ways.{fewer}
 use Rattle.btree_twigs.proofs.Nodes.{stubs_of_grown}
 use Rattle.btree_twigs.proofs.Tops.{top_kept, top_raised}

@@ -1,8 +1,7 @@
-use Rattle.std.proofs.Common.{◌≡◌, ℕ, suc, ◌+◌, ◌<◌, ◌≤◌, ◌++◌, [], ◌∷◌, List, length, vec_len, vec_capacity, sym, ap, subst, ◌∙◌, arith, rules}
-use Rattle.btree_twigs.specs.declared.twigs.Child.{Child, out-Child}
+use Rattle.std.proofs.Common.{◌≡◌, ◌+◌, ◌<◌, ◌++◌, [], ◌∷◌, length, vec_capacity, sym, ap, subst, ◌∙◌, arith}
+use Rattle.btree_twigs.specs.declared.twigs.Child.{Child}
 use Rattle.btree_twigs.specs.declared.twigs.Child.TheVariants as made
-use Rattle.btree_twigs.specs.declared.twigs.Twig.{Twig, Twig-F, out-Twig, roll-Twig, out-roll-Twig}
-use Rattle.btree_twigs.specs.Stubs.{level_of}
+use Rattle.btree_twigs.specs.declared.twigs.Twig.{Twig, Twig-F, roll-Twig, out-roll-Twig}
 use Rattle.btree_twigs.specs.Top.{child_level}
 use Rattle.btree_twigs.proofs.Nodes.{children_of_roll}
 use Rattle.btree_twigs.proofs.putting.raise.Goals as goal

@@ -1,5 +1,4 @@
-use Rattle.std.proofs.Common.{◌≡◌, ◌<◌, ◌≤◌, ◌+◌, ◌/◌, ◌++◌, [], ◌∷◌, List, length, take, drop, sym, ap, subst, ◌∙◌, rules, arith, append_assoc}
-use Rattle.btree_twigs.specs.declared.twigs.Child.{Child}
+use Rattle.std.proofs.Common.{◌/◌, arith}
 use Rattle.btree_twigs.proofs.Nodes.{split_made}
 use Rattle.btree_twigs.specs.declared.twigs.Twig.{out-Twig}
 use Rattle.btree_twigs.proofs.Counts.{nodes_cut}

@@ -1,14 +1,14 @@
-use Rattle.std.proofs.Common.{◌≡◌, ℕ, zero, suc, ◌<◌, ◌≤◌, ◌+◌, ◌-◌, ◌/◌, ◌++◌, [], ◌∷◌, List, length, take, drop, get_or, set, sym, ap, subst, ◌∙◌, rules, arith, length-append}
+use Rattle.std.proofs.Common.{◌≡◌, ℕ, suc, ◌<◌, ◌≤◌, ◌+◌, ◌-◌, ◌/◌, ◌++◌, ◌∷◌, List, length, take, drop, get_or, set, sym, ap, subst, ◌∙◌, rules, arith, length-append}
 use Rattle.std.specs.List.{AllByRecursion}
 use Rattle.std.proofs.lemmas.Bool.{false≢true}
 use Rattle.std.proofs.lemmas.List.{length-take-le}
-use Rattle.btree_twigs.specs.declared.twigs.Child.{Child, out-Child}
+use Rattle.btree_twigs.specs.declared.twigs.Child.{Child}
 use Rattle.btree_twigs.specs.declared.twigs.Child.TheVariants as made
 use Rattle.btree_twigs.specs.declared.twigs.Child.{the_lemmas}
 use Rattle.btree_twigs.specs.declared.twigs.Twig.{Twig, out-Twig}
-use Rattle.btree_twigs.specs.Stubs.{start_by, low_of, children_of, stubs, stubs_below}
+use Rattle.btree_twigs.specs.Stubs.{start_by, low_of, children_of}
 use Rattle.btree_twigs.specs.Updates.{IsNode, IsOpen, width_of}
-use Rattle.btree_twigs.specs.Removal.{IsTaken, IsHelped, HelpsOne, Helps, below_in, MendsAt, AreMended, CanTake, CanTakeBelow, IsTwigTaken, IsChildTaken, CanMendBeside}
+use Rattle.btree_twigs.specs.Removal.{IsTaken, IsHelped, HelpsOne, Helps, below_in, MendsAt, AreMended, CanTake, CanTakeBelow, IsChildTaken, CanMendBeside}
 use Rattle.btree_twigs.proofs.ListLaws.{split_here}
 use Rattle.btree_twigs.proofs.Nodes.{stubs_of_grown, low_of_grown}
 use Rattle.btree_twigs.proofs.Ways.{IsWay, way, child_is_twig, open_is_grown, set_on_way}

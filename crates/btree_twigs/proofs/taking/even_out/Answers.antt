@@ -1,4 +1,4 @@
-use Rattle.std.proofs.Common.{◌≡◌, ◌+◌, ◌≤◌, ◌++◌, length, ap, arith, length-append}
+use Rattle.std.proofs.Common.{◌≡◌, ◌+◌, length, ap, arith, length-append}
 use Rattle.btree_twigs.proofs.taking.even_out.Goals as goal
 
 pub returns-then-len-half-2-clause-two : goal.returns-then-len-half-2-clause-two

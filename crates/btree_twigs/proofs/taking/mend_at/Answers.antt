@@ -1,11 +1,11 @@
-use Rattle.std.proofs.Common.{◌≡◌, ◌⊎◌, ◌/◌, IsSome, ℕ, suc, ◌<◌, ◌≤◌, ◌+◌, ◌++◌, [], ◌∷◌, List, Option, Some, None, length, get_or, set, sym, refl, ap, subst, ◌∙◌, rules, arith, append-nil}
+use Rattle.std.proofs.Common.{◌≡◌, ◌⊎◌, ◌/◌, IsSome, ℕ, suc, ◌<◌, ◌+◌, ◌++◌, [], ◌∷◌, List, Option, get_or, set, sym, ap, subst, ◌∙◌, arith}
 use Rattle.std.specs.Option.{option_to_list}
 use Rattle.std.specs.List.{insert, remove}
 use Rattle.std.proofs.lemmas.Bool.{false≢true}
 use Rattle.std.proofs.lemmas.List.{get_or_at, set_at}
 use Rattle.btree_twigs.specs.declared.twigs.Child.{Child}
 use Rattle.btree_twigs.specs.Updates.{CanMend, IsMended, width_of}
-use Rattle.btree_twigs.specs.Removal.{MendsAt, AreMended}
+use Rattle.btree_twigs.specs.Removal.{MendsAt}
 use Rattle.btree_twigs.proofs.ListLaws.{without_other, other_is, with_behind}
 use Rattle.btree_twigs.proofs.taking.mend_at.Goals as goal
 

@@ -1,11 +1,10 @@
-use Rattle.std.proofs.Common.{◌≡◌, ℕ, suc, ◌<◌, ◌≤◌, ◌+◌, ◌/◌, ◌++◌, [], ◌∷◌, List, length, get_or, sym, ap, subst, ◌∙◌, rules, arith, append-nil}
+use Rattle.std.proofs.Common.{◌++◌, sym, ap, subst, ◌∙◌, append-nil}
 use Rattle.std.proofs.lemmas.List.{nil_from_length}
-use Rattle.btree_twigs.specs.declared.twigs.Child.{Child, out-Child}
+use Rattle.btree_twigs.specs.declared.twigs.Child.{out-Child}
 use Rattle.btree_twigs.specs.declared.twigs.Child.TheVariants as made
-use Rattle.btree_twigs.specs.declared.twigs.Twig.{Twig, out-Twig}
 use Rattle.btree_twigs.specs.Stubs.{low_in, low_of, children_of}
 use Rattle.btree_twigs.specs.Shape.{IsTwig}
-use Rattle.btree_twigs.specs.Updates.{IsGrown, IsGrownBy, IsMended, CanMend}
+use Rattle.btree_twigs.specs.Updates.{IsGrown, IsGrownBy}
 use Rattle.btree_twigs.proofs.Mends.{merged, recut}
 use Rattle.btree_twigs.proofs.taking.mend_pair.Goals as goal
 

@@ -1,4 +1,4 @@
-use Rattle.std.proofs.Common.{◌≡◌, ◌≢◌, ℕ, suc, ◌<◌, ◌≤◌, ◌+◌, ◌-◌, ◌++◌, [], ◌∷◌, List, length, take, drop, get_or, sym, ap, subst, ◌∙◌, rules, arith}
+use Rattle.std.proofs.Common.{◌≡◌, ◌≢◌, ℕ, suc, ◌<◌, ◌≤◌, ◌-◌, ◌++◌, ◌∷◌, List, length, take, drop, get_or, sym, subst, ◌∙◌, arith}
 use Rattle.std.specs.List.{AllByRecursion, remove}
 use Rattle.btree_twigs.specs.declared.twigs.Child.{Child}
 use Rattle.btree_twigs.specs.Stubs.{start_by, low_of}

@@ -1,11 +1,11 @@
-use Rattle.std.proofs.Common.{◌≡◌, ℕ, zero, suc, ◌+◌, ◌<◌, ◌≤◌, ◌/◌, ◌++◌, [], ◌∷◌, List, length, inl, inr, refl, ◌-◌, sym, ap, subst, ◌∙◌, arith, rules}
-use Rattle.btree_twigs.specs.declared.twigs.Child.{Child, out-Child}
+use Rattle.std.proofs.Common.{◌≡◌, ℕ, zero, suc, ◌<◌, ◌≤◌, [], ◌∷◌, length, refl, ◌-◌, sym, ap, subst, ◌∙◌, arith}
+use Rattle.btree_twigs.specs.declared.twigs.Child.{Child}
 use Rattle.btree_twigs.specs.declared.twigs.Child.TheVariants as made
 use Rattle.btree_twigs.specs.declared.twigs.Twig.{Twig, out-Twig}
-use Rattle.btree_twigs.specs.Stubs.{children_of, stubs, stubs_below}
+use Rattle.btree_twigs.specs.Stubs.{children_of, stubs_below}
 use Rattle.btree_twigs.specs.Updates.{IsOpen}
 use Rattle.btree_twigs.specs.Removal.{below_in, Helps, CanTake, IsTwigTaken}
-use Rattle.btree_twigs.specs.Top.{IsTop, IsTopBy, top_least, CanTakeTop, IsTopTaken, HasOnlyBy}
+use Rattle.btree_twigs.specs.Top.{IsTopBy, top_least, CanTakeTop, IsTopTaken, HasOnlyBy}
 use Rattle.btree_twigs.proofs.Nodes.{stubs_of_grown}
 use Rattle.btree_twigs.proofs.Tops.{top_taken, top_gone}
 use Rattle.btree_twigs.proofs.taking.take_top.Goals as goal

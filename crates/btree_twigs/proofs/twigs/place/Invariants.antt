@@ -1,4 +1,4 @@
-use Rattle.std.proofs.Common.{ℕ, ◌≤◌, take}
+use Rattle.std.proofs.Common.{◌≤◌, take}
 use Rattle.std.specs.List.{AllByRecursion}
 use Rattle.btree_twigs.specs.Stubs.{low_of as low_in}
 use Rattle.btree_twigs.proofs.twigs.place.Given as goal

@@ -1,5 +1,4 @@
-use Rattle.std.proofs.Common.{◌≡◌, ℕ, suc, ◌<◌, ◌≤◌, List, [], ◌∷◌, sym, ap, subst, ◌∙◌, rules, arith}
-use Rattle.btree_twigs.specs.declared.twigs.Child.{Child}
+use Rattle.std.proofs.Common.{suc, [], ◌∷◌, sym, subst}
 use Rattle.btree_twigs.specs.Stubs.{stubs, datum}
 use Rattle.btree_twigs.specs.Updates.{IsOpen}
 use Rattle.btree_twigs.specs.Search.{IsAt, IsSpot}

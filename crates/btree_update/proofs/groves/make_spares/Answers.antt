@@ -1,4 +1,4 @@
-use Rattle.std.proofs.Common.{◌≡◌, ℕ, ◌≤◌, ◌+◌, rules, arith}
+use Rattle.std.proofs.Common.{◌+◌, arith}
 use Rattle.btree_update.proofs.GroveLaws.{spares_many}
 use Rattle.btree_update.proofs.groves.make_spares.Goals as goal
 

@@ -1,4 +1,4 @@
-use Rattle.std.proofs.Common.{◌≡◌, ℕ, ◌≤◌, ◌+◌, ◌-◌, vec_len}
+use Rattle.std.proofs.Common.{ℕ, ◌≤◌, ◌+◌, ◌-◌, vec_len}
 use Rattle.btree_twigs.specs.Updates.{HasSpares}
 use Rattle.btree_update.proofs.groves.make_spares.Given as goal
 

@@ -1,18 +1,19 @@
-use Rattle.std.proofs.Common.{◌≡◌, ℕ, zero, suc, ◌<◌, ◌≤◌, ◌+◌, ◌-◌, ◌*◌, ◌/◌, ◌++◌, [], ◌∷◌, List, length, take, drop, get_or, set, refl, sym, ap, subst, ◌∙◌, rules, arith}
-use Rattle.std.specs.List.{AllByRecursion}
+use Rattle.std.proofs.Common.{◌≡◌, ℕ, suc, ◌<◌, ◌≤◌, ◌+◌, ◌-◌, ◌/◌, ◌++◌, ◌∷◌, List, length, take, drop, set, refl, sym, ap, subst, ◌∙◌, rules, arith}
 use Rattle.std.specs.Vec.{with_item}
 use Rattle.std.proofs.lemmas.List.{set_split}
 use Rattle.btree_twigs.specs.declared.twigs.Child.{Child, out-Child}
 use Rattle.btree_twigs.specs.declared.twigs.Child.TheVariants as made
-use Rattle.btree_twigs.specs.declared.twigs.Twig.{Twig, out-Twig, roll-Twig}
-use Rattle.btree_twigs.specs.Stubs.{start_by, low_of, low_in, children_of, stubs, stubs_below, nodes, nodes_below}
+use Rattle.btree_twigs.specs.declared.twigs.Twig.{Twig, Twig-F, out-Twig, roll-Twig}
+use Rattle.btree_twigs.specs.Stubs.{start_by, low_of, children_of, stubs, nodes}
 use Rattle.btree_twigs.specs.Shape.{IsChild, IsTwig}
 use Rattle.btree_twigs.specs.Updates.{IsNode, IsOpen, stubs_under}
-use Rattle.btree_twigs.proofs.Nodes.{twig_of, children_of_roll, low_of_grown, stubs_of_grown, grown_is_child}
+use Rattle.btree_twigs.proofs.Nodes.{children_of_roll, low_of_grown, stubs_of_grown, grown_is_child}
 use Rattle.btree_update.specs.Opens.{Opens, GivesWay}
 use Rattle.btree_twigs.proofs.Counts.{one_nodes, nodes_grown}
-use Rattle.btree_update.specs.Held.{AreBelow, IsReadAs, OnWay, HeldFor, AnyRead, CanOpen, IsOpened, CanOpenBelow, IsOpenedBelow}
+use Rattle.btree_update.specs.Held.{AreBelow, IsReadAs, OnWay, HeldFor, AnyRead, CanOpen, IsOpened, CanOpenBelow}
 use Rattle.btree_update.proofs.OpenLaws.{open_first, child_is, opened, still_opens, still_below, up_below, IsOnWay, on_way, at_hand, IsUp, up, up_gives, gives_none, gives_then, nodes_is, data_open, twig_opened, twig_gives}
+use Rattle.btree_update.specs.Beside.{ReadOver}
+use Rattle.btree_update.proofs.HelpLaws.{helps_up, wide_grown, opened_helps}
 use Rattle.btree_update.proofs.opening.+open.Goals as goal
 
 pub open_below-returns-then-at-eq0-clause-opened : goal.open_below-returns-then-at-eq0-clause-opened
@@ -213,3 +214,32 @@ open_way-returns-clause-below t c head at below =
     let new = made.Grown c.in-Grown.low c.open_below.new.twig in
     rw (c.in-Grown.is, made.outs-Grown c.in-Grown.low c.in-Grown.twig)
     (subst (λ k. AreBelow head (stubs k at.high new)) (sym level_is) (subst (AreBelow head) (sym (stubs_of_grown l at.high c.in-Grown.low c.open_below.new.twig)) second))
+
+pub open_below-returns-clause-helps : goal.open_below-returns-clause-helps
+open_below-returns-clause-helps t c at pages beside loses h =
+    let w = on_way at.order c.args.block c.args.level at.high c.place-at.result (children_of c.args.twig.now) c.deref.result.now c.index_mut.result.now c.deref.ensures.value c.if-at-eq0.false
+    c.place-at.ensures.within c.place-at.ensures.before c.place-at.ensures.after at.to c.index_mut.ensures.value in
+    let cs = children_of c.args.twig.now in
+    let can = below_at at.order c.args.level c.args.block c.place-at.result at.least at.low at.high c.args.held.now.items c.args.twig.now c.index_mut.result.now at.shaped at.at_hand w in
+    let o = opened at.order c.args.level at.least at.low at.high c.args.block (take w.at cs) c.index_mut.result.now (drop (suc w.at) cs) (subst (IsNode at.order c.args.level at.least at.order at.low at.high) w.split at.shaped.node)
+    c.open_way.new.child w.from w.to (c.open_way.ensures.opened can) in
+    let same = set_is c.place-at.result w.at cs c.open_way.new.child w.at_is w.within in
+    let new : Twig-F Child Twig = record { level = (out-Twig c.args.twig.now).level; children = with_item (out-Twig c.args.twig.now).children (c.place-at.result - 1) c.open_way.new.child } in
+    opened_helps (ReadOver pages at.order) at.order c.args.block c.args.level at.least at.low at.high c.place-at.result c.args.twig.now (roll-Twig new) c.index_mut.result.now c.open_way.new.child at.shaped w o.0.each (c.open_way.ensures.opened can).low_is
+    (children_of_roll new ∙ same) c.args.held.now.items c.open_way.new.held.items beside loses (c.open_way.ensures.helps can pages) h
+
+pub open_way-returns-clause-helps : goal.open_way-returns-clause-helps
+open_way-returns-clause-helps t c at pages width beside loses h =
+    let is = ap out-Child c.in-Grown.is ∙ made.outs-Grown c.in-Grown.low c.in-Grown.twig in
+    let l = c.args.level - 1 in
+    let level_is : c.args.level ≡ suc l = above c.args.level c.if-level-eq0.false in
+    let shaped = subst (λ m. IsChild at.order m at.high c.args.child.now) level_is at.shaped in
+    let at_hand_is = subst (λ m. HeldFor AnyRead at.order c.args.block m at.high c.args.child.now c.args.held.now.items) level_is at.at_hand in
+    let u = up AnyRead at.order c.args.block l at.high c.args.child.now c.take_held.new.child c.args.held.now.items c.take_held.new.held.items c.in-Grown.low c.in-Grown.twig shaped at_hand_is c.take_held.ensures.taken is in
+    let e = rw (c.in-Grown.is, made.outs-Grown c.in-Grown.low c.in-Grown.twig) at c.open_below.ensures in
+    let open_at = below_up at.order c.args.block l at.high c.args.child.now c.in-Grown.low c.in-Grown.twig c.take_held.new.held.items at.from at.to u in
+    let up_is = helps_up (ReadOver pages at.order) at.order c.args.block l at.high c.args.child.now c.take_held.new.child c.args.held.now.items c.take_held.new.held.items c.in-Grown.low c.in-Grown.twig beside loses h.from c.take_held.ensures.taken is in
+    let k = e.helps open_at pages beside loses up_is.0 in
+    let wide : length (children_of c.open_below.new.twig) ≡ width = e.wide ∙ ap (λ w. length (children_of w)) (sym up_is.1) ∙ h.wide in
+    rw (c.in-Grown.is, made.outs-Grown c.in-Grown.low c.in-Grown.twig)
+    (wide_grown (ReadOver pages at.order) at.order c.args.block l at.high width c.in-Grown.low c.open_below.new.twig c.open_below.new.held.items beside loses k wide)

@@ -1,21 +1,20 @@
-use Rattle.std.proofs.Common.{◌≡◌, ℕ, zero, suc, ◌<◌, ◌≤◌, ◌+◌, ◌-◌, ◌++◌, [], ◌∷◌, List, refl, sym, ap, subst, ◌∙◌, rules, arith}
-use Rattle.page_store.specs.Tree.{Mapped}
-use Rattle.btree_twigs.specs.declared.twigs.Child.{Child, out-Child}
+use Rattle.std.proofs.Common.{◌≡◌, ℕ, suc, ◌≤◌, ◌+◌, ◌-◌, sym, ap, subst, ◌∙◌, arith}
+use Rattle.btree_twigs.specs.declared.twigs.Child.{out-Child}
 use Rattle.btree_twigs.specs.declared.twigs.Child.TheVariants as made
-use Rattle.btree_twigs.specs.declared.twigs.Twig.{Twig}
 use Rattle.btree_twigs.specs.Stubs.{stubs, stubs_below, nodes, nodes_below}
 use Rattle.btree_twigs.specs.Shape.{IsTwig}
 use Rattle.btree_twigs.specs.Updates.{IsOpen}
-use Rattle.btree_twigs.specs.Top.{IsTop, IsTopBy, top_least}
+use Rattle.btree_twigs.specs.Top.{IsTopBy, top_least}
 use Rattle.btree_twigs.proofs.Nodes.{stubs_of_grown}
 use Rattle.btree_twigs.proofs.Counts.{nodes_grown}
 use Rattle.btree_update.specs.GroveTree.{Maps}
 use Rattle.btree_update.specs.Held.{AreBelow, IsReadAs, AnyRead, OnWay, HeldFor}
 use Rattle.btree_update.specs.Opens.{GivesWay}
-use Rattle.btree_update.specs.Roots.{IsRootOpened}
 use Rattle.btree_update.proofs.OpenLaws.{gives_then, nodes_is}
 use Rattle.btree_update.proofs.OpenMaps.{opened_maps}
 use Rattle.btree_update.proofs.RootLaws.{root_at_hand, root_up, root_gives, root_maps, root_below, below_root}
+use Rattle.btree_update.specs.Beside.{HelpsBelow, ReadOver}
+use Rattle.btree_update.proofs.HelpLaws.{helps_up, from_grown}
 use Rattle.btree_update.proofs.opening.open_root.Goals as goal
 
 pub take_held-requires-clause-at_hand : goal.take_held-requires-clause-at_hand
@@ -107,3 +106,16 @@ returns-clause-below c head at below =
     let new = made.Grown c.in-Grown.low c.open_below.new.twig in
     rw (c.in-Grown.is, made.outs-Grown c.in-Grown.low c.in-Grown.twig)
     (subst (λ k. AreBelow head (stubs k at.high new)) (sym at.level_is) (subst (AreBelow head) (sym (stubs_of_grown at.below at.high c.in-Grown.low c.open_below.new.twig)) second))
+
+pub returns-clause-helps : goal.returns-clause-helps
+returns-clause-helps c at pages beside loses h =
+    let is = ap out-Child c.in-Grown.is ∙ made.outs-Grown c.in-Grown.low c.in-Grown.twig in
+    let l = below_is c.args.level at.below at.level_is in
+    let u = root_up AnyRead at.order c.args.block at.below at.high (out-Child c.args.top.now) c.take_held.new.child c.args.held.now.items c.take_held.new.held.items c.in-Grown.low c.in-Grown.twig at.shaped at.at_hand c.take_held.ensures.taken is in
+    let e = rw (c.in-Grown.is, made.outs-Grown c.in-Grown.low c.in-Grown.twig) at c.open_below.ensures in
+    let can = below_root at.order c.args.block at.below (c.args.level - 1) at.high c.in-Grown.low (out-Child c.args.top.now) c.in-Grown.twig c.take_held.new.held.items l at.to u in
+    let up_is = helps_up (ReadOver pages at.order) at.order c.args.block at.below at.high c.args.top.now c.take_held.new.child c.args.held.now.items c.take_held.new.held.items c.in-Grown.low c.in-Grown.twig beside loses h c.take_held.ensures.taken is in
+    let k = subst (λ m. HelpsBelow (ReadOver pages at.order) at.order c.args.block m at.high c.open_below.new.twig c.open_below.new.held.items beside loses) l
+    (e.helps can pages beside loses (subst (λ m. HelpsBelow (ReadOver pages at.order) at.order c.args.block m at.high c.in-Grown.twig c.take_held.new.held.items beside loses) (sym l) up_is.0)) in
+    rw (c.in-Grown.is, made.outs-Grown c.in-Grown.low c.in-Grown.twig)
+    (from_grown (ReadOver pages at.order) at.order c.args.block at.below at.high c.in-Grown.low c.open_below.new.twig c.open_below.new.held.items beside loses k)

@@ -1,4 +1,4 @@
-use Rattle.std.proofs.Common.{rules, ◌≡◌, ◌∙◌, sym, ap}
+use Rattle.std.proofs.Common.{◌∙◌, sym}
 use Rattle.btree_twigs.specs.declared.twigs.Child.{out-Child}
 use Rattle.btree_update.proofs.OpenLaws.{taken_up}
 use Rattle.btree_update.proofs.opening.take_held.Goals as goal

@@ -1,11 +1,10 @@
-use Rattle.std.proofs.Common.{◌≡◌, true, ap, refl, sym, subst, inr, ◌∙◌, rules, Option, Bor, Err}
+use Rattle.std.proofs.Common.{◌≡◌, ap, sym, subst, inr, ◌∙◌, Option, Bor, Err}
 use Rattle.std.proofs.lemmas.Bool.{false≢true}
 use Rattle.std.specs.Option.{option_copied}
 use Rattle.node_codec.specs.declared.body.Body.{Body}
 use Rattle.node_codec.specs.Record.{value_of}
 use Rattle.page_store.specs.Buffer.{content_of}
 use Rattle.page_store.specs.Places.{FitsAt}
-use Rattle.page_store.specs.declared.refusals.FetchRefusal.TheVariants as fetched
 use Rattle.node_cache.specs.Kept.{Cached, Uses, kept_node, filled}
 use Rattle.btree_walk.specs.Sights.{KeepsOnly}
 use Rattle.btree_walk.proofs.SightLaws.{keeps_filled, keeps_used}

@@ -1,17 +1,14 @@
-use Rattle.std.proofs.Common.{◌≡◌, ◌⊎◌, ℕ, suc, ◌+◌, ◌-◌, ◌*◌, ◌<◌, ◌≤◌, ◌++◌, List, [], ◌∷◌, inl, inr, sym, ap, subst, ◌∙◌, rules, arith}
-use Rattle.page_store.specs.Tree.{Mapped}
+use Rattle.std.proofs.Common.{◌≡◌, ◌⊎◌, ℕ, suc, ◌+◌, ◌-◌, ◌*◌, ◌<◌, ◌≤◌, inl, inr, sym, subst, ◌∙◌, arith}
 use Rattle.node_codec.specs.Record.{DataRecord}
 use Rattle.page_store.specs.Places.{IsRecordAt}
 use Rattle.btree_twigs.specs.declared.twigs.Child.{Child}
-use Rattle.btree_twigs.specs.Stubs.{stubs, datum, nodes}
-use Rattle.btree_twigs.specs.Updates.{IsOpen, HasSpares}
-use Rattle.btree_twigs.specs.Top.{IsTop, CanPutTop, IsTopPut}
+use Rattle.btree_twigs.specs.Stubs.{stubs, nodes}
+use Rattle.btree_twigs.specs.Top.{CanPutTop}
 use Rattle.btree_update.specs.declared.groves.Grove.{Grove}
 use Rattle.btree_update.specs.GroveTree.{Maps}
 use Rattle.btree_update.specs.Held.{AreBelow}
-use Rattle.btree_update.specs.Opens.{Opens, GivesWay}
 use Rattle.btree_update.specs.Roots.{IsRoot, RootMaps, CanOpenRoot, IsRootOpened}
-use Rattle.btree_update.specs.Groves.{IsSound, CanInsert, IsAddressOf, LetsGo, Goes}
+use Rattle.btree_update.specs.Groves.{CanInsert, IsAddressOf, LetsGo}
 use Rattle.btree_update.proofs.Places.{puts_maps}
 use Rattle.btree_update.proofs.GroveLaws.{top_level, top_is_root, top_maps, above_it, puts_below}
 use Rattle.btree_update.proofs.groves.Grove.insert.Goals as goal

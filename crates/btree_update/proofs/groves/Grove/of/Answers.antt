@@ -1,7 +1,3 @@
-use Rattle.std.proofs.Common.{◌≡◌, ℕ, ◌<◌, ◌≤◌, rules, subst, sym}
-use Rattle.btree_twigs.specs.declared.twigs.Child.TheVariants as made
-use Rattle.btree_twigs.specs.Stubs.{stubs}
-use Rattle.btree_update.specs.Held.{AreBelow}
 use Rattle.btree_update.proofs.GroveLaws.{kept_place}
 use Rattle.btree_update.proofs.groves.Grove.of.Goals as goal
 

@@ -1,10 +1,8 @@
-use Rattle.std.proofs.Common.{◌≡◌, ℕ, ◌<◌, ◌≤◌, ◌+◌, ◌-◌, List, subst, ap, rules, arith, length}
-use Rattle.std.specs.declared.vec.Vec.{Vec}
-use Rattle.std.specs.declared.alloc.Global.{Global}
-use Rattle.btree_twigs.specs.declared.twigs.Child.{Child}
-use Rattle.btree_twigs.specs.Updates.{HasSpares}
-use Rattle.btree_update.specs.declared.groves.Grove.{Grove}
-use Rattle.btree_update.specs.Groves.{IsSound, CanInsert}
+use Rattle.std.proofs.Common.{◌-◌, arith}
+use Rattle.btree_update.specs.Groves.{IsSound}
+use Rattle.btree_update.specs.Held.{AnyRead, IsReadAs}
+use Rattle.btree_update.proofs.BesideLaws.{loses_of}
+use Rattle.btree_update.proofs.MappedLaws.{told}
 use Rattle.btree_update.proofs.groves.Grove.ready.Goals as goal
 
 pub returns-in_err-make_spares-clause-sound : goal.returns-in_err-make_spares-clause-sound
@@ -26,20 +24,49 @@ returns-in_err-make_room-clause-sound g c = record {
 }
 
 pub returns-clause-can : goal.returns-clause-can
-returns-clause-can g c = record {
-  sound = record {
-    least = c.requires.sound.least;
-    most = c.requires.sound.most;
-    one = c.requires.sound.one;
-    shaped = c.requires.sound.shaped;
-    spares = c.make_spares.ensures.kept c.args.self.now.order c.requires.sound.most c.requires.sound.spares;
-  };
-  to = c.requires.to;
-  at_hand = c.in_ok-is_mapped.ensures.at_hand;
-  spares = c.in_ok-make_spares.ensures.made c.args.self.now.order c.requires.sound.most c.requires.sound.spares;
-  gone_room = omega (arith, c.in_ok-make_room.ensures.gone, c.len.ensures);
-  never_room = c.in_ok-make_room.ensures.never;
-}
+returns-clause-can g c =
+    let sound : IsSound c.args.self.now = c.requires.sound in
+    let spared = c.make_spares.ensures.kept c.args.self.now.order c.requires.sound.most c.requires.sound.spares in (
+      record {
+        sound = record {
+          least = c.requires.sound.least;
+          most = c.requires.sound.most;
+          one = c.requires.sound.one;
+          shaped = c.requires.sound.shaped;
+          spares = spared;
+        };
+        to = c.requires.to;
+        at_hand = c.in_ok-left.ensures.at_hand;
+        spares = c.in_ok-make_spares.ensures.made c.args.self.now.order c.requires.sound.most c.requires.sound.spares;
+        gone_room = omega (arith, c.in_ok-make_room.ensures.gone, c.len.ensures);
+        never_room = c.in_ok-make_room.ensures.never;
+      },
+      λ mapped.
+          (let l = loses_of AnyRead c.args.self.now.order c.args.block (c.args.self.now.level - 1) c.args.self.now.blocks c.args.self.now.top c.hold_root.new.held.items c.hold_root.new.beside.items c.in_ok-left.left
+          (c.is_mapped.ensures.0 mapped) c.in_ok-left.ensures.helps in
+          record {
+            sound = record {
+              least = c.requires.sound.least;
+              most = c.requires.sound.most;
+              one = c.requires.sound.one;
+              shaped = c.requires.sound.shaped;
+              spares = spared;
+            };
+            to = c.requires.to;
+            at_hand = c.in_ok-left.ensures.at_hand;
+            loses = l.0;
+            beside = l.1;
+            gone_room = omega (arith, c.in_ok-make_room.ensures.gone, c.len.ensures, c.len-2.ensures);
+            never_room = c.in_ok-make_room.ensures.never;
+          }),
+    )
+
+pub returns-clause-reads : goal.returns-clause-reads
+returns-clause-reads g c = λ tells stands. (
+  c.in_ok-left.ensures.reads tells stands,
+  λ mapped. loses_of (IsReadAs (g.P.Platform.history c.args.platform.now).present.readable c.args.self.now.order) c.args.self.now.order c.args.block (c.args.self.now.level - 1) c.args.self.now.blocks c.args.self.now.top c.hold_root.new.held.items c.hold_root.new.beside.items c.in_ok-left.left
+      (c.is_mapped.ensures.0 mapped) (c.in_ok-left.ensures.beside tells stands),
+)
 
 pub returns-clause-sound : goal.returns-clause-sound
 returns-clause-sound g c = record {
@@ -49,3 +76,6 @@ returns-clause-sound g c = record {
   shaped = c.requires.sound.shaped;
   spares = c.make_spares.ensures.kept c.args.self.now.order c.requires.sound.most c.requires.sound.spares;
 }
+
+pub returns-clause-mapped : goal.returns-clause-mapped
+returns-clause-mapped g c = λ tells stands map m. told c.args.block map c.in_ok-left.left c.is_mapped.result c.is_mapped.ensures (c.in_ok-left.ensures.mapped tells stands map m)

@@ -1,0 +1,27 @@
+use Rattle.std.proofs.Common.{◌<◌, ◌-◌, ◌^◌, IfOk, sym, subst, arith}
+use Rattle.btree_walk.proofs.OnLaws.{IfOk_map}
+use Rattle.btree_walk.proofs.MappedLaws.{finds_page, stops_page}
+use Rattle.btree_update.specs.GroveTree.{want_of}
+use Rattle.btree_update.specs.Held.{stub_at}
+use Rattle.btree_update.specs.Finding.{FindsBelow, ComesToWrong, FindsFrom, StopsFrom, CanGoOn}
+use Rattle.btree_update.proofs.finding.find_from.Goals as goal
+
+pub returns-in-Below-clause-found : goal.returns-in-Below-clause-found
+returns-in-Below-clause-found g c = λ tells stands.
+    (let pages = (g.P.Platform.history c.args.platform.now).present.readable in
+    let want = want_of c.args.order (stub_at c.in-Below.level c.in-Below.low c.in-Below.high c.in-Below.addr c.in-Below.key) in
+    subst (λ s. IfOk c.find.result (FindsFrom pages c.args.order c.args.block s)) (sym c.in-Below.is)
+    (IfOk_map _ _ c.find.result
+    (λ found h. subst (λ k. FindsBelow pages c.args.block want k found) c.from_bytes-key.ensures
+    (h.path, finds_page pages c.args.cache.now c.args.order (c.in-Below.level - 1) c.args.block want c.from_bytes-key.result h.path found stands h.finds))
+    (c.find.ensures.found tells)))
+
+pub returns-in-Below-clause-bad : goal.returns-in-Below-clause-bad
+returns-in-Below-clause-bad g c = λ tells stands addr is.
+    (let pages = (g.P.Platform.history c.args.platform.now).present.readable in
+    let want = want_of c.args.order (stub_at c.in-Below.level c.in-Below.low c.in-Below.high c.in-Below.addr c.in-Below.key) in
+    let can = subst (CanGoOn c.args.order c.args.block (g.P.Platform.head c.args.platform.now)) c.in-Below.is c.requires.can in
+    let small : c.in-Below.addr < 2 ^ 64 = omega (arith, can.4, g.met.P.Platform.has_room c.args.platform.now, g.met.P.Platform.is_limited c.args.platform.now) in
+    subst (StopsFrom pages c.args.order c.args.block addr) (sym c.in-Below.is)
+    (subst (λ k. ComesToWrong pages c.args.block addr want k) c.from_bytes-key.ensures
+    (stops_page pages c.args.cache.now c.args.order (c.in-Below.level - 1) c.args.block addr want c.from_bytes-key.result small stands (c.find.ensures.bad tells addr is))))

@@ -1,0 +1,106 @@
+use Rattle.std.proofs.Common.{◌≡◌, ◌<◌, ◌≤◌, ◌-◌, ◌^◌, ℕ, suc, List, IfOk, sym, subst, arith}
+use Rattle.btree_walk.proofs.OnLaws.{IfOk_map, entry_below}
+use Rattle.btree_walk.proofs.MappedLaws.{finds_page, stops_page}
+use Rattle.btree_twigs.specs.declared.twigs.Child.{Child}
+use Rattle.btree_twigs.specs.declared.twigs.Child.TheVariants as made
+use Rattle.btree_twigs.specs.declared.twigs.Twig.{Twig}
+use Rattle.btree_twigs.specs.declared.twigs.Spot.{Spot}
+use Rattle.btree_twigs.specs.Stubs.{stubs_below}
+use Rattle.btree_twigs.specs.Shape.{IsTwig}
+use Rattle.btree_twigs.specs.Search.{IsSpot}
+use Rattle.btree_twigs.specs.Top.{top_least}
+use Rattle.btree_update.specs.GroveTree.{top_want}
+use Rattle.btree_update.specs.Roots.{IsRootBy}
+use Rattle.btree_update.specs.Holding.{CanHoldRoot}
+use Rattle.btree_update.specs.Finding.{FindsBelow, ComesToWrong, RootFinds, RootFindsBy, RootStops, RootStopsBy}
+use Rattle.btree_update.proofs.RootHolds.{root_grown, root_lt, want_root}
+use Rattle.btree_update.proofs.FoundLaws.{looks_more, up_twig, goes_on, from_level, want_is}
+use Rattle.btree_update.proofs.finding.find_root.Goals as goal
+
+-- where the search in the nodes in memory ends
+spot_is : (order level block high head low : ℕ) (twig : Twig) (top : Child) (spot : Spot) → CanHoldRoot order level block high head top → top ≡ made.Grown low twig →
+    ((order level least most low : ℕ) → IsTwig order level least most low high twig → low ≤ block → block < high → IsSpot block (stubs_below level high twig) spot) →
+    IsSpot block (stubs_below (level - 1) high twig) spot
+spot_is order level block high head low twig top spot can is find =
+    let at = root_grown order level block high head low twig (subst (CanHoldRoot order level block high head) is can) in
+    find order (level - 1) at.least order at.low at.shaped at.from at.to
+
+less_one : (level n : ℕ) → n ≤ level - 1 → n ≤ level
+less_one level n le = omega (arith, le)
+
+pub find_from-requires : goal.find_from-requires
+find_from-requires g c =
+    let head = g.P.Platform.head c.args.platform.now in
+    let at = root_grown c.args.order c.args.level c.args.block c.args.high head c.in-Grown.low c.in-Grown.twig (subst (CanHoldRoot c.args.order c.args.level c.args.block c.args.high head) c.in-Grown.is c.requires.can) in
+    record {
+      can = goes_on c.args.order c.args.block head (stubs_below (c.args.level - 1) c.args.high c.in-Grown.twig) c.find-spot.result c.requires.can.four
+          (spot_is c.args.order c.args.level c.args.block c.args.high head c.in-Grown.low c.in-Grown.twig c.args.top.now c.find-spot.result c.requires.can c.in-Grown.is c.find-spot.ensures) at.within;
+    }
+
+pub find-requires-clause-within : goal.find-requires-clause-within
+find-requires-clause-within g c =
+    let head = g.P.Platform.head c.args.platform.now in
+    root_lt c.args.order c.args.level c.args.block c.args.high head c.in-Kept.low c.in-Kept.addr c.in-Kept.key (subst (CanHoldRoot c.args.order c.args.level c.args.block c.args.high head) c.in-Kept.is c.requires.can)
+
+pub returns-in-Grown-clause-found : goal.returns-in-Grown-clause-found
+returns-in-Grown-clause-found g c = λ tells stands.
+    (let pages = (g.P.Platform.history c.args.platform.now).present.readable in
+    let spot = spot_is c.args.order c.args.level c.args.block c.args.high (g.P.Platform.head c.args.platform.now) c.in-Grown.low c.in-Grown.twig c.args.top.now c.find-spot.result c.requires.can c.in-Grown.is c.find-spot.ensures in
+    subst (λ x. IfOk c.find_from.result (RootFinds pages c.args.order c.args.block (c.args.level - 1) c.args.high x)) (sym c.in-Grown.is)
+    (IfOk_map _ _ c.find_from.result
+    (λ found f. subst (λ y. RootFindsBy pages c.args.order c.args.block (c.args.level - 1) c.args.high y found) (sym (made.outs-Grown c.in-Grown.low c.in-Grown.twig)) (record { spot = c.find-spot.result; is = spot; finds = f }))
+    (c.find_from.ensures.found tells stands)))
+
+pub returns-in-Grown-clause-bad : goal.returns-in-Grown-clause-bad
+returns-in-Grown-clause-bad g c = λ tells stands addr is.
+    (let pages = (g.P.Platform.history c.args.platform.now).present.readable in
+    let spot = spot_is c.args.order c.args.level c.args.block c.args.high (g.P.Platform.head c.args.platform.now) c.in-Grown.low c.in-Grown.twig c.args.top.now c.find-spot.result c.requires.can c.in-Grown.is c.find-spot.ensures in
+    subst (RootStops pages c.args.order c.args.block addr (c.args.level - 1) c.args.high) (sym c.in-Grown.is)
+    (subst (RootStopsBy pages c.args.order c.args.block addr (c.args.level - 1) c.args.high) (sym (made.outs-Grown c.in-Grown.low c.in-Grown.twig))
+    (record { spot = c.find-spot.result; is = spot; stops = c.find_from.ensures.bad tells stands addr is })))
+
+pub returns-in-Grown-clause-looks : goal.returns-in-Grown-clause-looks
+returns-in-Grown-clause-looks g c =
+    let spot = spot_is c.args.order c.args.level c.args.block c.args.high (g.P.Platform.head c.args.platform.now) c.in-Grown.low c.in-Grown.twig c.args.top.now c.find-spot.result c.requires.can c.in-Grown.is c.find-spot.ensures in
+    looks_more g.P.Platform _ c.args.level c.args.platform.now c.find_from.new.platform
+    (less_one c.args.level _ (from_level c.args.block (c.args.level - 1) (stubs_below (c.args.level - 1) c.args.high c.in-Grown.twig) c.find-spot.result spot (up_twig (c.args.level - 1) c.args.high c.in-Grown.twig)))
+    c.find_from.ensures.looks
+
+-- what is wanted of a root on the medium
+root_want_is : (order level block high head low addr least : ℕ) (key : List ℕ) (top : Child) → CanHoldRoot order level block high head top → top ≡ made.Kept low addr key → least ≡ top_least (level - 1) →
+    want_root order level low high addr least ≡ top_want order high (suc (level - 1)) addr
+root_want_is order level block high head low addr least key top can is least_is =
+    want_is order high level low addr least can.one (subst (IsRootBy order (level - 1) high) (made.outs-Kept low addr key) (subst (CanHoldRoot order level block high head) is can).shaped) least_is
+
+pub returns-in-Kept-clause-found : goal.returns-in-Kept-clause-found
+returns-in-Kept-clause-found g c = λ tells stands.
+    (let pages = (g.P.Platform.history c.args.platform.now).present.readable in
+    let want = want_root c.args.order c.args.level c.in-Kept.low c.args.high c.in-Kept.addr c.least_of_root.result in
+    let same = root_want_is c.args.order c.args.level c.args.block c.args.high (g.P.Platform.head c.args.platform.now) c.in-Kept.low c.in-Kept.addr c.least_of_root.result c.in-Kept.key c.args.top.now c.requires.can c.in-Kept.is c.least_of_root.ensures in
+    subst (λ x. IfOk c.find.result (RootFinds pages c.args.order c.args.block (c.args.level - 1) c.args.high x)) (sym c.in-Kept.is)
+    (IfOk_map _ _ c.find.result
+    (λ found h. subst (λ y. RootFindsBy pages c.args.order c.args.block (c.args.level - 1) c.args.high y found) (sym (made.outs-Kept c.in-Kept.low c.in-Kept.addr c.in-Kept.key))
+    (subst (λ w. FindsBelow pages c.args.block w c.in-Kept.key found) same
+    (subst (λ k. FindsBelow pages c.args.block want k found) c.from_bytes-key.ensures
+    (h.path, finds_page pages c.args.cache.now c.args.order (c.args.level - 1) c.args.block want c.from_bytes-key.result h.path found stands h.finds))))
+    (c.find.ensures.found tells)))
+
+pub returns-in-Kept-clause-bad : goal.returns-in-Kept-clause-bad
+returns-in-Kept-clause-bad g c = λ tells stands addr is.
+    (let pages = (g.P.Platform.history c.args.platform.now).present.readable in
+    let head = g.P.Platform.head c.args.platform.now in
+    let want = want_root c.args.order c.args.level c.in-Kept.low c.args.high c.in-Kept.addr c.least_of_root.result in
+    let same = root_want_is c.args.order c.args.level c.args.block c.args.high head c.in-Kept.low c.in-Kept.addr c.least_of_root.result c.in-Kept.key c.args.top.now c.requires.can c.in-Kept.is c.least_of_root.ensures in
+    let lt = root_lt c.args.order c.args.level c.args.block c.args.high head c.in-Kept.low c.in-Kept.addr c.in-Kept.key (subst (CanHoldRoot c.args.order c.args.level c.args.block c.args.high head) c.in-Kept.is c.requires.can) in
+    let small : c.in-Kept.addr < 2 ^ 64 = omega (arith, lt, g.met.P.Platform.has_room c.args.platform.now, g.met.P.Platform.is_limited c.args.platform.now) in
+    subst (RootStops pages c.args.order c.args.block addr (c.args.level - 1) c.args.high) (sym c.in-Kept.is)
+    (subst (RootStopsBy pages c.args.order c.args.block addr (c.args.level - 1) c.args.high) (sym (made.outs-Kept c.in-Kept.low c.in-Kept.addr c.in-Kept.key))
+    (subst (λ w. ComesToWrong pages c.args.block addr w c.in-Kept.key) same
+    (subst (λ k. ComesToWrong pages c.args.block addr want k) c.from_bytes-key.ensures
+    (stops_page pages c.args.cache.now c.args.order (c.args.level - 1) c.args.block addr want c.from_bytes-key.result small stands (c.find.ensures.bad tells addr is))))))
+
+pub returns-in-Kept-clause-entry : goal.returns-in-Kept-clause-entry
+returns-in-Kept-clause-entry g c =
+    let head = g.P.Platform.head c.args.platform.now in
+    let lt = root_lt c.args.order c.args.level c.args.block c.args.high head c.in-Kept.low c.in-Kept.addr c.in-Kept.key (subst (CanHoldRoot c.args.order c.args.level c.args.block c.args.high head) c.in-Kept.is c.requires.can) in
+    IfOk_map _ _ c.find.result (entry_below c.args.block c.in-Kept.addr head lt) c.find.ensures.entry

@@ -1,0 +1,152 @@
+use Rattle.std.proofs.Common.{◌≡◌, ◌⊎◌, ℕ, suc, ◌+◌, ◌-◌, ◌*◌, ◌≤◌, List, None, Some, inl, inr, sym, subst, ◌∙◌, arith}
+use Rattle.btree_twigs.specs.declared.twigs.Child.{Child}
+use Rattle.btree_twigs.specs.declared.twigs.Twig.{Twig}
+use Rattle.btree_twigs.specs.Stubs.{stubs, nodes}
+use Rattle.btree_twigs.specs.Top.{CanTakeTop}
+use Rattle.btree_update.specs.declared.groves.Grove.{Grove}
+use Rattle.btree_update.specs.GroveTree.{Maps}
+use Rattle.btree_update.specs.Held.{AreBelow, AnyRead}
+use Rattle.btree_update.specs.Opens.{GivesWay}
+use Rattle.btree_update.specs.Roots.{IsRoot, RootMaps, CanOpenRoot, IsRootOpened}
+use Rattle.btree_update.specs.Beside.{HelpsFrom}
+use Rattle.btree_update.specs.Helping.{CanHelpRoot, HelpedRoot}
+use Rattle.btree_update.specs.Groves.{CanRemove, IsAddressOf, LetsGo}
+use Rattle.btree_update.proofs.Places.{takes_maps}
+use Rattle.btree_update.proofs.OpenMaps.{opened_maps}
+use Rattle.btree_update.proofs.OpenLaws.{gives_then}
+use Rattle.btree_update.proofs.GroveLaws.{top_level, top_is_root, top_maps, above_it, takes_below}
+use Rattle.btree_update.proofs.groves.Grove.remove.Goals as goal
+
+abbrev can_open : (block : ℕ) (grove : Grove) → CanRemove block grove → CanOpenRoot grove.level block grove.held.items grove.top
+can_open block grove can = record {
+  order = grove.order;
+  below = grove.level - 1;
+  level_is = above_it grove.level can.sound.one;
+  high = grove.blocks;
+  shaped = can.sound.shaped;
+  to = can.to;
+  at_hand = can.at_hand;
+}
+
+abbrev can_help : (block : ℕ) (grove : Grove) (top : Child) (held : List Twig) (can : CanRemove block grove) → IsRootOpened grove.order (grove.level - 1) block grove.blocks top →
+    HelpsFrom AnyRead grove.order block (grove.level - 1) grove.blocks top held grove.beside.items can.loses → CanHelpRoot grove.level block grove.beside.items top
+can_help block grove top held can o h = record {
+  order = grove.order;
+  below = grove.level - 1;
+  level_is = above_it grove.level can.sound.one;
+  high = grove.blocks;
+  four = can.sound.least;
+  shaped = o.shaped;
+  to = can.to;
+  is_open = o.is_open;
+  held = held;
+  loses = can.loses;
+  helps = h;
+}
+
+abbrev can_take : (block : ℕ) (grove : Grove) (old top : Child) (gone more : List ℕ) (can : CanRemove block grove) → HelpedRoot grove.order (grove.level - 1) grove.blocks block can.loses old top grove.beside.items gone more → CanTakeTop grove.order block top
+can_take block grove old top gone more can h = record {
+  level = grove.level - 1;
+  high = grove.blocks;
+  shaped = h.shaped;
+  to = can.to;
+  is_open = h.is_open;
+  loses = can.loses;
+  helps = h.helps;
+}
+
+one_less : (a b : ℕ) → a ≡ suc b → a - 1 ≡ b
+one_less a b e = omega (arith, e)
+
+pub help_root-requires : goal.help_root-requires
+help_root-requires c =
+    let can = can_open c.args.block c.args.self.now c.requires.can in
+    record {
+      can = can_help c.args.block c.args.self.now c.open_root.new.top c.open_root.new.held.items c.requires.can (c.open_root.ensures.opened can) (c.open_root.ensures.helps can None c.args.self.now.beside.items c.requires.can.loses c.requires.can.beside);
+      room = omega (arith, c.requires.can.gone_room, c.open_root.ensures.spare);
+    }
+
+pub let_go-requires-clause-gone_room : goal.let_go-requires-clause-gone_room
+let_go-requires-clause-gone_room c = omega (arith, c.requires.can.gone_room, c.open_root.ensures.spare, c.help_root.ensures.spare)
+
+pub take_top-requires-clause-can : goal.take_top-requires-clause-can
+take_top-requires-clause-can c =
+    let can = can_open c.args.block c.args.self.now c.requires.can in
+    let h = c.help_root.ensures.helped (can_help c.args.block c.args.self.now c.open_root.new.top c.open_root.new.held.items c.requires.can (c.open_root.ensures.opened can) (c.open_root.ensures.helps can None c.args.self.now.beside.items c.requires.can.loses c.requires.can.beside)) in
+    can_take c.args.block c.args.self.now c.open_root.new.top c.help_root.new.top _ _ c.requires.can h
+
+pub returns-clause-sound : goal.returns-clause-sound
+returns-clause-sound c =
+    let can = can_open c.args.block c.args.self.now c.requires.can in
+    let h = c.help_root.ensures.helped (can_help c.args.block c.args.self.now c.open_root.new.top c.open_root.new.held.items c.requires.can (c.open_root.ensures.opened can) (c.open_root.ensures.helps can None c.args.self.now.beside.items c.requires.can.loses c.requires.can.beside)) in
+    let p = c.take_top.ensures (can_take c.args.block c.args.self.now c.open_root.new.top c.help_root.new.top _ _ c.requires.can h) in
+    let l = c.level_of-self.ensures ∙ top_level c.args.self.now.order p.new_level c.args.self.now.blocks c.take_top.new.top p.shaped in
+    record {
+      least = c.requires.can.sound.least;
+      most = c.requires.can.sound.most;
+      one = omega (arith, l);
+      shaped = subst (λ m. IsRoot c.args.self.now.order m c.args.self.now.blocks c.take_top.new.top) (sym (one_less c.level_of-self.result p.new_level l)) (top_is_root c.args.self.now.order p.new_level c.args.self.now.blocks c.take_top.new.top p.shaped);
+      spares = c.requires.can.sound.spares;
+    }
+
+level_by : (level new_level new : ℕ) → 1 ≤ level → (new_level ≡ level - 1) ⊎ (suc new_level ≡ level - 1) → new ≡ suc new_level → (new ≡ level) ⊎ (new + 1 ≡ level)
+level_by level new_level new one (inl e) is = inl (omega (arith, one, e, is))
+level_by level new_level new one (inr e) is = inr (omega (arith, one, e, is))
+
+pub returns-clause-level : goal.returns-clause-level
+returns-clause-level c =
+    let can = can_open c.args.block c.args.self.now c.requires.can in
+    let h = c.help_root.ensures.helped (can_help c.args.block c.args.self.now c.open_root.new.top c.open_root.new.held.items c.requires.can (c.open_root.ensures.opened can) (c.open_root.ensures.helps can None c.args.self.now.beside.items c.requires.can.loses c.requires.can.beside)) in
+    let p = c.take_top.ensures (can_take c.args.block c.args.self.now c.open_root.new.top c.help_root.new.top _ _ c.requires.can h) in
+    level_by c.args.self.now.level p.new_level c.level_of-self.result c.requires.can.sound.one p.level_is (c.level_of-self.ensures ∙ top_level c.args.self.now.order p.new_level c.args.self.now.blocks c.take_top.new.top p.shaped)
+
+pub returns-clause-maps : goal.returns-clause-maps
+returns-clause-maps c pages mapped held beside m =
+    let can = can_open c.args.block c.args.self.now c.requires.can in
+    let h = c.help_root.ensures.helped (can_help c.args.block c.args.self.now c.open_root.new.top c.open_root.new.held.items c.requires.can (c.open_root.ensures.opened can) (c.open_root.ensures.helps can None c.args.self.now.beside.items c.requires.can.loses c.requires.can.beside)) in
+    let p = c.take_top.ensures (can_take c.args.block c.args.self.now c.open_root.new.top c.help_root.new.top _ _ c.requires.can h) in
+    let l = c.level_of-self.ensures ∙ top_level c.args.self.now.order p.new_level c.args.self.now.blocks c.take_top.new.top p.shaped in
+    let opened = subst (λ k. Maps pages c.args.self.now.order (stubs k c.args.self.now.blocks c.open_root.new.top) mapped) can.level_is (c.open_root.ensures.maps pages can held mapped m) in
+    let g = h.gives pages c.open_root.new.held.items beside.0 (c.open_root.ensures.helps can (Some pages) c.args.self.now.beside.items beside.0 beside.1) in
+    let helped = opened_maps pages c.args.self.now.order g.addrs _ _ mapped g.opens opened in
+    let r = takes_maps pages c.args.self.now.order 0 c.args.self.now.blocks c.args.block _ _ mapped p.takes helped in
+    let root = top_maps pages c.args.self.now.order p.new_level c.args.self.now.blocks c.take_top.new.top r.0 p.shaped r.1 in
+    (r.0, subst (λ k. RootMaps pages c.args.self.now.order k c.args.self.now.blocks c.take_top.new.top r.0) (sym (one_less c.level_of-self.result p.new_level l)) root, r.2)
+
+pub returns-clause-goes : goal.returns-clause-goes
+returns-clause-goes c pages held beside =
+    let can = can_open c.args.block c.args.self.now c.requires.can in
+    let h = c.help_root.ensures.helped (can_help c.args.block c.args.self.now c.open_root.new.top c.open_root.new.held.items c.requires.can (c.open_root.ensures.opened can) (c.open_root.ensures.helps can None c.args.self.now.beside.items c.requires.can.loses c.requires.can.beside)) in
+    let first = c.open_root.ensures.gives pages can held in
+    let second = subst (λ k. GivesWay pages c.args.self.now.order (stubs k c.args.self.now.blocks c.open_root.new.top) (stubs k c.args.self.now.blocks c.help_root.new.top) c.open_root.new.gone.items c.help_root.new.gone.items) (sym can.level_is)
+    (h.gives pages c.open_root.new.held.items beside.0 (c.open_root.ensures.helps can (Some pages) c.args.self.now.beside.items beside.0 beside.1)) in
+    let g = gives_then pages c.args.self.now.order _ _ _ _ _ _ first second in
+    record {
+      opened = stubs c.args.self.now.level c.args.self.now.blocks c.help_root.new.top;
+      addrs = g.addrs;
+      opens = g.opens;
+      replaced = c.address_of-addr.result;
+      was = subst (λ k. IsAddressOf c.args.block (stubs k c.args.self.now.blocks c.help_root.new.top) c.address_of-addr.result) (sym can.level_is)
+          (c.address_of-addr.ensures c.args.self.now.order (c.args.self.now.level - 1) h.shaped c.requires.can.to h.is_open);
+      goes = subst (λ g'. LetsGo c.args.self.now.head c.args.block c.address_of-addr.result g' c.let_go.new.gone.items c.args.self.now.never.items c.let_go.new.never.items) g.more_is c.let_go.ensures;
+    }
+
+pub returns-clause-below : goal.returns-clause-below
+returns-clause-below c head below =
+    let can = can_open c.args.block c.args.self.now c.requires.can in
+    let h = c.help_root.ensures.helped (can_help c.args.block c.args.self.now c.open_root.new.top c.open_root.new.held.items c.requires.can (c.open_root.ensures.opened can) (c.open_root.ensures.helps can None c.args.self.now.beside.items c.requires.can.loses c.requires.can.beside)) in
+    let p = c.take_top.ensures (can_take c.args.block c.args.self.now c.open_root.new.top c.help_root.new.top _ _ c.requires.can h) in
+    let l = c.level_of-self.ensures ∙ top_level c.args.self.now.order p.new_level c.args.self.now.blocks c.take_top.new.top p.shaped in
+    let opened = subst (λ k. AreBelow head (stubs k c.args.self.now.blocks c.open_root.new.top)) can.level_is (c.open_root.ensures.below head can below) in
+    subst (λ k. AreBelow head (stubs k c.args.self.now.blocks c.take_top.new.top)) (sym l) (takes_below 0 c.args.self.now.blocks c.args.block head _ _ p.takes (h.below_it head opened))
+
+pub returns-clause-grown : goal.returns-clause-grown
+returns-clause-grown c =
+    let can = can_open c.args.block c.args.self.now c.requires.can in
+    let h = c.help_root.ensures.helped (can_help c.args.block c.args.self.now c.open_root.new.top c.open_root.new.held.items c.requires.can (c.open_root.ensures.opened can) (c.open_root.ensures.helps can None c.args.self.now.beside.items c.requires.can.loses c.requires.can.beside)) in
+    let p = c.take_top.ensures (can_take c.args.block c.args.self.now c.open_root.new.top c.help_root.new.top _ _ c.requires.can h) in
+    let l = c.level_of-self.ensures ∙ top_level c.args.self.now.order p.new_level c.args.self.now.blocks c.take_top.new.top p.shaped in
+    let few = subst (λ k. nodes k c.open_root.new.top ≤ nodes c.args.self.now.level c.args.self.now.top + c.args.self.now.level) can.level_is (c.open_root.ensures.nodes can) in
+    let r : nodes (suc p.new_level) c.take_top.new.top ≤ nodes c.args.self.now.level c.args.self.now.top + 2 * c.args.self.now.level
+    = omega (arith, p.few, h.few, few, c.requires.can.sound.one) in
+    subst (λ k. nodes k c.take_top.new.top ≤ nodes c.args.self.now.level c.args.self.now.top + 2 * c.args.self.now.level) (sym l) r

@@ -1,0 +1,84 @@
+-- What is found of a block in a tree that is partly in memory, and where the way to it comes to a wrong place.
+use Rattle.std.specs.Prelude.{◌≡◌, ℕ, suc, ◌-◌, ◌<◌, ◌≤◌, List, Option, None, Some}
+use Rattle.node_codec.specs.declared.body.Entry.{Entry}
+use Rattle.page_store.specs.declared.wants.Want.{Want}
+use Rattle.page_store.specs.Places.{FitsAt, NothingFits}
+use Rattle.btree_walk.specs.Finds.{Finds, Stops}
+use Rattle.btree_twigs.specs.declared.twigs.Child.{Child, Child-F, out-Child}
+use Rattle.btree_twigs.specs.declared.twigs.Child.TheOpen.{Kept, Grown}
+use Rattle.btree_twigs.specs.declared.twigs.Twig.{Twig}
+use Rattle.btree_twigs.specs.declared.twigs.Spot.{Spot}
+use Rattle.btree_twigs.specs.declared.twigs.Spot.TheVariants.{Found, Absent, Below}
+use Rattle.btree_twigs.specs.Stubs.{Stub, stubs_below}
+use Rattle.btree_twigs.specs.Search.{IsSpot}
+use Rattle.btree_update.specs.declared.groves.Grove.{Grove}
+use Rattle.btree_update.specs.GroveTree.{want_of, top_want}
+use Rattle.btree_update.specs.Held.{stub_at}
+
+-- from the place of a node on each node on the way to the block fits, down to the leaf, which has this of the block
+abbrev pub FindsBelow : List (List ℕ) → ℕ → Want → List ℕ → Option Entry → Type 0
+FindsBelow pages block want key found = (path : List ℕ) × Finds (FitsAt pages) want.most block found (want.level - 1) want key path
+
+-- from the place of a node on the way to the block comes to a place at this address, where nothing fits
+abbrev pub ComesToWrong : List (List ℕ) → ℕ → ℕ → Want → List ℕ → Type 0
+ComesToWrong pages block addr want key = Stops (FitsAt pages) want.most block (NothingFits pages) addr (want.level - 1) want key
+
+-- what is found of the block from where a search in memory ends
+abbrev pub FindsFrom : List (List ℕ) → ℕ → ℕ → Spot → Option Entry → Type 0
+FindsFrom pages order block (Found addr key) found = found ≡ Some (record { low = block; addr = addr; key = key })
+FindsFrom pages order block Absent found = found ≡ None
+FindsFrom pages order block (Below level low high addr key) found = FindsBelow pages block (want_of order (stub_at level low high addr key)) key found
+
+-- from where a search in memory ends, the way comes to a wrong place
+abbrev pub StopsFrom : List (List ℕ) → ℕ → ℕ → ℕ → Spot → Type 0
+StopsFrom pages order block wrong (Found addr key) = ⊥
+StopsFrom pages order block wrong Absent = ⊥
+StopsFrom pages order block wrong (Below level low high addr key) = ComesToWrong pages block wrong (want_of order (stub_at level low high addr key)) key
+
+-- among these places the block is there, and this is found of it
+pub record FindsAmong (pages : List (List ℕ)) (order block : ℕ) (stubs : List Stub) (found : Option Entry) : Type 0 where
+  pub spot : Spot
+  pub is : IsSpot block stubs spot
+  pub finds : FindsFrom pages order block spot found
+
+-- among these places the block is there, and the way to it comes to a wrong place
+pub record StopsAmong (pages : List (List ℕ)) (order block wrong : ℕ) (stubs : List Stub) : Type 0 where
+  pub spot : Spot
+  pub is : IsSpot block stubs spot
+  pub stops : StopsFrom pages order block wrong spot
+
+abbrev pub RootFindsBy : List (List ℕ) → ℕ → ℕ → ℕ → ℕ → Child-F Child Twig → Option Entry → Type 0
+RootFindsBy pages order block below high (Kept low addr key) found = FindsBelow pages block (top_want order high (suc below) addr) key found
+RootFindsBy pages order block below high (Grown low twig) found = FindsAmong pages order block (stubs_below below high twig) found
+
+-- below a root this is found of the block
+abbrev pub RootFinds : List (List ℕ) → ℕ → ℕ → ℕ → ℕ → Child → Option Entry → Type 0
+RootFinds pages order block below high child found = RootFindsBy pages order block below high (out-Child child) found
+
+abbrev pub RootStopsBy : List (List ℕ) → ℕ → ℕ → ℕ → ℕ → ℕ → Child-F Child Twig → Type 0
+RootStopsBy pages order block wrong below high (Kept low addr key) = ComesToWrong pages block wrong (top_want order high (suc below) addr) key
+RootStopsBy pages order block wrong below high (Grown low twig) = StopsAmong pages order block wrong (stubs_below below high twig)
+
+-- below a root the way to the block comes to a place at this address, where nothing fits
+abbrev pub RootStops : List (List ℕ) → ℕ → ℕ → ℕ → ℕ → ℕ → Child → Type 0
+RootStops pages order block wrong below high child = RootStopsBy pages order block wrong below high (out-Child child)
+
+-- over these pages this is found of the block in the tree
+abbrev pub GroveFinds : List (List ℕ) → ℕ → Grove → Option Entry → Type 0
+GroveFinds pages block grove found = RootFinds pages grove.order block (grove.level - 1) grove.blocks grove.top found
+
+-- over these pages the way to the block comes to a place at this address, where nothing fits
+abbrev pub GroveStops : List (List ℕ) → ℕ → ℕ → Grove → Type 0
+GroveStops pages block wrong grove = RootStops pages grove.order block wrong (grove.level - 1) grove.blocks grove.top
+
+-- the level of the node below which a search goes on, or 0
+abbrev pub level_from : Spot → ℕ
+level_from (Found addr key) = 0
+level_from Absent = 0
+level_from (Below level low high addr key) = level
+
+-- a search can go on from where it ended in memory
+abbrev pub CanGoOn : ℕ → ℕ → ℕ → Spot → Type 0
+CanGoOn order block head (Found addr key) = addr < head
+CanGoOn order block head Absent = Unit {0}
+CanGoOn order block head (Below level low high addr key) = (4 ≤ order) × (1 ≤ level) × (low ≤ block) × (block < high) × (addr < head)

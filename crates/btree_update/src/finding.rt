@@ -1,0 +1,105 @@
+ghost use Rattle.std.specs.Prelude.{◌≡◌, ◌<◌, ◌≤◌, ◌-◌, ℕ, List, IfOk, IfSome, IsErrOf};
+ghost use Rattle.sdbt_base.specs.Faults.{Rose};
+ghost use Rattle.btree_walk.specs.Looks.{Looks};
+ghost use Rattle.btree_walk.specs.Sights.{StandsOver};
+ghost use Rattle.btree_update.specs.Holding.{CanHoldRoot};
+ghost use Rattle.btree_update.specs.Finding.{FindsFrom, StopsFrom, RootFinds, RootStops, level_from, CanGoOn};
+
+use crate::holding::least_of_root;
+use btree_twigs::{Child, Spot};
+use node_cache::NodeCache;
+use node_codec::Entry;
+use page_store::{Buffers, FetchRefusal, Want};
+use platform::Platform;
+use sdbt_base::Key;
+
+/// The entry of a block below a root, or `None`: through the nodes in memory, and then on the medium, through the cache.
+pub(crate) fn find_root<P: Platform>(
+    platform: &mut P,
+    cache: &mut NodeCache,
+    buf: &mut Buffers,
+    order: u16,
+    block: u64,
+    top: &Child,
+    level: u8,
+    high: u64,
+) -> Result<Option<Entry>, FetchRefusal>
+    requires can { CanHoldRoot order level block high (P.head platform.old) top.now }
+    ensures found { P.tells → StandsOver (P.history platform.old).present.readable cache.old →
+        IfOk result (RootFinds (P.history platform.old).present.readable order block (level - 1) high top.now) }
+    ensures bad { P.tells → StandsOver (P.history platform.old).present.readable cache.old → (addr : ℕ) → IsErrOf result (FetchRefusal.BadRecord addr) →
+        RootStops (P.history platform.old).present.readable order block addr (level - 1) high top.now }
+    ensures entry { IfOk result (λ found. IfSome found (λ e. (e.low ≡ block) × (e.addr < P.head platform.old))) }
+    ensures stands { P.tells → StandsOver (P.history platform.old).present.readable cache.old → StandsOver (P.history platform.old).present.readable cache.new }
+    ensures looks { Looks P.Platform level platform.old platform.new }
+    ensures cause { IsErrOf result FetchRefusal.PlatformFault → Rose (P.faults platform.old) (P.faults platform.new) }
+{
+    match top {
+        Child::Grown { twig, .. } => {
+            let spot = btree_twigs::find(twig, block, high);
+            find_from(platform, cache, buf, order, block, spot)
+        }
+        Child::Kept { low, addr, key } => {
+            let want = Want {
+                addr: *addr,
+                level,
+                low: *low,
+                high,
+                least: least_of_root(level),
+                most: order,
+            };
+            let key = Key::from_bytes(*key);
+            btree_walk::find(platform, cache, &want, &key, block, buf)
+        }
+    }
+}
+
+/// The entry of a block from where a search in memory ended, or `None`.
+fn find_from<P: Platform>(
+    platform: &mut P,
+    cache: &mut NodeCache,
+    buf: &mut Buffers,
+    order: u16,
+    block: u64,
+    spot: Spot,
+) -> Result<Option<Entry>, FetchRefusal>
+    requires can { CanGoOn order block (P.head platform.old) spot }
+    ensures found { P.tells → StandsOver (P.history platform.old).present.readable cache.old →
+        IfOk result (FindsFrom (P.history platform.old).present.readable order block spot) }
+    ensures bad { P.tells → StandsOver (P.history platform.old).present.readable cache.old → (addr : ℕ) → IsErrOf result (FetchRefusal.BadRecord addr) →
+        StopsFrom (P.history platform.old).present.readable order block addr spot }
+    ensures entry { IfOk result (λ found. IfSome found (λ e. (e.low ≡ block) × (e.addr < P.head platform.old))) }
+    ensures stands { P.tells → StandsOver (P.history platform.old).present.readable cache.old → StandsOver (P.history platform.old).present.readable cache.new }
+    ensures looks { Looks P.Platform (level_from spot) platform.old platform.new }
+    ensures cause { IsErrOf result FetchRefusal.PlatformFault → Rose (P.faults platform.old) (P.faults platform.new) }
+{
+    match spot {
+        Spot::Found { addr, key } => {
+            let entry = Entry {
+                low: block,
+                addr,
+                key: Key::from_bytes(key),
+            };
+            Ok(Some(entry))
+        }
+        Spot::Absent => Ok(None),
+        Spot::Below {
+            level,
+            low,
+            high,
+            addr,
+            key,
+        } => {
+            let start = Want {
+                addr,
+                level,
+                low,
+                high,
+                least: order / 2,
+                most: order,
+            };
+            let key = Key::from_bytes(key);
+            btree_walk::find(platform, cache, &start, &key, block, buf)
+        }
+    }
+}
