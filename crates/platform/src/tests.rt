@@ -65,7 +65,7 @@ fn a_loss_of_power_tears_what_was_not_synced(rt: HostRuntime) -> Result<(), Fail
 fn listed_calls_fail(rt: HostRuntime) -> Result<(), Fail> {
     let alloc = rt.alloc();
     let mut pages = Pages::new(alloc);
-    assert_eq!(rt; pages.push([5; RECORD]), Ok(()));
+    assert_eq!(rt; pages.push(&[5; RECORD]), Ok(()));
     assert!(rt; pages.len() <= 3);
     let mut platform = MemPlatform::from_parts(alloc, pages, Some([6; ROOT]), 3);
     let list = [

@@ -82,7 +82,7 @@ fn page_of(sketch: &Sketch) -> [u8; 4128] {
 fn pages_of(alloc: Global, sketches: &[Sketch]) -> Result<Pages, Fail> {
     let mut pages = Pages::new(alloc);
     for sketch in sketches {
-        pages.push(page_of(sketch)).ok().ok_or("no memory")?;
+        pages.push(&page_of(sketch)).ok().ok_or("no memory")?;
     }
     Ok(pages)
 }
@@ -213,7 +213,7 @@ fn forged_rows(rt: HostRuntime) -> Result<(), Fail> {
 fn one_key_and_torn_pages(rt: HostRuntime) -> Result<(), Fail> {
     let commits = commits();
     let mut pages = pages_of(rt.alloc(), &commits[..4])?;
-    pages.push([0; RECORD]).ok().ok_or("no memory")?;
+    pages.push(&[0; RECORD]).ok().ok_or("no memory")?;
     let report = seize_pages(rt.alloc(), &pages, &Key::from_bytes([12; 32]))?;
     assert!(rt; tells(&report, &[(1, 1, 3), (2, 2, 0)]));
     let report = seize_pages(rt.alloc(), &pages, &Key::from_bytes([14; 32]))?;
