@@ -221,6 +221,36 @@ fn forged_beside_nodes_in_memory(rt: HostRuntime) -> Result<(), Fail> {
     Ok(())
 }
 
+/// A device of order 4 with 8 blocks. Its root, at address 5, is at level 3 and names a node at 3, over leaves 1 and 2 of two and
+/// three blocks, and beside it a page at 4 that is of another level.
+fn three_levels(alloc: Global) -> Option<Bed> {
+    let mut device = Device::new(alloc, 16)?;
+    device.datum()?;
+    let first = device.node(0, 1, &[entry(0, 0), entry(1, 0)])?;
+    let second = device.node(2, 1, &[entry(2, 0), entry(3, 0), entry(4, 0)])?;
+    let left = device.node(0, 2, &[first, second])?;
+    let right = device.node(5, 1, &[entry(5, 0), entry(6, 0)])?;
+    let top = device.node(0, 3, &[left, right])?;
+    Bed::over(alloc, device, 4, 8, 3, &top)
+}
+
+#[test]
+fn forged_beside_a_node_that_merges(rt: HostRuntime) -> Result<(), Fail> {
+    let alloc = rt.alloc();
+    let mut bed = three_levels(alloc).ok_or("no device")?;
+    // A leaf lends, and so the node above it needs no neighbour.
+    assert_eq!(rt; bed.take(alloc, 0), Some(true));
+    assert_eq!(rt; bed.grown(), 4);
+    assert_eq!(rt; bed.grove().gone(), [5, 3, 1, 2, 0].as_slice());
+    // Now none lends, and it does.
+    let refused = Some(Err(ReadyRefusal::BadRecord { addr: 4 }));
+    assert_eq!(rt; bed.ready(alloc, 1), refused);
+    assert_eq!(rt; bed.grown(), 4);
+    assert_eq!(rt; bed.shape(), Some(4));
+    assert_eq!(rt; bed.grove().gone(), [5, 3, 1, 2, 0].as_slice());
+    Ok(())
+}
+
 /// So many random updates of a tree beside an ordered map, of which so many of eight are insertions.
 fn updated(alloc: Global, mut pair: Pair, puts: u64, count: u64) -> Option<Pair> {
     for _ in 0..count {
