@@ -137,6 +137,27 @@ impl Bed {
         Some(())
     }
 
+    /// Maps a block to nothing, and answers whether it was mapped.
+    pub(crate) fn take(&mut self, alloc: Global, block: u64) -> Option<bool> {
+        if block >= self.root.blocks {
+            return None;
+        }
+        let is_mapped = self
+            .grove
+            .ready(
+                alloc,
+                block,
+                &mut self.device.platform,
+                &mut self.cache,
+                &mut self.device.buffers,
+            )
+            .ok()?;
+        if is_mapped {
+            self.grove.remove(block);
+        }
+        Some(is_mapped)
+    }
+
     /// The address of the data record of a block, if it is mapped; none where the block is not one of the device.
     pub(crate) fn find(&mut self, block: u64) -> Result<Option<u64>, FetchRefusal> {
         if block >= self.root.blocks {

@@ -1,4 +1,4 @@
-//! A tree and an ordered map that get the same random insertions.
+//! A tree and an ordered map that get the same random updates.
 use crate::test_bed::Bed;
 use std::alloc::Global;
 use std::collections::BTreeMap;
@@ -32,7 +32,7 @@ pub(crate) struct Pair {
 impl Pair {
     /// Both without any block, over a medium that has a few pages.
     pub(crate) fn new(alloc: Global, order: u16, blocks: u64, seed: u64) -> Option<Pair> {
-        let mut bed = Bed::new(alloc, order, blocks, 64)?;
+        let mut bed = Bed::new(alloc, order, blocks, 128)?;
         for _ in 0..8 {
             bed.datum()?;
         }
@@ -44,22 +44,45 @@ impl Pair {
         })
     }
 
-    /// Inserts a random block into both. `None` where the tree is not shaped as it may be then, has grown by too many nodes, or
-    /// differs from the map in this block or in another one.
-    pub(crate) fn put(&mut self, alloc: Global) -> Option<()> {
+    /// Inserts a random block into both in so many of eight cases, and else removes one. `None` where the tree has grown by too many
+    /// nodes then, is not shaped as it may be, or differs from the map in this block or in another one.
+    pub(crate) fn update(&mut self, alloc: Global, puts: u64) -> Option<()> {
         let block = self.numbers.below(self.blocks);
-        let addr = self.numbers.below(self.bed.head());
         let before = self.bed.grown();
         let level = self.bed.grove().level() as u64;
-        self.bed.put(alloc, block, addr)?;
-        self.map.insert(block, addr).ok()?;
+        let most = if self.numbers.below(8) < puts {
+            self.put(alloc, block)?;
+            2 * level + 1
+        } else if self.take(alloc, block)? {
+            (2 * level).saturating_sub(1)
+        } else {
+            0
+        };
         let grown = self.bed.grown();
-        if self.bed.shape() != Some(grown) || grown.saturating_sub(before) > 2 * level + 1 {
+        if self.bed.shape() != Some(grown) || grown.saturating_sub(before) > most {
             return None;
         }
         self.compare(block)?;
         let other = self.numbers.below(self.blocks);
         self.compare(other)
+    }
+
+    /// Inserts a block into both, at a random address.
+    fn put(&mut self, alloc: Global, block: u64) -> Option<()> {
+        let addr = self.numbers.below(self.bed.head());
+        self.bed.put(alloc, block, addr)?;
+        self.map.insert(block, addr).ok()?;
+        Some(())
+    }
+
+    /// Removes a block from both, and answers whether it was mapped; `None` where one says so and the other does not.
+    fn take(&mut self, alloc: Global, block: u64) -> Option<bool> {
+        let is_mapped = self.bed.take(alloc, block)?;
+        if self.map.remove(&block).is_some() == is_mapped {
+            Some(is_mapped)
+        } else {
+            None
+        }
     }
 
     /// `None` where tree and map differ in a block.
