@@ -8,7 +8,7 @@ use Rattle.key_graph.specs.Trace.{Entries, entry_in}
 use Rattle.sdbt_base.specs.Traces.{TraceEntry, Traced}
 use Rattle.cert_maker.specs.Cert.{Cert}
 use Rattle.cert_maker.specs.CertOf.{CertOf}
-use Rattle.cert_maker.specs.Ordered.{IsOrderOf}
+use Rattle.cert_maker.specs.Ordered.{AreOneEach, IsOrderOf}
 use Rattle.cert_maker.specs.Differ.{Differ}
 
 abbrev Ascend : List Traced → Type 0
@@ -58,3 +58,12 @@ certifies old new commit root base head pages added gone never cert differ numbe
   gone_ascend = goes.ascends;
   never_ascend = lapses.ascends;
 }
+
+-- what a tree says of its addresses are one item each
+pub one_each : (old new : Entries) (pages : List Unkept) (added : List Traced) (gone : List ℕ) (never : List Unkept) → Differ old new pages added gone never → AreOneEach (λ item. item.addr) added
+unfolding as_traced
+one_each old new pages added gone never differ one other has there same =
+    let first : new one.addr ≡ Some one.trace = ((differ.in_new one).0 has).0 in
+    let second : new other.addr ≡ Some other.trace = ((differ.in_new other).0 there).0 in
+    let traces : one.trace ≡ other.trace = same_Some one.trace other.trace (sym first ∙ ap new same ∙ second) in
+    ap₂ as_traced same traces

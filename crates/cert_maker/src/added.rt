@@ -84,10 +84,9 @@ impl AddedList {
         &self.items[i]
     }
 
-    // Brings the items into the order of their addresses, and drops repeats.
+    // Brings the items into the order of their addresses, and drops repeats, where no address has two items.
     pub(crate) fn ascend(&mut self)
-        requires { AreOneEach (λ item. item.addr) self.old }
-        ensures { IsOrderOf (λ item. item.addr) self.old self.new }
+        ensures { AreOneEach (λ item. item.addr) self.old → IsOrderOf (λ item. item.addr) self.old self.new }
     {
         self.items.sort_unstable_by_key(|item| item.addr);
         self.items.dedup_by_key(|item| item.addr);

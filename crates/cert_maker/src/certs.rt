@@ -1,6 +1,6 @@
 //! Certificates.
 ghost use Rattle.std.specs.Prelude.{◌≡◌, List, IfOk};
-ghost use Rattle.sdbt_base.specs.declared.lists.Unkept.{Unkept};
+ghost use Rattle.sdbt_base.specs.declared.lists.Unkept.{Unkept as Page};
 ghost use Rattle.key_graph.specs.Trace.{Entries};
 ghost use Rattle.cert_maker.specs.CertOf.{CertOf};
 ghost use Rattle.cert_maker.specs.Differ.{Differ};
@@ -8,7 +8,7 @@ ghost use Rattle.cert_maker.specs.Ordered.{AreOneEach, IsOrderOf};
 
 use crate::added::AddedList;
 use crate::ordering::{ascending_addrs, ascending_pages};
-use sdbt_base::{Addrs, Memory, UnkeptList};
+use sdbt_base::{Addrs, Memory, Unkept, UnkeptList};
 use std::alloc::Global;
 use std::marker::Model;
 
@@ -43,7 +43,7 @@ impl Model for Cert {
 impl Cert {
     /// The certificate of a commit: its number, how many pages had been handed over before it and have been with it, its root
     /// node, and what it added, let go and never kept, each list in any order. The lists of the certificate ascend by address,
-    /// and have each address once. `Memory` where there is none for them.
+    /// and have each address once, where the given ones have no two items of one address. `Memory` where there is none for them.
     pub fn build(
         alloc: Global,
         commit: u64,
@@ -51,23 +51,21 @@ impl Cert {
         head: u64,
         root: u64,
         added: AddedList,
-        gone: Addrs,
-        never: UnkeptList,
+        gone: &[u64],
+        never: &[Unkept],
     ) -> Result<Cert, Memory>
-        requires added { AreOneEach (λ item. item.addr) added }
-        requires never { AreOneEach (λ page. page.addr) never }
         ensures commit { IfOk result (λ cert. cert.commit ≡ commit) }
         ensures base { IfOk result (λ cert. cert.base ≡ base) }
         ensures head { IfOk result (λ cert. cert.head ≡ head) }
         ensures root { IfOk result (λ cert. cert.root ≡ root) }
-        ensures added { IfOk result (λ cert. IsOrderOf (λ item. item.addr) added cert.added) }
-        ensures gone { IfOk result (λ cert. IsOrderOf (λ addr. addr) gone cert.gone) }
-        ensures never { IfOk result (λ cert. IsOrderOf (λ page. page.addr) never cert.never) }
-        ensures trees { IfOk result (λ cert. (old new : Entries) (pages : List Unkept) → Differ old new pages added gone never →
-            CertOf old new commit root base head pages cert) }
+        ensures added { AreOneEach (λ item. item.addr) added → IfOk result (λ cert. IsOrderOf (λ item. item.addr) added cert.added) }
+        ensures gone { IfOk result (λ cert. IsOrderOf (λ addr. addr) gone.now cert.gone) }
+        ensures never { AreOneEach (λ page. page.addr) never.now → IfOk result (λ cert. IsOrderOf (λ page. page.addr) never.now cert.never) }
+        ensures trees { IfOk result (λ cert. (old new : Entries) (pages : List Page) → AreOneEach (λ page. page.addr) never.now
+            → Differ old new pages added gone.now never.now → CertOf old new commit root base head pages cert) }
     {
-        let gone = ascending_addrs(alloc, &gone)?;
-        let never = ascending_pages(alloc, &never)?;
+        let gone = ascending_addrs(alloc, gone)?;
+        let never = ascending_pages(alloc, never)?;
         let mut added = added;
         added.ascend();
         Ok(Cert::from_parts(commit, base, head, root, added, gone, never))

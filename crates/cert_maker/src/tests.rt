@@ -1,6 +1,6 @@
 //! A certificate of lists in no order.
 use crate::{Added, AddedList, Cert};
-use sdbt_base::{Addrs, Unkept, UnkeptList};
+use sdbt_base::{Addrs, Unkept};
 use std::test::Fail;
 
 #[test]
@@ -19,15 +19,13 @@ fn orders_its_lists(rt: HostRuntime) -> Result<(), Fail> {
         block: Some(7),
         children: Addrs::new(alloc),
     })?;
-    let mut gone = Addrs::new(alloc);
-    for addr in [2, 0, 2] {
-        gone.push(addr)?;
-    }
-    let mut never = UnkeptList::new(alloc);
-    never.push(Unkept { block: 9, addr: 2 })?;
-    never.push(Unkept { block: 9, addr: 1 })?;
+    let gone = [2, 0, 2];
+    let never = [
+        Unkept { block: 9, addr: 2 },
+        Unkept { block: 9, addr: 1 },
+    ];
 
-    let cert = Cert::build(alloc, 1, 2, 6, 5, added, gone, never)?;
+    let cert = Cert::build(alloc, 1, 2, 6, 5, added, &gone, &never)?;
     assert_eq!(rt; cert.commit(), 1);
     assert_eq!(rt; cert.base(), 2);
     assert_eq!(rt; cert.head(), 6);

@@ -12,7 +12,7 @@ pub returns : goal.returns
 returns c =
     let given = c.args.addrs.now in
     let sorted = c.sort_unstable.new.self.items in
-    let moved : IsPermutation given sorted = subst (λ (l : List ℕ). IsPermutation l sorted) c.in_ok-items.ensures c.sort_unstable.ensures.permutation in
+    let moved : IsPermutation given sorted = subst (λ (l : List ℕ). IsPermutation l sorted) c.in_ok-items.ensures.items c.sort_unstable.ensures.permutation in
     let order = ordered (λ (addr : ℕ). addr) given sorted moved (IsNonDecreasingBy-from_sort (λ (addr : ℕ). addr) sorted c.sort_unstable.ensures.sorted) (λ one other has there same. same) in
     let rid : c.dedup.new.self.items ≡ dedup (λ one other. one == other) sorted = dedup_is _ _ _ c.dedup.ensures.filtered in
     IfOk-weaker c.listed_addrs.result _ _ (λ found is. subst (λ (l : List ℕ). IsOrderOf (λ addr. addr) given l) (sym (is ∙ c.deref.ensures.value ∙ rid)) order) c.listed_addrs.ensures

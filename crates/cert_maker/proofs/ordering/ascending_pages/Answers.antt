@@ -9,11 +9,11 @@ use Rattle.cert_maker.proofs.OrderLaws.{ordered}
 use Rattle.cert_maker.proofs.ordering.ascending_pages.Goals as goal
 
 pub returns : goal.returns
-returns c =
+returns c = λ one.
     let given = c.args.pages.now in
     let sorted = c.sort_unstable_by_key.new.self.items in
-    let moved : IsPermutation given sorted = subst (λ (l : List Unkept). IsPermutation l sorted) c.in_ok-items.ensures c.sort_unstable_by_key.ensures.permutation in
+    let moved : IsPermutation given sorted = subst (λ (l : List Unkept). IsPermutation l sorted) c.in_ok-items.ensures.items c.sort_unstable_by_key.ensures.permutation in
     let rises = IsNonDecreasingBy-from_sort_by_key (λ (page : Unkept). page.addr) _ c.sort_unstable_by_key.ensures.sorted (λ a r q k. search rules) in
-    let order = ordered (λ (page : Unkept). page.addr) given sorted moved rises c.requires in
+    let order = ordered (λ (page : Unkept). page.addr) given sorted moved rises one in
     let rid = dedup_same _ (λ (one other : Unkept). one.addr == other.addr) _ (λ x y b f' x' y' k. search rules) _ _ c.dedup_by_key.ensures.filtered in
     IfOk-weaker c.listed_pages.result _ _ (λ found is. subst (λ (l : List Unkept). IsOrderOf (λ page. page.addr) given l) (sym (is ∙ c.deref.ensures.value ∙ rid)) order) c.listed_pages.ensures
