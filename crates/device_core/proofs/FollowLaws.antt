@@ -19,7 +19,7 @@ use Rattle.page_store.proofs.LeafStandsLaws.{leaf_wanted}
 use Rattle.device_core.specs.Leaf.{IsOneLeaf, AreEntries, IsPlace, placed}
 use Rattle.device_core.specs.Holding.{IsOfLeaf}
 use Rattle.device_core.specs.Holds.{Follows}
-use Rattle.device_core.specs.Sessions.{Session}
+use Rattle.device_core.specs.Sessions.{Session, Released}
 use Rattle.page_store.specs.Buffer.{Held}
 use Rattle.device_core.specs.Damage.{IsMiscounted}
 use Rattle.device_core.proofs.EntryLaws.{All-remove, length-entries, room_where_none}
@@ -69,8 +69,8 @@ follows_later session buffers image later earlier follows = record {
   each = λ yes. All-weaker (IsOfLeaf image.readable follows.leaf) (IsOfLeaf later.readable follows.leaf) (λ e is. later_of_leaf image later follows.leaf e earlier is) session.entries (follows.each yes);
 }
 
-pub follows_written : (session : Session) (count : ℕ) (buffers : Held) (image later : Image) (block addr : ℕ) (place : Result ℕ ℕ) (key content : List ℕ) → session.is_loaded ≡ true → Follows session image → IsPlace session.entries block place → count ≡ (if is_ok place then session.mapped else session.mapped + 1) → IsWhole image → addr ≡ length image.recorded → addr < 2 ^ 64 → block < 1048576 → IsBytes 4096 content → IsEarlier image later → later ≡ with_page image (data_page addr block key content) (data_page addr block key content) → Follows (with_entry session place (record { low = block; addr = addr; key = key }) count buffers) later
-follows_written session count buffers image later block addr place key content ready follows is_place next whole at small low sized earlier later_is =
+pub follows_written : (session : Session) (count : ℕ) (released : Released) (buffers : Held) (image later : Image) (block addr : ℕ) (place : Result ℕ ℕ) (key content : List ℕ) → session.is_loaded ≡ true → Follows session image → IsPlace session.entries block place → count ≡ (if is_ok place then session.mapped else session.mapped + 1) → IsWhole image → addr ≡ length image.recorded → addr < 2 ^ 64 → block < 1048576 → IsBytes 4096 content → IsEarlier image later → later ≡ with_page image (data_page addr block key content) (data_page addr block key content) → Follows (with_entry session place (record { low = block; addr = addr; key = key }) count released buffers) later
+follows_written session count released buffers image later block addr place key content ready follows is_place next whole at small low sized earlier later_is =
     let kept = follows_later session buffers image later earlier follows in
     let entry : Entry = record { low = block; addr = addr; key = key } in
     let there : IsRecordAt later.readable addr key (DataRecord block content) = subst (λ (i : Image). IsRecordAt i.readable addr key (DataRecord block content)) (sym later_is)
@@ -83,8 +83,8 @@ follows_written session count buffers image later block addr place key content r
       uncounted = λ isnt. absurd (cc (isnt, ready));
     }
 
-pub follows_removed : (session : Session) (count : ℕ) (image : Image) (at : ℕ) → session.is_loaded ≡ true → Follows session image → at < length session.entries → count + 1 ≡ session.mapped → Follows (without_entry session at count) image
-follows_removed session count image at ready follows within next = record {
+pub follows_removed : (session : Session) (count : ℕ) (released : Released) (image : Image) (at : ℕ) → session.is_loaded ≡ true → Follows session image → at < length session.entries → count + 1 ≡ session.mapped → Follows (without_entry session at count released) image
+follows_removed session count released image at ready follows within next = record {
   leaf = follows.leaf;
   fits = follows.fits;
   each = λ yes. All-remove (IsOfLeaf image.readable follows.leaf) session.entries at (follows.each yes);

@@ -32,11 +32,13 @@ use Rattle.device_core.specs.Leaf.{IsOneLeaf, IsServed, IsRefusedCell, AreEntrie
 use Rattle.device_core.proofs.MomentLaws.{one_call, one_look, call_more, then_published}
 use Rattle.device_core.specs.Holding.{AreMapped, blocks_of_entries}
 use Rattle.device_core.specs.Holds.{Holds}
-use Rattle.device_core.specs.Sessions.{Session}
+use Rattle.device_core.specs.Accounts.{Accounts, LetsGo, LetsGoAt, nothing}
+use Rattle.device_core.specs.Sessions.{Session, Released}
 use Rattle.page_store.specs.Buffer.{Held}
 use Rattle.page_store.specs.Roots.{IsRootWithin, IsBadCell}
 use Rattle.device_core.specs.Open.{IsOpen}
 use Rattle.device_core.proofs.EntryLaws.{length-entries, room_where_none, All-insert, All-remove, AreEntries-none, AreEntries-later}
+use Rattle.device_core.proofs.AccountLaws.{accounts_start, accounts_later, accounts_placed, accounts_removed}
 use Rattle.device_core.proofs.ArrayLaws.{same_means, is_within, length-AllZip, AllZip-placed, AllZip-remove, apart_placed, array_placed, array_removed, array_without, array_at}
 
 -- ---- a later image
@@ -115,8 +117,8 @@ leaf_later image later device root entries texts earlier cell stands = record {
 
 -- over another image, whatever the buffers hold
 held_over : (session : Session) (buffers : Held) (image other : Image) (device : Device) (contents : Blocks) → (h : Holds session image device contents) → StandsByLeaf other device session.root h.leaf h.leaf_texts → AreMapped other h.entries h.texts
-    → Holds (record session { buffers = buffers }) other device contents
-held_over session buffers image other device contents h stands there = record {
+    → length image.recorded ≤ length other.recorded → Holds (record session { buffers = buffers }) other device contents
+held_over session buffers image other device contents h stands there more = record {
   leaf = h.leaf;
   leaf_texts = h.leaf_texts;
   stands = stands;
@@ -128,17 +130,18 @@ held_over session buffers image other device contents h stands there = record {
   read = h.read;
   unread = h.unread;
   untouched = h.untouched;
+  accounts = accounts_later session.root.head (length image.recorded) (length other.recorded) h.leaf h.entries session.released more h.accounts;
 }
 
 -- a later image with the same cell, whatever the buffers hold
 pub holds_later : (session : Session) (buffers : Held) (image later : Image) (device : Device) (contents : Blocks) → IsEarlier image later → later.cell ≡ image.cell → Holds session image device contents → Holds (record session { buffers = buffers }) later device contents
 holds_later session buffers image later device contents earlier cell h =
-    held_over session buffers image later device contents h (leaf_later image later device session.root h.leaf h.leaf_texts earlier cell h.stands) (mapped_later image later h.entries h.texts earlier h.mapped_there)
+    held_over session buffers image later device contents h (leaf_later image later device session.root h.leaf h.leaf_texts earlier cell h.stands) (mapped_later image later h.entries h.texts earlier h.mapped_there) earlier.pages
 
 -- the same image, whatever the buffers hold
 pub holds_same : (session : Session) (buffers : Held) (image other : Image) (device : Device) (contents : Blocks) → other ≡ image → Holds session image device contents → Holds (record session { buffers = buffers }) other device contents
 holds_same session buffers image other device contents same h =
-    subst (λ (i : Image). Holds (record session { buffers = buffers }) i device contents) (sym same) (held_over session buffers image image device contents h h.stands h.mapped_there)
+    subst (λ (i : Image). Holds (record session { buffers = buffers }) i device contents) (sym same) (held_over session buffers image image device contents h h.stands h.mapped_there (omega arith))
 
 -- ---- a mount, and the reading of the leaf
 
@@ -146,8 +149,8 @@ leaf_mapped : (image : Image) (device : Device) (root : Root) (entries : List En
 leaf_mapped image device root entries texts stands = record { records = stands.tree.records; recorded = stands.recorded; apart = stands.apart }
 
 -- an image that stands by a session's root record is held by it, where what it has read is the leaf and it counts no other blocks
-pub leaf_held : (session : Session) (image : Image) (device : Device) (entries : List Entry) (texts : List (List ℕ)) → session.mapped ≡ session.root.mapped → (session.is_loaded ≡ true → session.entries ≡ entries) → StandsByLeaf image device session.root entries texts → Holds session image device device.contents
-leaf_held session image device entries texts all read stands = record {
+pub leaf_held : (session : Session) (image : Image) (device : Device) (entries : List Entry) (texts : List (List ℕ)) → session.mapped ≡ session.root.mapped → session.released ≡ nothing → (session.is_loaded ≡ true → session.entries ≡ entries) → StandsByLeaf image device session.root entries texts → Holds session image device device.contents
+leaf_held session image device entries texts all none read stands = record {
   leaf = entries;
   leaf_texts = texts;
   stands = stands;
@@ -159,18 +162,19 @@ leaf_held session image device entries texts all read stands = record {
   read = read;
   unread = λ yes. refl;
   untouched = λ yes. refl;
+  accounts = subst (Accounts session.root.head (length image.recorded) entries entries) (sym none) (accounts_start session.root.head (length image.recorded) entries);
 }
 
 same_some : {A : Type 0} (x y : A) → Some x ≡ Some y → x ≡ y
 same_some x y same = cc
 
-pub mounted : (session : Session) (image : Image) (device : Device) (pages : ℕ) → session.is_loaded ≡ false → session.mapped ≡ session.root.mapped → IsServed session.root pages → image.cell ≡ Some (root_bytes session.root) → Stands image (Some device) → Holds session image device device.contents
-mounted session image device pages unread all served cell (other, parts, stands) =
+pub mounted : (session : Session) (image : Image) (device : Device) (pages : ℕ) → session.is_loaded ≡ false → session.mapped ≡ session.root.mapped → session.released ≡ nothing → IsServed session.root pages → image.cell ≡ Some (root_bytes session.root) → Stands image (Some device) → Holds session image device device.contents
+mounted session image device pages unread all none served cell (other, parts, stands) =
     let root = session.root in
     let roots : other ≡ root = one_root other root stands.in_range served.fits stands.key.0 (same_some _ _ (sym stands.cell ∙ cell)) in
     let by_root = subst (λ (r : Root). StandsBy image device r parts) roots stands in
     let (entries, texts, leaf, parts_are) = leaf_of_stands image device root parts served.leaf.level by_root in
-    leaf_held session image device entries texts all (λ is. absurd (cc (is, unread))) leaf
+    leaf_held session image device entries texts all none (λ is. absurd (cc (is, unread))) leaf
 
 -- a session with the leaf that was read
 abbrev pub with_read : Session → List Entry → Held → Session
@@ -192,6 +196,7 @@ loaded session read buffers image device contents isnt h fits =
       read = λ yes. is ∙ sym (h.unread isnt);
       unread = λ never. absurd cc;
       untouched = h.untouched;
+      accounts = h.accounts;
     }
 
 -- the leaf is there
@@ -262,11 +267,17 @@ abbrev pub data_page : ℕ → ℕ → List ℕ → List ℕ → List ℕ
 data_page addr block key content = masked key (record_bytes addr (DataRecord block content))
 
 -- a session with the entry of a block at its place, and so many mapped blocks
-abbrev pub with_entry : Session → Result ℕ ℕ → Entry → ℕ → Held → Session
-with_entry session place entry count buffers = record session { mapped = count; is_touched = true; entries = placed session.entries place entry; buffers = buffers }
+abbrev pub with_entry : Session → Result ℕ ℕ → Entry → ℕ → Released → Held → Session
+with_entry session place entry count released buffers = record session { mapped = count; is_touched = true; entries = placed session.entries place entry; released = released; buffers = buffers }
 
-pub written : (session : Session) (count : ℕ) (buffers : Held) (image later : Image) (device : Device) (contents : Blocks) (block addr : ℕ) (place : Result ℕ ℕ) (key content : List ℕ) → session.is_loaded ≡ true → Holds session image device contents → IsWhole image → addr ≡ length image.recorded → addr < 2 ^ 64 → AreEntries session.entries session.root.blocks addr → IsPlace session.entries block place → block < 1048576 → IsBytes 4096 content → count ≡ (if is_ok place then session.mapped else session.mapped + 1) → IsEarlier image later → later ≡ with_page image (data_page addr block key content) (data_page addr block key content) → Holds (with_entry session place (record { low = block; addr = addr; key = key }) count buffers) later device (maps.insert contents block content)
-written session count buffers image later device contents block addr place key content ready h whole at small are is_place low sized next earlier later_is =
+-- a leaf that stands lies below the head of its root record
+pub leaf_below : (image : Image) (device : Device) (root : Root) (entries : List Entry) (texts : List (List ℕ)) → StandsByLeaf image device root entries texts → All (λ e. e.addr < root.head) entries
+leaf_below image device root entries texts stands =
+    All-weaker (λ (e : Entry). e.addr < root.addr) (λ (e : Entry). e.addr < root.head) (λ e less. omega (arith, less, stands.in_range.addr)) entries stands.tree.leaf.0.in_range.0.below
+
+pub written : (session : Session) (count : ℕ) (released : Released) (buffers : Held) (image later : Image) (device : Device) (contents : Blocks) (block addr : ℕ) (place : Result ℕ ℕ) (key content : List ℕ) → session.is_loaded ≡ true → Holds session image device contents → IsWhole image → addr ≡ length image.recorded → addr < 2 ^ 64 → AreEntries session.entries session.root.blocks addr → IsPlace session.entries block place → block < 1048576 → IsBytes 4096 content → count ≡ (if is_ok place then session.mapped else session.mapped + 1) → IsEarlier image later → later ≡ with_page image (data_page addr block key content) (data_page addr block key content)
+    → LetsGoAt session.root.head session.entries place session.released released → Holds (with_entry session place (record { low = block; addr = addr; key = key }) count released buffers) later device (maps.insert contents block content)
+written session count released buffers image later device contents block addr place key content ready h whole at small are is_place low sized next earlier later_is goes =
     let entry : Entry = record { low = block; addr = addr; key = key } in
     let same : session.entries ≡ h.entries = h.read ready in
     let there = subst (λ (es : List Entry). IsPlace es block place) same is_place in
@@ -294,14 +305,19 @@ written session count buffers image later device contents block addr place key c
       read = λ yes. ap (λ (es : List Entry). placed es place entry) same;
       unread = λ never. absurd (cc (never, ready));
       untouched = λ never. absurd cc;
+      accounts = accounts_placed session.root.head (length image.recorded) (length later.recorded) block h.leaf h.entries place entry session.released released there
+          (omega (arith, h.stands.head, whole.synced)) at earlier.pages (leaf_below image device session.root h.leaf h.leaf_texts h.stands)
+          (subst (λ (n : ℕ). All (λ (e : Entry). e.addr < n) h.entries) at below) h.mapped_there.apart
+          (subst (λ (es : List Entry). LetsGoAt session.root.head es place session.released released) same goes) h.accounts;
     }
 
 -- a session without the entry at this place, and so many mapped blocks
-abbrev pub without_entry : Session → ℕ → ℕ → Session
-without_entry session at count = record session { mapped = count; is_touched = true; entries = remove session.entries at }
+abbrev pub without_entry : Session → ℕ → ℕ → Released → Session
+without_entry session at count released = record session { mapped = count; is_touched = true; entries = remove session.entries at; released = released }
 
-pub trimmed : (session : Session) (count : ℕ) (image : Image) (device : Device) (contents : Blocks) (block at : ℕ) → session.is_loaded ≡ true → Holds session image device contents → IsPlace session.entries block (Ok at) → count + 1 ≡ session.mapped → Holds (without_entry session at count) image device (maps.remove contents block)
-trimmed session count image device contents block at ready h is_place next =
+pub trimmed : (session : Session) (count : ℕ) (released : Released) (d : Entry) (image : Image) (device : Device) (contents : Blocks) (block at : ℕ) → session.is_loaded ≡ true → Holds session image device contents → IsPlace session.entries block (Ok at) → count + 1 ≡ session.mapped → IsWhole image → All (λ e. e.addr < length image.recorded) session.entries
+    → LetsGo session.root.head (get_or session.entries at d) session.released released → Holds (without_entry session at count released) image device (maps.remove contents block)
+trimmed session count released d image device contents block at ready h is_place next whole small goes =
     let same : session.entries ≡ h.entries = h.read ready in
     let there = subst (λ (es : List Entry). IsPlace es block (Ok at)) same is_place in
     let len = length-AllZip (λ (e : Entry) (c : List ℕ). IsRecordAt image.readable e.addr e.key (DataRecord e.low c)) h.entries h.texts h.mapped_there.records in
@@ -321,6 +337,10 @@ trimmed session count image device contents block at ready h is_place next =
       read = λ yes. ap (λ (es : List Entry). remove es at) same;
       unread = λ never. absurd (cc (never, ready));
       untouched = λ never. absurd cc;
+      accounts = accounts_removed session.root.head (length image.recorded) at h.leaf h.entries d session.released released there.0
+          (omega (arith, h.stands.head, whole.synced)) (leaf_below image device session.root h.leaf h.leaf_texts h.stands)
+          (subst (λ (es : List Entry). All (λ (e : Entry). e.addr < length image.recorded) es) same small) h.mapped_there.apart
+          (subst (λ (es : List Entry). LetsGo session.root.head (get_or es at d) session.released released) same goes) h.accounts;
     }
 
 -- ---- a commit
@@ -569,12 +589,12 @@ raised_stands session next pages image device contents commit h whole at = (
 
 -- a session after a commit
 abbrev pub with_root : Session → Root → Held → Session
-with_root session next buffers = record session { root = next; is_touched = false; buffers = buffers }
+with_root session next buffers = record session { root = next; is_touched = false; released = nothing; buffers = buffers }
 
 pub raised_held : (session : Session) (next : Root) (buffers : Held) (pages : ℕ) (image later : Image) (device : Device) (contents : Blocks) → IsCommitOf session next pages → Holds session image device contents → IsWhole image → pages ≡ length image.recorded → later ≡ with_leaf image next session.entries → Holds (with_root session next buffers) later (committed_with device contents) contents
 raised_held session next buffers pages image later device contents commit h whole at later_is =
     let leaf = raised_leaf session next pages image device contents commit h whole at in
-    let held = leaf_held (with_root session next buffers) (with_leaf image next session.entries) (committed_with device contents) session.entries h.texts (sym commit.follows.mapped) (λ yes. refl) leaf in
+    let held = leaf_held (with_root session next buffers) (with_leaf image next session.entries) (committed_with device contents) session.entries h.texts (sym commit.follows.mapped) refl (λ yes. refl) leaf in
     subst (λ (i : Image). Holds (with_root session next buffers) i (committed_with device contents) contents) (sym later_is) held
 
 -- the leaf is appended, the medium synced, and the root record replaced

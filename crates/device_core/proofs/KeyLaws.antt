@@ -14,7 +14,7 @@ use Rattle.device_core.proofs.EntryLaws.{AreEntries-none, All-remove}
 use Rattle.node_codec.specs.declared.body.Entry.{Entry}
 use Rattle.node_codec.specs.Record.{Record, DataRecord, NodeRecord, FitsRecord, record_bytes}
 use Rattle.device_core.specs.Open.{IsOpen}
-use Rattle.device_core.specs.Sessions.{Session}
+use Rattle.device_core.specs.Sessions.{Session, Released}
 use Rattle.page_store.specs.Buffer.{Held}
 use Rattle.root_codec.specs.declared.root.Root.{Root}
 use Rattle.root_codec.specs.RootRecord.{root_bytes}
@@ -285,8 +285,8 @@ listed_loaded session read buffers image keys kept isnt h fits =
     }
 
 -- an entry more, or another one in its place, of a page that was appended
-pub listed_written : (session : Session) (count : ℕ) (buffers : Held) (place : Result ℕ ℕ) (entry : Entry) (image later : Image) (device : Device) (contents : Blocks) (keys more : List (List ℕ)) → HoldsListed session image keys → Holds (with_entry session place entry count buffers) later device contents → IsEarlier image later → later.cell ≡ image.cell → session.root.head ≤ entry.addr → Contains (keys ++ more) entry.key → HoldsListed (with_entry session place entry count buffers) later (keys ++ more)
-listed_written session count buffers place entry image later device contents keys more h held earlier same after has = record {
+pub listed_written : (session : Session) (count : ℕ) (released : Released) (buffers : Held) (place : Result ℕ ℕ) (entry : Entry) (image later : Image) (device : Device) (contents : Blocks) (keys more : List (List ℕ)) → HoldsListed session image keys → Holds (with_entry session place entry count released buffers) later device contents → IsEarlier image later → later.cell ≡ image.cell → session.root.head ≤ entry.addr → Contains (keys ++ more) entry.key → HoldsListed (with_entry session place entry count released buffers) later (keys ++ more)
+listed_written session count released buffers place entry image later device contents keys more h held earlier same after has = record {
   device = device;
   contents = contents;
   holds = held;
@@ -295,8 +295,8 @@ listed_written session count buffers place entry image later device contents key
 }
 
 -- an entry less
-pub listed_trimmed : (session : Session) (count at : ℕ) (image : Image) (device : Device) (contents : Blocks) (keys : List (List ℕ)) → HoldsListed session image keys → Holds (without_entry session at count) image device contents → HoldsListed (without_entry session at count) image keys
-listed_trimmed session count at image device contents keys h held = record {
+pub listed_trimmed : (session : Session) (count at : ℕ) (released : Released) (image : Image) (device : Device) (contents : Blocks) (keys : List (List ℕ)) → HoldsListed session image keys → Holds (without_entry session at count released) image device contents → HoldsListed (without_entry session at count released) image keys
+listed_trimmed session count at released image device contents keys h held = record {
   device = device;
   contents = contents;
   holds = held;

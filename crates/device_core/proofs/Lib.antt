@@ -1,6 +1,8 @@
 pub mod Ascending
 pub mod EntryLaws
 pub mod ArrayLaws
+pub mod CertifyingLaws
+pub mod AccountLaws
 pub mod HoldLaws
 pub mod MomentLaws
 pub mod FollowLaws

@@ -32,11 +32,11 @@ IsWriteCause block blocks head capacity Failed Undrawn (Err write.Full) = (block
 IsWriteCause block blocks head capacity Failed Undrawn (Err (write.BadRecord addr)) = (block < blocks) × (head ≢ capacity)
 IsWriteCause block blocks head capacity Failed Undrawn (Err write.PlatformFault) = (block < blocks) × (head ≢ capacity) × Failed
 IsWriteCause block blocks head capacity Failed Undrawn (Err write.TapeFault) = (block < blocks) × (head ≢ capacity) × Undrawn
-IsWriteCause block blocks head capacity Failed Undrawn (Err write.Memory) = ⊥
+IsWriteCause block blocks head capacity Failed Undrawn (Err write.Memory) = (block < blocks) × (head ≢ capacity)
 
 abbrev pub IsTrimCause : ℕ → ℕ → Type 0 → Result (Unit {0}) TrimRefusal → Type 0
 IsTrimCause block blocks Failed (Ok done) = block < blocks
 IsTrimCause block blocks Failed (Err trim.Range) = blocks ≤ block
 IsTrimCause block blocks Failed (Err (trim.BadRecord addr)) = block < blocks
 IsTrimCause block blocks Failed (Err trim.PlatformFault) = (block < blocks) × Failed
-IsTrimCause block blocks Failed (Err trim.Memory) = ⊥
+IsTrimCause block blocks Failed (Err trim.Memory) = block < blocks

@@ -1,9 +1,11 @@
 pub mod Sessions
+pub mod Accounts
 pub mod Leaf
 pub mod Holding
 pub mod Damage
 pub mod Open
 pub mod Holds
+pub mod Certifying
 pub mod Causes
 pub mod Replies
 pub mod Drawing

@@ -15,6 +15,8 @@ use Rattle.device_core.specs.Holds.{Holds}
 use Rattle.device_core.specs.Leaf.{IsServedImage}
 use Rattle.device_core.specs.Open.{number_of, root_of, is_touched}
 use Rattle.device_core.specs.Sessions.{Session}
+use Rattle.device_core.specs.declared.publishing.PublishFault.{PublishFault}
+use Rattle.device_core.specs.declared.publishing.PublishFault.TheVariants as publish
 use Rattle.device_core.specs.declared.refusals.CommitReply.{CommitReply}
 use Rattle.device_core.specs.declared.refusals.CommitReply.TheVariants.{Committed}
 use Rattle.device_core.specs.declared.refusals.CommitFault.{CommitFault}
@@ -35,26 +37,32 @@ pub record Discloses (tells : Type 0) (drawn drawn_now : Option (List (List ℕ)
 
 -- a commit that raised the number: one page was added, which the root record in the cell names with the key that was drawn last; every key that the
 -- session has is one of the new tree, and nothing of what was read or sealed is left in its buffers
-pub record HasRaised {S R : Type 0} (P : PlatformGhosts S) (T : TapeGhosts R) (platform platform_now : S) (tape tape_now : R) (session : Session) (answer : Session × CommitReply) : Type 0 where
-  pub reply : answer.1 ≡ Committed (number_of session + 1)
-  pub number : number_of answer.0 ≡ number_of session + 1
-  pub untouched : is_touched answer.0 ≡ false
-  pub wiped : IsBlank answer.0.buffers
+pub record HasRaised {S R : Type 0} (P : PlatformGhosts S) (T : TapeGhosts R) (platform platform_now : S) (tape tape_now : R) (session now : Session) (reply : CommitReply) : Type 0 where
+  pub replied : reply ≡ Committed (number_of session + 1)
+  pub number : number_of now ≡ number_of session + 1
+  pub untouched : is_touched now ≡ false
+  pub wiped : IsBlank now.buffers
   pub head : P.head platform_now ≡ P.head platform + 1
-  pub names : NamesLast (T.drawn tape) (T.drawn tape_now) (P.head platform_now) (root_of answer.0)
-  pub cell : P.tells → (P.history platform_now).present.cell ≡ Some (root_bytes (root_of answer.0))
+  pub names : NamesLast (T.drawn tape) (T.drawn tape_now) (P.head platform_now) (root_of now)
+  pub cell : P.tells → (P.history platform_now).present.cell ≡ Some (root_bytes (root_of now))
   pub knows : P.tells → (device : Device) (contents : Blocks) → Holds session (P.history platform).present device contents
-      → KeepsTree (root_of answer.0) answer.0.entries (P.history platform_now).present
+      → KeepsTree (root_of now) now.entries (P.history platform_now).present
 
--- a commit fails where the platform, the tape or the ledger failed. Where no key was drawn nothing was handed over; but for a fault of the platform
--- the cell is as it was at each moment
+-- a root record was not published since the platform failed, or the ledger
+abbrev pub IsPublishCause : Type 0 → Type 0 → PublishFault → Type 0
+IsPublishCause Failed Unput publish.Platform = Failed
+IsPublishCause Failed Unput publish.Ledger = Unput
+
+-- a commit fails where the platform, the tape or the ledger failed, or no memory was given. Where no key was drawn nothing was handed over; but for a
+-- fault of the platform the cell is as it was at each moment
 abbrev pub IsCommitCause : {S R : Type 0} → PlatformGhosts S → TapeGhosts R → S → S → R → R → Type 0 → Type 0 → Type 0 → CommitFault → Type 0
 IsCommitCause P T platform platform_now tape tape_now Failed Undrawn Unput commit.PlatformFault = Failed
 IsCommitCause P T platform platform_now tape tape_now Failed Undrawn Unput commit.TapeFault =
     Undrawn × AddsNothing P T platform platform_now tape tape_now × (P.tells → CellStays (P.history platform) (P.history platform_now))
 IsCommitCause P T platform platform_now tape tape_now Failed Undrawn Unput commit.LedgerFault =
     Unput × (P.tells → CellStays (P.history platform) (P.history platform_now))
-IsCommitCause P T platform platform_now tape tape_now Failed Undrawn Unput commit.Memory = ⊥
+IsCommitCause P T platform platform_now tape tape_now Failed Undrawn Unput commit.Memory =
+    AddsNothing P T platform platform_now tape tape_now × (P.tells → CellStays (P.history platform) (P.history platform_now))
 
 -- nothing came of a format: no page, no key, and at each moment the cell as it was
 abbrev pub IsUnmade : {S R : Type 0} → PlatformGhosts S → TapeGhosts R → S → S → R → R → Type 0

@@ -1,4 +1,4 @@
-ghost use Rattle.std.specs.Prelude.{◌≡◌, ◌≢◌, ◌<◌, ◌≤◌, Some, true, false, IfOk, IfErr, IsOk};
+ghost use Rattle.std.specs.Prelude.{◌≡◌, ◌≢◌, ◌<◌, ◌≤◌, ◌+◌, ◌^◌, Some, true, false, IfOk, IfErr, OnOk, IsOk};
 ghost use Rattle.sdbt_base.specs.Faults.{Rose};
 ghost use Rattle.platform.specs.Image.{LeavesOnly};
 ghost use Rattle.platform.specs.Calls.{Grows};
@@ -6,61 +6,65 @@ ghost use Rattle.platform.specs.History.{Turns};
 ghost use Rattle.root_codec.specs.RootRecord.{root_bytes};
 ghost use Rattle.sdbt_base.specs.Arrays.{Device, Blocks, committed_with};
 ghost use Rattle.page_store.specs.Stands.{Stands};
+ghost use Rattle.device_core.specs.Certifying.{Certifies, IsOfCommit, IsCommitEntry};
 ghost use Rattle.device_core.specs.Publishing.{Discloses, HasRaised, IsCommitCause};
 ghost use Rattle.device_core.specs.Replies.{device_after};
 
-use crate::publishing::publish;
+use crate::certifying::{entry_of, gone_with};
+use crate::publishing::{PublishFault, publish};
 use crate::refusals::{CommitFault, CommitReply};
 use crate::session::Session;
 use page_store::AppendFault;
 use platform::Platform;
 use root_codec::Root;
-use sdbt_base::{Sink, Tape};
+use sdbt_base::{Line, Memory, Sink, Tape};
 
 impl Session {
     ghost use Rattle.device_core.specs.Open.{IsOpen, blocks_of, number_of, root_of, is_touched};
     ghost use Rattle.device_core.specs.Holds.{Holds, Follows};
     ghost use Rattle.device_core.specs.Knowing.{HoldsListed};
 
-    /// Makes the session's changes the device's: one new leaf, and then the root record that names it.
+    /// Makes the session's changes the device's: one new leaf, its certificate, and then the root record that names it.
     ///
     /// Without changes since the mount or the last commit it answers the present number and calls nothing.
     /// Else `Full` comes exactly where no page is free, and the session is then as before. A fault ends the
     /// session: the device is the one from before, or, where the last step failed, that one or the one
-    /// after. Nothing is put to the ledger yet.
+    /// after. The ledger gets one entry, in one put, before the root record is replaced.
     pub fn commit<P: Platform, T: Tape, L: Sink>(
-        self,
+        &mut self,
         platform: &mut P,
         tape: &mut T,
         ledger: &mut L,
-    ) -> Result<(Session, CommitReply), CommitFault>
-        requires { IsOpen self (P.head platform.old) }
+    ) -> Result<CommitReply, CommitFault>
+        requires { IsOpen self.old (P.head platform.old) }
 
-        ensures idle { is_touched self ≡ false → (platform.new ≡ platform.old) × (tape.new ≡ tape.old) × (ledger.new ≡ ledger.old)
-            × IfOk result (λ answer. (answer.0 ≡ self) × (answer.1 ≡ CommitReply.Committed (number_of self))) × IsOk result }
-        ensures full { is_touched self ≡ true → P.head platform.old ≡ P.capacity platform.old → (platform.new ≡ platform.old)
-            × (tape.new ≡ tape.old) × (ledger.new ≡ ledger.old)
-            × IfOk result (λ answer. (answer.0 ≡ self) × (answer.1 ≡ CommitReply.Full 1 0)) × IsOk result }
-        ensures raised { is_touched self ≡ true → P.head platform.old ≢ P.capacity platform.old
-            → IfOk result (HasRaised P.Platform T.Tape platform.old platform.new tape.old tape.new self) }
-        ensures array { P.tells → (device : Device) (contents : Blocks) → Holds self (P.history platform.old).present device contents
-            → IfOk result (λ answer. Holds answer.0 (P.history platform.new).present (device_after answer.1 device contents) contents) }
-        ensures open { IfOk result (λ answer. IsOpen answer.0 (P.head platform.new)
-            × (blocks_of answer.0 ≡ blocks_of self) × (answer.0.mapped ≡ self.mapped)) }
+        ensures idle { is_touched self.old ≡ false → (self.new ≡ self.old) × (platform.new ≡ platform.old) × (tape.new ≡ tape.old)
+            × (ledger.new ≡ ledger.old) × IfOk result (λ reply. reply ≡ CommitReply.Committed (number_of self.old)) × IsOk result }
+        ensures full { is_touched self.old ≡ true → P.head platform.old ≡ P.capacity platform.old → (self.new ≡ self.old)
+            × (platform.new ≡ platform.old) × (tape.new ≡ tape.old) × (ledger.new ≡ ledger.old)
+            × IfOk result (λ reply. reply ≡ CommitReply.Full 1 0) × IsOk result }
+        ensures raised { is_touched self.old ≡ true → P.head platform.old ≢ P.capacity platform.old
+            → IfOk result (HasRaised P.Platform T.Tape platform.old platform.new tape.old tape.new self.old self.new) }
+        ensures array { P.tells → (device : Device) (contents : Blocks) → Holds self.old (P.history platform.old).present device contents
+            → IfOk result (λ reply. Holds self.new (P.history platform.new).present (device_after reply device contents) contents) }
+        ensures open { OnOk result (IsOpen self.new (P.head platform.new)
+            × (blocks_of self.new ≡ blocks_of self.old) × (self.new.mapped ≡ self.old.mapped)) }
         // On any image: what was read of the pages fits still, and a session on the root record in the cell stays on it.
-        ensures mounted { P.tells → IfOk result (λ answer.
-            (Follows self (P.history platform.old).present → Follows answer.0 (P.history platform.new).present)
-            × ((P.history platform.old).present.cell ≡ Some (root_bytes (root_of self))
-            → (P.history platform.new).present.cell ≡ Some (root_bytes (root_of answer.0)))) }
+        ensures mounted { P.tells → OnOk result (
+            (Follows self.old (P.history platform.old).present → Follows self.new (P.history platform.new).present)
+            × ((P.history platform.old).present.cell ≡ Some (root_bytes (root_of self.old))
+            → (P.history platform.new).present.cell ≡ Some (root_bytes (root_of self.new)))) }
         // At each moment a loss of power leaves the device, until one from which on it leaves the one with the session's array.
-        ensures time { P.tells → (device : Device) (contents : Blocks) → Holds self (P.history platform.old).present device contents
+        ensures time { P.tells → (device : Device) (contents : Blocks) → Holds self.old (P.history platform.old).present device contents
             → Turns (P.history platform.old) (P.history platform.new)
             (LeavesOnly (λ left. Stands left (Some device)))
             (LeavesOnly (λ left. Stands left (Some (committed_with device contents)))) }
         ensures discloses { Discloses P.tells (T.drawn tape.old) (T.drawn tape.new) (P.history platform.old) (P.history platform.new)
-            (HoldsListed self (P.history platform.old).present)
-            (λ keys. IfOk result (λ answer. HoldsListed answer.0 (P.history platform.new).present keys)) }
-        ensures unput { L.written ledger.new ≡ L.written ledger.old }
+            (HoldsListed self.old (P.history platform.old).present)
+            (λ keys. OnOk result (HoldsListed self.new (P.history platform.new).present keys)) }
+        ensures certifies { Certifies P.tells (L.written ledger.old) (L.written ledger.new) (P.history platform.old) (P.history platform.new)
+            self.old.root.head (number_of self.old + 1) (IsOfCommit self.old (P.history platform.old).present (P.history platform.new).present)
+            (IsOk result) }
         ensures cause { IfErr result (IsCommitCause P.Platform T.Tape platform.old platform.new tape.old tape.new
             (Rose (P.faults platform.old) (P.faults platform.new)) (Rose (T.faults tape.old) (T.faults tape.new))
             (Rose (L.faults ledger.old) (L.faults ledger.new))) }
@@ -69,41 +73,72 @@ impl Session {
     {
         if !self.is_touched {
             let number = self.root.commit;
-            return Ok((self, CommitReply::Committed { number }));
+            return Ok(CommitReply::Committed { number });
         }
-        if platform.head() == platform.capacity() {
-            let reply = CommitReply::Full { needed: 1, free: 0 };
-            return Ok((self, reply));
+        let addr = platform.head();
+        if addr == platform.capacity() {
+            return Ok(CommitReply::Full { needed: 1, free: 0 });
         }
-        self.raise(platform, tape)
+        let Ok(entry) = self.entry(addr) else {
+            return Err(CommitFault::Memory);
+        };
+        self.raise(platform, tape, ledger, entry.bytes())
     }
 
-    /// Appends the leaf, syncs and replaces the root record.
-    fn raise<P: Platform, T: Tape>(
-        mut self,
+    /// The ledger's entry of a commit whose leaf is to stand at an address.
+    fn entry(&self, addr: u64) -> Result<Line, Memory>
+        requires number { number_of self.now < 2 ^ 63 }
+        requires addr { addr < 2 ^ 32 }
+        ensures { IfOk result (IsCommitEntry self.now addr) }
+    {
+        let gone = gone_with(self.alloc, self.root.addr, self.released.gone())?;
+        let commit = self.root.commit + 1;
+        let entries = self.entries.as_slice();
+        entry_of(
+            self.alloc,
+            commit,
+            self.root.head,
+            addr,
+            entries,
+            &gone,
+            self.released.never(),
+        )
+    }
+
+    /// Appends the leaf, syncs, puts the entry to the ledger and replaces the root record.
+    fn raise<P: Platform, T: Tape, L: Sink>(
+        &mut self,
         platform: &mut P,
         tape: &mut T,
-    ) -> Result<(Session, CommitReply), CommitFault>
-        requires open { IsOpen self (P.head platform.old) }
-        requires touched { is_touched self ≡ true }
+        ledger: &mut L,
+        entry: &[u8],
+    ) -> Result<CommitReply, CommitFault>
+        requires open { IsOpen self.old (P.head platform.old) }
+        requires touched { is_touched self.old ≡ true }
         requires room { P.head platform.old < P.capacity platform.old }
+        requires entry { IsCommitEntry self.old (P.head platform.old) entry.now }
 
-        ensures raised { IfOk result (HasRaised P.Platform T.Tape platform.old platform.new tape.old tape.new self) }
-        ensures array { P.tells → (device : Device) (contents : Blocks) → Holds self (P.history platform.old).present device contents
-            → IfOk result (λ answer. Holds answer.0 (P.history platform.new).present (device_after answer.1 device contents) contents) }
-        ensures open { IfOk result (λ answer. IsOpen answer.0 (P.head platform.new)
-            × (blocks_of answer.0 ≡ blocks_of self) × (answer.0.mapped ≡ self.mapped)) }
-        ensures follows { P.tells → IfOk result (λ answer. Follows answer.0 (P.history platform.new).present) }
-        ensures time { P.tells → (device : Device) (contents : Blocks) → Holds self (P.history platform.old).present device contents
+        ensures raised { IfOk result (HasRaised P.Platform T.Tape platform.old platform.new tape.old tape.new self.old self.new) }
+        ensures array { P.tells → (device : Device) (contents : Blocks) → Holds self.old (P.history platform.old).present device contents
+            → IfOk result (λ reply. Holds self.new (P.history platform.new).present (device_after reply device contents) contents) }
+        ensures open { OnOk result (IsOpen self.new (P.head platform.new)
+            × (blocks_of self.new ≡ blocks_of self.old) × (self.new.mapped ≡ self.old.mapped)) }
+        ensures follows { P.tells → OnOk result (Follows self.new (P.history platform.new).present) }
+        ensures time { P.tells → (device : Device) (contents : Blocks) → Holds self.old (P.history platform.old).present device contents
             → Turns (P.history platform.old) (P.history platform.new)
             (LeavesOnly (λ left. Stands left (Some device)))
             (LeavesOnly (λ left. Stands left (Some (committed_with device contents)))) }
         ensures discloses { Discloses P.tells (T.drawn tape.old) (T.drawn tape.new) (P.history platform.old) (P.history platform.new)
-            (HoldsListed self (P.history platform.old).present)
-            (λ keys. IfOk result (λ answer. HoldsListed answer.0 (P.history platform.new).present keys)) }
+            (HoldsListed self.old (P.history platform.old).present)
+            (λ keys. OnOk result (HoldsListed self.new (P.history platform.new).present keys)) }
+        ensures certifies { Certifies P.tells (L.written ledger.old) (L.written ledger.new) (P.history platform.old) (P.history platform.new)
+            self.old.root.head (number_of self.old + 1) (IsOfCommit self.old (P.history platform.old).present (P.history platform.new).present)
+            (IsOk result) }
         ensures cause { IfErr result (IsCommitCause P.Platform T.Tape platform.old platform.new tape.old tape.new
-            (Rose (P.faults platform.old) (P.faults platform.new)) (Rose (T.faults tape.old) (T.faults tape.new)) ⊥) }
-        ensures grows { Grows P.Platform platform.old platform.new × (T.faults tape.old ≤ T.faults tape.new) }
+            (Rose (P.faults platform.old) (P.faults platform.new)) (Rose (T.faults tape.old) (T.faults tape.new))
+            (Rose (L.faults ledger.old) (L.faults ledger.new))) }
+        ensures grows { Grows P.Platform platform.old platform.new × (T.faults tape.old ≤ T.faults tape.new)
+            × (L.faults ledger.old ≤ L.faults ledger.new) }
     {
         self.buffers.put_node(platform.head(), 1, &self.entries);
         let placed = match self.buffers.append(platform, tape) {
@@ -121,13 +156,16 @@ impl Session {
             level: self.root.level,
             blocks: self.root.blocks,
         };
-        let Ok(()) = publish(platform, &root) else {
-            return Err(CommitFault::PlatformFault);
-        };
+        match publish(platform, ledger, &root, entry) {
+            Ok(()) => {}
+            Err(PublishFault::Ledger) => return Err(CommitFault::LedgerFault),
+            Err(PublishFault::Platform) => return Err(CommitFault::PlatformFault),
+        }
         let number = root.commit;
         self.root = root;
         self.is_touched = false;
+        self.released.clear();
         self.buffers.wipe();
-        Ok((self, CommitReply::Committed { number }))
+        Ok(CommitReply::Committed { number })
     }
 }

@@ -1,4 +1,4 @@
-ghost use Rattle.std.specs.Prelude.{◌≡◌, ◌≢◌, ◌≤◌, ◌⊎◌, Option, None, Some, OnOk, OnErr, IsErrOf, ⊤};
+ghost use Rattle.std.specs.Prelude.{◌≡◌, ◌≢◌, ◌≤◌, ◌⊎◌, [], Option, None, Some, OnOk, OnErr, IsOk, IsErrOf, ⊤};
 ghost use Rattle.sdbt_base.specs.Faults.{Rose};
 ghost use Rattle.platform.specs.Image.{LeavesOnly};
 ghost use Rattle.platform.specs.Calls.{Grows};
@@ -9,9 +9,11 @@ ghost use Rattle.device_core.specs.Leaf.{IsServedImage};
 ghost use Rattle.root_codec.specs.declared.root.Root.{Root};
 ghost use Rattle.root_codec.specs.RootRecord.{root_bytes};
 ghost use Rattle.device_core.specs.Drawing.{NamesLast};
+ghost use Rattle.device_core.specs.Certifying.{Certifies, IsOfTrees};
 ghost use Rattle.device_core.specs.Publishing.{Discloses, IsFormatCause};
 
-use crate::publishing::publish;
+use crate::certifying::entry_of;
+use crate::publishing::{PublishFault, publish};
 use crate::refusals::FormatRefusal;
 use page_store::{AppendFault, Buffers};
 use platform::Platform;
@@ -23,7 +25,8 @@ use std::alloc::Global;
 /// then the root record that names it.
 ///
 /// As long as a device is one leaf, the order is 64 and there are 1 to 64 blocks. `NotEmpty` comes exactly
-/// where the cell is full, and else `Full` exactly where no page is free. Nothing is put to the ledger yet.
+/// where the cell is full, and else `Full` exactly where no page is free. The ledger gets one entry, in one put,
+/// before the root record is written.
 pub fn format<P: Platform, T: Tape, L: Sink>(
     alloc: Global,
     platform: &mut P,
@@ -54,7 +57,8 @@ pub fn format<P: Platform, T: Tape, L: Sink>(
         (LeavesOnly (λ left. Stands left device)) (LeavesOnly (λ left. Stands left (Some (new_device blocks order)))) }
     ensures discloses { Discloses P.tells (T.drawn tape.old) (T.drawn tape.new) (P.history platform.old) (P.history platform.new)
         (λ keys. IsSound (P.history platform.old).present) (λ keys. ⊤) }
-    ensures unput { L.written ledger.new ≡ L.written ledger.old }
+    ensures certifies { Certifies P.tells (L.written ledger.old) (L.written ledger.new) (P.history platform.old) (P.history platform.new)
+        (P.head platform.old) 0 (λ root. IsOfTrees [] (P.head platform.old) (P.history platform.new).present.readable root []) (IsOk result) }
     ensures grows { Grows P.Platform platform.old platform.new × (T.faults tape.old ≤ T.faults tape.new)
         × (L.faults ledger.old ≤ L.faults ledger.new) }
 {
@@ -71,7 +75,11 @@ pub fn format<P: Platform, T: Tape, L: Sink>(
     let Ok(mut buffers) = Buffers::new(alloc) else {
         return Err(FormatRefusal::Memory);
     };
-    buffers.put_node(platform.head(), 1, &[]);
+    let addr = platform.head();
+    let Ok(entry) = entry_of(alloc, 0, addr, addr, &[], &[], &[]) else {
+        return Err(FormatRefusal::Memory);
+    };
+    buffers.put_node(addr, 1, &[]);
     let placed = match buffers.append(platform, tape) {
         Ok(placed) => placed,
         Err(AppendFault::TapeFault) => return Err(FormatRefusal::TapeFault),
@@ -87,8 +95,9 @@ pub fn format<P: Platform, T: Tape, L: Sink>(
         mapped: 0,
         head: placed.addr + 1,
     };
-    match publish(platform, &root) {
+    match publish(platform, ledger, &root, entry.bytes()) {
         Ok(()) => Ok(()),
-        Err(_) => Err(FormatRefusal::PlatformFault),
+        Err(PublishFault::Ledger) => Err(FormatRefusal::LedgerFault),
+        Err(PublishFault::Platform) => Err(FormatRefusal::PlatformFault),
     }
 }

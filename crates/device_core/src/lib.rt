@@ -5,6 +5,7 @@
 //! or the one after. Until there are trees of many levels, a device is one leaf: order 64, at most 64 blocks.
 #![tactic(auto)]
 
+mod certifying;
 mod committing;
 mod erasing;
 mod formatting;
@@ -13,6 +14,7 @@ mod leaves;
 mod publishing;
 mod reading;
 mod refusals;
+mod released;
 mod session;
 mod writing;
 

@@ -1,16 +1,32 @@
-//! The last two steps of a format and of a commit.
-ghost use Rattle.std.specs.Prelude.{◌≡◌, ◌≤◌, Some, OnOk, OnErr};
+//! The last three steps of a format and of a commit.
+ghost use Rattle.std.specs.Prelude.{◌≡◌, ◌≤◌, ◌⊎◌, Some, OnOk, IfErr, IsOk};
 ghost use Rattle.sdbt_base.specs.Faults.{Rose};
+ghost use Rattle.sdbt_base.specs.Told.{Got, GotPart};
 ghost use Rattle.platform.specs.Image.{with_cell, all_synced};
-ghost use Rattle.platform.specs.History.{Turns};
+ghost use Rattle.platform.specs.History.{Turns, CellStays};
 ghost use Rattle.root_codec.specs.RootRecord.{FitsRoot, root_bytes};
+ghost use Rattle.device_core.specs.Publishing.{IsPublishCause};
 
 use platform::Platform;
 use root_codec::{Root, encode_root};
-use sdbt_base::{PlatformFault, ROOT};
+use sdbt_base::{ROOT, Sink};
 
-/// Syncs the medium, and then replaces the root record. The cell is as it was until that one step.
-pub(crate) fn publish<P: Platform>(platform: &mut P, root: &Root) -> Result<(), PlatformFault>
+/// Why a root record was not published.
+pub(crate) enum PublishFault {
+    /// The platform failed.
+    Platform,
+    /// The ledger failed.
+    Ledger,
+}
+
+/// Syncs the medium, puts the entry of its certificate to the ledger, and then replaces the root record. The cell is as it was
+/// until that one step, before which the entry was put whole.
+pub(crate) fn publish<P: Platform, L: Sink>(
+    platform: &mut P,
+    ledger: &mut L,
+    root: &Root,
+    entry: &[u8],
+) -> Result<(), PublishFault>
     requires { FitsRoot root.now }
 
     ensures published { P.tells
@@ -19,15 +35,31 @@ pub(crate) fn publish<P: Platform>(platform: &mut P, root: &Root) -> Result<(), 
     ensures time { P.tells → Turns (P.history platform.old) (P.history platform.new)
         (λ image. image.cell ≡ (P.history platform.old).present.cell)
         (λ image. image ≡ with_cell (all_synced (P.history platform.old).present) (Some (root_bytes root.now))) }
+    ensures put { (Got (L.written ledger.old) entry.now (L.written ledger.new)
+        × (P.tells → ((P.history platform.new).present.cell ≡ Some (root_bytes root.now))
+        ⊎ (CellStays (P.history platform.old) (P.history platform.new) × (IsOk result → ⊥))))
+        ⊎ (GotPart (L.written ledger.old) entry.now (L.written ledger.new)
+        × (P.tells → CellStays (P.history platform.old) (P.history platform.new)) × (IsOk result → ⊥)) }
 
     ensures head { P.head platform.new ≡ P.head platform.old }
     ensures capacity { P.capacity platform.new ≡ P.capacity platform.old }
     ensures reads { P.tells → P.reads platform.new ≡ P.reads platform.old }
     ensures faults { P.faults platform.old ≤ P.faults platform.new }
-    ensures cause { OnErr result (Rose (P.faults platform.old) (P.faults platform.new)) }
+    ensures ledger_faults { L.faults ledger.old ≤ L.faults ledger.new }
+    ensures cause { IfErr result (IsPublishCause (Rose (P.faults platform.old) (P.faults platform.new))
+        (Rose (L.faults ledger.old) (L.faults ledger.new)
+        × (P.tells → CellStays (P.history platform.old) (P.history platform.new)))) }
 {
     let mut bytes = [0; ROOT];
     encode_root(root, &mut bytes);
-    platform.sync()?;
-    platform.swap_root(&bytes)
+    let Ok(()) = platform.sync() else {
+        return Err(PublishFault::Platform);
+    };
+    let Ok(()) = ledger.put(entry) else {
+        return Err(PublishFault::Ledger);
+    };
+    match platform.swap_root(&bytes) {
+        Ok(()) => Ok(()),
+        Err(_) => Err(PublishFault::Platform),
+    }
 }

@@ -12,6 +12,7 @@ ghost use Rattle.device_core.specs.Causes.{IsMountCause};
 
 use crate::leaves::is_one_leaf;
 use crate::refusals::MountRefusal;
+use crate::released::Released;
 use arrayvec::ArrayVec;
 use node_codec::{Body, Entry};
 use page_store::{Buffers, CurrentRefusal, FetchRefusal, Want, current, fetch};
@@ -34,7 +35,9 @@ pub struct Session {
     pub(crate) is_loaded: bool,
     pub(crate) is_touched: bool,
     pub(crate) entries: ArrayVec<Entry, 64>,
+    pub(crate) released: Released,
     pub(crate) buffers: Buffers,
+    pub(crate) alloc: Global,
 }
 
 impl Model for Session {
@@ -48,6 +51,7 @@ impl Model for Session {
       is_loaded = s.is_loaded;
       is_touched = s.is_touched;
       entries = s.entries.items;
+      released = record { gone = s.released.gone.items; never = s.released.never.items };
       buffers = s.buffers;
     } };
 }
@@ -106,7 +110,9 @@ impl Session {
             is_loaded: false,
             is_touched: false,
             entries: ArrayVec::new(),
+            released: Released::new(alloc),
             buffers,
+            alloc,
         })
     }
 

@@ -84,6 +84,9 @@ impl Session {
                 addr: self.root.addr,
             });
         };
+        if self.released.reserve().is_err() {
+            return Err(WriteRefusal::Memory);
+        }
         are_bytes(content);
         let addr = platform.head();
         self.buffers.put_block(addr, block, content);
@@ -97,6 +100,8 @@ impl Session {
             addr: placed.addr,
             key: placed.key,
         };
+        self.released
+            .let_go_at(self.root.head, self.entries.as_slice(), place);
         put_entry(&mut self.entries, place, entry);
         self.mapped = mapped;
         self.is_touched = true;
@@ -149,6 +154,11 @@ impl Session {
                 addr: self.root.addr,
             });
         }
+        if self.released.reserve().is_err() {
+            return Err(TrimRefusal::Memory);
+        }
+        let entry = self.entries[place];
+        self.released.let_go(self.root.head, &entry);
         self.entries.remove(place);
         self.mapped -= 1;
         self.is_touched = true;

@@ -29,7 +29,7 @@ returns-clause-holds g c = λ told device stands.
     let within = rw c.in-Some.is at c.in-Ok.ensures.within in
     let one = c.is_one_leaf.ensures.0 (grind (arith, c.if-not-is_one_leaf.false)) in
     let root = c.in-Some.root in
-    mounted _ _ device _ refl refl (record { fits = within.in_range; key = within.key; leaf = one; within = within.within })
+    mounted _ _ device _ refl refl (λ i. record { gone = c.new-3.ensures.gone i; never = c.new-3.ensures.never i }) (record { fits = within.in_range; key = within.key; leaf = one; within = within.within })
     (subst (λ (i : Image). i.cell ≡ Some (root_bytes root)) same found) (subst (λ (i : Image). Stands i (Some device)) same stands)
 
 pub returns-clause-follows : goal.returns-clause-follows

@@ -60,7 +60,7 @@ returns-clause-follows g c = λ told follows.
     let ready = rw (← c.self-2.view_is) at c.in-Ok.ensures.leaf.0 in
     let followed = rw (← c.self-2.view_is) at (c.load.ensures.follows told follows) in
     let place = rw c.as_slice.ensures.value at c.in-Ok-place_of.ensures in
-    rw c.remove.ensures.items (follows_removed (the_view c.self-2.inside) _ _ c.in-Ok-place_of.place ready followed place.0 (omega arith))
+    rw c.remove.ensures.items (follows_removed (the_view c.self-2.inside) _ _ _ c.in-Ok-place_of.place ready followed place.0 (omega arith))
 
 pub returns-in-Err-BadRecord-clause-damaged : goal.returns-in-Err-BadRecord-clause-damaged
 returns-in-Err-BadRecord-clause-damaged g c = λ told addr is.
@@ -94,4 +94,4 @@ returns-clause-listed g c = λ told keys kept h.
     let ready = rw (← c.self-2.view_is) at c.in-Ok.ensures.leaf.0 in
     let place = rw c.as_slice.ensures.value at c.in-Ok-place_of.ensures in
     let l = rw (← c.self-2.view_is) at (c.load.ensures.listed told keys kept h) in
-    rw c.remove.ensures.items (listed_trimmed (the_view c.self-2.inside) _ _ _ l.device _ keys l (trimmed (the_view c.self-2.inside) _ _ l.device l.contents c.args.block _ ready l.holds place (omega arith)))
+    rw c.remove.ensures.items (listed_trimmed (the_view c.self-2.inside) _ _ _ _ l.device _ keys l (trimmed (the_view c.self-2.inside) _ _ l.device l.contents c.args.block _ ready l.holds place (omega arith)))

@@ -81,7 +81,7 @@ holds_written g c told device contents held =
     let opened = rw (← c.self-2.view_is) at c.load.ensures.open in
     let address : c.in-Ok-append.placed.addr ≡ g.P.Platform.head c.load.new.platform = c.in-Ok-append.ensures.address in
     let are = subst (λ (n : ℕ). AreEntries c.self-2.inside.entries.items c.self-2.inside.root.blocks n) (sym address) opened.entries in
-    written (the_view c.self-2.inside) _ _ looked.present (g.P.Platform.history c.append.new.platform).present device contents c.args.block c.in-Ok-append.placed.addr c.place_of-place.result c.in-Ok-append.placed.key (padded c.args.content.now) ready held (whole-now looked)
+    written (the_view c.self-2.inside) _ _ _ looked.present (g.P.Platform.history c.append.new.platform).present device contents c.args.block c.in-Ok-append.placed.addr c.place_of-place.result c.in-Ok-append.placed.key (padded c.args.content.now) ready held (whole-now looked)
     (address ∙ sym (g.met.P.Platform.counts_pages told c.load.new.platform)) (near _ _ _ address (g.met.P.Platform.has_room c.load.new.platform) (g.met.P.Platform.is_limited c.load.new.platform)) are (rw c.as_slice.ensures.value at c.place_of-place.ensures)
     (few _ _ (subst (λ (s : Session). c.args.block < s.root.blocks) c.self.view_is c.if-block-self.false) c.requires.open.served.leaf.blocks) (padded_bytes c.args.content.now c.requires.size c.are_bytes.ensures) c.in-Some.ensures.found.1
     (Extends-earlier _ _ (c.append.ensures.time told).extends) (appended g c told)
@@ -213,7 +213,7 @@ returns-clause-follows g c = λ told follows.
     let followed = rw (← c.self-2.view_is) at (c.load.ensures.follows told follows) in
     let at = goal.at.returns-clause-follows g c in
     let address : c.in-Ok-append.placed.addr ≡ g.P.Platform.head c.load.new.platform = c.in-Ok-append.ensures.address in
-    rw c.put_entry.ensures (follows_written (the_view c.self-2.inside) _ _ looked.present (g.P.Platform.history c.append.new.platform).present c.args.block c.in-Ok-append.placed.addr c.place_of-place.result c.in-Ok-append.placed.key (padded c.args.content.now)
+    rw c.put_entry.ensures (follows_written (the_view c.self-2.inside) _ _ _ looked.present (g.P.Platform.history c.append.new.platform).present c.args.block c.in-Ok-append.placed.addr c.place_of-place.result c.in-Ok-append.placed.key (padded c.args.content.now)
     ready followed (rw c.as_slice.ensures.value at c.place_of-place.ensures) c.in-Some.ensures.found.1 (whole-now looked) (address ∙ sym (g.met.P.Platform.counts_pages told c.load.new.platform))
     (near _ _ _ address (g.met.P.Platform.has_room c.load.new.platform) (g.met.P.Platform.is_limited c.load.new.platform)) (few _ _ (of_device g at.After-load) c.requires.open.served.leaf.blocks)
     (padded_bytes c.args.content.now c.requires.size c.are_bytes.ensures) (Extends-earlier _ _ (c.append.ensures.time told).extends) (appended g at.In-Ok-append told))
@@ -302,7 +302,7 @@ returns-clause-keeps g c =
     keeps_written g at.After-append _ _ c.in-Ok-append.ensures.keeps
     (λ told keys more h has.
     let held = holds_written g at.In-Ok-append told h.device h.contents h.holds in
-    rw c.put_entry.ensures (listed_written (the_view c.self-2.inside) _ _ c.place_of-place.result (entry_of g at.In-Ok-append) _ _ h.device _ keys more h held (Extends-earlier _ _ (c.append.ensures.time told).extends)
+    rw c.put_entry.ensures (listed_written (the_view c.self-2.inside) _ _ _ c.place_of-place.result (entry_of g at.In-Ok-append) _ _ h.device _ keys more h held (Extends-earlier _ _ (c.append.ensures.time told).extends)
     (c.append.ensures.cell told) (subst (λ (n : ℕ). c.self-2.inside.root.head ≤ n) (sym address) opened.served.within) has))
 
 pub returns-clause-adds : goal.returns-clause-adds

@@ -1,0 +1,15 @@
+use Rattle.std.proofs.lemmas.Result.{IfOk-weaker}
+use Rattle.device_core.proofs.certifying.entry_of.Goals as goal
+
+pub returns : goal.returns
+returns c = IfOk-weaker c.line.result _ _ (λ line is. record {
+  cert = c.in_ok-cert.cert;
+  is = is;
+  commit_is = c.in_ok-cert.ensures.commit;
+  base_is = c.in_ok-cert.ensures.base;
+  root_is = c.in_ok-cert.ensures.root;
+  head_is = c.in_ok-cert.ensures.head;
+  added = c.in_ok-added.added;
+  adds = c.in_ok-added.ensures;
+  of = c.in_ok-cert.ensures.trees;
+}) c.line.ensures.entry
