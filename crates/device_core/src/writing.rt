@@ -84,9 +84,9 @@ impl Session {
                 addr: self.root.addr,
             });
         };
-        if self.released.reserve().is_err() {
+        let Ok(()) = self.released.reserve() else {
             return Err(WriteRefusal::Memory);
-        }
+        };
         are_bytes(content);
         let addr = platform.head();
         self.buffers.put_block(addr, block, content);
@@ -154,9 +154,9 @@ impl Session {
                 addr: self.root.addr,
             });
         }
-        if self.released.reserve().is_err() {
+        let Ok(()) = self.released.reserve() else {
             return Err(TrimRefusal::Memory);
-        }
+        };
         let entry = self.entries[place];
         self.released.let_go(self.root.head, &entry);
         self.entries.remove(place);

@@ -10,11 +10,30 @@ use Rattle.platform.specs.Image.{Image}
 use Rattle.page_store.specs.Tree.{Wrong}
 use Rattle.device_core.specs.Damage.{IsMiscounted}
 use Rattle.device_core.proofs.KeyLaws.{listed_trimmed}
-use Rattle.std.specs.Prelude.{◌≢◌, List, All}
+use Rattle.std.proofs.Common.{ℕ, length, get_or}
+use Rattle.platform.proofs.Moments.{whole-now}
+use Rattle.device_core.specs.Accounts.{LetsGo, released_with}
+use Rattle.device_core.proofs.session.Session.trim.Given.{Over}
+use Rattle.device_core.proofs.session.Session.trim.Goals.{After-let_go}
+use Rattle.std.specs.Prelude.{◌≢◌, ◌<◌, List, All}
 use Rattle.node_codec.specs.declared.body.Entry.{Entry}
 use Rattle.device_core.proofs.ReadingLaws.{one_leaf, has_place}
 use Rattle.device_core.specs.contracts.session.Session.{the_view}
 use Rattle.device_core.proofs.session.Session.trim.Goals as goal
+
+-- what the session lets go of
+goes : (g : Over) (c : After-let_go g) → LetsGo c.self-2.inside.root.head (get_or c.self-2.inside.entries.items c.in-Ok-place_of.place c.index-deref-place.result) (the_view c.self-2.inside).released
+    (released_with c.let_go.new.self.gone.items c.let_go.new.self.never.items)
+goes g c =
+    let at : c.index-deref-place.result ≡ get_or c.self-2.inside.entries.items c.in-Ok-place_of.place c.index-deref-place.result = rw c.deref.ensures.0 at c.index-deref-place.is in
+    let let_go = rw (c.reserve.ensures.gone, c.reserve.ensures.never) at c.let_go.ensures in
+    subst (λ (e : Entry). LetsGo c.self-2.inside.root.head e (the_view c.self-2.inside).released (released_with c.let_go.new.self.gone.items c.let_go.new.self.never.items)) at let_go
+
+-- the entries name pages that there are
+small : (g : Over) (c : After-let_go g) → g.P.Platform.tells → All (λ e. e.addr < length (g.P.Platform.history c.load.new.platform).present.recorded) c.self-2.inside.entries.items
+small g c told =
+    let opened = rw (← c.self-2.view_is) at c.load.ensures.open in
+    subst (λ (n : ℕ). All (λ (e : Entry). e.addr < n) c.self-2.inside.entries.items) (sym (g.met.P.Platform.counts_pages told c.load.new.platform)) opened.entries.below
 
 pub returns-in-Err-BadRecord-clause-array : goal.returns-in-Err-BadRecord-clause-array
 returns-in-Err-BadRecord-clause-array g c = λ told device contents h. c.load.ensures.sound told device contents h c.in-Err-BadRecord.addr (cc)
@@ -41,7 +60,7 @@ returns-clause-array g c = λ told device contents h.
     let held = rw (← c.self-2.view_is) at (c.load.ensures.holds told device contents h) in
     let place = rw c.as_slice.ensures.value at c.in-Ok-place_of.ensures in
     let there = is_mapped (the_view c.self-2.inside) _ device contents _ c.args.block ready held place in
-    (rw c.remove.ensures.items (trimmed (the_view c.self-2.inside) _ _ device contents c.args.block _ ready held place (omega arith)), touched_some _ _ there.0 there.1)
+    (rw c.remove.ensures.items (trimmed (the_view c.self-2.inside) _ _ _ _ device contents c.args.block _ ready held place (omega arith) (whole-now (g.P.Platform.history c.load.new.platform)) (small g (goal.at.returns-clause-array g c).After-let_go told) (goes g (goal.at.returns-clause-array g c).After-let_go)), touched_some _ _ there.0 there.1)
 
 pub returns-clause-open : goal.returns-clause-open
 returns-clause-open g c =
@@ -89,9 +108,13 @@ returns-in_default-clause-counter g c = λ told leaf entry is has none ok.
     let same = one_leaf c.args.self.now _ leaf c.self-2.inside.entries.items (omega (arith, c.requires.served.fits.addr, c.requires.served.fits.head)) is known in
     has_place leaf c.args.block entry has (subst (λ (es : List Entry). All (λ (e : Entry). e.low ≢ c.args.block) es) (sym same) (unmapped_place c.self-2.inside.entries.items (Err _) c.args.block place refl))
 
+pub returns-in_default-reserve-clause-listed : goal.returns-in_default-reserve-clause-listed
+returns-in_default-reserve-clause-listed g c = λ told keys kept h.
+    rw (c.reserve.ensures.gone, c.reserve.ensures.never, c.self-2.view_is) (c.load.ensures.listed told keys kept h)
+
 pub returns-clause-listed : goal.returns-clause-listed
 returns-clause-listed g c = λ told keys kept h.
     let ready = rw (← c.self-2.view_is) at c.in-Ok.ensures.leaf.0 in
     let place = rw c.as_slice.ensures.value at c.in-Ok-place_of.ensures in
     let l = rw (← c.self-2.view_is) at (c.load.ensures.listed told keys kept h) in
-    rw c.remove.ensures.items (listed_trimmed (the_view c.self-2.inside) _ _ _ _ l.device _ keys l (trimmed (the_view c.self-2.inside) _ _ l.device l.contents c.args.block _ ready l.holds place (omega arith)))
+    rw c.remove.ensures.items (listed_trimmed (the_view c.self-2.inside) _ _ _ _ l.device _ keys l (trimmed (the_view c.self-2.inside) _ _ _ _ l.device l.contents c.args.block _ ready l.holds place (omega arith) (whole-now (g.P.Platform.history c.load.new.platform)) (small g (goal.at.returns-clause-listed g c).After-let_go told) (goes g (goal.at.returns-clause-listed g c).After-let_go)))

@@ -1,5 +1,6 @@
 use Rattle.std.proofs.Common.{◌≡◌, ◌∙◌, ◌<◌, ◌≤◌, ◌^◌, ℕ, List, ap, sym, subst, arith}
-use Rattle.device_core.specs.Sessions.{Session}
+use Rattle.device_core.specs.Accounts.{LetsGoAt, released_with}
+use Rattle.device_core.specs.Sessions.{Session, Released}
 use Rattle.platform.proofs.Moments.{Extends-earlier, whole-now}
 use Rattle.seal_record.specs.Sealing.{masked}
 use Rattle.node_codec.specs.declared.body.Entry.{Entry}
@@ -34,7 +35,7 @@ use Rattle.std.proofs.Common.{◌++◌}
 use Rattle.device_core.proofs.HoldLaws.{with_entry}
 use Rattle.device_core.proofs.KeyLaws.{Appends}
 use Rattle.device_core.proofs.session.Session.write.Given.{Over}
-use Rattle.device_core.proofs.session.Session.write.Goals.{After-load, After-place_of-place, After-append, In-Some, In-Ok-append}
+use Rattle.device_core.proofs.session.Session.write.Goals.{After-load, After-place_of-place, After-append, After-let_go_at, In-Some, In-Ok-append}
 use Rattle.device_core.proofs.session.Session.write.Goals as goal
 
 -- an address of the medium is no great number
@@ -73,9 +74,15 @@ abbrev entry_of : (g : Over) → In-Ok-append g → Entry
 entry_of g c = record { low = c.args.block; addr = c.in-Ok-append.placed.addr; key = c.in-Ok-append.placed.key }
 
 -- the session has the array with the block
-holds_written : (g : Over) (c : In-Ok-append g) → g.P.Platform.tells → (device : Device) (contents : Blocks) → Holds (the_view c.self-2.inside) (g.P.Platform.history c.load.new.platform).present device contents
-    → Holds (with_entry (the_view c.self-2.inside) c.place_of-place.result (entry_of g c) c.in-Some.mapped c.append.new.self) (g.P.Platform.history c.append.new.platform).present device (maps.insert contents c.args.block (padded c.args.content.now))
-holds_written g c told device contents held =
+-- what the session lets go of then
+goes : (g : Over) (c : After-let_go_at g) → LetsGoAt c.self-2.inside.root.head c.self-2.inside.entries.items c.place_of-place.result (the_view c.self-2.inside).released
+    (released_with c.let_go_at.new.self.gone.items c.let_go_at.new.self.never.items)
+goes g c = rw (c.reserve.ensures.gone, c.reserve.ensures.never, c.as_slice-2.ensures.value) at c.let_go_at.ensures
+
+holds_written : (g : Over) (c : In-Ok-append g) (released : Released) → g.P.Platform.tells → (device : Device) (contents : Blocks) → Holds (the_view c.self-2.inside) (g.P.Platform.history c.load.new.platform).present device contents
+    → LetsGoAt c.self-2.inside.root.head c.self-2.inside.entries.items c.place_of-place.result (the_view c.self-2.inside).released released
+    → Holds (with_entry (the_view c.self-2.inside) c.place_of-place.result (entry_of g c) c.in-Some.mapped released c.append.new.self) (g.P.Platform.history c.append.new.platform).present device (maps.insert contents c.args.block (padded c.args.content.now))
+holds_written g c released told device contents held goes =
     let looked = g.P.Platform.history c.load.new.platform in
     let ready = rw (← c.self-2.view_is) at c.in-Ok.ensures.leaf.0 in
     let opened = rw (← c.self-2.view_is) at c.load.ensures.open in
@@ -84,7 +91,7 @@ holds_written g c told device contents held =
     written (the_view c.self-2.inside) _ _ _ looked.present (g.P.Platform.history c.append.new.platform).present device contents c.args.block c.in-Ok-append.placed.addr c.place_of-place.result c.in-Ok-append.placed.key (padded c.args.content.now) ready held (whole-now looked)
     (address ∙ sym (g.met.P.Platform.counts_pages told c.load.new.platform)) (near _ _ _ address (g.met.P.Platform.has_room c.load.new.platform) (g.met.P.Platform.is_limited c.load.new.platform)) are (rw c.as_slice.ensures.value at c.place_of-place.ensures)
     (few _ _ (subst (λ (s : Session). c.args.block < s.root.blocks) c.self.view_is c.if-block-self.false) c.requires.open.served.leaf.blocks) (padded_bytes c.args.content.now c.requires.size c.are_bytes.ensures) c.in-Some.ensures.found.1
-    (Extends-earlier _ _ (c.append.ensures.time told).extends) (appended g c told)
+    (Extends-earlier _ _ (c.append.ensures.time told).extends) (appended g c told) goes
 
 -- a look and an append keep the keys, with the one that was drawn
 keeps_written : (g : Over) (c : After-append g) (Then Done : List (List ℕ) → Type 0) → let history = g.P.Platform.history in let drawn = g.T.Tape.drawn in
@@ -143,7 +150,7 @@ put_block-requires-clause-block g c = few _ _ (of_device g (goal.at.put_block-re
 pub returns-in-Err-TapeFault-clause-array : goal.returns-in-Err-TapeFault-clause-array
 returns-in-Err-TapeFault-clause-array g c = λ told device contents h.
     let held = rw (← c.self-2.view_is) at (c.load.ensures.holds told device contents h) in
-    holds_same (the_view c.self-2.inside) _ _ _ _ _ (c.append.ensures.unchanged told (cc)) held
+    rw (c.reserve.ensures.gone, c.reserve.ensures.never) (holds_same (the_view c.self-2.inside) _ _ _ _ _ (c.append.ensures.unchanged told (cc)) held)
 
 pub returns-in-Err-TapeFault-clause-time : goal.returns-in-Err-TapeFault-clause-time
 returns-in-Err-TapeFault-clause-time g c = λ told. call_more _ _ _ (c.load.ensures.looks.time told) (c.append.ensures.time told) (c.append.ensures.cell told)
@@ -151,7 +158,7 @@ returns-in-Err-TapeFault-clause-time g c = λ told. call_more _ _ _ (c.load.ensu
 pub returns-in-Err-PlatformFault-append-clause-array : goal.returns-in-Err-PlatformFault-append-clause-array
 returns-in-Err-PlatformFault-append-clause-array g c = λ told device contents h.
     let held = rw (← c.self-2.view_is) at (c.load.ensures.holds told device contents h) in
-    holds_later (the_view c.self-2.inside) _ _ _ device contents (Extends-earlier _ _ (c.append.ensures.time told).extends) (c.append.ensures.cell told) held
+    rw (c.reserve.ensures.gone, c.reserve.ensures.never) (holds_later (the_view c.self-2.inside) _ _ _ device contents (Extends-earlier _ _ (c.append.ensures.time told).extends) (c.append.ensures.cell told) held)
 
 pub returns-in-Err-PlatformFault-append-clause-time : goal.returns-in-Err-PlatformFault-append-clause-time
 returns-in-Err-PlatformFault-append-clause-time g c = λ told. call_more _ _ _ (c.load.ensures.looks.time told) (c.append.ensures.time told) (c.append.ensures.cell told)
@@ -194,17 +201,17 @@ returns-clause-open g c =
 pub returns-clause-array : goal.returns-clause-array
 returns-clause-array g c = λ told device contents h.
     let held = rw (← c.self-2.view_is) at (c.load.ensures.holds told device contents h) in
-    rw c.put_entry.ensures (holds_written g (goal.at.returns-clause-array g c).In-Ok-append told device contents held)
+    rw c.put_entry.ensures (holds_written g (goal.at.returns-clause-array g c).In-Ok-append _ told device contents held (goes g (goal.at.returns-clause-array g c).After-let_go_at))
 
 pub returns-in-Err-TapeFault-clause-follows : goal.returns-in-Err-TapeFault-clause-follows
 returns-in-Err-TapeFault-clause-follows g c = λ told follows.
     let followed = rw (← c.self-2.view_is) at (c.load.ensures.follows told follows) in
-    follows_same (the_view c.self-2.inside) _ _ _ (c.append.ensures.unchanged told (cc)) followed
+    rw (c.reserve.ensures.gone, c.reserve.ensures.never) (follows_same (the_view c.self-2.inside) _ _ _ (c.append.ensures.unchanged told (cc)) followed)
 
 pub returns-in-Err-PlatformFault-append-clause-follows : goal.returns-in-Err-PlatformFault-append-clause-follows
 returns-in-Err-PlatformFault-append-clause-follows g c = λ told follows.
     let followed = rw (← c.self-2.view_is) at (c.load.ensures.follows told follows) in
-    follows_later (the_view c.self-2.inside) _ _ _ (Extends-earlier _ _ (c.append.ensures.time told).extends) followed
+    rw (c.reserve.ensures.gone, c.reserve.ensures.never) (follows_later (the_view c.self-2.inside) _ _ _ (Extends-earlier _ _ (c.append.ensures.time told).extends) followed)
 
 pub returns-clause-follows : goal.returns-clause-follows
 returns-clause-follows g c = λ told follows.
@@ -284,15 +291,21 @@ pub returns-in_default-clause-keeps : goal.returns-in_default-clause-keeps
 returns-in_default-clause-keeps g c =
     load_keeps _ _ _ _ (HoldsListed c.args.self.now (g.P.Platform.history c.args.platform.now).present) _ c.load.ensures.looks.image c.load.ensures.looks.time c.load.ensures.listed
 
+pub returns-in_default-reserve-clause-keeps : goal.returns-in_default-reserve-clause-keeps
+returns-in_default-reserve-clause-keeps g c =
+    let listed = rw (← c.self-2.view_is) at c.load.ensures.listed in
+    rw (c.reserve.ensures.gone, c.reserve.ensures.never)
+    (load_keeps _ _ _ _ (HoldsListed c.args.self.now (g.P.Platform.history c.args.platform.now).present) _ c.load.ensures.looks.image c.load.ensures.looks.time listed)
+
 pub returns-in-Err-TapeFault-clause-keeps : goal.returns-in-Err-TapeFault-clause-keeps
 returns-in-Err-TapeFault-clause-keeps g c =
-    keeps_written g (goal.at.returns-in-Err-TapeFault-clause-keeps g c).After-append _ _ c.append.ensures.keeps
-    (λ told keys more h done. listed_later (the_view c.self-2.inside) _ _ _ keys more (Extends-earlier _ _ (c.append.ensures.time told).extends) (c.append.ensures.cell told) h)
+    rw (c.reserve.ensures.gone, c.reserve.ensures.never) (keeps_written g (goal.at.returns-in-Err-TapeFault-clause-keeps g c).After-append _ _ c.append.ensures.keeps
+    (λ told keys more h done. listed_later (the_view c.self-2.inside) _ _ _ keys more (Extends-earlier _ _ (c.append.ensures.time told).extends) (c.append.ensures.cell told) h))
 
 pub returns-in-Err-PlatformFault-append-clause-keeps : goal.returns-in-Err-PlatformFault-append-clause-keeps
 returns-in-Err-PlatformFault-append-clause-keeps g c =
-    keeps_written g (goal.at.returns-in-Err-PlatformFault-append-clause-keeps g c).After-append _ _ c.append.ensures.keeps
-    (λ told keys more h done. listed_later (the_view c.self-2.inside) _ _ _ keys more (Extends-earlier _ _ (c.append.ensures.time told).extends) (c.append.ensures.cell told) h)
+    rw (c.reserve.ensures.gone, c.reserve.ensures.never) (keeps_written g (goal.at.returns-in-Err-PlatformFault-append-clause-keeps g c).After-append _ _ c.append.ensures.keeps
+    (λ told keys more h done. listed_later (the_view c.self-2.inside) _ _ _ keys more (Extends-earlier _ _ (c.append.ensures.time told).extends) (c.append.ensures.cell told) h))
 
 pub returns-clause-keeps : goal.returns-clause-keeps
 returns-clause-keeps g c =
@@ -301,7 +314,7 @@ returns-clause-keeps g c =
     let address : c.in-Ok-append.placed.addr ≡ g.P.Platform.head c.load.new.platform = c.in-Ok-append.ensures.address in
     keeps_written g at.After-append _ _ c.in-Ok-append.ensures.keeps
     (λ told keys more h has.
-    let held = holds_written g at.In-Ok-append told h.device h.contents h.holds in
+    let held = holds_written g at.In-Ok-append _ told h.device h.contents h.holds (goes g at.After-let_go_at) in
     rw c.put_entry.ensures (listed_written (the_view c.self-2.inside) _ _ _ c.place_of-place.result (entry_of g at.In-Ok-append) _ _ h.device _ keys more h held (Extends-earlier _ _ (c.append.ensures.time told).extends)
     (c.append.ensures.cell told) (subst (λ (n : ℕ). c.self-2.inside.root.head ≤ n) (sym address) opened.served.within) has))
 
