@@ -14,10 +14,12 @@ use Rattle.key_graph.proofs.ChainLaws.{contains_map, map_contains}
 use Rattle.node_codec.specs.declared.body.Entry.{Entry}
 use Rattle.page_store.specs.Tree.{Place}
 use Rattle.page_store.specs.Leaf.{data_places, leaf_parts}
+use Rattle.cert_maker.specs.CertOf.{CertOf}
 use Rattle.cert_maker.specs.Differ.{Differ}
+use Rattle.cert_maker.specs.Trace.{entries_of}
 use Rattle.cert_maker.specs.Ordered.{AreOneEach}
 use Rattle.device_core.specs.Accounts.{Accounts, IsNamed, IsUnnamed}
-use Rattle.device_core.specs.Certifying.{AddsOwn, AddsLeaf, record_of, leaf_of, page_of}
+use Rattle.device_core.specs.Certifying.{AddsOwn, AddsLeaf, IsEntryOf, record_of, leaf_of, page_of}
 use Rattle.device_core.specs.Sessions.{Released}
 
 -- ---- the added addresses of a leaf
@@ -146,27 +148,27 @@ says_of addr entries e has = let there = map_contains record_of entries e has in
 -- ---- the certificate of a commit
 
 -- a leaf, and another one after it, of which a session kept account
-record Follows (base addr root : ℕ) (leaf entries : List Entry) (released : Released) : Type 0 where
-  node : root < base
-  within : base ≤ addr
-  below : All (λ e. e.addr < root) leaf
-  small : All (λ e. e.addr < addr) entries
-  leaf_apart : AllPairs (λ a b. a.addr ≢ b.addr) leaf
-  apart : AllPairs (λ a b. a.addr ≢ b.addr) entries
-  accounts : Accounts base addr leaf entries released
+pub record Comes (base addr root : ℕ) (leaf entries : List Entry) (released : Released) : Type 0 where
+  pub node : root < base
+  pub within : base ≤ addr
+  pub below : All (λ e. e.addr < root) leaf
+  pub small : All (λ e. e.addr < addr) entries
+  pub leaf_apart : AllPairs (λ a b. a.addr ≢ b.addr) leaf
+  pub apart : AllPairs (λ a b. a.addr ≢ b.addr) entries
+  pub accounts : Accounts base addr leaf entries released
 
 -- an entry came after the root record, or lies below the root node
-where_is : (base addr root : ℕ) (leaf entries : List Entry) (released : Released) → Follows base addr root leaf entries released → (e : Entry) → Contains entries e → Contains leaf e ⊎ (base ≤ e.addr)
+where_is : (base addr root : ℕ) (leaf entries : List Entry) (released : Released) → Comes base addr root leaf entries released → (e : Entry) → Contains entries e → Contains leaf e ⊎ (base ≤ e.addr)
 where_is base addr root leaf entries released f e has = All-contains (λ (e : Entry). Contains leaf e ⊎ (base ≤ e.addr)) entries e f.accounts.kept has
 
 -- nothing is said of an address from the old head on by the old tree
-old_none : (base addr root at : ℕ) (leaf entries : List Entry) (released : Released) → Follows base addr root leaf entries released → base ≤ at → entry_in (says root leaf) at ≡ None
+old_none : (base addr root at : ℕ) (leaf entries : List Entry) (released : Released) → Comes base addr root leaf entries released → base ≤ at → entry_in (says root leaf) at ≡ None
 old_none base addr root at leaf entries released f high =
     unsaid root at leaf (λ same. omega (arith, same, f.node, high))
     (All-weaker (λ (e : Entry). e.addr < root) (λ (e : Entry). e.addr ≢ at) (λ e less same. omega (arith, less, same, f.node, high)) leaf f.below)
 
 -- nor by the new one of the old root node
-new_none : (base addr root : ℕ) (leaf entries : List Entry) (released : Released) → Follows base addr root leaf entries released → entry_in (says addr entries) root ≡ None
+new_none : (base addr root : ℕ) (leaf entries : List Entry) (released : Released) → Comes base addr root leaf entries released → entry_in (says addr entries) root ≡ None
 new_none base addr root leaf entries released f =
     unsaid addr root entries (λ same. omega (arith, same, f.node, f.within))
     (λ k d within same. elim (f.accounts.kept k d within) [
@@ -188,7 +190,7 @@ once_each pages once one other (i, within, is) (j, inside, at) same =
       ]
     ]
 
-differ : (base addr root : ℕ) (leaf entries : List Entry) (released : Released) (added : List Traced) (pages : List Unkept) → Follows base addr root leaf entries released → AddsLeaf base addr entries added
+differ : (base addr root : ℕ) (leaf entries : List Entry) (released : Released) (added : List Traced) (pages : List Unkept) → Comes base addr root leaf entries released → AddsLeaf base addr entries added
     → All (λ e. base ≤ e.addr → Contains pages (page_of e)) entries → All (Contains pages) released.never
     → All (λ page. Contains released.never page ⊎ ((e : Entry) × Contains entries e × (base ≤ e.addr) × (page ≡ page_of e))) pages
     → Differ (entry_in (says root leaf)) (entry_in (says addr entries)) pages added (root ∷ released.gone) released.never
@@ -251,3 +253,38 @@ differ base addr root leaf entries released added pages f adds named unnamed onl
         | inr gone ↦ (let here = subst (Contains released.gone) (ap (λ (t : Traced). t.addr) (sym of.2)) gone in (suc here.0, omega (arith, here.1), here.2))
       ]
     ]
+
+-- the entry of a commit is that of the certificate of the two leaves
+pub leaf_cert : (commit base addr root : ℕ) (leaf entries : List Entry) (released : Released) (pages : List Unkept) (key next_key : List ℕ) (texts next_texts : List (List ℕ)) (line : List ℕ) → Comes base addr root leaf entries released
+    → (e : IsEntryOf commit base addr entries (root ∷ released.gone) released.never line)
+    → All (λ e. base ≤ e.addr → Contains pages (page_of e)) entries → All (Contains pages) released.never
+    → All (λ page. Contains released.never page ⊎ ((e : Entry) × Contains entries e × (base ≤ e.addr) × (page ≡ page_of e))) pages
+    → CertOf (entries_of (leaf_parts root key leaf texts).places) (entries_of (leaf_parts addr next_key entries next_texts).places) commit addr base (addr + 1) pages e.cert
+leaf_cert commit base addr root leaf entries released pages key next_key texts next_texts line f e named unnamed only =
+    let cert = e.of (entry_in (says root leaf)) (entry_in (says addr entries)) pages (once_each released.never f.accounts.once) (differ base addr root leaf entries released e.added pages f e.adds named unnamed only) in
+    subst (λ (ts : List Traced). CertOf (entry_in ts) (entries_of (leaf_parts addr next_key entries next_texts).places) commit addr base (addr + 1) pages e.cert) (sym (places_say root key leaf texts))
+    (subst (λ (ts : List Traced). CertOf (entry_in (says root leaf)) (entry_in ts) commit addr base (addr + 1) pages e.cert) (sym (places_say addr next_key entries next_texts)) cert)
+
+-- ---- the certificate of a format
+
+first_differ : (base addr : ℕ) (added : List Traced) → AddsLeaf base addr [] added → Differ (entry_in []) (entry_in (says addr [])) [] added [] []
+first_differ base addr added adds = record {
+  in_new = λ t. (
+    λ has. elim (All-contains (λ t. (t ≡ leaf_of addr []) ⊎ ((e : Entry) × Contains [] e × (base ≤ e.addr) × (t ≡ record_of e))) added t adds.only has) [
+      | inl node ↦ (subst (λ (u : Traced). entry_in (says addr []) u.addr ≡ Some u.trace) (sym node) (rw (eq-eqb addr addr refl) refl), refl)
+      | inr own ↦ absurd (omega (arith, own.1.1))
+    ],
+    λ both. elim (said_of addr [] t (entry_has (says addr []) t.addr t.trace both.0)) [
+      | inl node ↦ subst (Contains added) (sym node) adds.leaf
+      | inr of ↦ absurd (omega (arith, of.1.1))
+    ],
+  );
+  in_old = λ at. (λ has. absurd (omega (arith, has.1)), λ both. absurd (none-some both.0.trace both.0.is));
+  in_neither = λ page. (λ has. absurd (omega (arith, has.1)), λ all. all.0);
+}
+
+pub first_cert : (commit base addr : ℕ) (key : List ℕ) (line : List ℕ) → (e : IsEntryOf commit base addr [] [] [] line)
+    → CertOf (entries_of []) (entries_of (leaf_parts addr key [] []).places) commit addr base (addr + 1) [] e.cert
+first_cert commit base addr key line e =
+    let cert = e.of (entry_in []) (entry_in (says addr [])) [] (λ one other has there same. absurd (omega (arith, has.1))) (first_differ base addr e.added e.adds) in
+    subst (λ (ts : List Traced). CertOf (entry_in []) (entry_in ts) commit addr base (addr + 1) [] e.cert) (sym (places_say addr key [] [])) cert

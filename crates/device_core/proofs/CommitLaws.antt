@@ -1,11 +1,22 @@
 -- What a commit does, whether its last step was taken or failed.
-use Rattle.std.proofs.Common.{◌≡◌, ◌∙◌, ◌+◌, ◌<◌, ◌≤◌, ◌^◌, ℕ, List, Some, true, refl, ap, sym, subst, arith, length}
-use Rattle.std.specs.Prelude.{Option, Contains}
+use Rattle.std.proofs.Common.{◌≡◌, ◌∙◌, ◌+◌, ◌<◌, ◌≤◌, ◌^◌, inl, inr, ℕ, List, Some, true, refl, ap, sym, subst, arith, length}
+use Rattle.std.specs.Prelude.{◌⊎◌, ◌≢◌, All, AllPairs, Option, Contains}
 use Rattle.sdbt_base.specs.Bytes.{IsBytes}
 use Rattle.sdbt_base.specs.Arrays.{Device, Blocks, committed_with}
 use Rattle.platform.specs.Image.{Image, LeavesOnly, with_page, with_cell, all_synced}
-use Rattle.platform.specs.History.{History, Steps, Turns}
-use Rattle.platform.proofs.Moments.{whole-now}
+use Rattle.sdbt_base.specs.Told.{Got, GotPart}
+use Rattle.platform.specs.History.{History, Steps, Turns, CellStays}
+use Rattle.platform.proofs.Moments.{whole-now, Extends-earlier}
+use Rattle.cert_maker.specs.Cert.{Cert}
+use Rattle.cert_codec.specs.Text.{entry}
+use Rattle.page_store.specs.Tree.{Parts, Tree}
+use Rattle.page_store.specs.Leaf.{leaf_parts}
+use Rattle.page_store.proofs.LeafLaws.{leaf_tree}
+use Rattle.page_store.proofs.TreeLaws.{one_tree}
+use Rattle.page_store.proofs.KeptLaws.{tree_later}
+use Rattle.device_core.specs.Accounts.{Accounts}
+use Rattle.device_core.specs.Certifying.{Certifies, PutsEntry, IsOfCommit, IsOfTrees, IsCommitEntry}
+use Rattle.device_core.proofs.CertifyingLaws.{Comes, leaf_cert}
 use Rattle.seal_record.specs.Sealing.{masked}
 use Rattle.node_codec.specs.declared.body.Entry.{Entry}
 use Rattle.node_codec.specs.Record.{NodeRecord, record_bytes}
@@ -22,8 +33,8 @@ use Rattle.device_core.specs.Knowing.{HoldsListed}
 use Rattle.device_core.specs.Drawing.{KeepsTree}
 use Rattle.device_core.specs.Publishing.{Discloses}
 use Rattle.device_core.specs.Sessions.{Session}
-use Rattle.device_core.proofs.MomentLaws.{one_call, then_published, once, stays_once}
-use Rattle.device_core.proofs.HoldLaws.{IsCommitOf, commit_fits, commit_leaf, commit_served, leaf_page, with_root, raise_turns, raise_held}
+use Rattle.device_core.proofs.MomentLaws.{one_call, then_published, once, stays_once, stays_then}
+use Rattle.device_core.proofs.HoldLaws.{IsCommitOf, commit_fits, commit_leaf, commit_served, leaf_page, with_leaf, with_root, raised_leaf, raise_turns, raise_held}
 use Rattle.device_core.proofs.FollowLaws.{follows_committed}
 use Rattle.device_core.proofs.ServedLaws.{serves_still, serves_turned, served_published}
 use Rattle.device_core.proofs.KeyLaws.{Appends, listed_sound, raise_appends, raise_publishes, raise_listed, raise_knows, raise_forgets}
@@ -137,3 +148,92 @@ commit_discloses tells drawn drawn_now old mid new session next body addr pages 
   forgets = λ told keys h.
       raise_forgets old mid new session next pages keys h (all.steps told) (all.cell told) (all.appended told) (all.turns told) all.commit (all.at_end told);
 }
+
+-- what the publishing of a root record put to the ledger
+abbrev Published : Type 0 → Option (List ℕ) → Option (List ℕ) → History → History → List ℕ → Root → Type 0 → Type 0
+Published tells written written_now mid new line root Done =
+    (Got written line written_now × (tells → (new.present.cell ≡ Some (root_bytes root)) ⊎ (CellStays mid new × (Done → ⊥))))
+    ⊎ (GotPart written line written_now × (tells → CellStays mid new) × (Done → ⊥))
+
+-- of an entry, after other calls at which the cell stayed
+pub puts_entry : (tells : Type 0) (written written_now : Option (List ℕ)) (old mid new : History) (line : List ℕ) (cert : Cert) (root : Root) (Done : Type 0) → line ≡ entry cert → (tells → CellStays old mid)
+    → Published tells written written_now mid new line root Done
+    → (Got written (entry cert) written_now × (tells → (new.present.cell ≡ Some (root_bytes root)) ⊎ (CellStays old new × (Done → ⊥))))
+    ⊎ (GotPart written (entry cert) written_now × (tells → CellStays old new) × (Done → ⊥))
+puts_entry tells written written_now old mid new line cert root Done is before put = elim put [
+  | inl whole ↦ inl (subst (λ (bytes : List ℕ). Got written bytes written_now) is whole.0, λ told. elim (whole.1 told) [
+      | inl came ↦ inl came
+      | inr stays ↦ inr (stays_then old mid new (before told) stays.0, stays.1)
+    ])
+  | inr part ↦ inr (subst (λ (bytes : List ℕ). GotPart written bytes written_now) is part.0, λ told. stays_then old mid new (before told) (part.1 told), part.2)
+]
+
+-- the tree of the root record that a commit writes
+next_tree : (tells : Type 0) (old mid new : History) (session : Session) (next : Root) (pages : ℕ) (device : Device) (contents : Blocks) → IsCommitting tells old mid new session next pages → tells → (h : Holds session old.present device contents)
+    → Tree new.present.readable next (leaf_parts next.addr next.key session.entries h.texts)
+next_tree tells old mid new session next pages device contents all told h =
+    let leaf = raised_leaf session next pages old.present device contents all.commit h (whole-now old) (all.at_end told) in
+    let parts = leaf_parts next.addr next.key session.entries h.texts in
+    let there : Tree mid.present.readable next parts = subst (λ (i : Image). Tree i.readable next parts) (sym (all.appended told))
+    (leaf_tree (with_leaf old.present next session.entries).readable next session.entries h.texts leaf.level leaf.tree) in
+    tree_later mid.present new.present next parts (Extends-earlier mid new (all.turns told).extends) there
+
+-- what a session kept account of, over its leaf
+comes : (tells : Type 0) (old mid new : History) (session : Session) (next : Root) (pages : ℕ) (device : Device) (contents : Blocks) → IsCommitting tells old mid new session next pages → tells → (h : Holds session old.present device contents)
+    → Comes session.root.head pages session.root.addr h.leaf session.entries session.released
+comes tells old mid new session next pages device contents all told h =
+    let same : session.entries ≡ h.entries = h.read all.commit.loaded in
+    record {
+      node = h.stands.in_range.addr;
+      within = omega (arith, h.stands.head, (whole-now old).synced, all.at_end told);
+      below = h.stands.tree.leaf.0.in_range.0.below;
+      small = all.commit.is_open.entries.below;
+      leaf_apart = h.stands.apart;
+      apart = subst (λ (es : List Entry). AllPairs (λ a b. a.addr ≢ b.addr) es) (sym same) h.mapped_there.apart;
+      accounts = subst (λ (n : ℕ). Accounts session.root.head n h.leaf session.entries session.released) (sym (all.at_end told))
+          (subst (λ (es : List Entry). Accounts session.root.head (length old.present.recorded) h.leaf es session.released) (sym same) h.accounts);
+    }
+
+-- the certificate that a commit puts is that of its trees
+commit_cert : (tells : Type 0) (old mid new : History) (session : Session) (pages : ℕ) (key line : List ℕ) → IsCommitting tells old mid new session (next_root session pages key) pages → tells → (e : IsCommitEntry session pages line)
+    → IsOfCommit session old.present new.present (next_root session pages key) e.cert
+commit_cert tells old mid new session pages key line all told e = λ device contents h written are before tree.
+    let next = next_root session pages key in
+    let root = session.root in
+    let own : leaf_parts root.addr root.key h.leaf h.leaf_texts ≡ before = one_tree old.present.readable root (leaf_parts root.addr root.key h.leaf h.leaf_texts) before h.stands.in_range
+    (leaf_tree old.present.readable root h.leaf h.leaf_texts h.stands.level h.stands.tree) tree in
+    subst (λ (parts : Parts). IsOfTrees parts.places root.head new.present.readable next written e.cert) own record {
+      after = leaf_parts pages key session.entries h.texts;
+      tree = next_tree tells old mid new session next pages device contents all told h;
+      is = leaf_cert (root.commit + 1) root.head pages root.addr h.leaf session.entries session.released written root.key key h.leaf_texts h.texts line
+          (comes tells old mid new session next pages device contents all told h) e are.named are.unnamed are.only;
+    }
+
+published_done : (tells : Type 0) (written written_now : Option (List ℕ)) (mid new : History) (line : List ℕ) (root : Root) (Was Done : Type 0) → ((Was → ⊥) → Done → ⊥) → Published tells written written_now mid new line root Was → Published tells written written_now mid new line root Done
+published_done tells written written_now mid new line root Was Done never put = elim put [
+  | inl whole ↦ inl (whole.0, λ told. elim (whole.1 told) [ inl came ↦ inl came | inr stays ↦ inr (stays.0, never stays.1) ])
+  | inr part ↦ inr (part.0, part.1, never part.2)
+]
+
+pub commit_certifies : (tells : Type 0) (written written_now : Option (List ℕ)) (old mid new : History) (session : Session) (pages addr : ℕ) (key line : List ℕ) (Was Done : Type 0) → ((Was → ⊥) → Done → ⊥) → addr ≡ pages
+    → IsCommitting tells old mid new session (next_root session addr key) pages → IsCommitEntry session pages line
+    → Published tells written written_now mid new line (next_root session addr key) Was
+    → Certifies tells written written_now old new session.root.head (session.root.commit + 1) (IsOfCommit session old.present new.present) Done
+commit_certifies tells written written_now old mid new session pages addr key line Was Done never here all e put =
+    inr (go addr here all (published_done tells written written_now mid new line (next_root session addr key) Was Done never put))
+  where
+    go : (addr : ℕ) → addr ≡ pages → IsCommitting tells old mid new session (next_root session addr key) pages → Published tells written written_now mid new line (next_root session addr key) Done
+        → PutsEntry tells written written_now old new session.root.head (session.root.commit + 1) (IsOfCommit session old.present new.present) Done
+    go addr here all put =
+        let same = subst (λ (n : ℕ). IsCommitting tells old mid new session (next_root session n key) pages) here all in
+        let next = next_root session pages key in
+        record {
+          cert = e.cert;
+          root = next;
+          in_range = commit_fits session next pages same.commit;
+          number = refl;
+          speaks = record { commit = e.commit_is; begins = e.base_is; node = e.root_is; head = e.head_is };
+          is = λ told. commit_cert tells old mid new session pages key line same told e;
+          put = puts_entry tells written written_now old mid new line e.cert next Done e.is (λ told. one_call old mid (same.steps told) (same.cell told))
+              (subst (λ (n : ℕ). Published tells written written_now mid new line (next_root session n key) Done) here put);
+        }

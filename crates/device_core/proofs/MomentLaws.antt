@@ -1,10 +1,10 @@
 -- How the moments of calls on a device compose: the cell stays as it was, until the root record is replaced.
 use Rattle.std.proofs.Common.{◌≡◌, ◌⊎◌, inl, inr, List, ℕ, Option, Some, refl, ap, sym, ◌∙◌}
 use Rattle.platform.specs.Image.{Image, IsEither, with_cell, all_synced}
-use Rattle.platform.specs.History.{History, Steps, During, Turns}
+use Rattle.platform.specs.History.{History, Steps, During, Turns, CellStays}
 use Rattle.platform.specs.Image.{IsEarlier}
 use Rattle.platform.proofs.RunLaws.{Turns-cases}
-use Rattle.platform.proofs.Moments.{During-step, During-call, During-start, During-now, Turns-not, Turns-either, Turns-after, Turns-weaker, Extends-earlier}
+use Rattle.platform.proofs.Moments.{During-step, During-call, During-start, During-now, During-then, During-weaker, Turns-not, Turns-either, Turns-after, Turns-weaker, Extends-earlier}
 
 -- the cell is what it was
 abbrev pub HasCell : Option (List ℕ) → Image → Type 0
@@ -66,3 +66,9 @@ stays_once old new stays = Turns-not old new (HasCell old.present.cell) (HasCell
 -- the image before is earlier than the one after
 pub earlier : (old new : History) (P : Image → Type 0) → During old new P → IsEarlier old.present new.present
 earlier old new P during = Extends-earlier old new during.extends
+
+-- the cell stays, and then stays
+pub stays_then : (old mid new : History) → CellStays old mid → CellStays mid new → CellStays old new
+stays_then old mid new first second =
+    let here : mid.present.cell ≡ old.present.cell = During-now old mid (λ image. image.cell ≡ old.present.cell) first in
+    During-then old mid new (λ image. image.cell ≡ old.present.cell) first (During-weaker mid new (λ image. image.cell ≡ mid.present.cell) (λ image. image.cell ≡ old.present.cell) (λ image same. same ∙ here) second)

@@ -1,12 +1,12 @@
-use Rattle.std.proofs.Common.{ℕ, [], Some, ap, sym, subst, refl, arith}
+use Rattle.std.proofs.Common.{inl, ℕ, [], Some, is_ok, ap, sym, subst, refl, arith}
 use Rattle.platform.specs.Image.{Image}
 use Rattle.page_store.specs.Buffer.{Held}
 use Rattle.sdbt_base.specs.Arrays.{committed_with}
 use Rattle.device_core.specs.Leaf.{AreEntries}
-use Rattle.device_core.proofs.MomentLaws.{one_call}
+use Rattle.device_core.proofs.MomentLaws.{one_call, stays_then}
 use Rattle.device_core.proofs.EntryLaws.{AreEntries-later}
 use Rattle.device_core.proofs.HoldLaws.{during_stands, entries_fit, held_stands, commit_fits, commit_served}
-use Rattle.device_core.proofs.CommitLaws.{IsCommitting, next_root, is_commit, committing, commit_turns, commit_held, commit_follows, commit_listed, commit_knows, append_discloses, commit_discloses}
+use Rattle.device_core.proofs.CommitLaws.{IsCommitting, next_root, is_commit, committing, commit_turns, commit_held, commit_follows, commit_listed, commit_knows, commit_certifies, append_discloses, commit_discloses}
 use Rattle.device_core.specs.contracts.session.Session.{the_view}
 use Rattle.device_core.proofs.session.Session.raise.Given.{Over}
 use Rattle.device_core.proofs.session.Session.raise.Goals.{After-publish}
@@ -46,9 +46,14 @@ pub returns-in-Err-PlatformFault-clause-time : goal.returns-in-Err-PlatformFault
 returns-in-Err-PlatformFault-clause-time g c = λ told device contents h.
     during_stands _ _ (Some device) (Some (committed_with device contents)) (held_stands _ _ device contents h) (one_call _ _ (c.append.ensures.time told) (c.append.ensures.cell told))
 
-pub returns-in_default-clause-time : goal.returns-in_default-clause-time
-returns-in_default-clause-time g c = rw (← c.self.view_is) (
-    let all = calls g (goal.at.returns-in_default-clause-time g c).After-publish in
+pub returns-in-Err-Ledger-clause-time : goal.returns-in-Err-Ledger-clause-time
+returns-in-Err-Ledger-clause-time g c = rw (← c.self.view_is) (
+    let all = calls g (goal.at.returns-in-Err-Ledger-clause-time g c).After-publish in
+    λ told device contents h. commit_turns _ _ _ _ _ _ _ device contents all told h)
+
+pub returns-in-Err-Platform-clause-time : goal.returns-in-Err-Platform-clause-time
+returns-in-Err-Platform-clause-time g c = rw (← c.self.view_is) (
+    let all = calls g (goal.at.returns-in-Err-Platform-clause-time g c).After-publish in
     λ told device contents h. commit_turns _ _ _ _ _ _ _ device contents all told h)
 
 pub returns-clause-time : goal.returns-clause-time
@@ -59,7 +64,7 @@ returns-clause-time g c = rw (← c.self.view_is) (
 pub returns-clause-array : goal.returns-clause-array
 returns-clause-array g c = rw (← c.self.view_is) (
     let all = calls g (goal.at.returns-clause-array g c).After-publish in
-    λ told device contents h. commit_held _ _ _ _ _ _ _ _ device contents all told (c.in-Ok-publish.ensures.published told) h)
+    λ told device contents h. rw (c.clear.ensures.gone, c.clear.ensures.never) (commit_held _ _ _ _ _ _ _ _ device contents all told (c.in-Ok-publish.ensures.published told) h))
 
 pub returns-clause-open : goal.returns-clause-open
 returns-clause-open g c = rw (← c.self.view_is) (
@@ -77,7 +82,7 @@ returns-clause-open g c = rw (← c.self.view_is) (
 pub returns-clause-follows : goal.returns-clause-follows
 returns-clause-follows g c =
     let all = calls g (goal.at.returns-clause-follows g c).After-publish in
-    λ told. commit_follows _ _ _ _ _ _ _ _ all told (c.in-Ok-publish.ensures.published told)
+    λ told. rw (c.clear.ensures.gone, c.clear.ensures.never) (commit_follows _ _ _ _ _ _ _ _ all told (c.in-Ok-publish.ensures.published told))
 
 pub returns-in-Err-TapeFault-clause-discloses : goal.returns-in-Err-TapeFault-clause-discloses
 returns-in-Err-TapeFault-clause-discloses g c = rw (← c.self.view_is) (
@@ -89,9 +94,15 @@ returns-in-Err-PlatformFault-clause-discloses g c = rw (← c.self.view_is) (
     let is = rw (← c.self.view_is) at c.requires.open in
     append_discloses _ _ _ _ _ _ c.put_node.new.self.body c.head.result _ c.deref.result.now _ is c.append.ensures.keeps (ap (λ (b : Held). b.body) c.put_node.ensures) c.deref.ensures.0 c.head.ensures.value c.append.ensures.time c.append.ensures.cell)
 
-pub returns-in_default-clause-discloses : goal.returns-in_default-clause-discloses
-returns-in_default-clause-discloses g c = rw (← c.self.view_is) (
-    let all = calls g (goal.at.returns-in_default-clause-discloses g c).After-publish in
+pub returns-in-Err-Ledger-clause-discloses : goal.returns-in-Err-Ledger-clause-discloses
+returns-in-Err-Ledger-clause-discloses g c = rw (← c.self.view_is) (
+    let all = calls g (goal.at.returns-in-Err-Ledger-clause-discloses g c).After-publish in
+    commit_discloses _ _ _ _ _ _ _ _ c.put_node.new.self.body c.head.result _ c.deref.result.now _ all c.in-Ok.ensures.keeps (ap (λ (b : Held). b.body) c.put_node.ensures) c.deref.ensures.0 c.head.ensures.value
+    (λ told keys h. tt))
+
+pub returns-in-Err-Platform-clause-discloses : goal.returns-in-Err-Platform-clause-discloses
+returns-in-Err-Platform-clause-discloses g c = rw (← c.self.view_is) (
+    let all = calls g (goal.at.returns-in-Err-Platform-clause-discloses g c).After-publish in
     commit_discloses _ _ _ _ _ _ _ _ c.put_node.new.self.body c.head.result _ c.deref.result.now _ all c.in-Ok.ensures.keeps (ap (λ (b : Held). b.body) c.put_node.ensures) c.deref.ensures.0 c.head.ensures.value
     (λ told keys h. tt))
 
@@ -99,7 +110,7 @@ pub returns-clause-discloses : goal.returns-clause-discloses
 returns-clause-discloses g c = rw (← c.self.view_is) (
     let all = calls g (goal.at.returns-clause-discloses g c).After-publish in
     commit_discloses _ _ _ _ _ _ _ _ c.put_node.new.self.body c.head.result _ c.deref.result.now _ all c.in-Ok.ensures.keeps (ap (λ (b : Held). b.body) c.put_node.ensures) c.deref.ensures.0 c.head.ensures.value
-    (λ told keys h. commit_listed _ _ _ _ _ _ _ _ keys all told (c.in-Ok-publish.ensures.published told) h))
+    (λ told keys h. rw (c.clear.ensures.gone, c.clear.ensures.never) (commit_listed _ _ _ _ _ _ _ _ keys all told (c.in-Ok-publish.ensures.published told) h)))
 
 pub returns-in-Err-TapeFault-clause-cause : goal.returns-in-Err-TapeFault-clause-cause
 returns-in-Err-TapeFault-clause-cause g c = (
@@ -112,7 +123,7 @@ pub returns-clause-raised : goal.returns-clause-raised
 returns-clause-raised g c = rw (← c.self.view_is) (
     let all = calls g (goal.at.returns-clause-raised g c).After-publish in
     record {
-      reply = refl;
+      replied = refl;
       number = refl;
       untouched = refl;
       wiped = c.wipe.ensures;
@@ -126,3 +137,35 @@ returns-clause-raised g c = rw (← c.self.view_is) (
       cell = λ told. ap (λ (i : Image). i.cell) (c.in-Ok-publish.ensures.published told);
       knows = λ told device contents h. commit_knows _ _ _ _ _ _ _ device contents all told (c.in-Ok-publish.ensures.published told) h;
     })
+
+-- a fault of the ledger comes with the cell as it was
+pub returns-in-Err-Ledger-clause-cause : goal.returns-in-Err-Ledger-clause-cause
+returns-in-Err-Ledger-clause-cause g c =
+    let cause = rw c.in-Err-Ledger.field-0-is at c.in-Err-Ledger.ensures.cause in (
+      cause.0,
+      λ told. stays_then _ _ _ (one_call _ _ (c.append.ensures.time told) (c.append.ensures.cell told)) (cause.1 told),
+    )
+
+pub returns-in-Err-TapeFault-clause-certifies : goal.returns-in-Err-TapeFault-clause-certifies
+returns-in-Err-TapeFault-clause-certifies g c = inl (refl, λ told. one_call _ _ (c.append.ensures.time told) (c.append.ensures.cell told))
+
+pub returns-in-Err-PlatformFault-clause-certifies : goal.returns-in-Err-PlatformFault-clause-certifies
+returns-in-Err-PlatformFault-clause-certifies g c = inl (refl, λ told. one_call _ _ (c.append.ensures.time told) (c.append.ensures.cell told))
+
+pub returns-in-Err-Ledger-clause-certifies : goal.returns-in-Err-Ledger-clause-certifies
+returns-in-Err-Ledger-clause-certifies g c = rw (← c.self.view_is) (
+    let at = goal.at.returns-in-Err-Ledger-clause-certifies g c in
+    let entry = rw (← c.self.view_is) at c.requires.entry in
+    commit_certifies _ _ _ _ _ _ _ _ _ _ _ _ _ (λ was ok. absurd cc) c.in-Ok.ensures.address (calls g at.After-publish) entry c.publish.ensures.put)
+
+pub returns-in-Err-Platform-clause-certifies : goal.returns-in-Err-Platform-clause-certifies
+returns-in-Err-Platform-clause-certifies g c = rw (← c.self.view_is) (
+    let at = goal.at.returns-in-Err-Platform-clause-certifies g c in
+    let entry = rw (← c.self.view_is) at c.requires.entry in
+    commit_certifies _ _ _ _ _ _ _ _ _ _ _ _ _ (λ was ok. absurd cc) c.in-Ok.ensures.address (calls g at.After-publish) entry c.publish.ensures.put)
+
+pub returns-clause-certifies : goal.returns-clause-certifies
+returns-clause-certifies g c = rw (← c.self.view_is) (
+    let at = goal.at.returns-clause-certifies g c in
+    let entry = rw (← c.self.view_is) at c.requires.entry in
+    commit_certifies _ _ _ _ _ _ _ _ _ _ _ _ _ (λ was ok. was (ap is_ok c.in-Ok-publish.is)) c.in-Ok.ensures.address (calls g at.After-publish) entry c.publish.ensures.put)
