@@ -150,7 +150,7 @@ commit_discloses tells drawn drawn_now old mid new session next body addr pages 
 }
 
 -- what the publishing of a root record put to the ledger
-abbrev Published : Type 0 → Option (List ℕ) → Option (List ℕ) → History → History → List ℕ → Root → Type 0 → Type 0
+abbrev pub Published : Type 0 → Option (List ℕ) → Option (List ℕ) → History → History → List ℕ → Root → Type 0 → Type 0
 Published tells written written_now mid new line root Done =
     (Got written line written_now × (tells → (new.present.cell ≡ Some (root_bytes root)) ⊎ (CellStays mid new × (Done → ⊥))))
     ⊎ (GotPart written line written_now × (tells → CellStays mid new) × (Done → ⊥))
@@ -209,7 +209,7 @@ commit_cert tells old mid new session pages key line all told e = λ device cont
           (comes tells old mid new session next pages device contents all told h) e are.named are.unnamed are.only;
     }
 
-published_done : (tells : Type 0) (written written_now : Option (List ℕ)) (mid new : History) (line : List ℕ) (root : Root) (Was Done : Type 0) → ((Was → ⊥) → Done → ⊥) → Published tells written written_now mid new line root Was → Published tells written written_now mid new line root Done
+pub published_done : (tells : Type 0) (written written_now : Option (List ℕ)) (mid new : History) (line : List ℕ) (root : Root) (Was Done : Type 0) → ((Was → ⊥) → Done → ⊥) → Published tells written written_now mid new line root Was → Published tells written written_now mid new line root Done
 published_done tells written written_now mid new line root Was Done never put = elim put [
   | inl whole ↦ inl (whole.0, λ told. elim (whole.1 told) [ inl came ↦ inl came | inr stays ↦ inr (stays.0, never stays.1) ])
   | inr part ↦ inr (part.0, part.1, never part.2)

@@ -1,15 +1,21 @@
 -- What a format does, whether its last step was taken or failed.
-use Rattle.std.proofs.Common.{◌≡◌, ◌∙◌, ◌+◌, ◌<◌, ◌≤◌, ◌^◌, ℕ, List, [], Some, None, ap, sym, subst, arith, length}
+use Rattle.std.proofs.Common.{◌≡◌, ◌∙◌, ◌+◌, ◌<◌, ◌≤◌, ◌^◌, ℕ, List, [], Some, None, inr, refl, ap, sym, subst, arith, length}
 use Rattle.std.specs.Prelude.{Option, Contains}
 use Rattle.sdbt_base.specs.Bytes.{IsBytes}
 use Rattle.sdbt_base.specs.Arrays.{Device, new_device}
 use Rattle.platform.specs.Image.{Image, LeavesOnly, with_page, with_cell, all_synced}
 use Rattle.platform.specs.History.{History, Steps, During, Turns}
-use Rattle.platform.proofs.Moments.{whole-now}
+use Rattle.platform.proofs.Moments.{whole-now, Extends-earlier}
 use Rattle.seal_record.specs.Sealing.{masked}
 use Rattle.node_codec.specs.Record.{NodeRecord, record_bytes}
 use Rattle.root_codec.specs.RootRecord.{root_bytes}
-use Rattle.page_store.specs.Leaf.{StandsByLeaf}
+use Rattle.page_store.specs.Leaf.{StandsByLeaf, leaf_parts}
+use Rattle.page_store.specs.Tree.{Tree}
+use Rattle.page_store.proofs.LeafLaws.{leaf_tree}
+use Rattle.page_store.proofs.KeptLaws.{tree_later}
+use Rattle.device_core.specs.Certifying.{Certifies, PutsEntry, IsOfTrees, IsEntryOf}
+use Rattle.device_core.proofs.CertifyingLaws.{first_cert}
+use Rattle.device_core.proofs.CommitLaws.{Published, published_done, puts_entry}
 use Rattle.page_store.specs.Stands.{Stands, IsSound}
 use Rattle.page_store.proofs.KeepingLaws.{keeps_from}
 use Rattle.page_store.proofs.FloorLaws.{forgets_still, low_few}
@@ -135,3 +141,44 @@ format_discloses tells drawn drawn_now old looked mid new blocks order addr key 
       let longer : length X.recorded ≡ addr + 1 = all.size told in
       forgets_first old new X (new_device blocks order) root (all.empty told) sound (format_once tells old looked mid new blocks order addr key all told) leaf (omega (arith, few, same)) (omega arith) (sym longer);
 }
+
+-- ---- what is put to the ledger
+
+-- the tree of the first root record
+first_tree : (tells : Type 0) (old looked mid new : History) (blocks order addr : ℕ) (key : List ℕ) → IsFormatting tells old looked mid new blocks order addr key → tells
+    → Tree new.present.readable (first_root blocks order addr key) (leaf_parts addr key [] [])
+first_tree tells old looked mid new blocks order addr key all told =
+    let root = first_root blocks order addr key in
+    let leaf = first_leaf looked.present blocks order addr key (whole-now looked) all.first.least all.first.most all.first.order_is all.first.room all.first.sized (all.at_end told) in
+    let there : Tree mid.present.readable root (leaf_parts addr key [] []) = subst (λ (i : Image). Tree i.readable root (leaf_parts addr key [] [])) (sym (all.appended told))
+    (leaf_tree (with_leaf looked.present root []).readable root [] [] leaf.level leaf.tree) in
+    tree_later mid.present new.present root (leaf_parts addr key [] []) (Extends-earlier mid new (all.turns told).extends) there
+
+pub format_certifies : (tells : Type 0) (written written_now : Option (List ℕ)) (old looked mid new : History) (blocks order addr at pages : ℕ) (key line : List ℕ) (Was Done : Type 0) → ((Was → ⊥) → Done → ⊥) → addr ≡ pages → at ≡ pages
+    → IsFormatting tells old looked mid new blocks order addr key → IsEntryOf 0 at at [] [] [] line
+    → Published tells written written_now mid new line (first_root blocks order addr key) Was
+    → Certifies tells written written_now old new pages 0 (λ root. IsOfTrees [] pages new.present.readable root []) Done
+format_certifies tells written written_now old looked mid new blocks order addr at pages key line Was Done never here there all e put =
+    inr (go addr at here there all e (published_done tells written written_now mid new line (first_root blocks order addr key) Was Done never put))
+  where
+    go : (addr at : ℕ) → addr ≡ pages → at ≡ pages → IsFormatting tells old looked mid new blocks order addr key → IsEntryOf 0 at at [] [] [] line → Published tells written written_now mid new line (first_root blocks order addr key) Done
+        → PutsEntry tells written written_now old new pages 0 (λ root. IsOfTrees [] pages new.present.readable root []) Done
+    go addr at here there all e put =
+        let same = subst (λ (n : ℕ). IsFormatting tells old looked mid new blocks order n key) here all in
+        let is = subst (λ (n : ℕ). IsEntryOf 0 n n [] [] [] line) there e in
+        let root = first_root blocks order pages key in
+        let first = same.first in
+        record {
+          cert = is.cert;
+          root = root;
+          in_range = first_fits blocks order pages key first.least first.most first.order_is first.room;
+          number = refl;
+          speaks = record { commit = is.commit_is; begins = is.base_is; node = is.root_is; head = is.head_is };
+          is = λ told. record {
+            after = leaf_parts pages key [] [];
+            tree = first_tree tells old looked mid new blocks order pages key same told;
+            is = first_cert 0 pages pages key line is;
+          };
+          put = puts_entry tells written written_now old mid new line is.cert root Done is.is (λ told. look_still tells old looked mid new blocks order pages key same told)
+              (subst (λ (n : ℕ). Published tells written written_now mid new line (first_root blocks order n key) Done) here put);
+        }

@@ -26,7 +26,7 @@ fn written(
     }
     let mut session = Session::mount(alloc, platform, 0).ok()?;
     session.write(platform, tape, block, content).ok()?;
-    let (_, reply) = session.commit(platform, tape, ledger).ok()?;
+    let reply = session.commit(platform, tape, ledger).ok()?;
     Some(reply)
 }
 
@@ -40,7 +40,7 @@ fn trimmed(
 ) -> Option<CommitReply> {
     let mut session = Session::mount(alloc, platform, 0).ok()?;
     session.trim(platform, block).ok()?;
-    let (_, reply) = session.commit(platform, tape, ledger).ok()?;
+    let reply = session.commit(platform, tape, ledger).ok()?;
     Some(reply)
 }
 

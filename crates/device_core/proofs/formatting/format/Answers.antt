@@ -1,12 +1,12 @@
-use Rattle.std.proofs.Common.{◌≡◌, ◌∙◌, ◌+◌, ℕ, List, [], Option, None, Some, Bool, true, false, refl, ap, sym, inl, inr, arith, rules}
+use Rattle.std.proofs.Common.{◌≡◌, ◌∙◌, ◌+◌, ℕ, List, [], Option, None, Some, Bool, true, false, is_ok, refl, ap, sym, inl, inr, arith, rules}
 use Rattle.page_store.specs.Buffer.{Held}
 use Rattle.sdbt_base.specs.Arrays.{new_device}
 use Rattle.std.specs.Prelude.{IsTrue, IsSome, ◌↔◌, ◌≢◌}
 use Rattle.std.proofs.lemmas.Grind.{common_steps}
-use Rattle.device_core.proofs.MomentLaws.{one_look, call_more}
+use Rattle.device_core.proofs.MomentLaws.{one_look, call_more, stays_then}
 use Rattle.device_core.proofs.HoldLaws.{during_stands, first_root, first_fits, no_entries_fit}
 use Rattle.platform.specs.Image.{Image}
-use Rattle.device_core.proofs.FormatLaws.{IsFirst, IsFormatting, first_page, format_time, format_stands, look_discloses, first_discloses, format_discloses}
+use Rattle.device_core.proofs.FormatLaws.{IsFirst, IsFormatting, first_page, format_time, format_stands, format_certifies, look_discloses, first_discloses, format_discloses}
 use Rattle.std.specs.Prelude.{◌⊎◌}
 use Rattle.device_core.proofs.formatting.format.Given.{Over}
 use Rattle.device_core.proofs.formatting.format.Goals.{After-append, After-publish, In-Ok-append}
@@ -52,7 +52,7 @@ calls g c first =
       at_end = λ told. address ∙ sym (pages told c.load_root.new.self);
       steps = c.append.ensures.time;
       cell = c.append.ensures.cell;
-      appended = λ told. first_page _ _ c.args.blocks c.args.order _ c.head-2.result _ _ (c.in-Ok-append.ensures.appended told) (ap (λ (b : Held). b.body) c.put_node.ensures) (c.head-2.ensures.value ∙ sym address);
+      appended = λ told. first_page _ _ c.args.blocks c.args.order _ c.head-addr.result _ _ (c.in-Ok-append.ensures.appended told) (ap (λ (b : Held). b.body) c.put_node.ensures) (c.head-addr.ensures.value ∙ sym address);
       size = λ told. pages told c.append.new.platform ∙ (c.in-Ok-append.ensures.head_ok ∙ ap (λ (n : ℕ). n + 1) (sym address));
       stays = λ told. pages told c.publish.new.platform ∙ (c.publish.ensures.head ∙ sym (pages told c.append.new.platform));
       turns = c.publish.ensures.time;
@@ -81,8 +81,12 @@ pub returns-in_default-new-clause-time : goal.returns-in_default-new-clause-time
 returns-in_default-new-clause-time g c = λ told device stands.
     during_stands _ _ device (Some (new_device c.args.blocks c.args.order)) stands (one_look _ _ (c.load_root.ensures.time told) (c.load_root.ensures.image told))
 
+pub returns-in_default-entry_of-clause-time : goal.returns-in_default-entry_of-clause-time
+returns-in_default-entry_of-clause-time g c = λ told device stands.
+    during_stands _ _ device (Some (new_device c.args.blocks c.args.order)) stands (one_look _ _ (c.load_root.ensures.time told) (c.load_root.ensures.image told))
+
 pub put_node-requires : goal.put_node-requires
-put_node-requires g c = no_entries_fit c.head-2.result
+put_node-requires g c = no_entries_fit c.head-addr.result
 
 pub returns-in-Err-TapeFault-clause-time : goal.returns-in-Err-TapeFault-clause-time
 returns-in-Err-TapeFault-clause-time g c = λ told device stands.
@@ -119,6 +123,9 @@ returns-in-Ok-publish-clause-made g c = λ told.
 pub returns-in-Ok-publish-clause-time : goal.returns-in-Ok-publish-clause-time
 returns-in-Ok-publish-clause-time g c = λ told device stands. format_time _ _ _ _ _ _ _ _ _ device (calls g (goal.at.returns-in-Ok-publish-clause-time g c).After-publish (first_root_is g (goal.at.returns-in-Ok-publish-clause-time g c).In-Ok-append)) told stands
 
+pub returns-in-Err-Ledger-clause-time : goal.returns-in-Err-Ledger-clause-time
+returns-in-Err-Ledger-clause-time g c = λ told device stands. format_time _ _ _ _ _ _ _ _ _ device (calls g (goal.at.returns-in-Err-Ledger-clause-time g c).After-publish (first_root_is g (goal.at.returns-in-Err-Ledger-clause-time g c).In-Ok-append)) told stands
+
 pub returns-clause-time : goal.returns-clause-time
 returns-clause-time g c = λ told device stands. format_time _ _ _ _ _ _ _ _ _ device (calls g (goal.at.returns-clause-time g c).After-publish (first_root_is g (goal.at.returns-clause-time g c).In-Ok-append)) told stands
 
@@ -134,6 +141,9 @@ returns-then-head-capacity-clause-kept g c = λ told before. (refl, one_look _ _
 pub returns-in_default-new-clause-kept : goal.returns-in_default-new-clause-kept
 returns-in_default-new-clause-kept g c = λ told before. (refl, one_look _ _ (c.load_root.ensures.time told) (c.load_root.ensures.image told))
 
+pub returns-in_default-entry_of-clause-kept : goal.returns-in_default-entry_of-clause-kept
+returns-in_default-entry_of-clause-kept g c = λ told before. (refl, one_look _ _ (c.load_root.ensures.time told) (c.load_root.ensures.image told))
+
 pub returns-in-Err-TapeFault-clause-kept : goal.returns-in-Err-TapeFault-clause-kept
 returns-in-Err-TapeFault-clause-kept g c = λ told before. absurd (not_kept g (goal.at.returns-in-Err-TapeFault-clause-kept g c).After-append told before)
 
@@ -142,6 +152,9 @@ returns-in-Err-PlatformFault-clause-kept g c = λ told before. absurd (not_kept 
 
 pub returns-in-Ok-publish-clause-kept : goal.returns-in-Ok-publish-clause-kept
 returns-in-Ok-publish-clause-kept g c = λ told before. absurd (not_kept g (goal.at.returns-in-Ok-publish-clause-kept g c).After-append told before)
+
+pub returns-in-Err-Ledger-clause-kept : goal.returns-in-Err-Ledger-clause-kept
+returns-in-Err-Ledger-clause-kept g c = λ told before. absurd (not_kept g (goal.at.returns-in-Err-Ledger-clause-kept g c).After-append told before)
 
 pub returns-clause-kept : goal.returns-clause-kept
 returns-clause-kept g c = λ told before. absurd (not_kept g (goal.at.returns-clause-kept g c).After-append told before)
@@ -158,25 +171,33 @@ returns-then-head-capacity-clause-discloses g c = look_discloses _ _ _ _ c.load_
 pub returns-in_default-new-clause-discloses : goal.returns-in_default-new-clause-discloses
 returns-in_default-new-clause-discloses g c = look_discloses _ _ _ _ c.load_root.ensures.time c.load_root.ensures.image
 
+pub returns-in_default-entry_of-clause-discloses : goal.returns-in_default-entry_of-clause-discloses
+returns-in_default-entry_of-clause-discloses g c = look_discloses _ _ _ _ c.load_root.ensures.time c.load_root.ensures.image
+
 pub returns-in-Err-TapeFault-clause-discloses : goal.returns-in-Err-TapeFault-clause-discloses
 returns-in-Err-TapeFault-clause-discloses g c =
-    first_discloses _ _ _ _ _ _ c.put_node.new.self.body c.head-2.result _ _ c.load_root.ensures.time c.load_root.ensures.image c.append.ensures.keeps (ap (λ (b : Held). b.body) c.put_node.ensures) c.head-2.ensures.value
+    first_discloses _ _ _ _ _ _ c.put_node.new.self.body c.head-addr.result _ _ c.load_root.ensures.time c.load_root.ensures.image c.append.ensures.keeps (ap (λ (b : Held). b.body) c.put_node.ensures) c.head-addr.ensures.value
     c.append.ensures.time c.append.ensures.cell
 
 pub returns-in-Err-PlatformFault-clause-discloses : goal.returns-in-Err-PlatformFault-clause-discloses
 returns-in-Err-PlatformFault-clause-discloses g c =
-    first_discloses _ _ _ _ _ _ c.put_node.new.self.body c.head-2.result _ _ c.load_root.ensures.time c.load_root.ensures.image c.append.ensures.keeps (ap (λ (b : Held). b.body) c.put_node.ensures) c.head-2.ensures.value
+    first_discloses _ _ _ _ _ _ c.put_node.new.self.body c.head-addr.result _ _ c.load_root.ensures.time c.load_root.ensures.image c.append.ensures.keeps (ap (λ (b : Held). b.body) c.put_node.ensures) c.head-addr.ensures.value
     c.append.ensures.time c.append.ensures.cell
 
 pub returns-in-Ok-publish-clause-discloses : goal.returns-in-Ok-publish-clause-discloses
 returns-in-Ok-publish-clause-discloses g c =
     let all = calls g (goal.at.returns-in-Ok-publish-clause-discloses g c).After-publish (first_root_is g (goal.at.returns-in-Ok-publish-clause-discloses g c).In-Ok-append) in
-    format_discloses _ _ _ _ _ _ _ _ _ _ _ c.put_node.new.self.body c.head-2.result _ all c.in-Ok-append.ensures.keeps (ap (λ (b : Held). b.body) c.put_node.ensures) c.head-2.ensures.value
+    format_discloses _ _ _ _ _ _ _ _ _ _ _ c.put_node.new.self.body c.head-addr.result _ all c.in-Ok-append.ensures.keeps (ap (λ (b : Held). b.body) c.put_node.ensures) c.head-addr.ensures.value
+
+pub returns-in-Err-Ledger-clause-discloses : goal.returns-in-Err-Ledger-clause-discloses
+returns-in-Err-Ledger-clause-discloses g c =
+    let all = calls g (goal.at.returns-in-Err-Ledger-clause-discloses g c).After-publish (first_root_is g (goal.at.returns-in-Err-Ledger-clause-discloses g c).In-Ok-append) in
+    format_discloses _ _ _ _ _ _ _ _ _ _ _ c.put_node.new.self.body c.head-addr.result _ all c.in-Ok-append.ensures.keeps (ap (λ (b : Held). b.body) c.put_node.ensures) c.head-addr.ensures.value
 
 pub returns-clause-discloses : goal.returns-clause-discloses
 returns-clause-discloses g c =
     let all = calls g (goal.at.returns-clause-discloses g c).After-publish (first_root_is g (goal.at.returns-clause-discloses g c).In-Ok-append) in
-    format_discloses _ _ _ _ _ _ _ _ _ _ _ c.put_node.new.self.body c.head-2.result _ all c.in-Ok-append.ensures.keeps (ap (λ (b : Held). b.body) c.put_node.ensures) c.head-2.ensures.value
+    format_discloses _ _ _ _ _ _ _ _ _ _ _ c.put_node.new.self.body c.head-addr.result _ all c.in-Ok-append.ensures.keeps (ap (λ (b : Held). b.body) c.put_node.ensures) c.head-addr.ensures.value
 
 pub returns-then-is_full-clause-cause : goal.returns-then-is_full-clause-cause
 returns-then-is_full-clause-cause g c = (λ told. full_cell c.in-Ok.is_full (g.P.Platform.history c.args.platform.now).present.cell c.if-is_full.true (c.in-Ok.ensures.full told), (record { head = c.load_root.ensures.head; image = c.load_root.ensures.image; drawn = refl }, λ told. one_look _ _ (c.load_root.ensures.time told) (c.load_root.ensures.image told)))
@@ -190,6 +211,9 @@ returns-then-head-capacity-clause-cause g c = (
 
 pub returns-in_default-new-clause-cause : goal.returns-in_default-new-clause-cause
 returns-in_default-new-clause-cause g c = (λ none. absurd (omega (arith, none, c.head.ensures.value, c.capacity.ensures.value, c.load_root.ensures.head, c.load_root.ensures.capacity, c.if-head-capacity.false)), (record { head = c.load_root.ensures.head; image = c.load_root.ensures.image; drawn = refl }, λ told. one_look _ _ (c.load_root.ensures.time told) (c.load_root.ensures.image told)))
+
+pub returns-in_default-entry_of-clause-cause : goal.returns-in_default-entry_of-clause-cause
+returns-in_default-entry_of-clause-cause g c = (λ none. absurd (omega (arith, none, c.head.ensures.value, c.capacity.ensures.value, c.load_root.ensures.head, c.load_root.ensures.capacity, c.if-head-capacity.false)), (record { head = c.load_root.ensures.head; image = c.load_root.ensures.image; drawn = refl }, λ told. one_look _ _ (c.load_root.ensures.time told) (c.load_root.ensures.image told)))
 
 pub returns-in-Err-TapeFault-clause-cause : goal.returns-in-Err-TapeFault-clause-cause
 returns-in-Err-TapeFault-clause-cause g c = (
@@ -207,3 +231,32 @@ returns-in-Err-TapeFault-clause-cause g c = (
 
 pub returns-in-Ok-publish-clause-cause : goal.returns-in-Ok-publish-clause-cause
 returns-in-Ok-publish-clause-cause g c = (λ told. empty_cell c.in-Ok.is_full (g.P.Platform.history c.args.platform.now).present.cell c.if-is_full.false (c.in-Ok.ensures.full told), λ none. absurd (omega (arith, none, c.head.ensures.value, c.capacity.ensures.value, c.load_root.ensures.head, c.load_root.ensures.capacity, c.if-head-capacity.false)), omega (arith, c.in-Ok-append.ensures.head_ok, c.load_root.ensures.head, c.publish.ensures.head))
+
+pub returns-in-Err-Ledger-clause-cause : goal.returns-in-Err-Ledger-clause-cause
+returns-in-Err-Ledger-clause-cause g c =
+    let cause = rw c.in-Err-Ledger.field-0-is at c.in-Err-Ledger.ensures.cause in (
+      cause.0,
+      λ none. absurd (omega (arith, none, c.head.ensures.value, c.capacity.ensures.value, c.load_root.ensures.head, c.load_root.ensures.capacity, c.if-head-capacity.false)),
+      λ told. stays_then _ _ _ (call_more _ _ _ (one_look _ _ (c.load_root.ensures.time told) (c.load_root.ensures.image told)) (c.append.ensures.time told) (c.append.ensures.cell told)) (cause.1 told),
+    )
+
+pub returns-in-Err-Ledger-clause-certifies : goal.returns-in-Err-Ledger-clause-certifies
+returns-in-Err-Ledger-clause-certifies g c =
+    let at = goal.at.returns-in-Err-Ledger-clause-certifies g c in
+    let address : c.in-Ok-append.placed.addr ≡ g.P.Platform.head c.load_root.new.self = c.in-Ok-append.ensures.address in
+    format_certifies _ _ _ _ _ _ _ _ _ _ _ _ _ _ _ _ (λ was ok. absurd cc) (address ∙ c.load_root.ensures.head) (c.head-addr.ensures.value ∙ c.load_root.ensures.head)
+    (calls g at.After-publish (first_root_is g at.In-Ok-append)) c.in-Ok-entry_of.ensures (rw c.bytes.ensures at c.publish.ensures.put)
+
+pub returns-clause-certifies : goal.returns-clause-certifies
+returns-clause-certifies g c =
+    let at = goal.at.returns-clause-certifies g c in
+    let address : c.in-Ok-append.placed.addr ≡ g.P.Platform.head c.load_root.new.self = c.in-Ok-append.ensures.address in
+    format_certifies _ _ _ _ _ _ _ _ _ _ _ _ _ _ _ _ (λ was ok. absurd cc) (address ∙ c.load_root.ensures.head) (c.head-addr.ensures.value ∙ c.load_root.ensures.head)
+    (calls g at.After-publish (first_root_is g at.In-Ok-append)) c.in-Ok-entry_of.ensures (rw c.bytes.ensures at c.publish.ensures.put)
+
+pub returns-in-Ok-publish-clause-certifies : goal.returns-in-Ok-publish-clause-certifies
+returns-in-Ok-publish-clause-certifies g c =
+    let at = goal.at.returns-in-Ok-publish-clause-certifies g c in
+    let address : c.in-Ok-append.placed.addr ≡ g.P.Platform.head c.load_root.new.self = c.in-Ok-append.ensures.address in
+    format_certifies _ _ _ _ _ _ _ _ _ _ _ _ _ _ _ _ (λ was ok. was (ap is_ok c.in-Ok-publish.is)) (address ∙ c.load_root.ensures.head) (c.head-addr.ensures.value ∙ c.load_root.ensures.head)
+    (calls g at.After-publish (first_root_is g at.In-Ok-append)) c.in-Ok-entry_of.ensures (rw c.bytes.ensures at c.publish.ensures.put)
