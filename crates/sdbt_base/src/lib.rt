@@ -25,7 +25,7 @@ pub use limits::{
 };
 pub use lines::Line;
 pub use list_tape::ListTape;
-pub use lists::{Addrs, Unkept, UnkeptList};
+pub use lists::{Addrs, Listed, Unkept, UnkeptList};
 pub use mem_sink::MemSink;
 pub use mem_source::MemSource;
 pub use read_source::ReadSource;
