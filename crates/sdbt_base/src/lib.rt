@@ -16,6 +16,7 @@ mod read_source;
 mod sinks;
 mod sources;
 mod tapes;
+mod transfers;
 mod write_sink;
 
 pub use faults::{Memory, PlatformFault, SinkFault, SourceFault, TapeFault};
@@ -32,6 +33,7 @@ pub use read_source::ReadSource;
 pub use sinks::Sink;
 pub use sources::Source;
 pub use tapes::Tape;
+pub use transfers::{read_whole, write_whole};
 pub use write_sink::WriteSink;
 
 #[cfg(test)]
