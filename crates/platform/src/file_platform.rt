@@ -8,9 +8,8 @@ ghost use Rattle.platform.specs.Places.{ReadsAt, WritesAt};
 ghost use Rattle.platform.specs.Refusals.{ShowsCause, TellsFile, TellsHeld};
 ghost use Rattle.platform.specs.Folder.{CountsFault, MarksTorn, TellsMissing, IsEmptyIfMissing};
 
-use crate::transfers::{read_whole, write_whole};
 use crate::{FolderFile, LockFile, OpenRefusal, Platform};
-use sdbt_base::{MAX_PAGES, PlatformFault, RECORD, ROOT};
+use sdbt_base::{MAX_PAGES, PlatformFault, RECORD, ROOT, read_whole, write_whole};
 use std::fs::{self, OpenFile, OpenOptions};
 use std::io::{self, ErrorKind, Read, Seek, SeekFrom, Write};
 use std::os::unix::fs::OpenOptionsExt;

@@ -8,7 +8,6 @@ mod mem_platform;
 mod platforms;
 mod refusals;
 mod store;
-mod transfers;
 
 pub use failures::{CallKind, Failure};
 pub use file_platform::FilePlatform;

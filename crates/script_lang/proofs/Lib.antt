@@ -7,6 +7,5 @@ pub mod LineLaws
 pub mod Blocks
 pub mod Trims
 pub mod ReplyLaws
-pub mod Steps
 pub mod CommandLaws
 pub mod AnswerLaws

@@ -75,6 +75,15 @@ text_of Range = codes "range"
 text_of Full = codes "full"
 text_of Unbuilt = codes "unbuilt"
 
+-- a reply of words alone, which gives no number and no bytes
+abbrev pub IsWords : Reply → Type 0
+IsWords (Mounted number) = ⊥
+IsWords (Content bytes) = ⊥
+IsWords (Committed number) = ⊥
+IsWords (Stat mapped number) = ⊥
+IsWords (Seized pages nodes blocks) = ⊥
+IsWords _ = Unit {0}
+
 -- a reply's line, with its line feed
 abbrev pub line_of : Reply → List ℕ
 line_of reply = text_of reply ++ 10 ∷ []

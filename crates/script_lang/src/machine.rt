@@ -74,22 +74,6 @@ impl Machine {
         ensures written { IfOk result (λ reply. CanWrite (said reply buffer.new)) }
         ensures short { IfOk result FitsReply }
     {
-        self.answer(command, buffer, full)
-    }
-
-    fn answer(
-        &mut self,
-        command: &Command,
-        buffer: &mut [u8; BLOCK],
-        full: bool,
-    ) -> Result<Reply, Memory>
-        requires served { command.now ≢ Command.Seize }
-        requires fits { FitsBlock command.now }
-        requires counted { number_of self.old < 2 ^ 64 - 1 }
-        ensures step { IfOk result (λ reply. (said reply buffer.new, self.new) ≡ step_if full self.old (asked command.now buffer.old)) }
-        ensures memory { OnErr result (self.new ≡ self.old) }
-        ensures short { IfOk result FitsReply }
-    {
         match command {
             Command::Format { blocks, order } => Ok(self.format(*blocks, *order, full)),
             Command::Mount => self.mount(),
@@ -148,6 +132,7 @@ impl Machine {
 
     fn read(&self, block: u64, buffer: &mut [u8; BLOCK]) -> Reply
         ensures step { (said result buffer.new, self.now) ≡ step self.now (commands.Read block) }
+        ensures written { CanWrite (said result buffer.new) }
         ensures short { FitsReply result }
     {
         let Some(device) = &self.device else {
@@ -300,6 +285,7 @@ fn is_in_limits(blocks: u64, order: u64) -> bool
 /// What a block holds, as a reply.
 fn content(contents: &Contents, block: u64, buffer: &mut [u8; BLOCK]) -> Reply
     ensures value { said result buffer.new ≡ content_reply (content_of contents.now block) }
+    ensures written { CanWrite (said result buffer.new) }
     ensures short { FitsReply result }
 {
     match contents.get(block) {

@@ -3,7 +3,7 @@
 ghost use Rattle.std.specs.Prelude.{◌≡◌, ◌≢◌, ◌++◌, codes, flat_map, ◌<◌, ◌↔◌, ◌^◌, ℕ, List, Some, length, IfSome, IfNone, IsSomeAnd, IsTrue, take, ◌≤◌};
 ghost use Rattle.hex.specs.Hex.{encode_lower};
 ghost use Rattle.script_lang.specs.Replies as replies;
-ghost use Rattle.script_lang.specs.Replies.{Reply as Answer, said, FitsBlock, text_of, line_of, IsReply, IsFront, IsTrimmed, hex_or_dash};
+ghost use Rattle.script_lang.specs.Replies.{Reply as Answer, said, FitsBlock, text_of, line_of, IsReply, IsFront, IsTrimmed, IsWords, hex_or_dash};
 ghost use Rattle.std.specs.Fmt.{decimal};
 ghost use Rattle.std.specs.List.{AllByRecursion};
 ghost use Rattle.std.specs.Bool.{OnTrue, OnFalse};
@@ -38,13 +38,7 @@ fn find_reply(line: &[u8], buffer: &mut [u8; BLOCK]) -> Option<Reply>
     ensures fits { IfSome result FitsBlock }
     ensures none { IfNone result ((answer : Answer) → IsReply answer → line.now ≢ text_of answer) }
 {
-    if let Some(reply) = read_success(line) {
-        return Some(reply);
-    }
-    if let Some(reply) = read_state_refusal(line) {
-        return Some(reply);
-    }
-    if let Some(reply) = read_refusal(line) {
+    if let Some(reply) = read_words(line) {
         return Some(reply);
     }
     if let Some(reply) = read_content(line, buffer) {
@@ -62,79 +56,29 @@ fn find_reply(line: &[u8], buffer: &mut [u8; BLOCK]) -> Option<Reply>
     read_seized(line)
 }
 
-/// An accepted command's reply that is one word.
+/// A reply that is words alone.
 #[tactic(auto, unfolding(crate::specs::Replies::text_of))]
-fn read_success(line: &[u8]) -> Option<Reply>
+fn read_words(line: &[u8]) -> Option<Reply>
     ensures found { IfSome result (λ reply. (buffer : List ℕ) → IsReply (said reply buffer) × (line.now ≡ text_of (said reply buffer))) }
     ensures fits { IfSome result FitsBlock }
-    ensures formatted { IfNone result (line.now ≢ text_of replies.Formatted) }
-    ensures done { IfNone result (line.now ≢ text_of replies.Done) }
-    ensures dropped { IfNone result (line.now ≢ text_of replies.Dropped) }
-    ensures erased { IfNone result (line.now ≢ text_of replies.Erased) }
+    ensures none { IfNone result ((answer : Answer) → IsWords answer → line.now ≢ text_of answer) }
 {
-    if is_text(line, b"formatted") {
-        return Some(Reply::Formatted);
+    match line {
+        b"formatted" => Some(Reply::Formatted),
+        b"ok" => Some(Reply::Done),
+        b"dropped" => Some(Reply::Dropped),
+        b"erased" => Some(Reply::Erased),
+        b"bad" => Some(Reply::Bad),
+        b"unmounted" => Some(Reply::Unmounted),
+        // As a pattern so long a text is not proved.
+        _ if is_text(line, b"already mounted") => Some(Reply::AlreadyMounted),
+        b"not empty" => Some(Reply::NotEmpty),
+        b"no device" => Some(Reply::NoDevice),
+        b"range" => Some(Reply::Range),
+        b"full" => Some(Reply::Full),
+        b"unbuilt" => Some(Reply::Unbuilt),
+        _ => None,
     }
-    if is_text(line, b"ok") {
-        return Some(Reply::Done);
-    }
-    if is_text(line, b"dropped") {
-        return Some(Reply::Dropped);
-    }
-    if is_text(line, b"erased") {
-        return Some(Reply::Erased);
-    }
-    None
-}
-
-/// A refusal by the state, as `not empty`.
-#[tactic(auto, unfolding(crate::specs::Replies::text_of))]
-fn read_state_refusal(line: &[u8]) -> Option<Reply>
-    ensures found { IfSome result (λ reply. (buffer : List ℕ) → IsReply (said reply buffer) × (line.now ≡ text_of (said reply buffer))) }
-    ensures fits { IfSome result FitsBlock }
-    ensures unmounted { IfNone result (line.now ≢ text_of replies.Unmounted) }
-    ensures already_mounted { IfNone result (line.now ≢ text_of replies.AlreadyMounted) }
-    ensures not_empty { IfNone result (line.now ≢ text_of replies.NotEmpty) }
-    ensures no_device { IfNone result (line.now ≢ text_of replies.NoDevice) }
-{
-    if is_text(line, b"unmounted") {
-        return Some(Reply::Unmounted);
-    }
-    if is_text(line, b"already mounted") {
-        return Some(Reply::AlreadyMounted);
-    }
-    if is_text(line, b"not empty") {
-        return Some(Reply::NotEmpty);
-    }
-    if is_text(line, b"no device") {
-        return Some(Reply::NoDevice);
-    }
-    None
-}
-
-/// Another refusal, as `range`.
-#[tactic(auto, unfolding(crate::specs::Replies::text_of))]
-fn read_refusal(line: &[u8]) -> Option<Reply>
-    ensures found { IfSome result (λ reply. (buffer : List ℕ) → IsReply (said reply buffer) × (line.now ≡ text_of (said reply buffer))) }
-    ensures fits { IfSome result FitsBlock }
-    ensures bad { IfNone result (line.now ≢ text_of replies.Bad) }
-    ensures range { IfNone result (line.now ≢ text_of replies.Range) }
-    ensures full { IfNone result (line.now ≢ text_of replies.Full) }
-    ensures unbuilt { IfNone result (line.now ≢ text_of replies.Unbuilt) }
-{
-    if is_text(line, b"bad") {
-        return Some(Reply::Bad);
-    }
-    if is_text(line, b"range") {
-        return Some(Reply::Range);
-    }
-    if is_text(line, b"full") {
-        return Some(Reply::Full);
-    }
-    if is_text(line, b"unbuilt") {
-        return Some(Reply::Unbuilt);
-    }
-    None
 }
 
 /// Whether a line is this text.

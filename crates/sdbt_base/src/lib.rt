@@ -16,6 +16,7 @@ mod read_source;
 mod sinks;
 mod sources;
 mod tapes;
+mod transfers;
 mod write_sink;
 
 pub use faults::{Memory, PlatformFault, SinkFault, SourceFault, TapeFault};
@@ -25,13 +26,14 @@ pub use limits::{
 };
 pub use lines::Line;
 pub use list_tape::ListTape;
-pub use lists::{Addrs, Unkept, UnkeptList};
+pub use lists::{Addrs, Listed, Unkept, UnkeptList};
 pub use mem_sink::MemSink;
 pub use mem_source::MemSource;
 pub use read_source::ReadSource;
 pub use sinks::Sink;
 pub use sources::Source;
 pub use tapes::Tape;
+pub use transfers::{read_whole, write_whole};
 pub use write_sink::WriteSink;
 
 #[cfg(test)]

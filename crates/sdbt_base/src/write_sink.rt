@@ -1,9 +1,8 @@
 //! A sink over a writer of std.
-ghost use Rattle.std.specs.Prelude.{◌≡◌, ℕ, ◌≤◌, Option, List, None, IsTrue, IsSome, length, take, if◌then◌else◌};
-ghost use Rattle.std.specs.Io.KnownBytes.{Appends};
+ghost use Rattle.std.specs.Prelude.{◌≡◌, ℕ, Option, List, None, IsTrue, IsSome, if◌then◌else◌};
 
-use crate::{Sink, SinkFault};
-use std::io::{ErrorKind, Write};
+use crate::{Sink, SinkFault, write_whole};
+use std::io::Write;
 
 /// Writes bytes to a writer of std, such as standard output or a file. Each error that it hands on is counted.
 /// The writer should keep nothing back: nothing is flushed.
@@ -48,31 +47,10 @@ impl<W: Write + Drop> Sink for WriteSink<W> {
     ghost faults = { λ s. s.faults };
 
     fn put(&mut self, bytes: &[u8]) -> Result<(), SinkFault> {
-        if write_front(&mut self.inner, bytes) == bytes.len() {
+        if write_whole(&mut self.inner, bytes).is_ok() {
             return Ok(());
         }
         self.faults = self.faults.saturating_add(1);
         Err(SinkFault)
     }
-}
-
-// Writes the bytes until the writer fails, and answers how many of them it took.
-fn write_front<W: Write>(writer: &mut W, bytes: &[u8]) -> usize
-    ensures bound { result ≤ length bytes.now }
-    ensures front { Appends (W.contents writer.old) (W.contents writer.new) (take result bytes.now) }
-{
-    let mut written = 0;
-    for _ in 0..u64::MAX {
-        if written == bytes.len() {
-            break;
-        }
-        let (_, rest) = bytes.split_at(written);
-        match writer.write(rest) {
-            Ok(0) => break,
-            Ok(count) => written += count,
-            Err(error) if error.kind() == ErrorKind::Interrupted => {}
-            Err(_) => break,
-        }
-    }
-    written
 }

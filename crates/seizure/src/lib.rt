@@ -18,7 +18,7 @@ mod seizing;
 mod work;
 
 pub use laws::counted_by_address;
-pub use opened::{Opened, OpenedList};
+pub use opened::Opened;
 pub use paging::{seize_pages, seize_pages_all};
 pub use refusals::SeizeRefusal;
 pub use report::Report;

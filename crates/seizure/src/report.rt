@@ -2,14 +2,14 @@
 ghost use Rattle.std.specs.Prelude.{◌≡◌};
 ghost use Rattle.seizure.specs.Opened.{count_of_kind};
 
-use crate::opened::OpenedList;
+use crate::opened::{Opened, count_of_kind};
 use std::marker::Model;
 
 /// How many pages there are, and what was opened of them. It holds no key and no content.
 #[derive(Drop)]
 pub struct Report {
     pages: u64,
-    opened: OpenedList,
+    opened: Vec<Opened>,
 }
 
 impl Model for Report {
@@ -17,13 +17,13 @@ impl Model for Report {
 
     ghost Value = { Seized };
 
-    ghost view = { λ r. record { pages = r.pages; opened = r.opened } };
+    ghost view = { λ r. record { pages = r.pages; opened = r.opened.items } };
 }
 
 impl Report {
     // The report of what was opened of so many pages.
-    pub(crate) fn of(pages: u64, opened: OpenedList) -> Report
-        ensures { result ≡ record { pages = pages; opened = opened } }
+    pub(crate) fn of(pages: u64, opened: Vec<Opened>) -> Report
+        ensures { result ≡ record { pages = pages; opened = opened.items } }
     {
         Report { pages, opened }
     }
@@ -36,7 +36,7 @@ impl Report {
     }
 
     /// What was opened, in order, each once.
-    pub fn opened(&self) -> &OpenedList
+    pub fn opened(&self) -> &[Opened]
         ensures { result.now ≡ self.now.opened }
     {
         &self.opened
@@ -46,13 +46,13 @@ impl Report {
     pub fn nodes(&self) -> u64
         ensures { result ≡ count_of_kind 2 self.now.opened }
     {
-        self.opened.count_of_kind(2)
+        count_of_kind(&self.opened, 2)
     }
 
     /// How many of them are of kind 1, as data records are.
     pub fn blocks(&self) -> u64
         ensures { result ≡ count_of_kind 1 self.now.opened }
     {
-        self.opened.count_of_kind(1)
+        count_of_kind(&self.opened, 1)
     }
 }

@@ -101,7 +101,7 @@ fn tells(report: &Report, want: &[(u64, u8, u64)]) -> bool {
     opened.len() == want.len()
         && want.iter().enumerate().all(|(i, (addr, kind, block))| {
             i < opened.len()
-                && *opened.at(i)
+                && opened[i]
                     == Opened {
                         addr: *addr,
                         kind: *kind,

@@ -4,10 +4,10 @@ ghost use Rattle.key_graph.specs.Opening.{kind_of, count_of, key_in};
 ghost use Rattle.seizure.specs.Opened.{told_of, IsOrderOf};
 ghost use Rattle.seizure.specs.Work.{KnowsItsKeys, Gains, HasBelow, HasKey};
 
-use crate::opened::{Opened, OpenedList};
+use crate::opened::{Opened, ascend};
 use crate::report::Report;
 use key_graph::KeyList;
-use sdbt_base::{Key, Memory, RECORD};
+use sdbt_base::{Key, Listed, Memory, RECORD};
 use std::alloc::Global;
 use std::collections::BTreeSet;
 
@@ -23,7 +23,7 @@ pub(crate) struct Work {
     known: BTreeSet<[u8; 32]>,
     /// The keys.
     pub(crate) keys: KeyList,
-    opened: OpenedList,
+    opened: Listed<Opened>,
 }
 
 impl Work {
@@ -36,7 +36,7 @@ impl Work {
         Work {
             known: BTreeSet::new(alloc),
             keys: KeyList::new(alloc),
-            opened: OpenedList::new(alloc),
+            opened: Listed::new(alloc),
         }
     }
 
@@ -103,12 +103,8 @@ impl Work {
         ensures pages { result.pages ≡ pages }
         ensures opened { IsOrderOf self.opened result.opened }
     {
-        let Work {
-            known: _,
-            keys: _,
-            mut opened,
-        } = self;
-        opened.ascend();
+        let mut opened = self.opened.into_vec();
+        ascend(&mut opened);
         Report::of(pages, opened)
     }
 }

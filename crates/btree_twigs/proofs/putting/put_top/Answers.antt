@@ -1,10 +1,13 @@
-use Rattle.std.proofs.Common.{ℕ, ◌+◌, ◌/◌, ap, subst, ◌∙◌, arith}
+use Rattle.std.proofs.Common.{◌≡◌, ℕ, suc, ◌+◌, ◌/◌, ◌<◌, ◌≤◌, List, length, ap, subst, ◌∙◌, arith}
+use Rattle.std.specs.declared.vec.Vec.{Vec}
+use Rattle.std.specs.declared.alloc.Global.{Global}
+use Rattle.btree_twigs.specs.declared.twigs.Child.{Child}
 use Rattle.btree_twigs.specs.declared.twigs.Child.TheVariants as made
 use Rattle.btree_twigs.specs.declared.twigs.Twig.{Twig}
-use Rattle.btree_twigs.specs.Stubs.{datum}
+use Rattle.btree_twigs.specs.Stubs.{Stub, children_of, datum, level_of}
 use Rattle.btree_twigs.specs.Shape.{IsTwig}
-use Rattle.btree_twigs.specs.Updates.{IsOpen, CanPut}
-use Rattle.btree_twigs.specs.Top.{IsTopBy, top_least, level_in, CanPutTop}
+use Rattle.btree_twigs.specs.Updates.{IsOpen, CanPut, HasSpares, IsTwigPut}
+use Rattle.btree_twigs.specs.Top.{CanRaise, IsTopBy, top_least, level_in, CanPutTop}
 use Rattle.btree_twigs.proofs.Ways.{fewer}
 use Rattle.btree_twigs.proofs.Nodes.{stubs_of_grown}
 use Rattle.btree_twigs.proofs.Tops.{top_kept, top_raised}
@@ -25,6 +28,27 @@ open_top order block low spares twig at =
       is_open = subst (IsOpen block) (stubs_of_grown at.level at.high low twig) at.is_open;
       enough = fewer order at.level (at.level + 2) _ (omega arith) at.enough;
     }
+
+-- a root with one child more than may be has enough of them to be cut in two
+too_long : (order level high : ℕ) (stub : Stub) (old new : Twig) → 4 ≤ order → IsTwigPut order level (top_least level) 0 high stub old new
+    → order < length (children_of new) → IsTwig order level (order / 2) (order + 1) 0 high new
+too_long order level high stub old new four p more = record {
+  level_is = p.shaped.level_is;
+  room = p.shaped.room;
+  node = record { enough = omega (arith, four, more); within = p.shaped.node.within; begins = p.shaped.node.begins; each = p.shaped.node.each };
+}
+
+-- a new root can be put above the parts of one that was cut in two
+abbrev can_raise : (order level low : ℕ) (left : Twig) (part : Child) (spares : List (Vec Child Global)) → level_of left ≡ suc level → level < 254 → 4 ≤ order
+    → HasSpares order 1 spares → CanRaise (made.Grown low left) part spares
+can_raise order level low left part spares is small four spare = record {
+  level = level;
+  level_is = ap level_in (made.outs-Grown low left) ∙ is;
+  small = small;
+  order = order;
+  four = four;
+  spare = spare;
+}
 
 pub put-requires-clause-can : goal.put-requires-clause-can
 put-requires-clause-can c = rw (c.in-Grown.is, made.outs-Grown c.in-Grown.low c.in-Grown.twig)
@@ -47,46 +71,25 @@ pub raise-requires : goal.raise-requires
 raise-requires c =
     let at = c.requires.can in
     let e = rw (c.in-Grown.is, made.outs-Grown c.in-Grown.low c.in-Grown.twig) at c.put.ensures in
-    let grown = subst (CanPutTop c.args.order c.args.block c.args.spares.now.items) c.in-Grown.is at in
-    let open_at = open_top c.args.order c.args.block c.in-Grown.low _ c.in-Grown.twig grown in
-    let p = e.put open_at in
-    let zero_is = (subst (IsTopBy c.args.order at.level at.high) (made.outs-Grown c.in-Grown.low c.in-Grown.twig) grown.shaped).0 in
-    let full : IsTwig c.args.order at.level (c.args.order / 2) (c.args.order + 1) 0 at.high c.put.new.twig = record {
-      level_is = p.shaped.level_is;
-      room = p.shaped.room;
-      node = record { enough = omega (arith, c.requires.four); within = p.shaped.node.within; begins = p.shaped.node.begins; each = p.shaped.node.each };
-    } in
+    let open_at = open_top c.args.order c.args.block c.in-Grown.low _ c.in-Grown.twig (subst (CanPutTop c.args.order c.args.block c.args.spares.now.items) c.in-Grown.is at) in
+    let full = too_long c.args.order at.level at.high _ c.in-Grown.twig c.put.new.twig c.requires.four (e.put open_at) (omega arith) in
     let s = c.split-part.ensures.split at.level 0 at.high full in
     let spare = e.spares open_at 2 (fewer c.args.order (2 + at.level) (at.level + 2) _ (omega arith) at.enough) in
-    let left = c.split-part.ensures.spares 1 spare in
     rw (c.in-Grown.is, made.outs-Grown c.in-Grown.low c.in-Grown.twig) (record {
-      can = record {
-        level = at.level;
-        level_is = ap level_in (made.outs-Grown c.in-Grown.low c.split-part.new.twig) ∙ s.left.level_is;
-        small = at.small;
-        order = c.args.order;
-        four = c.requires.four;
-        spare = left;
-      };
+      can = can_raise c.args.order at.level c.in-Grown.low c.split-part.new.twig _ _ s.left.level_is at.small c.requires.four (c.split-part.ensures.spares 1 spare);
     })
 
 pub returns-then-len-order-clause-put : goal.returns-then-len-order-clause-put
 returns-then-len-order-clause-put c at =
     let e = rw (c.in-Grown.is, made.outs-Grown c.in-Grown.low c.in-Grown.twig) at c.put.ensures in
     let grown = subst (CanPutTop c.args.order c.args.block c.args.spares.now.items) c.in-Grown.is at in
+    let zero_is = (subst (IsTopBy c.args.order at.level at.high) (made.outs-Grown c.in-Grown.low c.in-Grown.twig) grown.shaped).0 in
     let open_at = open_top c.args.order c.args.block c.in-Grown.low _ c.in-Grown.twig grown in
     let p = e.put open_at in
-    let zero_is = (subst (IsTopBy c.args.order at.level at.high) (made.outs-Grown c.in-Grown.low c.in-Grown.twig) grown.shaped).0 in
-    let full : IsTwig c.args.order at.level (c.args.order / 2) (c.args.order + 1) 0 at.high c.put.new.twig = record {
-      level_is = p.shaped.level_is;
-      room = p.shaped.room;
-      node = record { enough = omega (arith, c.requires.four); within = p.shaped.node.within; begins = p.shaped.node.begins; each = p.shaped.node.each };
-    } in
-    let s = c.split-part.ensures.split at.level 0 at.high full in
-    let spare = e.spares open_at 2 (fewer c.args.order (2 + at.level) (at.level + 2) _ (omega arith) at.enough) in
-    let left = c.split-part.ensures.spares 1 spare in
+    let s = c.split-part.ensures.split at.level 0 at.high (too_long c.args.order at.level at.high _ c.in-Grown.twig c.put.new.twig c.requires.four p (omega arith)) in
+    let left = c.split-part.ensures.spares 1 (e.spares open_at 2 (fewer c.args.order (2 + at.level) (at.level + 2) _ (omega arith) at.enough)) in
     let r = rw (c.in-Grown.is, made.outs-Grown c.in-Grown.low c.in-Grown.twig) at c.raise.ensures.raised in
-    let raised = r (record { level = at.level; level_is = ap level_in (made.outs-Grown c.in-Grown.low c.split-part.new.twig) ∙ s.left.level_is; small = at.small; order = c.args.order; four = c.requires.four; spare = left }) c.args.order left in
+    let raised = r (can_raise c.args.order at.level c.in-Grown.low c.split-part.new.twig _ _ s.left.level_is at.small c.requires.four left) c.args.order left in
     rw c.in-Grown.is (top_raised c.args.order at.level at.high (datum c.args.block c.args.addr c.args.key) c.in-Grown.twig c.put.new.twig c.split-part.new.twig c.in-Grown.low c.split-part.result c.raise.new.top
     c.requires.four zero_is p (e.nodes open_at) (c.split-part.ensures.nodes at.level) s raised)
 

@@ -9,23 +9,25 @@ weaker None P Q leads p = leads p
 weaker (Some x) P Q leads p = p
 
 pub returns-clause-none : goal.returns-clause-none
-returns-clause-none c = weaker c.read_seized.result _ _ (λ seized reply.
+returns-clause-none c =
+    let words = c.in_default.ensures.none in
+    weaker c.read_seized.result _ _ (λ seized reply.
     elim reply as (λ r. IsReply r → c.args.line.now ≢ text_of r) [
-      | Formatted ↦ λ is. c.in_default.ensures.formatted
+      | Formatted ↦ λ is. words Formatted tt
       | Mounted number ↦ λ is. c.in_default-read_mounted.ensures.none number is
       | Content bytes ↦ λ is. c.in_default-read_content.ensures.none bytes is
-      | Done ↦ λ is. c.in_default.ensures.done
+      | Done ↦ λ is. words Done tt
       | Committed number ↦ λ is. c.in_default-read_committed.ensures.none number is
-      | Dropped ↦ λ is. c.in_default.ensures.dropped
-      | Erased ↦ λ is. c.in_default.ensures.erased
+      | Dropped ↦ λ is. words Dropped tt
+      | Erased ↦ λ is. words Erased tt
       | Stat mapped number ↦ λ is. c.in_default-read_stat.ensures.none mapped number is.0 is.1
       | Seized pages nodes blocks ↦ λ is. seized pages nodes blocks is.0 is.1 is.2
-      | Bad ↦ λ is. c.in_default-read_refusal.ensures.bad
-      | Unmounted ↦ λ is. c.in_default-read_state_refusal.ensures.unmounted
-      | AlreadyMounted ↦ λ is. c.in_default-read_state_refusal.ensures.already_mounted
-      | NotEmpty ↦ λ is. c.in_default-read_state_refusal.ensures.not_empty
-      | NoDevice ↦ λ is. c.in_default-read_state_refusal.ensures.no_device
-      | Range ↦ λ is. c.in_default-read_refusal.ensures.range
-      | Full ↦ λ is. c.in_default-read_refusal.ensures.full
-      | Unbuilt ↦ λ is. c.in_default-read_refusal.ensures.unbuilt
+      | Bad ↦ λ is. words Bad tt
+      | Unmounted ↦ λ is. words Unmounted tt
+      | AlreadyMounted ↦ λ is. words AlreadyMounted tt
+      | NotEmpty ↦ λ is. words NotEmpty tt
+      | NoDevice ↦ λ is. words NoDevice tt
+      | Range ↦ λ is. words Range tt
+      | Full ↦ λ is. words Full tt
+      | Unbuilt ↦ λ is. words Unbuilt tt
     ]) c.read_seized.ensures.none

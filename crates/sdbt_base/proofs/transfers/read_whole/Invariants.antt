@@ -1,6 +1,6 @@
 use Rattle.std.proofs.Common.{◌≡◌, ◌≤◌, take, length}
 use Rattle.std.specs.Io.KnownBytes.{Consumes}
-use Rattle.platform.proofs.transfers.read_whole.Given as goal
+use Rattle.sdbt_base.proofs.transfers.read_whole.Given as goal
 
 -- the front was read
 abbrev pub invariant-loop : goal.invariant-loop

@@ -1,6 +1,6 @@
 use Rattle.std.proofs.Common.{◌≤◌, take, length}
 use Rattle.std.specs.Io.KnownBytes.{Appends}
-use Rattle.sdbt_base.proofs.write_sink.write_front.Given as goal
+use Rattle.sdbt_base.proofs.transfers.write_whole.Given as goal
 
 -- the front was written
 abbrev pub invariant-loop : goal.invariant-loop

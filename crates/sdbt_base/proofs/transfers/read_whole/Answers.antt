@@ -4,8 +4,8 @@ use Rattle.std.proofs.lemmas.List.{take-append-le, length-take-le, length-take}
 use Rattle.std.proofs.lemmas.Slice.{take-put_mid_below}
 use Rattle.std.proofs.KnownBytes.{Consumes-trans, Consumes-kept}
 use borrow.Rule.Slice.PartMut.{put_mid, post_of, same_len_mid}
-use Rattle.platform.proofs.transfers.read_whole.Goals as goal
-use Rattle.platform.proofs.transfers.read_whole.Goals.{in-Ok, in-Err}
+use Rattle.sdbt_base.proofs.transfers.read_whole.Goals as goal
+use Rattle.sdbt_base.proofs.transfers.read_whole.Goals.{in-Ok, in-Err}
 
 -- a front of a list, and the front of what is written behind it
 front_written : (at k n : ℕ) (xs ys : List ℕ) → at ≤ length xs → n ≤ length ys

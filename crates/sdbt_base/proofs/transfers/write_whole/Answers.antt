@@ -1,7 +1,7 @@
 use Rattle.std.proofs.Common.{take, arith}
 use Rattle.sdbt_base.proofs.ToldLaws.{Appends-next, Appends-kept}
-use Rattle.platform.proofs.transfers.write_whole.Goals as goal
-use Rattle.platform.proofs.transfers.write_whole.Goals.{in-Ok, in-Err}
+use Rattle.sdbt_base.proofs.transfers.write_whole.Goals as goal
+use Rattle.sdbt_base.proofs.transfers.write_whole.Goals.{in-Ok, in-Err}
 
 -- the writer took the next bytes, or it stayed as it was
 pub loop-preserved : goal.loop-preserved

@@ -1,10 +1,10 @@
 use Rattle.std.proofs.Common.{◌≡◌, ◌==◌, ◌≤◌, take, length}
 use Rattle.std.specs.List.{filter}
 use Rattle.seizure.specs.declared.opened.Opened.{Opened}
-use Rattle.seizure.proofs.opened.OpenedList.count_of_kind.Given as goal
+use Rattle.seizure.proofs.opened.count_of_kind.Given as goal
 
 abbrev pub invariant-loop-item : goal.invariant-loop-item
 invariant-loop-item l = record {
-  counted : l.count ≡ length (filter (λ (o : Opened). o.kind == l.kind) (take l.item-index l.item-items));
+  counted : l.count ≡ length (filter (λ (o : Opened). o.kind == l.kind) (take l.item-index l.opened));
   most : l.count ≤ l.item-index;
 }
