@@ -1,19 +1,21 @@
 ghost use Rattle.btree_update.specs.declared.refusals.ReadyRefusal.{ReadyRefusal};
-ghost use Rattle.std.specs.Prelude.{◌≡◌, ◌↔◌, ◌<◌, ◌≤◌, ◌^◌, ℕ, All, IfOk, IfSome, IsErrOf, IsTrue, slice_get, vec_capacity};
+ghost use Rattle.std.specs.Prelude.{◌≡◌, ◌<◌, ◌≤◌, ◌^◌, ℕ, IfOk, IsErrOf, vec_capacity};
 ghost use Rattle.sdbt_base.specs.Faults.{Rose};
-ghost use Rattle.page_store.specs.Places.{IsNodeWanted, NothingFits};
+ghost use Rattle.page_store.specs.Places.{NothingFits};
 ghost use Rattle.btree_walk.specs.Looks.{Looks};
-ghost use Rattle.btree_walk.specs.Sights.{NodeFits, StandsOver};
+ghost use Rattle.btree_walk.specs.Sights.{StandsOver};
 ghost use Rattle.btree_twigs.specs.Stubs.{level_of, children_of};
 ghost use Rattle.btree_twigs.specs.declared.twigs.Twig.{out-Twig};
 ghost use Rattle.btree_update.specs.Reading.{all_kept};
 ghost use Rattle.btree_update.specs.Holding.{IsNodeFor, IsNodeOf};
 
 use crate::refusals::ReadyRefusal;
+use arrayvec::ArrayVec;
 use btree_twigs::{Child, Twig};
+use btree_walk::fits;
 use node_cache::NodeCache;
-use node_codec::{Body, Entry, NodeBody, fits_node};
-use page_store::{Buffers, FetchRefusal, Want, fetch};
+use node_codec::NodeBody;
+use page_store::{Buffers, FetchRefusal, Want, fetch_node};
 use platform::Platform;
 use sdbt_base::Key;
 use std::alloc::{AllocError, Global};
@@ -45,13 +47,15 @@ pub(crate) fn read_node<P: Platform>(
         }
         return in_memory(alloc, node);
     }
-    match fetch(platform, want, key, buf) {
-        Ok(Body::Node { node }) => {
-            let twig = in_memory(alloc, &node);
-            cache.put(want.addr, key, node);
-            twig
+    let mut node = NodeBody {
+        level: want.level,
+        entries: ArrayVec::new(),
+    };
+    match fetch_node(platform, want, key, buf, &mut node.entries) {
+        Ok(()) => {
+            cache.put(want.addr, key, &node);
+            in_memory(alloc, &node)
         }
-        Ok(Body::Block { .. }) => unreachable!(),
         Err(FetchRefusal::BadRecord { addr }) => Err(ReadyRefusal::BadRecord { addr }),
         Err(FetchRefusal::PlatformFault) => Err(ReadyRefusal::PlatformFault),
     }
@@ -66,41 +70,6 @@ fn in_memory(alloc: Global, node: &NodeBody) -> Result<Twig, ReadyRefusal>
         Ok(twig) => Ok(twig),
         Err(_) => Err(ReadyRefusal::Memory),
     }
-}
-
-/// Whether a node is in range at a place and is what is wanted there.
-fn fits(want: &Want, node: &NodeBody) -> bool
-    ensures { IsTrue result ↔ NodeFits want.now node.now }
-{
-    fits_node(want.addr, node.level, &node.entries) && is_wanted(want, node)
-}
-
-/// Whether a node has the level and the number of entries that are wanted, and lows within the bounds.
-fn is_wanted(want: &Want, node: &NodeBody) -> bool
-    ensures { IsTrue result ↔ IsNodeWanted want.now node.now.level node.now.entries.items }
-{
-    let count = node.entries.len();
-    node.level == want.level
-        && want.least as usize <= count
-        && count <= want.most as usize
-        && bounds(want, &node.entries)
-        && (node.level < 2 || begins(want, &node.entries))
-}
-
-/// Whether each low is within the bounds.
-fn bounds(want: &Want, entries: &[Entry]) -> bool
-    ensures { IsTrue result ↔ (All (λ e. want.now.low ≤ e.low) entries.now × All (λ e. e.low < want.now.high) entries.now) }
-{
-    entries
-        .iter()
-        .all(|e| want.low <= e.low && e.low < want.high)
-}
-
-/// Whether the first low, if there is one, is the lower bound.
-fn begins(want: &Want, entries: &[Entry]) -> bool
-    ensures { IsTrue result ↔ IfSome (slice_get entries.now 0) (λ e. e.low ≡ want.now.low) }
-{
-    entries.first().is_none_or(|e| e.low == want.low)
 }
 
 /// The node of a record in memory, with room for one child more than a node may have.

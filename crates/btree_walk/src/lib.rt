@@ -26,6 +26,7 @@ pub use list_laws::{
 };
 pub use listing::{addresses, entries};
 pub use refusals::WalkRefusal;
+pub use turns::fits;
 
 #[cfg(test)]
 mod builder;

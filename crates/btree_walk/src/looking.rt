@@ -10,9 +10,10 @@ ghost use Rattle.btree_walk.specs.Finds.{AsksFor, FitsTurn, SeesTurn, StopsHere,
 ghost use Rattle.btree_walk.specs.Looks.{Looks};
 
 use crate::turns::{Turn, fits, turn_at};
+use arrayvec::ArrayVec;
 use node_cache::NodeCache;
-use node_codec::Body;
-use page_store::{Buffers, FetchRefusal, Want, fetch};
+use node_codec::NodeBody;
+use page_store::{Buffers, FetchRefusal, Want, fetch_node};
 use platform::Platform;
 use sdbt_base::Key;
 
@@ -76,12 +77,12 @@ fn look_at_page<P: Platform>(
     ensures looks { Looks P.Platform 1 platform.old platform.new }
     ensures cause { IsErrOf result FetchRefusal.PlatformFault → Rose (P.faults platform.old) (P.faults platform.new) }
 {
-    match fetch(platform, want, key, buf)? {
-        Body::Node { node } => {
-            let turn = turn_at(want, &node, block);
-            cache.put(want.addr, key, node);
-            Ok(turn)
-        }
-        Body::Block { .. } => unreachable!(),
-    }
+    let mut node = NodeBody {
+        level: want.level,
+        entries: ArrayVec::new(),
+    };
+    fetch_node(platform, want, key, buf, &mut node.entries)?;
+    let turn = turn_at(want, &node, block);
+    cache.put(want.addr, key, &node);
+    Ok(turn)
 }

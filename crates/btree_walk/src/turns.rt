@@ -1,6 +1,5 @@
-ghost use Rattle.std.specs.Prelude.{◌≡◌, ◌↔◌, ◌<◌, ◌≤◌, All, IfSome, IsTrue, drop, length, map, slice_get};
+ghost use Rattle.std.specs.Prelude.{◌≡◌, ◌↔◌, ◌<◌, ◌≤◌, IfSome, IsTrue, drop, length, map, slice_get};
 ghost use Rattle.std.specs.List.Sorted.{IsStrictlyIncreasing, IsPartitionPoint};
-ghost use Rattle.page_store.specs.Places.{IsNodeWanted};
 ghost use Rattle.page_store.specs.Tree.{bound_of};
 ghost use Rattle.btree_walk.specs.Ways.{IsEntryOf, IsTurn};
 ghost use Rattle.btree_walk.specs.Sights.{NodeFits};
@@ -87,36 +86,8 @@ fn reach_of(entries: &[Entry], block: u64) -> usize
 }
 
 /// Whether a node is in range at a place and is what is wanted there.
-pub(crate) fn fits(want: &Want, node: &NodeBody) -> bool
+pub fn fits(want: &Want, node: &NodeBody) -> bool
     ensures { IsTrue result ↔ NodeFits want.now node.now }
 {
-    fits_node(want.addr, node.level, &node.entries) && is_wanted(want, node)
-}
-
-/// Whether a node has the level and the number of entries that are wanted, and lows within the bounds.
-fn is_wanted(want: &Want, node: &NodeBody) -> bool
-    ensures { IsTrue result ↔ IsNodeWanted want.now node.now.level node.now.entries.items }
-{
-    let count = node.entries.len();
-    node.level == want.level
-        && want.least as usize <= count
-        && count <= want.most as usize
-        && bounds(want, &node.entries)
-        && (node.level < 2 || begins(want, &node.entries))
-}
-
-/// Whether each low is within the bounds.
-fn bounds(want: &Want, entries: &[Entry]) -> bool
-    ensures { IsTrue result ↔ (All (λ e. want.now.low ≤ e.low) entries.now × All (λ e. e.low < want.now.high) entries.now) }
-{
-    entries
-        .iter()
-        .all(|e| want.low <= e.low && e.low < want.high)
-}
-
-/// Whether the first low, if there is one, is the lower bound.
-fn begins(want: &Want, entries: &[Entry]) -> bool
-    ensures { IsTrue result ↔ IfSome (slice_get entries.now 0) (λ e. e.low ≡ want.now.low) }
-{
-    entries.first().is_none_or(|e| e.low == want.low)
+    fits_node(want.addr, node.level, &node.entries) && want.is_met_by(node.level, &node.entries)
 }

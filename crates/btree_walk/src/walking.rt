@@ -1,4 +1,4 @@
-ghost use Rattle.std.specs.Prelude.{◌≡◌, ◌<◌, ◌≤◌, ◌+◌, ℕ, List, IfOk, OnOk, IsErrOf};
+ghost use Rattle.std.specs.Prelude.{◌≡◌, ◌<◌, ◌≤◌, ◌+◌, ℕ, List, OnOk, IsErrOf};
 ghost use Rattle.sdbt_base.specs.Faults.{Rose};
 ghost use Rattle.node_codec.specs.Record.{NodeRecord, FitsNode};
 ghost use Rattle.page_store.specs.Places.{FitsAt};
@@ -9,8 +9,9 @@ ghost use Rattle.btree_walk.specs.Looks.{OnlyLooks};
 use crate::branches::branch_at;
 use crate::gathering::Gather;
 use crate::refusals::WalkRefusal;
-use node_codec::{Body, NodeBody};
-use page_store::{Buffers, Want, fetch};
+use arrayvec::ArrayVec;
+use node_codec::{Entry, NodeBody};
+use page_store::{Buffers, Want, fetch_node};
 use platform::Platform;
 use sdbt_base::Key;
 
@@ -33,7 +34,11 @@ pub(crate) fn walk<P: Platform, G: Gather>(
     ensures looks { OnlyLooks P.Platform platform.old platform.new }
     ensures cause { IsErrOf result WalkRefusal.PlatformFault → Rose (P.faults platform.old) (P.faults platform.new) }
 {
-    let node = fetch_node(platform, want, key, buf)?;
+    let mut node = NodeBody {
+        level: want.level,
+        entries: ArrayVec::new(),
+    };
+    read_node(platform, want, key, buf, &mut node.entries)?;
     gathered.node(want.addr, &node)?;
     if want.level == 1 {
         return Ok(());
@@ -45,26 +50,25 @@ pub(crate) fn walk<P: Platform, G: Gather>(
     Ok(())
 }
 
-/// The node of a place, by one read of its page.
-fn fetch_node<P: Platform>(
+/// Reads the entries of the node of a place, by one read of its page.
+fn read_node<P: Platform>(
     platform: &mut P,
     want: &Want,
     key: &Key,
     buf: &mut Buffers,
-) -> Result<NodeBody, WalkRefusal>
+    entries: &mut ArrayVec<Entry, 64>,
+) -> Result<(), WalkRefusal>
     requires within { want.now.addr < P.head platform.old }
     requires level { 1 ≤ want.now.level }
-    ensures fits { P.tells → IfOk result (λ node. (node.level ≡ want.now.level) ×
-        FitsAt (P.history platform.old).present.readable want.now key.now (NodeRecord want.now.level node.entries.items)) }
-    ensures range { IfOk result (λ node. FitsNode want.now.addr want.now.level node.entries.items) }
+    ensures fits { P.tells → OnOk result
+        (FitsAt (P.history platform.old).present.readable want.now key.now (NodeRecord want.now.level entries.new.items)) }
+    ensures range { OnOk result (FitsNode want.now.addr want.now.level entries.new.items) }
     ensures misfit { P.tells → (addr : ℕ) → IsErrOf result (WalkRefusal.BadRecord addr) →
         IsMisfit (P.history platform.old).present.readable addr want.now key.now }
     ensures reads { P.tells → OnOk result (P.reads platform.new ≡ P.reads platform.old + 1) }
     ensures looks { OnlyLooks P.Platform platform.old platform.new }
     ensures cause { IsErrOf result WalkRefusal.PlatformFault → Rose (P.faults platform.old) (P.faults platform.new) }
 {
-    match fetch(platform, want, key, buf)? {
-        Body::Node { node } => Ok(node),
-        Body::Block { .. } => unreachable!(),
-    }
+    fetch_node(platform, want, key, buf, entries)?;
+    Ok(())
 }

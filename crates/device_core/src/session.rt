@@ -14,8 +14,8 @@ use crate::leaves::is_one_leaf;
 use crate::refusals::MountRefusal;
 use crate::released::Released;
 use arrayvec::ArrayVec;
-use node_codec::{Body, Entry};
-use page_store::{Buffers, CurrentRefusal, FetchRefusal, Want, current, fetch};
+use node_codec::Entry;
+use page_store::{Buffers, CurrentRefusal, FetchRefusal, Want, current, fetch_node};
 use platform::Platform;
 use root_codec::Root;
 use std::alloc::Global;
@@ -175,50 +175,10 @@ impl Session {
         if self.is_loaded {
             return Ok(());
         }
-        self.read_leaf(platform)
-    }
-
-    /// Reads the leaf. It has room for a node of its own, which `load` doesn't pay for where the leaf is there.
-    #[tactic(auto, using(platform::proofs::CallLaws::looks_start, platform::proofs::CallLaws::looks_call, platform::proofs::CallLaws::looks_then))]
-    fn read_leaf<P: Platform>(&mut self, platform: &mut P) -> Result<(), FetchRefusal>
-        requires open { IsOpen self.old (P.head platform.old) }
-        requires unread { self.old.is_loaded ≡ false }
-
-        ensures open { IsOpen self.new (P.head platform.new) }
-        ensures same { (self.new.root ≡ self.old.root) × (self.new.mapped ≡ self.old.mapped) × (self.new.is_touched ≡ self.old.is_touched) }
-        ensures holds { P.tells → (device : Device) (contents : Blocks) → Holds self.old (P.history platform.old).present device contents
-            → Holds self.new (P.history platform.new).present device contents }
-        ensures sound { P.tells → (device : Device) (contents : Blocks) → Holds self.old (P.history platform.old).present device contents
-            → (addr : ℕ) → IsErrOf result (FetchRefusal.BadRecord addr) → ⊥ }
-        // Where the image keeps the keys, those of the session's data records are listed still.
-        ensures listed { P.tells → (keys : List (List ℕ)) → Kept keys (P.history platform.old).present
-            → HoldsListed self.old (P.history platform.old).present keys → HoldsListed self.new (P.history platform.new).present keys }
-        // On any pages: the entries are the leaf's, and what is named is a leaf that was still to be read, and doesn't fit.
-        ensures follows { P.tells → Follows self.old (P.history platform.old).present → Follows self.new (P.history platform.new).present }
-        ensures leaf { OnOk result ((self.new.is_loaded ≡ true)
-            × (P.tells → IsLeafOf self.old (P.history platform.old).present.readable self.new.entries)) }
-        ensures misfit { P.tells → (addr : ℕ) → IsErrOf result (FetchRefusal.BadRecord addr)
-            → (self.old.is_loaded ≡ false) × (addr ≡ self.old.root.addr)
-            × NothingFits (P.history platform.old).present.readable (root_want self.old.root) self.old.root.key
-            × Wrong (P.history platform.old).present.readable self.old.root addr }
-
-        ensures looks { Looks P.Platform platform.old platform.new }
-        ensures reads { P.tells → P.reads platform.new ≤ P.reads platform.old + 1 }
-        ensures cause { IsErrOf result FetchRefusal.PlatformFault → Rose (P.faults platform.old) (P.faults platform.new) }
-    {
         let want = Want::of_root(&self.root);
         let key = self.root.key;
-        let body = match fetch(platform, &want, &key, &mut self.buffers) {
-            Ok(body) => body,
-            Err(refusal) => return Err(refusal),
-        };
-        match body {
-            Body::Node { node } => {
-                self.entries = node.entries;
-                self.is_loaded = true;
-                Ok(())
-            }
-            Body::Block { .. } => Err(FetchRefusal::BadRecord { addr: want.addr }),
-        }
+        fetch_node(platform, &want, &key, &mut self.buffers, &mut self.entries)?;
+        self.is_loaded = true;
+        Ok(())
     }
 }

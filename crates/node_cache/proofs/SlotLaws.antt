@@ -1,7 +1,7 @@
 -- What becomes of the slots of a cache where one of them is written.
 use Rattle.std.proofs.Common.{◌≡◌, ◌≢◌, ℕ, zero, suc, ◌+◌, ◌-◌, ◌<◌, ◌≤◌, true, false, ◌⊎◌, List, [], ◌∷◌, ◌++◌, Option, None, Some, All, Contains, IsSome, cond, length, take, refl, sym, ap, subst, inl, inr, ◌∙◌, arith, slice_get, nat_eq, length-append}
 use Rattle.std.specs.List.{AllByRecursion, IsDistinct}
-use Rattle.std.specs.Map.{lookup, lookup_entry, remove_entry, keys_of}
+use Rattle.std.specs.Map.{lookup, lookup_entry, remove_entry, set_value, keys_of}
 use Rattle.std.proofs.lemmas.Bool.{eq-eqb}
 use Rattle.std.proofs.lemmas.Bool.Decides.{eqb_tells}
 use Rattle.std.proofs.lemmas.List.{take_all, length-set, get_or-set_same, get_or-set_other}
@@ -224,8 +224,8 @@ entry_at s ((t, v) ∷ es) found = elim (eqb_tells s t) [
 ]
 
 -- a slot that is there is written and comes first
-pub put_at_slot : (s most : ℕ) (v : Slot) (es : List (ℕ × Slot)) → IsSome (lookup (nat_eq s) es) → put_entries nat_eq (lru_cache es most) s v ≡ (s, v) ∷ remove_entry (nat_eq s) es
-put_at_slot s most v es found = let e = entry_at s es found in rw e.1 refl
+pub written_at_slot : (s : ℕ) (v : Slot) (es : List (ℕ × Slot)) → IsSome (lookup (nat_eq s) es) → set_value (nat_eq s) (promoted (nat_eq s) es) v ≡ (s, v) ∷ remove_entry (nat_eq s) es
+written_at_slot s v es found = let e = entry_at s es found in rw (e.1, eq-eqb s s refl) refl
 
 set_here : {X : Type 0} (xs : List X) (s : ℕ) (v : X) → s < length xs → slice_get (set xs s v) s ≡ Some v
 set_here xs s v within = let bound = length-set xs s v in slice_get-get_or (set xs s v) s v (omega arith) ∙ ap Some (get_or-set_same xs s v v within)

@@ -7,9 +7,10 @@ ghost use Rattle.lru.specs.LruCache.{lru_cache, promoted};
 ghost use Rattle.std.specs.NonZero.{non_zero_usize_get};
 ghost use Rattle.node_codec.specs.declared.body.NodeBody.{NodeBody};
 ghost use Rattle.node_cache.specs.declared.slots.Kept.{Kept};
+ghost use Rattle.node_cache.specs.Kept.{kept_node};
 ghost use Rattle.node_cache.specs.Slots.{IsLeastUsed, IsSlotFor, IsUnlisted};
 
-use crate::slots::{Kept, Slot};
+use crate::slots::Slot;
 use lru::LruCache;
 use node_codec::NodeBody;
 use sdbt_base::{Addrs, Key, Memory};
@@ -46,7 +47,7 @@ impl Model for NodeCache {
 }
 
 impl NodeCache {
-    ghost use Rattle.node_cache.specs.Kept.{kept_node, filled, without, IsKept, IsOnlyKept, Uses};
+    ghost use Rattle.node_cache.specs.Kept.{filled, without, IsKept, IsOnlyKept, Uses};
     ghost use Rattle.node_cache.specs.Lends.{EndsUsed};
 
     /// A cache of at most 4,096 nodes that keeps none yet. All memory that it ever takes is taken here. With
@@ -67,21 +68,16 @@ impl NodeCache {
     /// Keeps a node for its address under its key, as the most recent one, in the place of one that was kept
     /// for that address; else, where all places are taken, in that of the least recent one. `Off` comes
     /// exactly where the capacity is 0.
-    pub fn put(&mut self, addr: u64, key: &Key, node: NodeBody) -> Put
+    pub fn put(&mut self, addr: u64, key: &Key, node: &NodeBody) -> Put
         ensures off { (result ≡ Put.Off) ↔ (self.old.capacity ≡ 0) }
-        ensures kept { self.new ≡ filled self.old (kept_node addr key.now node) }
+        ensures kept { self.new ≡ filled self.old (kept_node addr key.now node.now) }
     {
         if self.addrs.is_empty() {
             return Put::Off;
         }
         let number = slot_for(&self.slots, &self.addrs, addr);
         self.addrs[number] = Some(addr);
-        let key = *key;
-        fill(
-            &mut self.slots,
-            number,
-            Slot::Full(Kept { addr, key, node }),
-        );
+        fill(&mut self.slots, number, addr, key, node);
         Put::Stored
     }
 
@@ -147,7 +143,7 @@ impl NodeCache {
     {
         if let Some(number) = slot_of(&self.addrs, addr) {
             self.addrs[number] = None;
-            fill(&mut self.slots, number, Slot::Empty);
+            empty(&mut self.slots, number);
             self.slots.demote(&number);
         }
     }
@@ -192,15 +188,29 @@ fn least_used(slots: &LruCache<usize, Slot>) -> usize
     }
 }
 
-/// Writes a slot, which is then the one that was used last.
-fn fill(slots: &mut LruCache<usize, Slot>, number: usize, content: Slot)
+/// Copies a node into a slot, which is then the one that was used last.
+fn fill(slots: &mut LruCache<usize, Slot>, number: usize, addr: u64, key: &Key, node: &NodeBody)
     requires { IsSome (lookup (nat_eq number) slots.old.entries) }
-    ensures written { slots.new ≡ lru_cache ((number, content) ∷ remove_entry (nat_eq number) slots.old.entries) slots.old.cap }
+    ensures written { slots.new ≡ lru_cache ((number, Slot.Full (kept_node addr key.now node.now)) ∷ remove_entry (nat_eq number) slots.old.entries) slots.old.cap }
     ensures distinct { IsDistinct nat_eq (keys_of slots.new.entries) }
 {
-    match slots.put(number, content) {
-        Ok(_) => {}
-        Err(_) => unreachable!(),
+    match slots.get_mut(&number) {
+        Some(slot) => slot.fill(addr, key, node),
+        None => unreachable!(),
+    }
+    let count = slots.len();
+    prove!(count > 0);
+}
+
+/// Makes a slot an empty one, which is then the one that was used last.
+fn empty(slots: &mut LruCache<usize, Slot>, number: usize)
+    requires { IsSome (lookup (nat_eq number) slots.old.entries) }
+    ensures written { slots.new ≡ lru_cache ((number, Slot.Empty) ∷ remove_entry (nat_eq number) slots.old.entries) slots.old.cap }
+    ensures distinct { IsDistinct nat_eq (keys_of slots.new.entries) }
+{
+    match slots.get_mut(&number) {
+        Some(slot) => *slot = Slot::Empty,
+        None => unreachable!(),
     }
     let count = slots.len();
     prove!(count > 0);

@@ -44,7 +44,7 @@ fn keeps(alloc: Global, cache: &NodeCache, wanted: &[u64]) -> Result<bool, Memor
 fn cache_order(rt: HostRuntime) -> Result<(), Fail> {
     let mut cache = NodeCache::new(rt.alloc(), 4)?;
     for addr in [6, 7, 8] {
-        assert_eq!(rt; cache.put(addr, &key(1), node(1)), Put::Stored);
+        assert_eq!(rt; cache.put(addr, &key(1), &node(1)), Put::Stored);
     }
     assert_eq!(rt; level_at(&mut cache, 6, 1), 1);
     assert!(rt; keeps(rt.alloc(), &cache, &[6, 8, 7])?);
@@ -52,11 +52,11 @@ fn cache_order(rt: HostRuntime) -> Result<(), Fail> {
     // Another key, another node under a key of its own, and more nodes than there is room for.
     assert_eq!(rt; level_at(&mut cache, 7, 2), 0);
     assert!(rt; keeps(rt.alloc(), &cache, &[6, 8, 7])?);
-    assert_eq!(rt; cache.put(7, &key(2), node(2)), Put::Stored);
+    assert_eq!(rt; cache.put(7, &key(2), &node(2)), Put::Stored);
     assert_eq!(rt; level_at(&mut cache, 7, 1), 0);
     assert_eq!(rt; level_at(&mut cache, 7, 2), 2);
     for addr in [9, 10] {
-        assert_eq!(rt; cache.put(addr, &key(1), node(3)), Put::Stored);
+        assert_eq!(rt; cache.put(addr, &key(1), &node(3)), Put::Stored);
     }
     assert!(rt; keeps(rt.alloc(), &cache, &[10, 9, 7, 6])?);
 
@@ -64,7 +64,7 @@ fn cache_order(rt: HostRuntime) -> Result<(), Fail> {
     cache.forget(9);
     cache.forget(8);
     assert!(rt; keeps(rt.alloc(), &cache, &[10, 7, 6])?);
-    assert_eq!(rt; cache.put(u64::MAX, &key(1), node(4)), Put::Stored);
+    assert_eq!(rt; cache.put(u64::MAX, &key(1), &node(4)), Put::Stored);
     assert!(rt; keeps(rt.alloc(), &cache, &[u64::MAX, 10, 7, 6])?);
     Ok(())
 }
@@ -72,7 +72,7 @@ fn cache_order(rt: HostRuntime) -> Result<(), Fail> {
 #[test]
 fn no_capacity(rt: HostRuntime) -> Result<(), Fail> {
     let mut cache = NodeCache::new(rt.alloc(), 0)?;
-    assert_eq!(rt; cache.put(6, &key(1), node(1)), Put::Off);
+    assert_eq!(rt; cache.put(6, &key(1), &node(1)), Put::Off);
     assert_eq!(rt; level_at(&mut cache, 6, 1), 0);
     assert!(rt; keeps(rt.alloc(), &cache, &[])?);
     Ok(())

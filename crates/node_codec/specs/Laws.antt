@@ -1,6 +1,6 @@
 -- The laws of records: the parts decide the bytes, and the bytes decide the parts.
-use Rattle.std.proofs.Common.{◌≡◌, ℕ, ◌+◌, ◌-◌, ◌*◌, ◌<◌, ◌≤◌, ◌^◌, List, [], ◌∷◌, ◌++◌, map, length, take, drop, replicate, refl, sym, ap, subst, ◌∙◌, arith, length-append, inl, inr, lit<}
-use Rattle.std.specs.Prelude.{All, Option, Some, None, IfSome, IfNone, IsSomeAnd, codes, slice_index, slice_index_or}
+use Rattle.std.proofs.Common.{◌≡◌, ℕ, ◌+◌, ◌-◌, ◌*◌, ◌<◌, ◌≤◌, ◌^◌, List, [], ◌∷◌, ◌++◌, map, length, take, drop, replicate, refl, sym, ap, ◌∙◌, arith, length-append, inl, inr, lit<}
+use Rattle.std.specs.Prelude.{All, Option, Some, None, IfSome, IfNone, codes, slice_index, slice_index_or}
 use Rattle.std.specs.Int.{w16, w64, to_be_bytes}
 use Rattle.std.specs.List.{concat, flat_map}
 use Rattle.std.specs.List.Sorted.{IsStrictlyIncreasing}
@@ -12,8 +12,7 @@ use Rattle.sdbt_base.specs.Bytes.{IsBytes}
 use Rattle.record_fields.specs.Fields.{fields_from, fields_whole, fields_again, pieces_same, append_same, number_same_2, number_same_8}
 use Rattle.node_codec.specs.declared.body.Entry.{Entry}
 use Rattle.node_codec.specs.declared.head.Head.{Head}
-use Rattle.node_codec.specs.Record.{Record, DataRecord, NodeRecord, FitsRecord, head_fields, head_bytes, entry_fields, entry_bytes, entries_bytes, record_bytes, value_of}
-use Rattle.node_codec.specs.declared.body.Body.{Body}
+use Rattle.node_codec.specs.Record.{Record, DataRecord, NodeRecord, FitsRecord, head_fields, head_bytes, entry_fields, entry_bytes, entries_bytes, record_bytes}
 use Rattle.node_codec.specs.Parts.{part, bytes_of_head, IsFramed, SpellsHead, IsEntry, FitsEntries, HasParts, AscendBelow}
 
 -- ---- heads
@@ -179,26 +178,23 @@ parts_of_whole addr body (NodeRecord level entries) same =
     let size = length-head_bytes addr 2 level (length entries) 0 in
     (ap (take 32) same ∙ take_at head (entries_bytes entries) 32 size, ap (drop 32) same ∙ drop_at head (entries_bytes entries) 32 size)
 
-pub found_of_parts : (found : Option Body) (addr : ℕ) (body front payload : List ℕ) → front ≡ take 32 body → payload ≡ drop 32 body → IfSome found (λ b. FitsRecord addr (value_of b payload) × HasParts addr front payload (value_of b payload)) → IfSome found (λ b. FitsRecord addr (value_of b (drop 32 body)) × (body ≡ record_bytes addr (value_of b (drop 32 body))))
-found_of_parts None addr body front payload is-front is-payload h = tt
-found_of_parts (Some b) addr body front payload is-front is-payload h =
-    let one = subst (λ (p : List ℕ). FitsRecord addr (value_of b p) × HasParts addr front p (value_of b p)) is-payload h in
-    let both = subst (λ (f : List ℕ). FitsRecord addr (value_of b (drop 32 body)) × HasParts addr f (drop 32 body) (value_of b (drop 32 body))) is-front one in
-    (both.0, whole_of_parts addr body (value_of b (drop 32 body)) both.1)
+-- bytes are a node's record exactly where their parts are those of one
+pub node_found : (found : Option ℕ) (items : List Entry) (addr : ℕ) (body front payload : List ℕ) → front ≡ take 32 body → payload ≡ drop 32 body → IfSome found (λ level. FitsRecord addr (NodeRecord level items) × HasParts addr front payload (NodeRecord level items)) → IfSome found (λ level. FitsRecord addr (NodeRecord level items) × (body ≡ record_bytes addr (NodeRecord level items)))
+node_found None items addr body front payload is-front is-payload h = tt
+node_found (Some level) items addr body front payload is-front is-payload h =
+    (h.0, whole_of_parts addr body (NodeRecord level items) (sym is-front ∙ h.1.0, sym is-payload ∙ h.1.1))
 
-abbrev Again : Option Body → ℕ → List ℕ → Type 0
-Again found addr body = (value : Record) → FitsRecord addr value → body ≡ record_bytes addr value → IsSomeAnd found (λ b. value_of b (drop 32 body) ≡ value)
+abbrev NodeAgain : Option ℕ → List Entry → ℕ → List ℕ → Type 0
+NodeAgain found read addr body = (level : ℕ) (items : List Entry) → FitsRecord addr (NodeRecord level items) → body ≡ record_bytes addr (NodeRecord level items) → (found ≡ Some level) × (read ≡ items)
 
-pub again_of_parts : (found : Option Body) (addr : ℕ) (body front payload : List ℕ) → front ≡ take 32 body → payload ≡ drop 32 body → ((value : Record) → FitsRecord addr value → HasParts addr front payload value → IsSomeAnd found (λ b. value_of b payload ≡ value)) → Again found addr body
-again_of_parts found addr body front payload is-front is-payload again value fits same =
-    let parts = parts_of_whole addr body value same in
-    let one = subst (λ (f : List ℕ). HasParts addr f (drop 32 body) value) (sym is-front) parts in
-    let both = subst (λ (p : List ℕ). HasParts addr front p value) (sym is-payload) one in
-    subst (λ (p : List ℕ). IsSomeAnd found (λ b. value_of b p ≡ value)) is-payload (again value fits both)
+pub node_again : (found : Option ℕ) (read : List Entry) (addr : ℕ) (body front payload : List ℕ) → front ≡ take 32 body → payload ≡ drop 32 body → ((level : ℕ) (items : List Entry) → FitsRecord addr (NodeRecord level items) → HasParts addr front payload (NodeRecord level items) → (found ≡ Some level) × (read ≡ items)) → NodeAgain found read addr body
+node_again found read addr body front payload is-front is-payload again level items fits same =
+    let parts = parts_of_whole addr body (NodeRecord level items) same in
+    again level items fits (is-front ∙ parts.0, is-payload ∙ parts.1)
 
-pub none_of_again : (found : Option Body) (addr : ℕ) (body : List ℕ) → Again found addr body → IfNone found ((value : Record) → FitsRecord addr value → body ≡ record_bytes addr value → ⊥)
-none_of_again None addr body again = again
-none_of_again (Some b) addr body again = tt
+pub no_node_of_again : (found : Option ℕ) (read : List Entry) (addr : ℕ) (body : List ℕ) → NodeAgain found read addr body → IfNone found ((level : ℕ) (items : List Entry) → FitsRecord addr (NodeRecord level items) → body ≡ record_bytes addr (NodeRecord level items) → ⊥)
+no_node_of_again None read addr body again = λ level items fits same. let other = (again level items fits same).0 in absurd cc
+no_node_of_again (Some found) read addr body again = tt
 
 -- bytes are a data record exactly where their head is that of one
 pub block_found : (found : Option ℕ) (addr : ℕ) (body front : List ℕ) → front ≡ take 32 body → IsBytes 4096 (drop 32 body) → IfSome found (λ block. (block < 1048576) × (front ≡ head_bytes addr 1 0 0 block)) → IfSome found (λ block. FitsRecord addr (DataRecord block (drop 32 body)) × (body ≡ record_bytes addr (DataRecord block (drop 32 body))))
@@ -320,3 +316,12 @@ record_length addr (NodeRecord level entries) below fits =
     let are = entries_fit addr entries below (record { ascend = fits.0.ascend; lows = fits.0.lows; below = fits.0.below; keys = fits.1 }) in
     let zeros : List ℕ = replicate (4096 - 48 * length entries) 0 in
     omega (arith, length-append (head_bytes addr 2 level (length entries) 0) (entries_bytes entries), length-head_bytes addr 2 level (length entries) 0, length-append (flat_map entry_bytes entries) zeros, length-entries entries are, length-replicate {A = ℕ} (4096 - 48 * length entries) 0, fits.0.count)
+
+-- bytes that are neither a data record nor a node's are no record
+pub no_record : (addr : ℕ) (body : List ℕ) → ((block : ℕ) (content : List ℕ) → FitsRecord addr (DataRecord block content) → body ≡ record_bytes addr (DataRecord block content) → ⊥) → ((level : ℕ) (items : List Entry) → FitsRecord addr (NodeRecord level items) → body ≡ record_bytes addr (NodeRecord level items) → ⊥) → (value : Record) → FitsRecord addr value → body ≡ record_bytes addr value → ⊥
+no_record addr body no-block no-node (DataRecord block content) fits same = no-block block content fits same
+no_record addr body no-block no-node (NodeRecord level items) fits same = no-node level items fits same
+
+-- what bytes are the record of is decided
+pub only_record : (addr : ℕ) (body : List ℕ) (found value : Record) → addr < 2 ^ 64 → FitsRecord addr found → body ≡ record_bytes addr found → FitsRecord addr value → body ≡ record_bytes addr value → found ≡ value
+only_record addr body found value below fits same fits' same' = (one_record addr addr found value below below fits fits' (sym same ∙ same')).1

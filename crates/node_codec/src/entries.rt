@@ -1,4 +1,4 @@
-ghost use Rattle.std.specs.Prelude.{◌≡◌, ℕ, ◌*◌, ◌^◌, ◌<◌, ◌≤◌, ◌↔◌, All, List, IsTrue, IfSome, IsSomeAnd, length, map, replicate, take};
+ghost use Rattle.std.specs.Prelude.{◌≡◌, ℕ, ◌*◌, ◌^◌, ◌<◌, ◌≤◌, ◌↔◌, All, List, [], IsTrue, IsFalse, length, map, replicate, take};
 ghost use Rattle.std.specs.List.{flat_map};
 ghost use Rattle.std.specs.List.Sorted.{IsStrictlyIncreasing};
 ghost use Rattle.sdbt_base.specs.Bytes.{IsBytes};
@@ -57,35 +57,41 @@ fn key_of(field: &[u8]) -> Key
     Key::from_bytes(bytes)
 }
 
-/// The first entries that stand in a payload, so many of them.
-pub(crate) fn entries_of(payload: &[u8], count: usize) -> ArrayVec<Entry, 64>
+/// Reads the first entries that stand in a payload, so many of them.
+fn read_entries(payload: &[u8], count: usize, entries: &mut ArrayVec<Entry, 64>)
     requires count { count ≤ 64 }
     requires size { length payload.now ≡ 4096 }
-    ensures count { length result.items ≡ count }
-    ensures spelled { take (48 * count) payload.now ≡ flat_map entry_bytes result.items }
-    ensures entries { All IsEntry result.items }
+    ensures count { length entries.new.items ≡ count }
+    ensures spelled { take (48 * count) payload.now ≡ flat_map entry_bytes entries.new.items }
+    ensures entries { All IsEntry entries.new.items }
 {
-    let mut entries = ArrayVec::new();
+    entries.clear();
     for i in 0..count {
         entries.push(entry_of(&payload[ENTRY * i..ENTRY * (i + 1)]));
     }
-    entries
 }
 
-/// The entries that stand in a payload, so many of them, or `None` where they are not those of a node at
-/// `addr`, or where the bytes behind them are not zero.
-pub(crate) fn entries_in(payload: &[u8], count: usize, addr: u64) -> Option<ArrayVec<Entry, 64>>
+/// Reads the entries that stand in a payload, so many of them, and answers whether they are those of a node at `addr`, and
+/// the bytes behind them zero. Else no entries are left.
+pub(crate) fn entries_in(
+    payload: &[u8],
+    count: usize,
+    addr: u64,
+    entries: &mut ArrayVec<Entry, 64>,
+) -> bool
     requires count { count ≤ 64 }
     requires size { length payload.now ≡ 4096 }
-    ensures found { IfSome result (λ entries. (length entries.items ≡ count) × (payload.now ≡ entries_bytes entries.items) × FitsEntries addr entries.items) }
-    ensures only { (entries : List Entry) → length entries ≡ count → payload.now ≡ entries_bytes entries → FitsEntries addr entries → IsSomeAnd result (λ found. found.items ≡ entries) }
+    ensures found { IsTrue result → (length entries.new.items ≡ count) × (payload.now ≡ entries_bytes entries.new.items) × FitsEntries addr entries.new.items }
+    ensures only { (items : List Entry) → length items ≡ count → payload.now ≡ entries_bytes items → FitsEntries addr items → IsTrue result × (entries.new.items ≡ items) }
+    ensures empty { IsFalse result → entries.new.items ≡ [] }
 {
-    let entries = entries_of(payload, count);
+    read_entries(payload, count, entries);
     let (_, rest) = payload.split_at(ENTRY * count);
-    if are_zero(rest) && are_ascending(&entries) && are_within(&entries, addr) {
-        Some(entries)
+    if are_zero(rest) && are_ascending(entries.as_slice()) && are_within(entries.as_slice(), addr) {
+        true
     } else {
-        None
+        entries.clear();
+        false
     }
 }
 

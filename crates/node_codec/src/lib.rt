@@ -14,7 +14,7 @@ mod head;
 mod laws;
 
 pub use body::{Body, Entry, NodeBody};
-pub use decoding::{decode, decode_block};
+pub use decoding::{decode, decode_block, decode_node};
 pub use encoding::{encode_block, encode_node, fits_node};
 pub use laws::one_spelling;
 

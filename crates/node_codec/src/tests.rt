@@ -1,4 +1,5 @@
 use super::*;
+use arrayvec::ArrayVec;
 use sdbt_base::Key;
 use std::test::*;
 
@@ -76,6 +77,13 @@ fn node(rt: HostRuntime) {
     assert_eq!(rt; node.level, 20);
     assert!(rt; node.entries.as_slice() == [entry(5, 2)].as_slice());
     assert_eq!(rt; decode_block(&body, 7), None);
+
+    let mut read = ArrayVec::new();
+    read.push(entry(1, 1));
+    assert_eq!(rt; decode_node(&body, 7, &mut read), Some(20));
+    assert!(rt; read.as_slice() == [entry(5, 2)].as_slice());
+    assert_eq!(rt; decode_node(&body, 6, &mut read), None);
+    assert!(rt; read.is_empty());
 }
 
 #[test]

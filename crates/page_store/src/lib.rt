@@ -8,10 +8,10 @@
 mod appending;
 mod blocks;
 mod buffers;
-mod fetching;
 mod floor_laws;
 mod key_laws;
 mod laws;
+mod nodes;
 mod refusals;
 mod roots;
 mod wants;
@@ -19,13 +19,13 @@ mod wants;
 pub use appending::Placed;
 pub use blocks::fetch_block;
 pub use buffers::Buffers;
-pub use fetching::fetch;
 pub use floor_laws::{head_of_root, keeps_deleted, never_reached, reaches_still};
 pub use key_laws::{keeps_keys, moments_reach, reaches_tree, tree_is_closed};
 pub use laws::{
     leaf_of_stands, no_wrong_place, one_device, one_tree, outlasts_loss_of_power, stands_by_leaf,
     stays_while_the_cell_stays,
 };
+pub use nodes::fetch_node;
 pub use refusals::{AppendFault, CurrentRefusal, FetchRefusal};
 pub use roots::current;
 pub use wants::Want;

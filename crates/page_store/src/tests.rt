@@ -1,9 +1,11 @@
 ghost use Rattle.std.specs.Prelude.{◌<◌};
 
 use crate::{
-    AppendFault, Buffers, CurrentRefusal, FetchRefusal, Placed, Want, current, fetch, fetch_block,
+    AppendFault, Buffers, CurrentRefusal, FetchRefusal, Placed, Want, current, fetch_block,
+    fetch_node,
 };
-use node_codec::{Body, Entry};
+use arrayvec::ArrayVec;
+use node_codec::Entry;
 use platform::{CallKind, Failure, MemPlatform, Platform};
 use root_codec::{Root, encode_root};
 use sdbt_base::{Key, ListTape, ROOT, Tape};
@@ -30,19 +32,19 @@ fn put_leaf(buffers: &mut Buffers, addr: u64, entry: Entry)
     buffers.put_node(addr, 1, &[entry]);
 }
 
-// The level, and the block or the number of entries, of what is fetched; none where there is no such page.
+// The number of entries of the node that is fetched; none where there is no such page.
 fn fetched<P: Platform>(
     platform: &mut P,
     want: &Want,
     key: &Key,
     buffers: &mut Buffers,
-) -> Option<Result<(u8, u64), FetchRefusal>> {
-    if want.addr >= platform.head() {
+) -> Option<Result<usize, FetchRefusal>> {
+    if want.addr >= platform.head() || want.level == 0 {
         return None;
     }
-    match fetch(platform, want, key, buffers) {
-        Ok(Body::Block { block }) => Some(Ok((0, block))),
-        Ok(Body::Node { node }) => Some(Ok((node.level, node.entries.len() as u64))),
+    let mut entries = ArrayVec::new();
+    match fetch_node(platform, want, key, buffers, &mut entries) {
+        Ok(()) => Some(Ok(entries.len())),
         Err(refusal) => Some(Err(refusal)),
     }
 }
@@ -99,24 +101,7 @@ fn fetches_what_is_wanted_and_nothing_else(rt: HostRuntime) -> Result<(), Fail> 
         most: 4,
     };
     for (want, key, answer) in [
-        (Want::of_block(0, 3), data.key, Ok((0, 3))),
-        (Want::of_child(4, 0, &entry, 8), data.key, Ok((0, 3))),
-        (
-            Want::of_block(0, 4),
-            data.key,
-            Err(FetchRefusal::BadRecord { addr: 0 }),
-        ),
-        (
-            Want::of_block(0, 3),
-            leaf.key,
-            Err(FetchRefusal::BadRecord { addr: 0 }),
-        ),
-        (
-            Want::of_block(1, 3),
-            leaf.key,
-            Err(FetchRefusal::BadRecord { addr: 1 }),
-        ),
-        (of_leaf, leaf.key, Ok((1, 1))),
+        (of_leaf, leaf.key, Ok(1)),
         (
             Want {
                 level: 2,
@@ -157,17 +142,18 @@ fn fetches_what_is_wanted_and_nothing_else(rt: HostRuntime) -> Result<(), Fail> 
         let got = fetched(&mut platform, &want, &key, &mut buffers);
         assert_eq!(rt; got, Some(answer), "for {want:?}");
     }
-    assert_eq!(rt; platform.reads(), 12, "one read each");
+    assert_eq!(rt; platform.reads(), 7, "one read each");
 
     for (addr, block, key, answer) in [
         (0, 4, data.key, Err(FetchRefusal::BadRecord { addr: 0 })),
+        (0, 3, leaf.key, Err(FetchRefusal::BadRecord { addr: 0 })),
         (1, 3, leaf.key, Err(FetchRefusal::BadRecord { addr: 1 })),
         (0, 3, data.key, Ok(())),
     ] {
         let got = fetched_block(&mut platform, addr, block, &key, &mut buffers);
         assert_eq!(rt; got, Some(answer), "for block {block} at {addr}");
     }
-    assert_eq!(rt; platform.reads(), 15, "one read each");
+    assert_eq!(rt; platform.reads(), 11, "one read each");
     assert!(rt; buffers.content().starts_with(b"hi\0"));
     buffers.wipe();
     assert!(rt; buffers.content().starts_with(b"\0\0"));
@@ -207,13 +193,8 @@ fn hands_faults_on(rt: HostRuntime) -> Result<(), Fail> {
         .err();
     assert_eq!(rt; failed, Some(AppendFault::PlatformFault));
     assert_eq!(rt; platform.head(), 1);
-    let want = Want::of_block(0, 3);
-    let got = fetched(
-        &mut platform,
-        &want,
-        &Key::from_bytes([1; 32]),
-        &mut buffers,
-    );
+    let key = Key::from_bytes([1; 32]);
+    let got = fetched_block(&mut platform, 0, 3, &key, &mut buffers);
     assert_eq!(rt; got, Some(Err(FetchRefusal::PlatformFault)));
     assert!(rt; current(&mut platform) == Err(CurrentRefusal::PlatformFault));
     Ok(())
@@ -249,7 +230,7 @@ fn finds_the_root_of_pages_that_are_there(rt: HostRuntime) -> Result<(), Fail> {
         &root.key,
         &mut buffers,
     );
-    assert_eq!(rt; got, Some(Ok((1, 0))));
+    assert_eq!(rt; got, Some(Ok(0)));
     assert_eq!(rt; platform.swap_root(&[7; ROOT]), Ok(()));
     assert!(rt;
         current(&mut platform) == Err(CurrentRefusal::BadRoot),

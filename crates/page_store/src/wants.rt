@@ -1,8 +1,7 @@
-ghost use Rattle.std.specs.Prelude.{◌≡◌, ◌↔◌, ◌<◌, ◌≤◌, ℕ, List, All, IfSome, IsTrue, slice_get};
-ghost use Rattle.page_store.specs.Places.{root_want, child_want, block_want, IsWanted, IsNodeWanted};
-ghost use Rattle.node_codec.specs.Record.{value_of};
+ghost use Rattle.std.specs.Prelude.{◌≡◌, ◌↔◌, ◌<◌, ◌≤◌, All, IfSome, IsTrue, slice_get};
+ghost use Rattle.page_store.specs.Places.{root_want, child_want, block_want, IsNodeWanted};
 
-use node_codec::{Body, Entry, NodeBody};
+use node_codec::Entry;
 use root_codec::Root;
 
 /// Which record is wanted at a place of the tree.
@@ -70,25 +69,16 @@ impl Want {
         }
     }
 
-    /// Whether a record is the one that is wanted, whatever the content of a data record.
-    pub(crate) fn is_met_by(&self, body: &Body) -> bool
-        ensures { (payload : List ℕ) → IsTrue result ↔ IsWanted self.now (value_of body.now payload) }
+    /// Whether a node of this level and these entries is what is wanted.
+    pub fn is_met_by(&self, level: u8, entries: &[Entry]) -> bool
+        ensures { IsTrue result ↔ IsNodeWanted self.now level entries.now }
     {
-        match body {
-            Body::Block { block } => self.level == 0 && *block == self.low,
-            Body::Node { node } => self.is_met_by_node(node),
-        }
-    }
-
-    fn is_met_by_node(&self, node: &NodeBody) -> bool
-        ensures { IsTrue result ↔ IsNodeWanted self.now node.now.level node.now.entries.items }
-    {
-        let count = node.entries.len();
-        node.level == self.level
+        let count = entries.len();
+        level == self.level
             && self.least as usize <= count
             && count <= self.most as usize
-            && self.bounds(&node.entries)
-            && (node.level < 2 || self.begins(&node.entries))
+            && self.bounds(entries)
+            && (level < 2 || self.begins(entries))
     }
 
     /// Whether each low is within the bounds.

@@ -1,10 +1,6 @@
 use Rattle.std.proofs.Common.{◌≡◌, ap, sym, subst, inr, ◌∙◌, Option, Bor, Err}
 use Rattle.std.proofs.lemmas.Bool.{false≢true}
 use Rattle.std.specs.Option.{option_copied}
-use Rattle.node_codec.specs.declared.body.Body.{Body}
-use Rattle.node_codec.specs.Record.{value_of}
-use Rattle.page_store.specs.Buffer.{content_of}
-use Rattle.page_store.specs.Places.{FitsAt}
 use Rattle.node_cache.specs.Kept.{Cached, Uses, kept_node, filled}
 use Rattle.btree_walk.specs.Sights.{KeepsOnly}
 use Rattle.btree_walk.proofs.SightLaws.{keeps_filled, keeps_used}
@@ -34,12 +30,12 @@ returns-in-Some-clause-stands g c = λ tells stands.
     stands_on (g.P.Platform.history c.args.platform.now).present.readable c.args.cache.now c.get.follows.lender-at-none stands
     (keeps_used (g.P.Platform.history c.args.platform.now).present.readable c.args.cache.now c.get.follows.lender-at-none c.args.want.now.addr c.args.key.now c.in-Some.node.now uses))
 
-pub returns-in-Ok-Node-clause-stands : goal.returns-in-Ok-Node-clause-stands
-returns-in-Ok-Node-clause-stands g c = λ tells stands.
+pub returns-in-Ok-clause-stands : goal.returns-in-Ok-clause-stands
+returns-in-Ok-clause-stands g c = λ tells stands.
     (let uses = subst (λ (r : Option (Bor _)). Uses c.args.cache.now c.args.want.now.addr c.args.key.now (option_copied r) c.get.follows.lender-at-none) c.in_default.is c.get.follows.holds-at-none in
-    let kept = kept_node c.args.want.now.addr c.args.key.now c.in-Ok-Node.node in
+    let kept = kept_node c.args.want.now.addr c.args.key.now (record { level = c.args.want.now.level; entries = c.fetch_node.new.entries }) in
     let pages = (g.P.Platform.history c.args.platform.now).present.readable in
-    let fits = subst (λ (b : Body). FitsAt pages c.args.want.now c.args.key.now (value_of b (content_of c.fetch.new.buf))) c.in-Ok-Node.field-0-is (c.in-Ok-Node.ensures.fits tells) in
+    let fits = c.in-Ok.ensures.fits tells in
     let keeps = subst (KeepsOnly pages c.args.cache.now) (sym (c.put.ensures.kept ∙ ap (λ (old : Cached). filled old kept) uses.0)) (keeps_filled pages c.args.cache.now kept (inr fits.0)) in
     stands_on pages c.args.cache.now c.put.new.self stands keeps)
 

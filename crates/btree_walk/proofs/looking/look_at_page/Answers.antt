@@ -1,32 +1,28 @@
 use Rattle.std.proofs.Common.{◌≡◌, ap, refl, sym, subst, inr, Err}
 use Rattle.std.proofs.lemmas.Result.{err_from_is_err_and}
-use Rattle.node_codec.specs.declared.body.Body.{Body}
-use Rattle.node_codec.specs.Record.{value_of}
 use Rattle.page_store.specs.declared.refusals.FetchRefusal.TheVariants.{BadRecord}
-use Rattle.page_store.specs.Buffer.{content_of}
-use Rattle.page_store.specs.Places.{FitsAt}
 use Rattle.node_cache.specs.Kept.{kept_node}
 use Rattle.btree_walk.specs.Sights.{KeepsOnly}
 use Rattle.btree_walk.proofs.SightLaws.{keeps_filled}
 use Rattle.btree_walk.proofs.looking.look_at_page.Goals as goal
 
-pub returns-in_err-node-clause-bad : goal.returns-in_err-node-clause-bad
-returns-in_err-node-clause-bad g c =
+pub returns-in_err-fetch_node-clause-bad : goal.returns-in_err-fetch_node-clause-bad
+returns-in_err-fetch_node-clause-bad g c =
     let p = err_from_is_err_and c.from_residual.result c.from_residual.ensures.1 in
     rw (p.1, p.2) (λ tells addr is.
-    let same : c.in_err-node.field-0.0 ≡ BadRecord addr = cc in
-    record { here = c.in_err-node.ensures.bad addr (ap Err same); misfits = inr (c.in_err-node.ensures.nothing_fits tells addr (ap Err same)) })
+    let same : c.in_err-fetch_node.field-0.0 ≡ BadRecord addr = cc in
+    record { here = c.in_err-fetch_node.ensures.bad addr (ap Err same); misfits = inr (c.in_err-fetch_node.ensures.nothing_fits tells addr (ap Err same)) })
 
 pub returns-clause-used : goal.returns-clause-used
 returns-clause-used g c = record {
-  kept = kept_node c.args.want.now.addr c.args.key.now c.in-Node.node;
+  kept = kept_node c.args.want.now.addr c.args.key.now (record { level = c.args.want.now.level; entries = c.fetch_node.new.entries });
   place = refl;
   is = inr c.put.ensures.kept;
 }
 
 pub returns-clause-keeps : goal.returns-clause-keeps
 returns-clause-keeps g c = λ tells.
-    (let kept = kept_node c.args.want.now.addr c.args.key.now c.in-Node.node in
+    (let kept = kept_node c.args.want.now.addr c.args.key.now (record { level = c.args.want.now.level; entries = c.fetch_node.new.entries }) in
     let pages = (g.P.Platform.history c.args.platform.now).present.readable in
-    let fits = subst (λ (b : Body). FitsAt pages c.args.want.now c.args.key.now (value_of b (content_of c.fetch.new.buf))) c.in-Node.is (c.in_ok-node.ensures.fits tells) in
+    let fits = c.in_ok-fetch_node.ensures.fits tells in
     subst (KeepsOnly pages c.args.cache.now) (sym c.put.ensures.kept) (keeps_filled pages c.args.cache.now kept (inr fits.0)))

@@ -6,30 +6,29 @@ use Rattle.btree_walk.specs.Nodes.{node_at, branches, Adds, Meets, FirstWrong}
 use Rattle.btree_walk.proofs.NodeLaws.{branch_level, branch_most, branch_below, ahead_more, ahead_all, leaf_met, wrong_here, wrong_later}
 use Rattle.btree_walk.proofs.walking.+walk.Goals as goal
 
-pub returns-in_err-node-clause-wrong : goal.returns-in_err-node-clause-wrong
-returns-in_err-node-clause-wrong g t c =
+pub returns-in_err-read_node-clause-wrong : goal.returns-in_err-read_node-clause-wrong
+returns-in_err-read_node-clause-wrong g t c =
     let p = err_from_is_err_and c.from_residual.result c.from_residual.ensures.1 in
     let want = c.args.want.now in let pages = (g.P.Platform.history c.args.platform.now).present.readable in
     rw (p.1, p.2) (λ tells addr is.
-    let same : c.in_err-node.field-0.0 ≡ BadRecord addr = cc in
-    wrong_here pages addr want.most want c.args.key.now c.requires.level (c.in_err-node.ensures.misfit tells addr (ap Err same)))
+    let same : c.in_err-read_node.field-0.0 ≡ BadRecord addr = cc in
+    wrong_here pages addr want.most want c.args.key.now c.requires.level (c.in_err-read_node.ensures.misfit tells addr (ap Err same)))
 
 pub returns-then-want-eq1-clause-met : goal.returns-then-want-eq1-clause-met
 returns-then-want-eq1-clause-met g t c = λ tells.
     (let want = c.args.want.now in let pages = (g.P.Platform.history c.args.platform.now).present.readable in
-    let entries = c.in_ok-node.node.entries.items in
-    let fits = c.in_ok-node.ensures.fits tells in
-    let of = subst (λ (n : ℕ). Adds g.G.Gather.holds c.args.gathered.now c.node.new.self (node_at want.addr n entries ∷ [])) fits.0 c.in_ok-node-2.ensures in
-    leaf_met pages want c.args.key.now entries (Adds g.G.Gather.holds c.args.gathered.now c.node.new.self) (g.P.Platform.reads c.args.platform.now) (g.P.Platform.reads c.fetch_node.new.platform)
-    (omega (arith, c.if-want-eq1.true)) fits.1 of (c.in_ok-node.ensures.reads tells))
+    let entries = c.read_node.new.entries.items in
+    let fits = c.in_ok-read_node.ensures.fits tells in
+    leaf_met pages want c.args.key.now entries (Adds g.G.Gather.holds c.args.gathered.now c.node.new.self) (g.P.Platform.reads c.args.platform.now) (g.P.Platform.reads c.read_node.new.platform)
+    (omega (arith, c.if-want-eq1.true)) fits c.in_ok-node.ensures (c.in_ok-read_node.ensures.reads tells))
 
 pub walk-requires : goal.walk-requires
 walk-requires g t c κs within =
     let want = c.args.want.now in let branch = c.branch_at-branch.result in
-    let entries = c.in_ok-node.node.entries.items in
+    let entries = c.read_node.new.entries.items in
     let at = subst (λ (es : List Entry). slice_get (branches want.most (want.level - 1) want.high es) c.loop-place.place ≡ Some branch) c.deref.ensures.0 c.branch_at-branch.ensures in
     let level : branch.want.level ≡ want.level - 1 = branch_level want.most (want.level - 1) want.high c.loop-place.place entries branch at in
-    let below = branch_below want.most (want.level - 1) want.high c.loop-place.place want.addr entries branch c.in_ok-node.ensures.range.below at in
+    let below = branch_below want.most (want.level - 1) want.high c.loop-place.place want.addr entries branch c.in_ok-read_node.ensures.range.below at in
     let head = c.loop-place.invariant.looks.head in
     let some = c.requires.level in
     let inner : 2 ≤ want.level = omega (arith, c.if-want-eq1.false) in
@@ -40,20 +39,20 @@ returns-in_err-walk-clause-wrong g t c =
     let p = err_from_is_err_and c.from_residual-in_err-walk.result c.from_residual-in_err-walk.ensures.1 in
     let want = c.args.want.now in let branch = c.branch_at-branch.result in
     let pages = (g.P.Platform.history c.args.platform.now).present.readable in
-    let entries = c.in_ok-node.node.entries.items in
+    let entries = c.read_node.new.entries.items in
     let at = subst (λ (es : List Entry). slice_get (branches want.most (want.level - 1) want.high es) c.loop-place.place ≡ Some branch) c.deref.ensures.0 c.branch_at-branch.ensures in
     rw (p.1, p.2) (λ tells addr is.
     let same : c.in_err-walk.field-0.0 ≡ BadRecord addr = cc in
     let image : (g.P.Platform.history c.loop-place.platform).present.readable ≡ pages = ap (λ i. i.readable) (c.loop-place.invariant.looks.image tells) in
     let wrong = subst (λ (ps : List (List ℕ)). FirstWrong ps addr branch.want.most branch.want.level branch.want branch.key) image (c.in_err-walk.ensures.wrong tells addr (ap Err same)) in
     wrong_later pages addr want c.args.key.now entries c.loop-place.place branch (Adds g.G.Gather.holds c.args.gathered.now c.loop-place.gathered) (g.P.Platform.reads c.args.platform.now) (g.P.Platform.reads c.loop-place.platform)
-    c.requires.level (c.in_ok-node.ensures.fits tells).1 at (c.loop-place.invariant.ahead tells) wrong)
+    c.requires.level (c.in_ok-read_node.ensures.fits tells) at (c.loop-place.invariant.ahead tells) wrong)
 
 pub loop-place-preserved : goal.loop-place-preserved
 loop-place-preserved g t c =
     let want = c.args.want.now in let branch = c.branch_at-branch.result in
     let pages = (g.P.Platform.history c.args.platform.now).present.readable in
-    let entries = c.in_ok-node.node.entries.items in
+    let entries = c.read_node.new.entries.items in
     let at = subst (λ (es : List Entry). slice_get (branches want.most (want.level - 1) want.high es) c.loop-place.place ≡ Some branch) c.deref.ensures.0 c.branch_at-branch.ensures in
     record {
       ahead = λ tells.
@@ -69,7 +68,7 @@ loop-place-preserved g t c =
 pub returns-clause-met : goal.returns-clause-met
 returns-clause-met g t c = λ tells.
     (let want = c.args.want.now in let pages = (g.P.Platform.history c.args.platform.now).present.readable in
-    let entries = c.in_ok-node.node.entries.items in
+    let entries = c.read_node.new.entries.items in
     let size : length entries ≤ c.loop-place.place = omega (arith, c.loop-place-test.false, c.loop-place.auto.place-end, c.len-place-end.ensures.value) in
     ahead_all pages want c.args.key.now entries c.loop-place.place (Adds g.G.Gather.holds c.args.gathered.now c.loop-place.gathered) (g.P.Platform.reads c.args.platform.now) (g.P.Platform.reads c.loop-place.platform)
-    c.requires.level size (c.in_ok-node.ensures.fits tells).1 (c.loop-place.invariant.ahead tells))
+    c.requires.level size (c.in_ok-read_node.ensures.fits tells) (c.loop-place.invariant.ahead tells))

@@ -11,15 +11,15 @@ pub invariant_of-self : goal.invariant_of-self
 invariant_of-self c =
     let n = c.in-Some.number in let es = c.self.inside.slots.entries in let addrs = c.self.inside.addrs.items in
     let listed = subst (λ l. slice_get l n ≡ Some (Some c.args.addr)) c.deref.ensures.value c.in-Some.ensures.found in
-    let filled = ap (λ m. m.entries) c.fill.ensures.written in
+    let filled = ap (λ m. m.entries) c.empty.ensures.written in
     let after = ap (λ m. m.entries) c.demote.ensures.entries ∙ ap (demoted (nat_eq n)) filled ∙ demoted_first n Empty (remove_entry (nat_eq n) es) in
-    tied_after_forget es c.demote.new.self.entries addrs n c.args.addr c.self.invariant listed after (subst (λ l. IsDistinct nat_eq (keys_of l)) filled c.fill.ensures.distinct)
+    tied_after_forget es c.demote.new.self.entries addrs n c.args.addr c.self.invariant listed after (subst (λ l. IsDistinct nat_eq (keys_of l)) filled c.empty.ensures.distinct)
 
 pub returns-in-Some : goal.returns-in-Some
 returns-in-Some c =
     let n = c.in-Some.number in let es = c.self.inside.slots.entries in let addrs = c.self.inside.addrs.items in
     let listed = subst (λ l. slice_get l n ≡ Some (Some c.args.addr)) c.deref.ensures.value c.in-Some.ensures.found in
-    let filled = ap (λ m. m.entries) c.fill.ensures.written in
+    let filled = ap (λ m. m.entries) c.empty.ensures.written in
     let after = ap (λ m. m.entries) c.demote.ensures.entries ∙ ap (demoted (nat_eq n)) filled ∙ demoted_first n Empty (remove_entry (nat_eq n) es) in
     rw (← c.self.view_is) (cached_after_forget es c.demote.new.self.entries addrs n c.args.addr c.self.invariant listed after)
 

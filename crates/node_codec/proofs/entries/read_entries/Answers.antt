@@ -5,7 +5,7 @@ use Rattle.std.proofs.lemmas.List.Elements.{All-push}
 use Rattle.node_codec.specs.Record.{entry_bytes}
 use Rattle.node_codec.specs.Parts.{IsEntry}
 use Rattle.node_codec.specs.Laws.{entries_more}
-use Rattle.node_codec.proofs.entries.entries_of.Goals as goal
+use Rattle.node_codec.proofs.entries.read_entries.Goals as goal
 
 pub loop-i-preserved : goal.loop-i-preserved
 loop-i-preserved c =

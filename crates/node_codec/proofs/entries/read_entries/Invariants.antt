@@ -3,7 +3,7 @@ use Rattle.std.specs.Prelude.{All}
 use Rattle.std.specs.List.{flat_map}
 use Rattle.node_codec.specs.Record.{entry_bytes}
 use Rattle.node_codec.specs.Parts.{IsEntry}
-use Rattle.node_codec.proofs.entries.entries_of.Given as goal
+use Rattle.node_codec.proofs.entries.read_entries.Given as goal
 
 -- the entries so far
 abbrev pub invariant-loop-i : goal.invariant-loop-i
