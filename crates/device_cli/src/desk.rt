@@ -1,5 +1,5 @@
 //! What a run keeps between lines, and the answer to each command.
-ghost use Rattle.std.specs.Prelude.{◌≡◌, ◌≢◌, ◌<◌, ◌≤◌, ◌+◌, ◌⊎◌, ℕ, List, Option, true, false, IsNone, IfOk, OnOk, IfErr, IsErrOf, IfSome, None, Some, Ok, take};
+ghost use Rattle.std.specs.Prelude.{◌≡◌, ◌≢◌, ◌<◌, ◌≤◌, ◌+◌, ◌⊎◌, ℕ, List, Option, true, false, IsNone, IsOk, IfOk, OnOk, IfErr, IsErrOf, IfSome, None, Some, Ok, take};
 ghost use Rattle.sdbt_base.specs.Faults.{Rose};
 ghost use Rattle.script_lang.specs.Commands as commands;
 ghost use Rattle.script_lang.specs.Commands.{FitsBlock as FitsCommand, asked};
@@ -66,15 +66,14 @@ impl Desk {
         ensures after { After P.Platform self.new platform.old platform.new result }
         ensures blame { IsBlamed (counts (P.faults platform.old) (T.faults tape.old) 0 0 (L.faults ledger.old))
             (counts (P.faults platform.new) (T.faults tape.new) 0 0 (L.faults ledger.new)) result }
-        ensures unput { L.written ledger.new ≡ L.written ledger.old }
         ensures of_block { (addr : ℕ) → IsErrOf result (DeviceStop.BadRecord addr) → IsOfBlock (asked command.now self.old.buffer) }
         ensures damage { P.tells → (addr : ℕ) → IsErrOf result (DeviceStop.BadRecord addr)
             → IsWrongPage (P.history platform.new).present addr }
         ensures pages { P.tells → (entry : State) → Represents (world_of P.Platform self.old.session platform.old) entry
             → IfOk (outcome result self.new.buffer) (λ reply. P.head platform.new ≡ pages_after entry (asked command.now self.old.buffer) reply (P.head platform.old)) }
         // Each moment keeps the keys that the image kept before, with those that were drawn, what was deleted stays so, and the cell can be served.
-        ensures keeps { KeepsOn P.tells (T.drawn tape.old) (T.drawn tape.new) self.old.session
-            (P.history platform.old) (P.history platform.new)
+        ensures keeps { KeepsOn P.tells (T.drawn tape.old) (T.drawn tape.new) (L.written ledger.old) (L.written ledger.new) self.old.session
+            (P.history platform.old) (P.history platform.new) (IsOk result)
             (λ keys. OnOk result (IsListed self.new.session (P.history platform.new).present keys)) }
         ensures answered { P.tells → (entry : State) → Represents (world_of P.Platform self.old.session platform.old) entry
             → Serves (world_of P.Platform self.old.session platform.old)
@@ -109,13 +108,12 @@ impl Desk {
         ensures after { After P.Platform self.new platform.old platform.new result }
         ensures blame { IsBlamed (counts (P.faults platform.old) (T.faults tape.old) 0 0 (L.faults ledger.old))
             (counts (P.faults platform.new) (T.faults tape.new) 0 0 (L.faults ledger.new)) result }
-        ensures unput { L.written ledger.new ≡ L.written ledger.old }
         ensures damage { (addr : ℕ) → IsErrOf result (DeviceStop.BadRecord addr) → ⊥ }
         ensures pages { P.tells → (entry : State) → Represents (world_of P.Platform self.old.session platform.old) entry
             → IfOk (outcome result self.new.buffer) (λ reply. P.head platform.new ≡ pages_after entry (commands.Format blocks order) reply (P.head platform.old)) }
         // Each moment keeps the keys that the image kept before, with those that were drawn, what was deleted stays so, and the cell can be served.
-        ensures keeps { KeepsOn P.tells (T.drawn tape.old) (T.drawn tape.new) self.old.session
-            (P.history platform.old) (P.history platform.new)
+        ensures keeps { KeepsOn P.tells (T.drawn tape.old) (T.drawn tape.new) (L.written ledger.old) (L.written ledger.new) self.old.session
+            (P.history platform.old) (P.history platform.new) (IsOk result)
             (λ keys. OnOk result (IsListed self.new.session (P.history platform.new).present keys)) }
         ensures answered { P.tells → (entry : State) → Represents (world_of P.Platform self.old.session platform.old) entry
             → Serves (world_of P.Platform self.old.session platform.old) (world_of P.Platform self.new.session platform.new)
@@ -143,8 +141,8 @@ impl Desk {
         ensures pages { P.tells → (entry : State) → Represents (world_of P.Platform self.old.session platform.old) entry
             → IfOk (outcome result self.new.buffer) (λ reply. P.head platform.new ≡ pages_after entry commands.Mount reply (P.head platform.old)) }
         // Each moment keeps the keys that the image kept before, what was deleted stays so, and the cell can be served.
-        ensures keeps { (drawn : Option (List (List ℕ))) → KeepsOn P.tells drawn drawn self.old.session
-            (P.history platform.old) (P.history platform.new)
+        ensures keeps { (drawn : Option (List (List ℕ))) (written : Option (List ℕ)) → KeepsOn P.tells drawn drawn written written self.old.session
+            (P.history platform.old) (P.history platform.new) (IsOk result)
             (λ keys. OnOk result (IsListed self.new.session (P.history platform.new).present keys)) }
         ensures answered { P.tells → (entry : State) → Represents (world_of P.Platform self.old.session platform.old) entry
             → Serves (world_of P.Platform self.old.session platform.old)
@@ -175,8 +173,8 @@ impl Desk {
         ensures pages { P.tells → (entry : State) → Represents (world_of P.Platform self.old.session platform.old) entry
             → IfOk (outcome result self.new.buffer) (λ reply. P.head platform.new ≡ pages_after entry (commands.Read block) reply (P.head platform.old)) }
         // Each moment keeps the keys that the image kept before, what was deleted stays so, and the cell can be served.
-        ensures keeps { (drawn : Option (List (List ℕ))) → KeepsOn P.tells drawn drawn self.old.session
-            (P.history platform.old) (P.history platform.new)
+        ensures keeps { (drawn : Option (List (List ℕ))) (written : Option (List ℕ)) → KeepsOn P.tells drawn drawn written written self.old.session
+            (P.history platform.old) (P.history platform.new) (IsOk result)
             (λ keys. OnOk result (IsListed self.new.session (P.history platform.new).present keys)) }
         ensures answered { P.tells → (entry : State) → Represents (world_of P.Platform self.old.session platform.old) entry
             → Serves (world_of P.Platform self.old.session platform.old) (world_of P.Platform self.new.session platform.new)
@@ -210,8 +208,8 @@ impl Desk {
         ensures pages { P.tells → (entry : State) → Represents (world_of P.Platform self.old.session platform.old) entry
             → IfOk (outcome result self.new.buffer) (λ reply. P.head platform.new ≡ pages_after entry (commands.Write block (take count self.old.buffer)) reply (P.head platform.old)) }
         // Each moment keeps the keys that the image kept before, with those that were drawn, what was deleted stays so, and the cell can be served.
-        ensures keeps { KeepsOn P.tells (T.drawn tape.old) (T.drawn tape.new) self.old.session
-            (P.history platform.old) (P.history platform.new)
+        ensures keeps { (written : Option (List ℕ)) → KeepsOn P.tells (T.drawn tape.old) (T.drawn tape.new) written written self.old.session
+            (P.history platform.old) (P.history platform.new) (IsOk result)
             (λ keys. OnOk result (IsListed self.new.session (P.history platform.new).present keys)) }
         ensures answered { P.tells → (entry : State) → Represents (world_of P.Platform self.old.session platform.old) entry
             → Serves (world_of P.Platform self.old.session platform.old)
@@ -241,8 +239,8 @@ impl Desk {
         ensures pages { P.tells → (entry : State) → Represents (world_of P.Platform self.old.session platform.old) entry
             → IfOk (outcome result self.new.buffer) (λ reply. P.head platform.new ≡ pages_after entry (commands.Trim block) reply (P.head platform.old)) }
         // Each moment keeps the keys that the image kept before, what was deleted stays so, and the cell can be served.
-        ensures keeps { (drawn : Option (List (List ℕ))) → KeepsOn P.tells drawn drawn self.old.session
-            (P.history platform.old) (P.history platform.new)
+        ensures keeps { (drawn : Option (List (List ℕ))) (written : Option (List ℕ)) → KeepsOn P.tells drawn drawn written written self.old.session
+            (P.history platform.old) (P.history platform.new) (IsOk result)
             (λ keys. OnOk result (IsListed self.new.session (P.history platform.new).present keys)) }
         ensures answered { P.tells → (entry : State) → Represents (world_of P.Platform self.old.session platform.old) entry
             → Serves (world_of P.Platform self.old.session platform.old) (world_of P.Platform self.new.session platform.new)
@@ -270,30 +268,27 @@ impl Desk {
         ensures after { After P.Platform self.new platform.old platform.new result }
         ensures blame { IsBlamed (counts (P.faults platform.old) (T.faults tape.old) 0 0 (L.faults ledger.old))
             (counts (P.faults platform.new) (T.faults tape.new) 0 0 (L.faults ledger.new)) result }
-        ensures unput { L.written ledger.new ≡ L.written ledger.old }
         ensures damage { (addr : ℕ) → IsErrOf result (DeviceStop.BadRecord addr) → ⊥ }
         ensures pages { P.tells → (entry : State) → Represents (world_of P.Platform self.old.session platform.old) entry
             → IfOk (outcome result self.new.buffer) (λ reply. P.head platform.new ≡ pages_after entry commands.Commit reply (P.head platform.old)) }
         // Each moment keeps the keys that the image kept before, with those that were drawn, what was deleted stays so, and the cell can be served.
-        ensures keeps { KeepsOn P.tells (T.drawn tape.old) (T.drawn tape.new) self.old.session
-            (P.history platform.old) (P.history platform.new)
+        ensures keeps { KeepsOn P.tells (T.drawn tape.old) (T.drawn tape.new) (L.written ledger.old) (L.written ledger.new) self.old.session
+            (P.history platform.old) (P.history platform.new) (IsOk result)
             (λ keys. OnOk result (IsListed self.new.session (P.history platform.new).present keys)) }
         ensures answered { P.tells → (entry : State) → Represents (world_of P.Platform self.old.session platform.old) entry
             → Serves (world_of P.Platform self.old.session platform.old)
             (world_of P.Platform self.new.session platform.new) entry commands.Commit (outcome result self.new.buffer) }
     {
-        let Some(session) = self.session.take() else {
+        let Some(session) = &mut self.session else {
             return Ok(Reply::Unmounted);
         };
-        let answer = match session.commit(platform, tape, ledger) {
-            Ok(answer) => answer,
+        let reply = match session.commit(platform, tape, ledger) {
+            Ok(reply) => reply,
             Err(CommitFault::Memory) => return Err(DeviceStop::Memory),
             Err(CommitFault::TapeFault) => return Err(DeviceStop::Tape),
             Err(CommitFault::LedgerFault) => return Err(DeviceStop::Ledger),
             Err(CommitFault::PlatformFault) => return Err(DeviceStop::Platform),
         };
-        let (session, reply) = answer;
-        self.session = Some(session);
         match reply {
             CommitReply::Committed { number } => Ok(Reply::Committed { number }),
             CommitReply::Full { .. } => Ok(Reply::Full),
@@ -327,8 +322,8 @@ impl Desk {
         ensures pages { P.tells → (entry : State) → Represents (world_of P.Platform self.old.session platform.old) entry
             → IfOk (outcome result self.new.buffer) (λ reply. P.head platform.new ≡ pages_after entry commands.Erase reply (P.head platform.old)) }
         // Each moment keeps the keys that the image kept before, what was deleted stays so, and the cell can be served.
-        ensures keeps { (drawn : Option (List (List ℕ))) → KeepsOn P.tells drawn drawn self.old.session
-            (P.history platform.old) (P.history platform.new)
+        ensures keeps { (drawn : Option (List (List ℕ))) (written : Option (List ℕ)) → KeepsOn P.tells drawn drawn written written self.old.session
+            (P.history platform.old) (P.history platform.new) (IsOk result)
             (λ keys. OnOk result (IsListed self.new.session (P.history platform.new).present keys)) }
         ensures answered { P.tells → (entry : State) → Represents (world_of P.Platform self.old.session platform.old) entry
             → Serves (world_of P.Platform self.old.session platform.old)

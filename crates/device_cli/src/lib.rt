@@ -10,6 +10,7 @@ ghost use Rattle.device_cli.specs.Words.{AreRunWords};
 ghost use Rattle.platform.specs.History.{During};
 ghost use Rattle.device_core.specs.Leaf.{IsServedImage};
 ghost use Rattle.sdbt_base.specs.Arrays.{Device, closed};
+ghost use Rattle.device_course.specs.Certified.{Certified};
 ghost use Rattle.device_cli.specs.World.{world_of};
 ghost use Rattle.device_cli.specs.Represents.{StandsFor};
 ghost use Rattle.device_cli.specs.Ran.{AnswersScript, IsAmple, IsComplete};
@@ -36,7 +37,8 @@ use words::are_run_words;
 /// taken, and one reply put to `output` for each line. Statuses: 0, the input was served to its end;
 /// 2, other words; 3 to 7, `input`, `output`, the platform, the tape or `ledger` failed; 8, the root cell is full and
 /// its root record can't be served; 9, a record was not what the tree wants there; 11, no memory;
-/// 12, the limit of 2^32 bytes of input was reached. Nothing is put to `ledger` yet.
+/// 12, the limit of 2^32 bytes of input was reached. `ledger` gets an entry before each format and each commit of changes is done:
+/// a certificate, which says what it adds and what it deletes.
 pub fn run_main<P: Platform, T: Tape, I: Source, O: Sink, L: Sink>(
     alloc: Global,
     words: &[String],
@@ -79,6 +81,9 @@ pub fn run_main<P: Platform, T: Tape, I: Source, O: Sink, L: Sink>(
     // Chains of opening from the root key reach at each moment exactly the device's records, and what was deleted never.
     ensures discloses { DisclosesTree P.tells (T.drawn tape.old) (T.drawn tape.new) (P.history platform.old) (P.history platform.new) }
 
+    // The ledger gets the entry of a certificate for each root record that comes into the cell, in their order, and behind them at most a part of one more.
+    ensures certified { Certified P.tells (L.written ledger.old) (L.written ledger.new) (P.history platform.old) (P.history platform.new) (result ≡ 0) }
+
     // With room for a page a line, a short input and no fault, each line has its reply, unless no memory is given.
     ensures complete { P.tells → (there : Option Device) → StandsFor (P.history platform.old).present there
         → IsServedImage (P.history platform.old).present → AreRunWords (map string_bytes words.now)
@@ -96,7 +101,6 @@ pub fn run_main<P: Platform, T: Tape, I: Source, O: Sink, L: Sink>(
     // 0 and 3 before the limit of input, and 12 at it.
     ensures taken { (taken : List ℕ) × Gave (I.left input.old) taken (I.left input.new) × Took result taken (I.left input.new) }
     ensures nothing_put { result ≡ 2 → O.written output.new ≡ O.written output.old }
-    ensures ledger { L.written ledger.new ≡ L.written ledger.old }
 {
     if !are_run_words(words) {
         return 2;

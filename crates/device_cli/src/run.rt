@@ -49,11 +49,11 @@ pub(crate) fn run<P: Platform, T: Tape, I: Source, O: Sink, L: Sink>(
     ensures unserved { P.tells → IfErr result (λ stop. status_of stop ≡ 8
         → IsUnserved tape.old tape.new input.old input.new ledger.old ledger.new (P.head platform.old) (P.head platform.new)
         (O.written output.old) (O.written output.new) (P.history platform.old) (P.history platform.new)) }
-    ensures keeps { KeepsOn P.tells (T.drawn tape.old) (T.drawn tape.new) None (P.history platform.old) (P.history platform.new) (λ keys. ⊤) }
+    ensures keeps { KeepsOn P.tells (T.drawn tape.old) (T.drawn tape.new) (L.written ledger.old) (L.written ledger.new) None
+        (P.history platform.old) (P.history platform.new) (IsOk result) (λ keys. ⊤) }
     ensures blame { IsBlamedOn
         (counts (P.faults platform.old) (T.faults tape.old) (I.faults input.old) (O.faults output.old) (L.faults ledger.old))
         (counts (P.faults platform.new) (T.faults tape.new) (I.faults input.new) (O.faults output.new) (L.faults ledger.new)) result }
-    ensures unput { L.written ledger.new ≡ L.written ledger.old }
     ensures ran { (session : Option Session)
         × Ran P.tells (world_of P.Platform None platform.old) (world_of P.Platform session platform.new)
         damage_line result (I.left input.old) (I.left input.new) (O.written output.old) (O.written output.new) }
@@ -83,12 +83,12 @@ fn serve_input<P: Platform, T: Tape, I: Source, O: Sink, L: Sink>(
 ) -> Result<(), Stop>
     requires { Before P.Platform desk.old platform.old }
     ensures bad_root { P.tells → IsErrOf result (Stop.Device DeviceStop.BadRoot) → ⊥ }
-    ensures keeps { KeepsOn P.tells (T.drawn tape.old) (T.drawn tape.new) desk.old.session (P.history platform.old) (P.history platform.new)
+    ensures keeps { KeepsOn P.tells (T.drawn tape.old) (T.drawn tape.new) (L.written ledger.old) (L.written ledger.new) desk.old.session
+        (P.history platform.old) (P.history platform.new) (IsOk result)
         (λ keys. OnOk result (IsListed desk.new.session (P.history platform.new).present keys)) }
     ensures blame { IsBlamedOn
         (counts (P.faults platform.old) (T.faults tape.old) (I.faults input.old) (O.faults output.old) (L.faults ledger.old))
         (counts (P.faults platform.new) (T.faults tape.new) (I.faults input.new) (O.faults output.new) (L.faults ledger.new)) result }
-    ensures unput { L.written ledger.new ≡ L.written ledger.old }
     ensures ran { Ran P.tells (world_of P.Platform desk.old.session platform.old) (world_of P.Platform desk.new.session platform.new)
         no_line result (I.left input.old) (I.left input.new) (O.written output.old) (O.written output.new) }
 {
@@ -132,8 +132,8 @@ fn serve_piece<P: Platform, T: Tape, O: Sink, L: Sink>(
 ) -> Result<(), Stop>
     requires { Before P.Platform desk.old platform.old }
     ensures after { AfterLine P.Platform desk.new platform.new result }
-    ensures unput { L.written ledger.new ≡ L.written ledger.old }
-    ensures keeps { KeepsOn P.tells (T.drawn tape.old) (T.drawn tape.new) desk.old.session (P.history platform.old) (P.history platform.new)
+    ensures keeps { KeepsOn P.tells (T.drawn tape.old) (T.drawn tape.new) (L.written ledger.old) (L.written ledger.new) desk.old.session
+        (P.history platform.old) (P.history platform.new) (IsOk result)
         (λ keys. OnOk result (IsListed desk.new.session (P.history platform.new).present keys)) }
     ensures blame { IsBlamedOn (counts (P.faults platform.old) (T.faults tape.old) 0 (O.faults output.old) (L.faults ledger.old))
         (counts (P.faults platform.new) (T.faults tape.new) 0 (O.faults output.new) (L.faults ledger.new)) result }
@@ -176,8 +176,8 @@ fn serve_end<P: Platform, T: Tape, O: Sink, L: Sink>(
 ) -> Result<(), Stop>
     requires { Before P.Platform desk.old platform.old }
     ensures after { AfterLine P.Platform desk.new platform.new result }
-    ensures unput { L.written ledger.new ≡ L.written ledger.old }
-    ensures keeps { KeepsOn P.tells (T.drawn tape.old) (T.drawn tape.new) desk.old.session (P.history platform.old) (P.history platform.new)
+    ensures keeps { KeepsOn P.tells (T.drawn tape.old) (T.drawn tape.new) (L.written ledger.old) (L.written ledger.new) desk.old.session
+        (P.history platform.old) (P.history platform.new) (IsOk result)
         (λ keys. OnOk result (IsListed desk.new.session (P.history platform.new).present keys)) }
     ensures blame { IsBlamedOn (counts (P.faults platform.old) (T.faults tape.old) 0 (O.faults output.old) (L.faults ledger.old))
         (counts (P.faults platform.new) (T.faults tape.new) 0 (O.faults output.new) (L.faults ledger.new)) result }
@@ -202,8 +202,8 @@ fn answer<P: Platform, T: Tape, O: Sink, L: Sink>(
 ) -> Result<(), Stop>
     requires { Before P.Platform desk.old platform.old }
     ensures after { AfterLine P.Platform desk.new platform.new result }
-    ensures unput { L.written ledger.new ≡ L.written ledger.old }
-    ensures keeps { KeepsOn P.tells (T.drawn tape.old) (T.drawn tape.new) desk.old.session (P.history platform.old) (P.history platform.new)
+    ensures keeps { KeepsOn P.tells (T.drawn tape.old) (T.drawn tape.new) (L.written ledger.old) (L.written ledger.new) desk.old.session
+        (P.history platform.old) (P.history platform.new) (IsOk result)
         (λ keys. OnOk result (IsListed desk.new.session (P.history platform.new).present keys)) }
     ensures blame { IsBlamedOn (counts (P.faults platform.old) (T.faults tape.old) 0 (O.faults output.old) (L.faults ledger.old))
         (counts (P.faults platform.new) (T.faults tape.new) 0 (O.faults output.new) (L.faults ledger.new)) result }

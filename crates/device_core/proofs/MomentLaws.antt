@@ -1,5 +1,5 @@
 -- How the moments of calls on a device compose: the cell stays as it was, until the root record is replaced.
-use Rattle.std.proofs.Common.{◌≡◌, ◌⊎◌, inl, inr, List, ℕ, Option, Some, refl, ap, sym, ◌∙◌}
+use Rattle.std.proofs.Common.{◌≡◌, ◌⊎◌, inl, inr, List, ℕ, Option, None, Some, refl, ap, sym, ◌∙◌}
 use Rattle.platform.specs.Image.{Image, IsEither, with_cell, all_synced}
 use Rattle.platform.specs.History.{History, Steps, During, Turns, CellStays}
 use Rattle.platform.specs.Image.{IsEarlier}
@@ -72,3 +72,11 @@ pub stays_then : (old mid new : History) → CellStays old mid → CellStays mid
 stays_then old mid new first second =
     let here : mid.present.cell ≡ old.present.cell = During-now old mid (λ image. image.cell ≡ old.present.cell) first in
     During-then old mid new (λ image. image.cell ≡ old.present.cell) first (During-weaker mid new (λ image. image.cell ≡ mid.present.cell) (λ image. image.cell ≡ old.present.cell) (λ image same. same ∙ here) second)
+
+-- a cell that stays until it is that of an image with an empty one
+pub emptied : (old new : History) (X : Image) → X.cell ≡ None → Turns old new (λ image. image.cell ≡ old.present.cell) (λ image. image ≡ X) → Turns old new (λ image. image.cell ≡ old.present.cell) (λ image. image.cell ≡ None)
+emptied old new X none turns =
+    Turns-weaker old new (HasCell old.present.cell) (λ image. image ≡ X) (HasCell old.present.cell) (HasCell None) (λ image same. same) (λ image same. ap (λ (i : Image). i.cell) same ∙ none) turns
+
+pub never_emptied : (old new : History) → During old new (λ image. image.cell ≡ old.present.cell) → Turns old new (λ image. image.cell ≡ old.present.cell) (λ image. image.cell ≡ None)
+never_emptied old new stays = Turns-not old new (HasCell old.present.cell) (HasCell None) stays

@@ -1,7 +1,7 @@
 ghost use Rattle.std.specs.Prelude.{◌≡◌, ◌≤◌, ℕ, List, Option, None};
 ghost use Rattle.sdbt_base.specs.Faults.{Rose};
 ghost use Rattle.platform.specs.Image.{LeavesOnly};
-ghost use Rattle.platform.specs.History.{During, Turns, CellTurns};
+ghost use Rattle.platform.specs.History.{During, Turns};
 ghost use Rattle.sdbt_base.specs.Arrays.{Device};
 ghost use Rattle.page_store.specs.Stands.{Stands};
 ghost use Rattle.page_store.specs.Kept.{Kept};
@@ -23,7 +23,9 @@ pub fn erase<P: Platform>(platform: &mut P) -> Result<(), EraseRefusal>
     ensures time { P.tells → (device : Option Device) → Stands (P.history platform.old).present device
         → Turns (P.history platform.old) (P.history platform.new)
         (LeavesOnly (λ left. Stands left device)) (LeavesOnly (λ left. Stands left None)) }
-    ensures turns { P.tells → CellTurns (P.history platform.old) (P.history platform.new) }
+    // The cell is as it was, until a moment from which on it is empty.
+    ensures turns { P.tells → Turns (P.history platform.old) (P.history platform.new)
+        (λ image. image.cell ≡ (P.history platform.old).present.cell) (λ image. image.cell ≡ None) }
 
     // Each moment keeps the keys that the image kept before, and what was deleted before stays deleted.
     ensures keeps { P.tells → (keys : List (List ℕ)) → Kept keys (P.history platform.old).present

@@ -18,7 +18,9 @@ use Rattle.device_core.specs.Leaf.{IsServedImage}
 use Rattle.device_core.proofs.ServedLaws.{serves_still}
 use Rattle.device_core.proofs.KeyLaws.{listed_sound, listed_same, listed_grown}
 use Rattle.device_course.specs.States.{IsListed}
+use Rattle.device_course.specs.Certified.{Certified}
 use Rattle.device_course.specs.Keys.{KeepsOn}
+use Rattle.device_course.proofs.CertifiedLaws.{certified_start, certified_stays, certified_going, certified_then}
 
 pub sound_of : (session : Option Session) (image : Image) (keys : List (List ℕ)) → IsListed session image keys → IsSound image
 sound_of None image keys sound = sound
@@ -28,40 +30,46 @@ pub listed_image : (session : Option Session) (image other : Image) (keys : List
 listed_image session image other keys same h = subst (λ (i : Image). IsListed session i keys) (sym same) h
 
 -- nothing happened
-pub on_start : (tells : Type 0) (drawn : Option (List (List ℕ))) (session : Option Session) (history : History) → KeepsOn tells drawn drawn session history history (IsListed session history.present)
-on_start tells drawn session history = record {
+pub on_start : (tells : Type 0) (drawn : Option (List (List ℕ))) (written : Option (List ℕ)) (session : Option Session) (history : History) (Going : Type 0) → KeepsOn tells drawn drawn written written session history history Going (IsListed session history.present)
+on_start tells drawn written session history Going = record {
   keys = keeps_idle tells drawn drawn history history (IsListed session history.present) (IsListed session history.present) refl (λ told. During-start history (λ image. image ≡ history.present) refl) (λ told keys kept h. h);
   deleted = λ told keys kept h. deleted_start history (sound_of session history.present keys h);
   serves = λ told served. During-start history IsServedImage served;
+  certified = certified_start tells written history Going;
 }
 
 -- a call that leaves the image as it was
-pub on_look : (tells : Type 0) (drawn : Option (List (List ℕ))) (session : Option Session) (old new : History) (Done : List (List ℕ) → Type 0) → (tells → new.present ≡ old.present) → (tells → During old new (λ image. image.cell ≡ old.present.cell)) → (tells → (keys : List (List ℕ)) → Kept keys old.present → IsListed session old.present keys → Done keys) → KeepsOn tells drawn drawn session old new Done
-on_look tells drawn session old new Done same cell done = record {
+pub on_look : (tells : Type 0) (drawn : Option (List (List ℕ))) (written : Option (List ℕ)) (session : Option Session) (old new : History) (Going : Type 0) (Done : List (List ℕ) → Type 0) → (tells → new.present ≡ old.present) → (tells → During old new (λ image. image.cell ≡ old.present.cell)) → (tells → (keys : List (List ℕ)) → Kept keys old.present → IsListed session old.present keys → Done keys) → KeepsOn tells drawn drawn written written session old new Going Done
+on_look tells drawn written session old new Going Done same cell done = record {
   keys = keeps_idle tells drawn drawn old new (IsListed session old.present) Done refl (λ told. same_during old new (same told) (cell told)) done;
   deleted = λ told keys kept h. deleted_call old new (forgets_still old new (sound_of session old.present keys h) (cell told));
   serves = λ told served. serves_still old new (cell told) served;
+  certified = certified_stays tells written old new Going cell;
 }
 
 -- a call that may draw
-pub on_call : (tells : Type 0) (drawn drawn_now : Option (List (List ℕ))) (session : Option Session) (old new : History) (Ready Then Done : List (List ℕ) → Type 0) → KeepsKeys tells drawn drawn_now old new Ready Then → (tells → (keys : List (List ℕ)) → IsListed session old.present keys → Ready keys) → (tells → (keys : List (List ℕ)) → IsListed session old.present keys → Forgets old new) → (tells → (keys more : List (List ℕ)) → IsListed session old.present keys → Then (keys ++ more) → Done (keys ++ more)) → (tells → IsServedImage old.present → During old new IsServedImage) → KeepsOn tells drawn drawn_now session old new Done
-on_call tells drawn drawn_now session old new Ready Then Done k ready forgets done serves = record {
+pub on_call : (tells : Type 0) (drawn drawn_now : Option (List (List ℕ))) (written written_now : Option (List ℕ)) (session : Option Session) (old new : History) (Going : Type 0) (Ready Then Done : List (List ℕ) → Type 0) → KeepsKeys tells drawn drawn_now old new Ready Then → (tells → (keys : List (List ℕ)) → IsListed session old.present keys → Ready keys) → (tells → (keys : List (List ℕ)) → IsListed session old.present keys → Forgets old new) → (tells → (keys more : List (List ℕ)) → IsListed session old.present keys → Then (keys ++ more) → Done (keys ++ more)) → (tells → IsServedImage old.present → During old new IsServedImage) → Certified tells written written_now old new Going → KeepsOn tells drawn drawn_now written written_now session old new Going Done
+on_call tells drawn drawn_now written written_now session old new Going Ready Then Done k ready forgets done serves certified = record {
   keys = keeps_from tells drawn drawn_now old new Ready (IsListed session old.present) Then Done k ready done;
   deleted = λ told keys kept h. deleted_call old new (forgets told keys h);
   serves = serves;
+  certified = certified;
 }
 
 -- a weaker end
-pub on_done : (tells : Type 0) (drawn drawn_now : Option (List (List ℕ))) (session : Option Session) (old new : History) (Then Done : List (List ℕ) → Type 0) → KeepsOn tells drawn drawn_now session old new Then → ((keys : List (List ℕ)) → Then keys → Done keys) → KeepsOn tells drawn drawn_now session old new Done
-on_done tells drawn drawn_now session old new Then Done on done = record {
+pub on_done : (tells : Type 0) (drawn drawn_now : Option (List (List ℕ))) (written written_now : Option (List ℕ)) (session : Option Session) (old new : History) (Was Going : Type 0) (Then Done : List (List ℕ) → Type 0) → KeepsOn tells drawn drawn_now written written_now session old new Was Then
+    → (Going → Was) → ((keys : List (List ℕ)) → Then keys → Done keys) → KeepsOn tells drawn drawn_now written written_now session old new Going Done
+on_done tells drawn drawn_now written written_now session old new Was Going Then Done on was done = record {
   keys = keeps_from tells drawn drawn_now old new (IsListed session old.present) (IsListed session old.present) Then Done on.keys (λ told keys h. h) (λ told keys more h then'. done (keys ++ more) then');
   deleted = on.deleted;
   serves = on.serves;
+  certified = certified_going tells written written_now old new Was Going was on.certified;
 }
 
 -- one part after another
-pub on_then : (tells : Type 0) (drawn mid drawn_now : Option (List (List ℕ))) (session between : Option Session) (first second third : History) (Done : List (List ℕ) → Type 0) → KeepsOn tells drawn mid session first second (IsListed between second.present) → KeepsOn tells mid drawn_now between second third Done → KeepsOn tells drawn drawn_now session first third Done
-on_then tells drawn mid drawn_now session between first second third Done one two = record {
+pub on_then : (tells : Type 0) (drawn mid drawn_now : Option (List (List ℕ))) (written put written_now : Option (List ℕ)) (session between : Option Session) (first second third : History) (Was Going : Type 0) (Done : List (List ℕ) → Type 0) → Was
+    → KeepsOn tells drawn mid written put session first second Was (IsListed between second.present) → KeepsOn tells mid drawn_now put written_now between second third Going Done → KeepsOn tells drawn drawn_now written written_now session first third Going Done
+on_then tells drawn mid drawn_now written put written_now session between first second third Was Going Done was one two = record {
   keys = keeps_then tells drawn mid drawn_now first second third (IsListed session first.present) (IsListed between second.present) (IsListed between second.present) Done Done one.keys two.keys (λ told keys kept h. h) (λ told keys more h done. done);
   deleted = λ told keys kept h.
       let a = one.keys.keeps told keys kept h in
@@ -70,6 +78,7 @@ on_then tells drawn mid drawn_now session between first second third Done one tw
   serves = λ told served.
       let first_part = one.serves told served in
       During-then first second third IsServedImage first_part (two.serves told (During-now first second IsServedImage first_part));
+  certified = certified_then tells written put written_now first second third Was Going was two.keys.extends one.certified two.certified;
 }
 
 -- ---- calls of a session
@@ -101,9 +110,10 @@ listed_keys (Some session) image other keys more same h =
     (listed_grown session image keys more h)
 
 -- a call that draws none and adds no page
-pub on_kept : (tells : Type 0) (drawn : Option (List (List ℕ))) (session : Option Session) (old new : History) (Done : List (List ℕ) → Type 0) → (tells → Extends old new) → (tells → length new.present.recorded ≡ length old.present.recorded) → (tells → (keys : List (List ℕ)) → Kept keys old.present → During old new (Kept keys)) → (tells → IsSound old.present → Forgets old new) → (tells → (keys : List (List ℕ)) → IsListed session old.present keys → Done keys) → (tells → IsServedImage old.present → During old new IsServedImage) → KeepsOn tells drawn drawn session old new Done
-on_kept tells drawn session old new Done extends size kept forgets done serves = record {
+pub on_kept : (tells : Type 0) (drawn : Option (List (List ℕ))) (written : Option (List ℕ)) (session : Option Session) (old new : History) (Going : Type 0) (Done : List (List ℕ) → Type 0) → (tells → Extends old new) → (tells → length new.present.recorded ≡ length old.present.recorded) → (tells → (keys : List (List ℕ)) → Kept keys old.present → During old new (Kept keys)) → (tells → IsSound old.present → Forgets old new) → (tells → (keys : List (List ℕ)) → IsListed session old.present keys → Done keys) → (tells → IsServedImage old.present → During old new IsServedImage) → Certified tells written written old new Going → KeepsOn tells drawn drawn written written session old new Going Done
+on_kept tells drawn written session old new Going Done extends size kept forgets done serves certified = record {
   keys = keeps_still tells drawn drawn old new (IsListed session old.present) Done refl extends size (λ told keys k h. kept told keys k) done;
   deleted = λ told keys k h. deleted_call old new (forgets told (sound_of session old.present keys h));
   serves = serves;
+  certified = certified;
 }

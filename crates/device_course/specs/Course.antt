@@ -9,6 +9,7 @@ use Rattle.page_store.specs.Keeping.{DrewAll, HandedOver}
 use Rattle.page_store.specs.Disclosing.{DisclosesBy}
 use Rattle.device_core.specs.Leaf.{IsServedImage}
 use Rattle.device_core.specs.Sessions.{Session}
+use Rattle.device_course.specs.Certified.{Certified}
 use Rattle.device_course.specs.Marks.{HasMark, last_mark}
 use Rattle.device_course.specs.Keys.{KeepsOn}
 use Rattle.device_course.specs.States.{Outside, IsAt, IsListed, IsLater}
@@ -21,19 +22,28 @@ pub record Made (old new : History) (after : Option Session) (entry : State) (ma
   pub exits : IsAt new.present after exit
 
 -- a part of a run that began with this session in the state `entry`, and ended with that one in the state `exit`: it made these devices, added pages
--- only, and kept what is to be kept
-pub record Course (old new : Outside) (before after : Option Session) (entry : State) (marks : List (Option Device)) (exit : State) : Type 0 where
+-- only, and kept what is to be kept. Of an entry of the ledger it put a part only where it can't go on
+pub record Part (Going : Type 0) (old new : Outside) (before after : Option Session) (entry : State) (marks : List (Option Device)) (exit : State) : Type 0 where
   pub made : Made old.history new.history after entry marks exit
   pub later : IsLater old new
-  pub on : KeepsOn (Unit {0}) old.drawn new.drawn before old.history new.history (IsListed after new.history.present)
+  pub on : KeepsOn (Unit {0}) old.drawn new.drawn old.written new.written before old.history new.history Going (IsListed after new.history.present)
+
+-- such a part, after which the run goes on
+abbrev pub Course : Outside → Outside → Option Session → Option Session → State → List (Option Device) → State → Type 0
+Course = Part (Unit {0})
+
+-- a part after which the run may have stopped
+abbrev pub Ended : Outside → Outside → Option Session → Option Session → State → List (Option Device) → State → Type 0
+Ended = Part ⊥
 
 -- a call that stopped: nothing of it came to be, or the device that it was to make
 abbrev pub Stopped : Outside → Outside → Option Session → Option Session → State → Option Device → State → State → Type 0
 Stopped old new before after entry mark without with =
-    Course old new before after entry [] without ⊎ Course old new before after entry (mark ∷ []) with
+    Ended old new before after entry [] without ⊎ Ended old new before after entry (mark ∷ []) with
 
 -- what is promised of a whole run that began on a device and made these others, whoever it served: at each moment a loss of power leaves
--- one of them, in their order, and at the end the last; and chains of opening reach exactly the tree of each moment, and never what was deleted
+-- one of them, in their order, and at the end the last; chains of opening reach exactly the tree of each moment, and never what was deleted; and the ledger
+-- got a certificate for each root record that came into the cell
 pub record Promised (old new : Outside) (device : Option Device) (marks : List (Option Device)) : Type 0 where
   pub passes : Passes old.history new.history (HasMark device marks) (length marks)
   pub stands : Stands new.history.present (last_mark device marks)
@@ -43,3 +53,4 @@ pub record Promised (old new : Outside) (device : Option Device) (marks : List (
   pub drew : DrewAll old.drawn grew new.drawn
   pub handed : HandedOver grew old.history.present new.history.present
   pub discloses : (keys : List (List ℕ)) → Kept keys old.history.present → DisclosesBy keys grew old.history new.history
+  pub certified : Certified (Unit {0}) old.written new.written old.history new.history ⊥

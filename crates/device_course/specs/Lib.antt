@@ -1,4 +1,5 @@
 pub mod Marks
 pub mod States
+pub mod Certified
 pub mod Keys
 pub mod Course

@@ -1,6 +1,7 @@
 -- What a session and the platform stand for.
 use Rattle.std.specs.Prelude.{◌≡◌, ◌≤◌, ℕ, Bool, true, false, List, Option, None, Some}
 use Rattle.sdbt_base.specs.Arrays.{Device, Session as OpenSession, State, committed}
+use Rattle.sdbt_base.specs.declared.sinks.Sink.{Ghosts as SinkGhosts}
 use Rattle.sdbt_base.specs.declared.tapes.Tape.{Ghosts as TapeGhosts}
 use Rattle.platform.specs.declared.platforms.Platform.{Ghosts as PlatformGhosts}
 use Rattle.platform.specs.Image.{Image}
@@ -12,19 +13,20 @@ use Rattle.device_core.specs.Knowing.{HoldsListed}
 use Rattle.device_core.specs.Leaf.{IsServedImage}
 use Rattle.device_core.specs.Sessions.{Session}
 
--- what there is beside a session: the moments of the platform, how many pages it has and can have, and the keys that were drawn
+-- what there is beside a session: the moments of the platform, how many pages it has and can have, the keys that were drawn, and what the ledger has got
 pub record Outside : Type 0 where
   pub history : History
   pub head : ℕ
   pub capacity : ℕ
   pub drawn : Option (List (List ℕ))
+  pub written : Option (List ℕ)
 
-abbrev pub outside : History → ℕ → ℕ → Option (List (List ℕ)) → Outside
-outside history head capacity drawn = record { history = history; head = head; capacity = capacity; drawn = drawn }
+abbrev pub outside : History → ℕ → ℕ → Option (List (List ℕ)) → Option (List ℕ) → Outside
+outside history head capacity drawn written = record { history = history; head = head; capacity = capacity; drawn = drawn; written = written }
 
--- the same of a platform and a tape
-abbrev pub around : {S R : Type 0} → PlatformGhosts S → TapeGhosts R → S → R → Outside
-around P T platform tape = outside (P.history platform) (P.head platform) (P.capacity platform) (T.drawn tape)
+-- the same of a platform, a tape and a ledger
+abbrev pub around : {S R Q : Type 0} → PlatformGhosts S → TapeGhosts R → SinkGhosts Q → S → R → Q → Outside
+around P T L platform tape ledger = outside (P.history platform) (P.head platform) (P.capacity platform) (T.drawn tape) (L.written ledger)
 
 -- pages are only added, and no more than there is room for
 pub record IsLater (old new : Outside) : Type 0 where

@@ -8,7 +8,7 @@ ghost use Rattle.page_store.specs.Kept.{Kept};
 ghost use Rattle.device_core.specs.Sessions.{Session};
 ghost use Rattle.device_course.specs.States.{Outside, IsAt, IsListed};
 ghost use Rattle.page_store.specs.Disclosing.{DisclosesBy};
-ghost use Rattle.device_course.specs.Course.{Course};
+ghost use Rattle.device_course.specs.Course.{Course, Ended};
 
 /// How parts of a run compose.
 pub fn courses_compose()
@@ -17,13 +17,18 @@ pub fn courses_compose()
     ensures then { (first second third : Outside) (before between after : Option Session) (entry mid exit : State) (one two : List (Option Device))
         → Course first second before between entry one mid → Course second third between after mid two exit
         → Course first third before after entry (one ++ two) exit }
+    ensures ends { (first second third : Outside) (before between after : Option Session) (entry mid exit : State) (one two : List (Option Device))
+        → Course first second before between entry one mid → Ended second third between after mid two exit
+        → Ended first third before after entry (one ++ two) exit }
     ensures closed { (old new : Outside) (before after : Option Session) (entry exit : State) (marks : List (Option Device))
         → Course old new before after entry marks exit → Course old new before None entry marks (closed exit.device) }
+    ensures stops { (old new : Outside) (before after : Option Session) (entry exit : State) (marks : List (Option Device))
+        → Course old new before after entry marks exit → Ended old new before after entry marks exit }
 {}
 
 /// What the pages disclose after a part of a run to whoever has the root record's key.
 pub fn course_discloses()
     ensures { (old new : Outside) (before after : Option Session) (entry exit : State) (marks : List (Option Device)) (keys : List (List ℕ))
-        → (course : Course old new before after entry marks exit) → Kept keys old.history.present → IsListed before old.history.present keys
+        → (course : Ended old new before after entry marks exit) → Kept keys old.history.present → IsListed before old.history.present keys
         → DisclosesBy keys course.on.keys.grew old.history new.history }
 {}

@@ -1,5 +1,5 @@
-use Rattle.std.proofs.Common.{None}
-use Rattle.device_core.proofs.MomentLaws.{one_look, once, stays_once}
+use Rattle.std.proofs.Common.{None, refl}
+use Rattle.device_core.proofs.MomentLaws.{one_look, emptied, never_emptied}
 use Rattle.device_core.proofs.ServedLaws.{serves_still, serves_cleared}
 use Rattle.device_core.proofs.HoldLaws.{during_stands, erased}
 use Rattle.device_core.proofs.KeyLaws.{kept_look, kept_erased, turns_erased, forgets_erased}
@@ -61,13 +61,13 @@ pub returns-in-Err-clear_root-clause-forgets : goal.returns-in-Err-clear_root-cl
 returns-in-Err-clear_root-clause-forgets g c = λ told sound. forgets_erased _ _ _ (c.load_root.ensures.time told) (c.load_root.ensures.image told) (c.clear_root.ensures.time told) (c.clear_root.ensures.either told) sound
 
 pub returns-in-Ok-clause-turns : goal.returns-in-Ok-clause-turns
-returns-in-Ok-clause-turns g c = λ told. once _ _ _ (turns_erased _ _ _ (c.load_root.ensures.time told) (c.load_root.ensures.image told) (c.clear_root.ensures.time told) (c.clear_root.ensures.either told))
+returns-in-Ok-clause-turns g c = λ told. emptied _ _ _ refl (turns_erased _ _ _ (c.load_root.ensures.time told) (c.load_root.ensures.image told) (c.clear_root.ensures.time told) (c.clear_root.ensures.either told))
 
 pub returns-in-Err-clear_root-clause-turns : goal.returns-in-Err-clear_root-clause-turns
-returns-in-Err-clear_root-clause-turns g c = λ told. once _ _ _ (turns_erased _ _ _ (c.load_root.ensures.time told) (c.load_root.ensures.image told) (c.clear_root.ensures.time told) (c.clear_root.ensures.either told))
+returns-in-Err-clear_root-clause-turns g c = λ told. emptied _ _ _ refl (turns_erased _ _ _ (c.load_root.ensures.time told) (c.load_root.ensures.image told) (c.clear_root.ensures.time told) (c.clear_root.ensures.either told))
 
 pub returns-in-Ok-false-clause-turns : goal.returns-in-Ok-false-clause-turns
-returns-in-Ok-false-clause-turns g c = λ told. stays_once _ _ (one_look _ _ (c.load_root.ensures.time told) (c.load_root.ensures.image told))
+returns-in-Ok-false-clause-turns g c = λ told. never_emptied _ _ (one_look _ _ (c.load_root.ensures.time told) (c.load_root.ensures.image told))
 
 pub returns-in-Err-clause-turns : goal.returns-in-Err-clause-turns
-returns-in-Err-clause-turns g c = λ told. stays_once _ _ (one_look _ _ (c.load_root.ensures.time told) (c.load_root.ensures.image told))
+returns-in-Err-clause-turns g c = λ told. never_emptied _ _ (one_look _ _ (c.load_root.ensures.time told) (c.load_root.ensures.image told))

@@ -46,6 +46,7 @@ listed_unread session read buffers image other keys same isnt none h =
         read = λ yes. absurd (cc (yes, isnt));
         unread = h.holds.unread;
         untouched = h.holds.untouched;
+        accounts = h.holds.accounts;
       };
       listed = All-nil (λ (e : Entry). Contains keys e.key);
       newer = All-nil (λ (e : Entry). HasPlace image (data_place e) ⊎ (session.root.head ≤ e.addr));
