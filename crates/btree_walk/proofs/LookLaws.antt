@@ -1,16 +1,30 @@
 -- What one look at a node says.
-use Rattle.std.proofs.Common.{◌≡◌, ℕ, ◌+◌, ◌-◌, ◌/◌, ◌<◌, ◌≤◌, List, sym, ap, subst, ◌∙◌, arith}
+use Rattle.std.proofs.Common.{◌≡◌, ℕ, ◌+◌, ◌-◌, ◌/◌, ◌<◌, ◌≤◌, List, refl, sym, ap, subst, ◌∙◌, arith}
+use Rattle.platform.specs.declared.platforms.Platform.{Ghosts}
+use Rattle.platform.proofs.Moments.{Steps-refl}
 use Rattle.node_codec.specs.declared.body.NodeBody.{NodeBody}
 use Rattle.node_codec.specs.declared.body.Entry.{Entry}
 use Rattle.node_codec.specs.Record.{NodeRecord, FitsNode}
 use Rattle.page_store.specs.declared.wants.Want.{Want}
-use Rattle.page_store.specs.Places.{FitsAt}
 use Rattle.node_cache.specs.declared.slots.Kept.{Kept}
 use Rattle.node_cache.specs.Kept.{IsOnlyKept}
 use Rattle.btree_walk.specs.Ways.{GoesBelow}
 use Rattle.btree_walk.specs.Sights.{NodeFits, KeptFits}
 use Rattle.btree_walk.specs.Finds.{AsksFor}
+use Rattle.btree_walk.specs.Looks.{Looks}
 use Rattle.btree_walk.proofs.WayLaws.{way_entry}
+
+-- nothing is read
+pub looks_still : {S : Type 0} (P : Ghosts S) (x : S) → Looks P 1 x x
+looks_still P x = record {
+  image = λ tells. refl;
+  time = λ tells. Steps-refl (P.history x);
+  head = refl;
+  capacity = refl;
+  reads_rise = λ tells. omega arith;
+  reads_most = λ tells. omega arith;
+  faults = omega arith;
+}
 
 -- a node that fits where another is kept is that one
 pub same_entries : (kept : List Kept) (want : Want) (key : List ℕ) (node : NodeBody) (entries : List Entry) → IsOnlyKept kept want.addr key node → KeptFits kept want key (NodeRecord want.level entries) → entries ≡ node.entries.items
@@ -23,10 +37,6 @@ same_entries kept want key node entries only is =
 -- the kept node fits, where some kept node does
 pub fits_too : (kept : List Kept) (want : Want) (key : List ℕ) (node : NodeBody) (entries : List Entry) → IsOnlyKept kept want.addr key node → KeptFits kept want key (NodeRecord want.level entries) → NodeFits want node
 fits_too kept want key node entries only is = subst (NodeFits want) (only.only is.node is.here) is.fits
-
--- of a node of a page that fits
-pub page_fits : (pages : List (List ℕ)) (want : Want) (key : List ℕ) (node : NodeBody) → FitsAt pages want key (NodeRecord node.level node.entries.items) → FitsAt pages want key (NodeRecord want.level node.entries.items)
-page_fits pages want key node is = subst (λ (n : ℕ). FitsAt pages want key (NodeRecord n node.entries.items)) is.1.same_level is
 
 div_some : (n : ℕ) → 2 ≤ n → 1 ≤ n / 2
 div_some n two = omega arith

@@ -8,10 +8,11 @@ use Rattle.page_store.specs.declared.wants.Want.{Want}
 use Rattle.page_store.specs.declared.refusals.FetchRefusal.{FetchRefusal}
 use Rattle.page_store.specs.declared.refusals.FetchRefusal.TheVariants as fetches
 use Rattle.btree_walk.specs.declared.refusals.WalkRefusal.TheVariants as walks
-use Rattle.page_store.specs.Places.{FitsAt, child_want}
+use Rattle.root_codec.specs.declared.root.Root.{Root}
+use Rattle.page_store.specs.Places.{FitsAt, root_want, child_want}
 use Rattle.page_store.specs.Tree.{bound_of, IsMisfit}
 use Rattle.btree_walk.specs.declared.branches.Branch.{Branch}
-use Rattle.btree_walk.specs.Nodes.{Node, node_at, branches, Joined, Nodes, Adds, Meets, FirstWrong}
+use Rattle.btree_walk.specs.Nodes.{Node, node_at, branches, Joined, Nodes, Adds, Meets, Lists, FirstWrong}
 use Rattle.btree_walk.specs.Refusals.{refused}
 
 -- a walk is refused by a bad record where a fetch was
@@ -198,3 +199,12 @@ wrong_later pages addr want key entries place branch Of reads_old reads_new some
       stops = stops;
     } in
     subst (λ (n : ℕ). FirstWrong pages addr want.most n want key) again here
+
+-- what a walk from the root gathers of the nodes that it meets, where there was nothing, is what the tree lists
+pub lists_met : {A : Type 0} (pages : List (List ℕ)) (root : Root) (has : List Node → List A) (want : Want) (old new : List A) (before after : ℕ) → want ≡ root_want root → old ≡ has [] → Meets pages want root.key (Adds (λ list nodes. list ≡ has nodes) old new) before after → Lists pages root has before after new
+lists_met pages root has want old new before after want_is none meets = record {
+  nodes = meets.nodes;
+  are = subst (λ (w : Want). Nodes pages w.most w.level w root.key meets.nodes) want_is meets.are;
+  is = meets.of [] none;
+  reads = meets.reads;
+}

@@ -1,14 +1,19 @@
 -- How a block is found below a place: through nodes that fit, to its leaf, or to the first place where nothing fits.
-use Rattle.std.specs.Prelude.{◌≡◌, ◌⊎◌, ◌<◌, ◌≤◌, ◌+◌, ◌-◌, ℕ, zero, suc, List, [], ◌∷◌, ◌++◌, Option, All, length, map, take}
+use Rattle.std.specs.Prelude.{◌≡◌, ◌⊎◌, ◌<◌, ◌≤◌, ◌+◌, ◌-◌, ℕ, zero, suc, List, [], ◌∷◌, ◌++◌, Option, Result, All, IfOk, IsErrOf, length, map, take}
+use Rattle.sdbt_base.specs.Faults.{Rose}
+use Rattle.platform.specs.declared.platforms.Platform.{Ghosts}
 use Rattle.node_codec.specs.declared.body.Entry.{Entry}
 use Rattle.node_codec.specs.Record.{Record, NodeRecord, FitsNode}
+use Rattle.page_store.specs.declared.refusals.FetchRefusal.{FetchRefusal}
+use Rattle.page_store.specs.declared.refusals.FetchRefusal.TheVariants as refusals
 use Rattle.page_store.specs.declared.wants.Want.{Want}
 use Rattle.page_store.specs.Places.{child_want}
 use Rattle.node_cache.specs.declared.slots.Kept.{Kept}
 use Rattle.node_cache.specs.Kept.{Cached, touched, filled}
 use Rattle.btree_walk.specs.declared.turns.Turn.{Turn}
 use Rattle.btree_walk.specs.Ways.{IsWay, IsEntryOf, IsTurn}
-use Rattle.btree_walk.specs.Sights.{Sees}
+use Rattle.btree_walk.specs.Sights.{Sees, Misses, KeepsOnly}
+use Rattle.btree_walk.specs.Looks.{Looks}
 
 -- nothing that is wanted is at the place, which has this address
 pub record StopsHere (Misfits : Want → List ℕ → Type 0) (addr : ℕ) (want : Want) (key : List ℕ) : Type 0 where
@@ -86,6 +91,17 @@ pub record FitsTurn (want : Want) (block : ℕ) (turn : Turn) : Type 0 where
   pub entries : List Entry
   pub in_range : FitsNode want.addr want.level entries
   pub is : IsTurn want entries block turn
+
+-- a look at the node of a place for a block: what it tells of the cache and the pages that were there, and what it leaves; the one read
+-- is of the page, where the cache keeps no node for the place
+pub record LooksFor {S : Type 0} (P : Ghosts S) (want : Want) (key : List ℕ) (block : ℕ) (platform after : S) (old new : Cached) (told : Result Turn FetchRefusal) : Type 0 where
+  pub seen : P.tells → IfOk told (SeesTurn old.kept (P.history platform).present.readable want key block)
+  pub fits : IfOk told (FitsTurn want block)
+  pub bad : P.tells → (addr : ℕ) → IsErrOf told (refusals.BadRecord addr) → StopsHere (Misses old.kept (P.history platform).present.readable) addr want key
+  pub used : IfOk told (λ _. UsesPlace want.addr old new)
+  pub keeps : P.tells → KeepsOnly (P.history platform).present.readable old new
+  pub looks : Looks P 1 platform after
+  pub cause : IsErrOf told refusals.PlatformFault → Rose (P.faults platform) (P.faults after)
 
 -- what a look-up found below a place: where the cache and the pages lead, and that the path is what was used last
 pub record IsFound (pages : List (List ℕ)) (start : Want) (key : List ℕ) (block : ℕ) (old new : Cached) (found : Option Entry) : Type 0 where

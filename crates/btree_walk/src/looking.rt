@@ -1,13 +1,11 @@
-ghost use Rattle.std.specs.Prelude.{◌≡◌, ◌<◌, ℕ, List, IfOk, IsErrOf, IsOkAnd};
-ghost use Rattle.sdbt_base.specs.Faults.{Rose};
+ghost use Rattle.std.specs.Prelude.{◌≡◌, ◌<◌, List, IsOkAnd};
 ghost use Rattle.node_codec.specs.declared.body.Entry.{Entry};
 ghost use Rattle.node_codec.specs.declared.body.NodeBody.{NodeBody};
 ghost use Rattle.node_cache.specs.Kept.{IsKept};
 ghost use Rattle.node_codec.specs.Record.{NodeRecord};
 ghost use Rattle.btree_walk.specs.Ways.{IsTurn};
-ghost use Rattle.btree_walk.specs.Sights.{KeptFits, Misses, KeepsOnly, StillKeeps};
-ghost use Rattle.btree_walk.specs.Finds.{AsksFor, FitsTurn, SeesTurn, StopsHere, UsesPlace};
-ghost use Rattle.btree_walk.specs.Looks.{Looks};
+ghost use Rattle.btree_walk.specs.Sights.{KeptFits, StillKeeps};
+ghost use Rattle.btree_walk.specs.Finds.{AsksFor, LooksFor};
 
 use crate::turns::{Turn, fits, turn_at};
 use arrayvec::ArrayVec;
@@ -30,19 +28,11 @@ pub(crate) fn look<P: Platform>(
     requires within { want.now.addr < P.head platform.old }
     requires asks { AsksFor want.now block }
 
-    ensures seen { P.tells → IfOk result (SeesTurn cache.old.kept (P.history platform.old).present.readable want.now key.now block) }
-    ensures fits { IfOk result (FitsTurn want.now block) }
-    ensures bad { P.tells → (addr : ℕ) → IsErrOf result (FetchRefusal.BadRecord addr) →
-        StopsHere (Misses cache.old.kept (P.history platform.old).present.readable) addr want.now key.now }
+    ensures look { LooksFor P.Platform want.now key.now block platform.old platform.new cache.old cache.new result }
     ensures kept { (entries : List Entry) → KeptFits cache.old.kept want.now key.now (NodeRecord want.now.level entries) →
         (platform.new ≡ platform.old) × IsOkAnd result (IsTurn want.now entries block) }
 
     ensures still { (node : NodeBody) → IsKept cache.old.kept want.now.addr key.now node → StillKeeps want.now.addr cache.old cache.new }
-
-    ensures used { IfOk result (λ _. UsesPlace want.now.addr cache.old cache.new) }
-    ensures keeps { P.tells → KeepsOnly (P.history platform.old).present.readable cache.old cache.new }
-    ensures looks { Looks P.Platform 1 platform.old platform.new }
-    ensures cause { IsErrOf result FetchRefusal.PlatformFault → Rose (P.faults platform.old) (P.faults platform.new) }
 {
     if let Some(node) = cache.get(want.addr, key) {
         return if fits(want, node) {
@@ -67,15 +57,7 @@ fn look_at_page<P: Platform>(
     requires within { want.now.addr < P.head platform.old }
     requires asks { AsksFor want.now block }
 
-    ensures seen { P.tells → IfOk result (SeesTurn cache.old.kept (P.history platform.old).present.readable want.now key.now block) }
-    ensures fits { IfOk result (FitsTurn want.now block) }
-    ensures bad { P.tells → (addr : ℕ) → IsErrOf result (FetchRefusal.BadRecord addr) →
-        StopsHere (Misses cache.old.kept (P.history platform.old).present.readable) addr want.now key.now }
-
-    ensures used { IfOk result (λ _. UsesPlace want.now.addr cache.old cache.new) }
-    ensures keeps { P.tells → KeepsOnly (P.history platform.old).present.readable cache.old cache.new }
-    ensures looks { Looks P.Platform 1 platform.old platform.new }
-    ensures cause { IsErrOf result FetchRefusal.PlatformFault → Rose (P.faults platform.old) (P.faults platform.new) }
+    ensures { LooksFor P.Platform want.now key.now block platform.old platform.new cache.old cache.new result }
 {
     let mut node = NodeBody {
         level: want.level,

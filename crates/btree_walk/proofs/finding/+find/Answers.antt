@@ -18,7 +18,7 @@ returns-in_err-found-clause-bad g t c =
     let kept = c.args.cache.now.kept in let start = c.args.start.now in let pages = (g.P.Platform.history c.args.platform.now).present.readable in
     rw (p.1, p.2) (λ tells addr is.
     let same : c.in_err-found.field-0.0 ≡ BadRecord addr = cc in
-    stops_first (Sees kept pages) start.most c.args.block (Misses kept pages) addr (start.level - 1) start c.args.key.now (c.in_err-found.ensures.bad tells addr (ap Err same)))
+    stops_first (Sees kept pages) start.most c.args.block (Misses kept pages) addr (start.level - 1) start c.args.key.now (c.in_err-found.ensures.look.bad tells addr (ap Err same)))
 
 pub returns-in_err-found-clause-kept : goal.returns-in_err-found-clause-kept
 returns-in_err-found-clause-kept g t c = λ found path is.
@@ -28,18 +28,18 @@ returns-in_err-found-clause-kept g t c = λ found path is.
 pub find-requires : goal.find-requires
 find-requires g t c =
     let start = c.args.start.now in let next = c.in-Below.next in let key = c.in-Below.next_key in
-    let told = subst (λ (turn : Turn). FitsTurn start c.args.block turn) c.in-Below.is c.in_ok-found.ensures.fits in
+    let told = subst (λ (turn : Turn). FitsTurn start c.args.block turn) c.in-Below.is c.in_ok-found.ensures.look.fits in
     let asks = asks_next start next key told.entries c.args.block c.requires.asks told.in_range told.is in
     let below = next_below start next key told.entries c.args.block told.in_range told.is in
     let less : next.level + 1 ≡ start.level = next_less start next key told.entries c.args.block told.is in
-    let head = c.in_ok-found.ensures.looks.head in
+    let head = c.in_ok-found.ensures.look.looks.head in
     λ κs lives. (first_of (omega arith, search rules), (lives, (omega (arith, below, head, c.requires.within), asks)))
 
 pub returns-in-Found-clause-found : goal.returns-in-Found-clause-found
 returns-in-Found-clause-found g t c = λ tells.
     (let kept = c.args.cache.now.kept in let start = c.args.start.now in let pages = (g.P.Platform.history c.args.platform.now).present.readable in
-    let seen = subst (λ (turn : Turn). SeesTurn kept pages start c.args.key.now c.args.block turn) c.in-Found.is (c.in_ok-found.ensures.seen tells) in
-    found_leaf pages start c.args.key.now c.args.block c.args.cache.now c.look.new.cache c.in-Found.found c.in_ok-found.ensures.used seen)
+    let seen = subst (λ (turn : Turn). SeesTurn kept pages start c.args.key.now c.args.block turn) c.in-Found.is (c.in_ok-found.ensures.look.seen tells) in
+    found_leaf pages start c.args.key.now c.args.block c.args.cache.now c.look.new.cache c.in-Found.found c.in_ok-found.ensures.look.used seen)
 
 pub returns-in-Found-clause-kept : goal.returns-in-Found-clause-kept
 returns-in-Found-clause-kept g t c = λ found path is.
@@ -53,11 +53,11 @@ pub returns-in-Below-clause-found : goal.returns-in-Below-clause-found
 returns-in-Below-clause-found g t c = λ tells.
     (let kept = c.args.cache.now.kept in let start = c.args.start.now in let pages = (g.P.Platform.history c.args.platform.now).present.readable in
     let next = c.in-Below.next in let key = c.in-Below.next_key in
-    let seen = subst (λ (turn : Turn). SeesTurn kept pages start c.args.key.now c.args.block turn) c.in-Below.is (c.in_ok-found.ensures.seen tells) in
-    let same : (g.P.Platform.history c.look.new.platform).present.readable ≡ pages = ap (λ i. i.readable) (c.in_ok-found.ensures.looks.image tells) in
+    let seen = subst (λ (turn : Turn). SeesTurn kept pages start c.args.key.now c.args.block turn) c.in-Below.is (c.in_ok-found.ensures.look.seen tells) in
+    let same : (g.P.Platform.history c.look.new.platform).present.readable ≡ pages = ap (λ i. i.readable) (c.in_ok-found.ensures.look.looks.image tells) in
     IfOk_map (IsFound (g.P.Platform.history c.look.new.platform).present.readable next key c.args.block c.look.new.cache c.find.new.cache)
     (IsFound pages start c.args.key.now c.args.block c.args.cache.now c.find.new.cache) c.find.result
-    (λ found is. found_on pages start c.args.key.now c.args.block c.args.cache.now c.look.new.cache next key (c.in_ok-found.ensures.keeps tells) seen c.find.new.cache found c.in_ok-found.ensures.used
+    (λ found is. found_on pages start c.args.key.now c.args.block c.args.cache.now c.look.new.cache next key (c.in_ok-found.ensures.look.keeps tells) seen c.find.new.cache found c.in_ok-found.ensures.look.used
     (subst (λ (p : List (List ℕ)). IsFound p next key c.args.block c.look.new.cache c.find.new.cache found) same is))
     (c.find.ensures.found tells))
 
@@ -65,16 +65,16 @@ pub returns-in-Below-clause-bad : goal.returns-in-Below-clause-bad
 returns-in-Below-clause-bad g t c = λ tells addr is.
     (let kept = c.args.cache.now.kept in let start = c.args.start.now in let pages = (g.P.Platform.history c.args.platform.now).present.readable in
     let next = c.in-Below.next in let key = c.in-Below.next_key in
-    let seen = subst (λ (turn : Turn). SeesTurn kept pages start c.args.key.now c.args.block turn) c.in-Below.is (c.in_ok-found.ensures.seen tells) in
-    let same : (g.P.Platform.history c.look.new.platform).present.readable ≡ pages = ap (λ i. i.readable) (c.in_ok-found.ensures.looks.image tells) in
+    let seen = subst (λ (turn : Turn). SeesTurn kept pages start c.args.key.now c.args.block turn) c.in-Below.is (c.in_ok-found.ensures.look.seen tells) in
+    let same : (g.P.Platform.history c.look.new.platform).present.readable ≡ pages = ap (λ i. i.readable) (c.in_ok-found.ensures.look.looks.image tells) in
     let small : start.addr < 2 ^ 64 = omega (arith, c.requires.within, g.met.P.Platform.has_room c.args.platform.now, g.met.P.Platform.is_limited c.args.platform.now) in
-    stopped_on pages start c.args.key.now c.args.block c.args.cache.now c.look.new.cache next key (c.in_ok-found.ensures.keeps tells) seen addr small
+    stopped_on pages start c.args.key.now c.args.block c.args.cache.now c.look.new.cache next key (c.in_ok-found.ensures.look.keeps tells) seen addr small
     (subst (λ (p : List (List ℕ)). Stops (Sees c.look.new.cache.kept p) next.most c.args.block (Misses c.look.new.cache.kept p) addr (next.level - 1) next key) same (c.find.ensures.bad tells addr is)))
 
 pub returns-in-Below-clause-entry : goal.returns-in-Below-clause-entry
 returns-in-Below-clause-entry g t c =
     let start = c.args.start.now in let next = c.in-Below.next in let key = c.in-Below.next_key in
-    let told = subst (λ (turn : Turn). FitsTurn start c.args.block turn) c.in-Below.is c.in_ok-found.ensures.fits in
+    let told = subst (λ (turn : Turn). FitsTurn start c.args.block turn) c.in-Below.is c.in_ok-found.ensures.look.fits in
     let below = next_below start next key told.entries c.args.block told.in_range told.is in
     IfOk_map _ _ c.find.result (entry_below c.args.block next.addr start.addr below) c.find.ensures.entry
 

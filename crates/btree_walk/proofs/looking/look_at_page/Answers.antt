@@ -1,28 +1,38 @@
-use Rattle.std.proofs.Common.{◌≡◌, ap, refl, sym, subst, inr, Err}
+use Rattle.std.proofs.Common.{rules, ◌≡◌, ap, refl, sym, subst, inr, Err}
 use Rattle.std.proofs.lemmas.Result.{err_from_is_err_and}
 use Rattle.page_store.specs.declared.refusals.FetchRefusal.TheVariants.{BadRecord}
+use Rattle.node_codec.specs.declared.body.NodeBody.{NodeBody}
 use Rattle.node_cache.specs.Kept.{kept_node}
 use Rattle.btree_walk.specs.Sights.{KeepsOnly}
 use Rattle.btree_walk.proofs.SightLaws.{keeps_filled}
 use Rattle.btree_walk.proofs.looking.look_at_page.Goals as goal
 
-pub returns-in_err-fetch_node-clause-bad : goal.returns-in_err-fetch_node-clause-bad
-returns-in_err-fetch_node-clause-bad g c =
+pub returns-in_err-fetch_node : goal.returns-in_err-fetch_node
+returns-in_err-fetch_node g c =
     let p = err_from_is_err_and c.from_residual.result c.from_residual.ensures.1 in
-    rw (p.1, p.2) (λ tells addr is.
-    let same : c.in_err-fetch_node.field-0.0 ≡ BadRecord addr = cc in
-    record { here = c.in_err-fetch_node.ensures.bad addr (ap Err same); misfits = inr (c.in_err-fetch_node.ensures.nothing_fits tells addr (ap Err same)) })
+    rw (p.1, p.2) record {
+      seen = λ tells. tt;
+      fits = tt;
+      bad = λ tells addr is.
+          (let same : c.in_err-fetch_node.field-0.0 ≡ BadRecord addr = cc in
+          record { here = c.in_err-fetch_node.ensures.bad addr (ap Err same); misfits = inr (c.in_err-fetch_node.ensures.nothing_fits tells addr (ap Err same)) });
+      used = tt;
+      keeps = search rules;
+      looks = search rules;
+      cause = λ is. c.in_err-fetch_node.ensures.cause (cc);
+    }
 
-pub returns-clause-used : goal.returns-clause-used
-returns-clause-used g c = record {
-  kept = kept_node c.args.want.now.addr c.args.key.now (record { level = c.args.want.now.level; entries = c.fetch_node.new.entries });
-  place = refl;
-  is = inr c.put.ensures.kept;
-}
-
-pub returns-clause-keeps : goal.returns-clause-keeps
-returns-clause-keeps g c = λ tells.
-    (let kept = kept_node c.args.want.now.addr c.args.key.now (record { level = c.args.want.now.level; entries = c.fetch_node.new.entries }) in
+pub returns : goal.returns
+returns g c =
+    let node : NodeBody = record { level = c.args.want.now.level; entries = c.fetch_node.new.entries } in
+    let kept = kept_node c.args.want.now.addr c.args.key.now node in
     let pages = (g.P.Platform.history c.args.platform.now).present.readable in
-    let fits = c.in_ok-fetch_node.ensures.fits tells in
-    subst (KeepsOnly pages c.args.cache.now) (sym c.put.ensures.kept) (keeps_filled pages c.args.cache.now kept (inr fits.0)))
+    record {
+      seen = search rules;
+      fits = search rules;
+      bad = search rules;
+      used = record { kept = kept; place = refl; is = inr c.put.ensures.kept };
+      keeps = λ tells. subst (KeepsOnly pages c.args.cache.now) (sym c.put.ensures.kept) (keeps_filled pages c.args.cache.now kept (inr (c.in_ok-fetch_node.ensures.fits tells).0));
+      looks = search rules;
+      cause = search rules;
+    }

@@ -1,4 +1,4 @@
-use Rattle.std.proofs.Common.{◌≡◌, ◌≤◌, ◌-◌, ℕ, List, Err, ap, subst, ◌∷◌, [], arith, rules, length, Some, slice_get}
+use Rattle.std.proofs.Common.{◌≡◌, ◌≤◌, ◌-◌, ℕ, List, Err, ap, subst, arith, rules, length, Some, slice_get}
 use Rattle.node_codec.specs.declared.body.Entry.{Entry}
 use Rattle.std.proofs.lemmas.Result.{err_from_is_err_and}
 use Rattle.btree_walk.specs.declared.refusals.WalkRefusal.TheVariants.{BadRecord}
