@@ -12,19 +12,19 @@ use Rattle.device_course.proofs.CourseLaws.{course_ended, course_discloses}
 use Rattle.device_cli.specs.Reaching.{DisclosesTree}
 
 -- the whole run, over an image from which it made some devices
-pub discloses : (tells : Type 0) (old new : Outside) (Done : List (List ℕ) → Type 0) → IsLater old new → KeepsOn tells old.drawn new.drawn None old.history new.history Done
+pub discloses : (tells : Type 0) (old new : Outside) (Going : Type 0) (Done : List (List ℕ) → Type 0) → IsLater old new → KeepsOn tells old.drawn new.drawn old.written new.written None old.history new.history Going Done
     → (tells → (device : Option Device) → Stands old.history.present device → IsServedImage old.history.present
     → (marks : List (Option Device)) × Made old.history new.history None (closed device) marks (closed (last_mark device marks)))
     → DisclosesTree tells old.drawn new.drawn old.history new.history
 unfolding course_ended
-discloses tells old new Done later on made = record {
+discloses tells old new Going Done later on made = record {
   grew = on.keys.grew;
   drew = on.keys.drew;
   handed = on.keys.handed;
   only = λ told device stands served keys kept.
       let m = made told device stands served in
       let exit = closed (last_mark device m.0) in
-      course_discloses old new None None (closed device) exit m.0 keys (course_ended tells told old new None (closed device) exit m.0 Done m.1 later on) kept (device, stands);
+      course_discloses Going old new None None (closed device) exit m.0 keys (course_ended tells Going told old new None (closed device) exit m.0 Done m.1 later on) kept (device, stands);
 }
 
 pub on_ok : {T E : Type 0} (r : Result T E) (X : Type 0) → X → OnOk r X

@@ -231,7 +231,7 @@ pub commit_answered : (tells Going : Type 0) (old new : Outside) (session now : 
     → Part Going old new (Some session) (Some now) (mounted device (record { contents = array; touched = touched })) (Some (committed_if touched device (record { contents = array; touched = touched })) ∷ []) (mounted (committed_if touched device (record { contents = array; touched = touched })) (record { contents = array; touched = false }))
 commit_answered tells Going old new session now device array touched reply number Then c done holds is idle full raised =
     let r = reply_is session now old.history.present device array touched reply number old.head old.capacity c.at.there.session.0 c.at.there.session.1 is idle full raised in
-    subst (λ (d : Device). Course old new (Some session) (Some now) (mounted device (record { contents = array; touched = touched })) (Some d ∷ []) (mounted d (record { contents = array; touched = false }))) r.0
+    subst (λ (d : Device). Part Going old new (Some session) (Some now) (mounted device (record { contents = array; touched = touched })) (Some d ∷ []) (mounted d (record { contents = array; touched = false }))) r.0
     (commit_course tells Going old new session now device array touched reply Then c done holds r.1)
 
 -- or that no page is free: nothing was made

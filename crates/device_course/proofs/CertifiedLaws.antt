@@ -45,13 +45,13 @@ came_same history other from (suc k) records same came =
 -- one time after another
 came_then : (history : History) (from m n : ℕ) (one two : List (List ℕ)) → Came history from m one → Came history (from + m) n two → Came history from (m + n) (one ++ two)
 came_then history from m zero one two first second =
-    subst (λ (k : ℕ). Came history from k (one ++ two)) (omega arith)
-    (subst (λ (records : List (List ℕ)). Came history from m (one ++ records)) (sym second) (subst (Came history from m) (grind common_steps) first))
+    let many : m ≡ m + zero = omega arith in
+    subst (λ (k : ℕ). Came history from k (one ++ two)) many
+    (subst (λ (records : List (List ℕ)). Came history from m (one ++ records)) (sym second) (subst (Came history from m) (grind (arith, common_steps)) first))
 came_then history from m (suc n) one two first second =
-    subst (λ (k : ℕ). Came history from k (one ++ two)) (omega arith) (
     let now : from + m + suc n ≡ from + suc (m + n) = omega arith in
     let before : from + m + n ≡ from + (m + n) = omega arith in
-    elim second [
+    let there : Came history from (suc (m + n)) (one ++ two) = elim second [
       | inl stays ↦ inl (
           came_then history from m n one two first stays.0,
           subst (λ (k : ℕ). ((image_at history k).cell ≡ (image_at history (from + (m + n))).cell) ⊎ ((image_at history k).cell ≡ None)) now
@@ -59,12 +59,14 @@ came_then history from m (suc n) one two first second =
         )
       | inr next ↦ inr (
           one ++ next.0, next.1,
-          ap (λ (records : List (List ℕ)). one ++ records) next.2 ∙ grind common_steps,
+          ap (λ (records : List (List ℕ)). one ++ records) next.2 ∙ grind (arith, common_steps),
           came_then history from m n one next.0 first next.3,
           subst (λ (k : ℕ). (image_at history k).cell ≡ Some next.1) now next.4,
           subst (λ (k : ℕ). (image_at history k).cell ≢ Some next.1) before next.5,
         )
-    ])
+    ] in
+    let many : suc (m + n) ≡ m + suc n = omega arith in
+    subst (λ (k : ℕ). Came history from k (one ++ two)) many there
 
 -- the cell stays or is emptied
 came_none : (history : History) (from k : ℕ) → ((i : ℕ) → i < k → ((image_at history (from + suc i)).cell ≡ (image_at history (from + i)).cell) ⊎ ((image_at history (from + suc i)).cell ≡ None)) → Came history from k []
@@ -98,7 +100,7 @@ count_of : (old new : History) → moment old ≤ moment new → (k : ℕ) × (m
 count_of old new later = go (moment old) (moment new) later
   where
     go : (m n : ℕ) → m ≤ n → (k : ℕ) × (n ≡ m + k)
-    go zero n less = (n, refl)
+    go zero n less = (n, omega arith)
     go (suc m) zero less = absurd (omega (arith, less))
     go (suc m) (suc n) less = let rest = go m n (omega (arith, less)) in (rest.0, omega (arith, rest.1))
 
@@ -194,12 +196,12 @@ pub certified_then : (tells : Type 0) (written mid written_now : Option (List �
     → Certified tells written written_now first third Going
 certified_then tells written mid written_now first second third Was Going was extends a b =
     let none : take a.count (entry a.more) ≡ [] = ap (λ (n : ℕ). take n (entry a.more)) (a.whole was) in
-    let put : flat_map entry a.certs ++ take a.count (entry a.more) ≡ flat_map entry a.certs = ap (λ (rest : List ℕ). flat_map entry a.certs ++ rest) none ∙ grind common_steps in
+    let put : flat_map entry a.certs ++ take a.count (entry a.more) ≡ flat_map entry a.certs = ap (λ (rest : List ℕ). flat_map entry a.certs ++ rest) none ∙ grind (arith, common_steps) in
     record {
       certs = a.certs ++ b.certs;
       more = b.more;
       count = b.count;
-      got = subst (λ (bytes : List ℕ). Got written bytes written_now) (grind (common_steps, flat_map-append entry a.certs b.certs, put))
+      got = subst (λ (bytes : List ℕ). Got written bytes written_now) (grind (arith, common_steps, flat_map-append entry a.certs b.certs, put))
           (Got-then written (flat_map entry a.certs ++ take a.count (entry a.more)) mid (flat_map entry b.certs ++ take b.count (entry b.more)) written_now a.got b.got);
       of = λ told.
           let one = a.of told in
@@ -210,7 +212,7 @@ certified_then tells written mid written_now first second third Was Going was ex
             came = between_then first second third one.records two.records (extends told) one.came two.came;
             each = elim two.each [
               | inl is ↦ inl (zip_then a.certs b.certs one.records two.records zipped is)
-              | inr more ↦ inr (more.0, subst (λ (cs : List Cert). AllZip Certificate cs (one.records ++ two.records)) (grind common_steps) (zip_then a.certs (b.certs ++ b.more ∷ []) one.records two.records zipped more.1))
+              | inr more ↦ inr (more.0, subst (λ (cs : List Cert). AllZip Certificate cs (one.records ++ two.records)) (grind (arith, common_steps)) (zip_then a.certs (b.certs ++ b.more ∷ []) one.records two.records zipped more.1))
             ];
           };
       whole = b.whole;
@@ -233,7 +235,7 @@ certified_puts tells written written_now old new base commit Is Done turns other
   more = no_cert;
   count = 0;
   got = elim p.put [
-    | inl whole ↦ subst (λ (bytes : List ℕ). Got written bytes written_now) (grind common_steps) whole.0
+    | inl whole ↦ subst (λ (bytes : List ℕ). Got written bytes written_now) (grind (arith, common_steps)) whole.0
     | inr part ↦ absurd (part.2 done)
   ];
   of = λ told. record {

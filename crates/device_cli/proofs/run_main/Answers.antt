@@ -6,6 +6,7 @@ use Rattle.device_cli.proofs.ScriptLaws.{answers_script, answers_nothing, made_b
 use Rattle.device_cli.specs.Ran.{IsComplete}
 use Rattle.device_cli.specs.Run.{counts}
 use Rattle.device_cli.proofs.CompleteLaws.{complete_ending}
+use Rattle.device_course.proofs.CertifiedLaws.{certified_start, certified_going}
 use Rattle.device_course.proofs.KeysLaws.{on_start}
 use Rattle.device_cli.proofs.ReachingLaws.{discloses}
 use Rattle.device_course.specs.States.{around}
@@ -73,28 +74,37 @@ returns-in-Err-clause-complete g c told there stands served words text ample qui
 pub returns-then-not-are_run_words-clause-discloses : goal.returns-then-not-are_run_words-clause-discloses
 returns-then-not-are_run_words-clause-discloses g c =
     let P = g.P.Platform in
-    let here = around P g.T.Tape c.args.platform.now c.args.tape.now in
-    discloses P.tells here here _ (record { capacity = refl; rises = omega arith; within = g.met.P.Platform.has_room c.args.platform.now }) (on_start _ _ None here.history)
+    let here = around P g.T.Tape g.L.Sink c.args.platform.now c.args.tape.now c.args.ledger.now in
+    discloses P.tells here here _ _ (record { capacity = refl; rises = omega arith; within = g.met.P.Platform.has_room c.args.platform.now }) (on_start _ _ _ None here.history (Unit {0}))
     (λ told device stands served. ([], made_start here.history None (closed device) (shut here.history.present device stands served)))
 
 pub returns-in-Ok-clause-discloses : goal.returns-in-Ok-clause-discloses
 returns-in-Ok-clause-discloses g c =
     let P = g.P.Platform in
-    let old = around P g.T.Tape c.args.platform.now c.args.tape.now in
-    let new = around P g.T.Tape c.run.new.platform c.run.new.tape in
+    let old = around P g.T.Tape g.L.Sink c.args.platform.now c.args.tape.now c.args.ledger.now in
+    let new = around P g.T.Tape g.L.Sink c.run.new.platform c.run.new.tape c.run.new.ledger in
     let ran = c.in-Ok.ensures.ran in
     let later = ran.1.handled.replied.later in
-    discloses P.tells old new _ (record { capacity = later.capacity; rises = later.rises; within = later.within }) c.run.ensures.keeps
+    discloses P.tells old new _ _ (record { capacity = later.capacity; rises = later.rises; within = later.within }) c.run.ensures.keeps
     (made_by P.tells (world None old.history old.head old.capacity) ran.0 new.history new.head new.capacity (Ok tt) (g.I.Source.left c.args.input.now) (g.I.Source.left c.run.new.input)
     (g.O.Sink.written c.args.output.now) (g.O.Sink.written c.run.new.output) refl ran.1)
 
 pub returns-in-Err-clause-discloses : goal.returns-in-Err-clause-discloses
 returns-in-Err-clause-discloses g c =
     let P = g.P.Platform in
-    let old = around P g.T.Tape c.args.platform.now c.args.tape.now in
-    let new = around P g.T.Tape c.run.new.platform c.run.new.tape in
+    let old = around P g.T.Tape g.L.Sink c.args.platform.now c.args.tape.now c.args.ledger.now in
+    let new = around P g.T.Tape g.L.Sink c.run.new.platform c.run.new.tape c.run.new.ledger in
     let ran = c.in-Err.ensures.ran in
     let later = ran.1.handled.replied.later in
-    discloses P.tells old new _ (record { capacity = later.capacity; rises = later.rises; within = later.within }) c.run.ensures.keeps
+    discloses P.tells old new _ _ (record { capacity = later.capacity; rises = later.rises; within = later.within }) c.run.ensures.keeps
     (made_by P.tells (world None old.history old.head old.capacity) ran.0 new.history new.head new.capacity (Err c.in-Err.stop) (g.I.Source.left c.args.input.now) (g.I.Source.left c.run.new.input)
     (g.O.Sink.written c.args.output.now) (g.O.Sink.written c.run.new.output) refl ran.1)
+
+pub returns-then-not-are_run_words-clause-certified : goal.returns-then-not-are_run_words-clause-certified
+returns-then-not-are_run_words-clause-certified g c = certified_start _ _ _ _
+
+pub returns-in-Ok-clause-certified : goal.returns-in-Ok-clause-certified
+returns-in-Ok-clause-certified g c = certified_going _ _ _ _ _ _ _ (λ ok. refl) c.in-Ok.ensures.keeps.certified
+
+pub returns-in-Err-clause-certified : goal.returns-in-Err-clause-certified
+returns-in-Err-clause-certified g c = certified_going _ _ _ _ _ _ _ ? c.in-Err.ensures.keeps.certified

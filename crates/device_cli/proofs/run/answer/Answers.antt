@@ -67,10 +67,10 @@ returns-in-Err-clause-handled g c text kept =
     (λ told. served_at _ _ (c.serve.ensures.keeps.serves told (c.requires.cell told))) (λ told entry rep. c.in-Err.ensures.answered told entry rep.there)
 
 pub returns-in_default-clause-keeps : goal.returns-in_default-clause-keeps
-returns-in_default-clause-keeps g c = on_done _ _ _ c.args.desk.now.session _ _ _ _ (on_start _ _ c.args.desk.now.session _) (λ keys h. on_ok c.put_reply.result _ h)
+returns-in_default-clause-keeps g c = on_done _ _ _ _ _ c.args.desk.now.session _ _ _ _ _ _ (on_start _ _ _ c.args.desk.now.session _ _) (λ going. going) (λ keys h. on_ok c.put_reply.result _ h)
 
 pub returns-in-Ok-clause-keeps : goal.returns-in-Ok-clause-keeps
-returns-in-Ok-clause-keeps g c = on_done _ _ _ c.args.desk.now.session _ _ _ _ c.in-Ok.ensures.keeps (λ keys h. on_ok c.put_reply-in-Ok.result _ h)
+returns-in-Ok-clause-keeps g c = on_done _ _ _ _ _ c.args.desk.now.session _ _ _ _ _ _ c.in-Ok.ensures.keeps (λ going. refl) (λ keys h. on_ok c.put_reply-in-Ok.result _ h)
 
 pub returns-in-Err-clause-keeps : goal.returns-in-Err-clause-keeps
-returns-in-Err-clause-keeps g c = on_done _ _ _ c.args.desk.now.session _ _ _ _ c.serve.ensures.keeps (λ keys h. tt)
+returns-in-Err-clause-keeps g c = on_done _ _ _ _ _ c.args.desk.now.session _ _ _ _ _ _ c.serve.ensures.keeps (λ never. absurd cc) (λ keys h. tt)

@@ -92,31 +92,31 @@ returns-in_default-clause-ran g c =
     )
 
 pub returns-in-Err-clause-keeps : goal.returns-in-Err-clause-keeps
-returns-in-Err-clause-keeps g c = on_look _ _ None _ _ _ c.check_cell.ensures.image (λ told. one_look _ _ (c.check_cell.ensures.time told) (c.check_cell.ensures.image told)) (λ told keys kept h. tt)
+returns-in-Err-clause-keeps g c = on_look _ _ _ None _ _ _ _ c.check_cell.ensures.image (λ told. one_look _ _ (c.check_cell.ensures.time told) (c.check_cell.ensures.image told)) (λ told keys kept h. tt)
 
 pub returns-in-Device-clause-keeps : goal.returns-in-Device-clause-keeps
 returns-in-Device-clause-keeps g c =
     let P = g.P.Platform in
     let none = c.new-desk.ensures.session in
-    let looked = on_look P.tells (g.T.Tape.drawn c.args.tape.now) None (P.history c.args.platform.now) (P.history c.check_cell.new.platform) (IsListed c.new-desk.result.session (P.history c.check_cell.new.platform).present)
+    let looked = on_look P.tells (g.T.Tape.drawn c.args.tape.now) (g.L.Sink.written c.args.ledger.now) None (P.history c.args.platform.now) (P.history c.check_cell.new.platform) (Unit {0}) (IsListed c.new-desk.result.session (P.history c.check_cell.new.platform).present)
     c.check_cell.ensures.image (λ told. one_look _ _ (c.check_cell.ensures.time told) (c.check_cell.ensures.image told))
     (λ told keys kept h. listed_none None c.new-desk.result.session _ keys none (listed_image None _ _ keys (c.check_cell.ensures.image told) h)) in
-    on_then _ _ _ _ None c.new-desk.result.session _ _ _ _ looked (on_done _ _ _ c.new-desk.result.session _ _ _ _ c.serve_input.ensures.keeps (λ keys h. tt))
+    on_then _ _ _ _ _ _ _ None c.new-desk.result.session _ _ _ _ _ _ tt looked (on_done _ _ _ _ _ c.new-desk.result.session _ _ _ _ _ _ c.serve_input.ensures.keeps (λ never. absurd cc) (λ keys h. tt))
 
 pub returns-clause-keeps : goal.returns-clause-keeps
 returns-clause-keeps g c =
     let P = g.P.Platform in
     let none = c.new-desk.ensures.session in
-    let looked = on_look P.tells (g.T.Tape.drawn c.args.tape.now) None (P.history c.args.platform.now) (P.history c.check_cell.new.platform) (IsListed c.new-desk.result.session (P.history c.check_cell.new.platform).present)
+    let looked = on_look P.tells (g.T.Tape.drawn c.args.tape.now) (g.L.Sink.written c.args.ledger.now) None (P.history c.args.platform.now) (P.history c.check_cell.new.platform) (Unit {0}) (IsListed c.new-desk.result.session (P.history c.check_cell.new.platform).present)
     c.check_cell.ensures.image (λ told. one_look _ _ (c.check_cell.ensures.time told) (c.check_cell.ensures.image told))
     (λ told keys kept h. listed_none None c.new-desk.result.session _ keys none (listed_image None _ _ keys (c.check_cell.ensures.image told) h)) in
-    on_then _ _ _ _ None c.new-desk.result.session _ _ _ _ looked (on_done _ _ _ c.new-desk.result.session _ _ _ _ c.serve_input.ensures.keeps (λ keys h. tt))
+    on_then _ _ _ _ _ _ _ None c.new-desk.result.session _ _ _ _ _ _ tt looked (on_done _ _ _ _ _ c.new-desk.result.session _ _ _ _ _ _ c.serve_input.ensures.keeps (λ never. absurd cc) (λ keys h. tt))
 
 pub returns-in_default-clause-keeps : goal.returns-in_default-clause-keeps
 returns-in_default-clause-keeps g c =
     let P = g.P.Platform in
     let none = c.new-desk.ensures.session in
-    let looked = on_look P.tells (g.T.Tape.drawn c.args.tape.now) None (P.history c.args.platform.now) (P.history c.check_cell.new.platform) (IsListed c.new-desk.result.session (P.history c.check_cell.new.platform).present)
+    let looked = on_look P.tells (g.T.Tape.drawn c.args.tape.now) (g.L.Sink.written c.args.ledger.now) None (P.history c.args.platform.now) (P.history c.check_cell.new.platform) (Unit {0}) (IsListed c.new-desk.result.session (P.history c.check_cell.new.platform).present)
     c.check_cell.ensures.image (λ told. one_look _ _ (c.check_cell.ensures.time told) (c.check_cell.ensures.image told))
     (λ told keys kept h. listed_none None c.new-desk.result.session _ keys none (listed_image None _ _ keys (c.check_cell.ensures.image told) h)) in
-    on_then _ _ _ _ None c.new-desk.result.session _ _ _ _ looked (on_done _ _ _ c.new-desk.result.session _ _ _ _ c.serve_input.ensures.keeps (λ keys h. tt))
+    on_then _ _ _ _ _ _ _ None c.new-desk.result.session _ _ _ _ _ _ tt looked (on_done _ _ _ _ _ c.new-desk.result.session _ _ _ _ _ _ c.in_default.ensures.keeps (λ ok. refl) (λ keys h. tt))

@@ -16,4 +16,4 @@ returns-then-is_empty-clause-handled g c rest pending =
     (Handled-nothing P.tells old no_line written (g.met.P.Platform.has_room c.args.platform.now))
 
 pub returns-then-is_empty-clause-keeps : goal.returns-then-is_empty-clause-keeps
-returns-then-is_empty-clause-keeps g c = on_start _ _ c.args.desk.now.session _
+returns-then-is_empty-clause-keeps g c = on_start _ _ _ c.args.desk.now.session _ _

@@ -30,8 +30,7 @@ loop-left-init g c =
     record {
       ready = c.requires.ready;
       mounted = c.requires.mounted;
-      keeps = on_start _ _ c.args.desk.now.session _;
-      unput = refl;
+      keeps = on_start _ _ _ c.args.desk.now.session _ _;
       counts = grind (arith, common_steps);
       reading = IsReading-start P.tells (world_of P c.args.desk.now.session c.args.platform.now) (g.I.Source.left c.args.input.now)
           (g.O.Sink.written c.args.output.now) c.new-pending.result _ (g.met.P.Platform.has_room c.args.platform.now) c.new-pending.ensures (omega arith);
@@ -108,8 +107,9 @@ loop-left-preserved g c =
     record {
       ready = c.in-Ok-serve_piece.ensures.after.ready;
       mounted = c.in-Ok-serve_piece.ensures.after.mounted;
-      keeps = on_then _ _ _ _ c.args.desk.now.session c.loop-left.desk.session _ _ _ _ c.loop-left.invariant.keeps c.in-Ok-serve_piece.ensures.keeps;
-      unput = c.serve_piece.ensures.unput ∙ c.loop-left.invariant.unput;
+      keeps =
+          on_done _ _ _ _ _ c.args.desk.now.session _ _ _ _ _ _
+              (on_then _ _ _ _ _ _ _ c.args.desk.now.session c.loop-left.desk.session _ _ _ _ _ _ tt c.loop-left.invariant.keeps c.in-Ok-serve_piece.ensures.keeps) (λ yes. refl) (λ keys h. h);
       counts = grind (arith, c.loop-left.invariant.counts, c.serve_piece.ensures.blame.fell, c.take.ensures.count);
       reading = IsReading-more P.tells old mid new (left c.args.input.now) (left c.loop-left.input) (left c.take.new.self) (written c.args.output.now) (written c.loop-left.output) (written c.serve_piece.new.output)
           c.loop-left.pending c.serve_piece.new.pending c.loop-left.left (c.loop-left.left - c.in-Ok.count) piece reading gave less
@@ -139,13 +139,13 @@ serve_piece-requires g c = record {
 }
 
 pub returns-in_default-clause-keeps : goal.returns-in_default-clause-keeps
-returns-in_default-clause-keeps g c = on_done _ _ _ c.args.desk.now.session _ _ _ _ c.loop-left.invariant.keeps (λ keys h. tt)
+returns-in_default-clause-keeps g c = on_done _ _ _ _ _ c.args.desk.now.session _ _ _ _ _ _ c.loop-left.invariant.keeps (λ never. tt) (λ keys h. tt)
 
 pub returns-then-count-eq0-clause-keeps : goal.returns-then-count-eq0-clause-keeps
-returns-then-count-eq0-clause-keeps g c = on_then _ _ _ _ c.args.desk.now.session c.loop-left.desk.session _ _ _ _ c.loop-left.invariant.keeps c.serve_end.ensures.keeps
+returns-then-count-eq0-clause-keeps g c = on_then _ _ _ _ _ _ _ c.args.desk.now.session c.loop-left.desk.session _ _ _ _ _ _ tt c.loop-left.invariant.keeps c.serve_end.ensures.keeps
 
 pub returns-in-Err-clause-keeps : goal.returns-in-Err-clause-keeps
-returns-in-Err-clause-keeps g c = on_then _ _ _ _ c.args.desk.now.session c.loop-left.desk.session _ _ _ _ c.loop-left.invariant.keeps (on_done _ _ _ c.loop-left.desk.session _ _ _ _ c.serve_piece.ensures.keeps (λ keys h. tt))
+returns-in-Err-clause-keeps g c = on_then _ _ _ _ _ _ _ c.args.desk.now.session c.loop-left.desk.session _ _ _ _ _ _ tt c.loop-left.invariant.keeps (on_done _ _ _ _ _ c.loop-left.desk.session _ _ _ _ _ _ c.serve_piece.ensures.keeps (λ never. absurd cc) (λ keys h. tt))
 
 pub returns-clause-keeps : goal.returns-clause-keeps
-returns-clause-keeps g c = on_done _ _ _ c.args.desk.now.session _ _ _ _ c.loop-left.invariant.keeps (λ keys h. tt)
+returns-clause-keeps g c = on_done _ _ _ _ _ c.args.desk.now.session _ _ _ _ _ _ c.loop-left.invariant.keeps (λ never. tt) (λ keys h. tt)

@@ -18,8 +18,7 @@ invariant-loop-left g l =
     record {
       ready : IsReady l.desk (P.head l.platform);
       mounted : P.tells → IfSome l.desk.session (IsMounted (P.history l.platform).present);
-      keeps : KeepsOn P.tells (T.drawn l.fn.tape) (T.drawn l.tape) l.fn.desk.session (P.history l.fn.platform) (P.history l.platform) (IsListed l.desk.session (P.history l.platform).present);
-      unput : L.written l.ledger ≡ L.written l.fn.ledger;
+      keeps : KeepsOn P.tells (T.drawn l.fn.tape) (T.drawn l.tape) (L.written l.fn.ledger) (L.written l.ledger) l.fn.desk.session (P.history l.fn.platform) (P.history l.platform) (Unit {0}) (IsListed l.desk.session (P.history l.platform).present);
       counts : NoneFell (counts (P.faults l.fn.platform) (T.faults l.fn.tape) (I.faults l.fn.input) (O.faults l.fn.output) (L.faults l.fn.ledger)) (counts (P.faults l.platform) (T.faults l.tape) (I.faults l.input) (O.faults l.output) (L.faults l.ledger));
       reading : IsReading P.tells (world_of P l.fn.desk.session l.fn.platform) (world_of P l.desk.session l.platform)
           (I.left l.fn.input) (I.left l.input) (O.written l.fn.output) (O.written l.output) l.pending l.left;

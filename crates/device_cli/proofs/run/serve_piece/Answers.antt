@@ -13,8 +13,7 @@ loop-front-init g c =
     record {
       ready = c.requires.ready;
       mounted = c.requires.mounted;
-      keeps = on_start _ _ c.args.desk.now.session _;
-      unput = refl;
+      keeps = on_start _ _ _ c.args.desk.now.session _ _;
       counts = grind (arith, common_steps);
       serving = λ rest pending. IsServing-start P.tells (world_of P c.args.desk.now.session c.args.platform.now)
           (g.O.Sink.written c.args.output.now) c.args.pending.now rest c.args.piece.now (g.met.P.Platform.has_room c.args.platform.now) pending;
@@ -30,8 +29,9 @@ loop-front-preserved g c =
     record {
       ready = c.in_default-answer.ensures.after.ready;
       mounted = c.in_default-answer.ensures.after.mounted;
-      keeps = on_then _ _ _ _ c.args.desk.now.session c.loop-front.desk.session _ _ _ _ c.loop-front.invariant.keeps c.in_default-answer.ensures.keeps;
-      unput = c.in_default-answer.ensures.unput ∙ c.loop-front.invariant.unput;
+      keeps =
+          on_done _ _ _ _ _ c.args.desk.now.session _ _ _ _ _ _
+              (on_then _ _ _ _ _ _ _ c.args.desk.now.session c.loop-front.desk.session _ _ _ _ _ _ tt c.loop-front.invariant.keeps c.in_default-answer.ensures.keeps) (λ yes. refl) (λ keys h. h);
       counts = grind (arith, c.loop-front.invariant.counts, c.answer.ensures.blame.fell);
       serving = λ rest pending.
           let so_far = c.loop-front.invariant.serving rest pending in
@@ -81,7 +81,7 @@ answer-requires g c = record {
 }
 
 pub returns-in-Err-clause-keeps : goal.returns-in-Err-clause-keeps
-returns-in-Err-clause-keeps g c = on_then _ _ _ _ c.args.desk.now.session c.loop-front.desk.session _ _ _ _ c.loop-front.invariant.keeps (on_done _ _ _ c.loop-front.desk.session _ _ _ _ c.answer.ensures.keeps (λ keys h. tt))
+returns-in-Err-clause-keeps g c = on_then _ _ _ _ _ _ _ c.args.desk.now.session c.loop-front.desk.session _ _ _ _ _ _ tt c.loop-front.invariant.keeps (on_done _ _ _ _ _ c.loop-front.desk.session _ _ _ _ _ _ c.answer.ensures.keeps (λ never. absurd cc) (λ keys h. tt))
 
 pub returns-clause-keeps : goal.returns-clause-keeps
 returns-clause-keeps g c = c.loop-front.invariant.keeps

@@ -18,8 +18,7 @@ invariant-loop-front g l =
     record {
       ready : IsReady l.desk (P.head l.platform);
       mounted : P.tells → IfSome l.desk.session (IsMounted (P.history l.platform).present);
-      keeps : KeepsOn P.tells (T.drawn l.fn.tape) (T.drawn l.tape) l.fn.desk.session (P.history l.fn.platform) (P.history l.platform) (IsListed l.desk.session (P.history l.platform).present);
-      unput : L.written l.ledger ≡ L.written l.fn.ledger;
+      keeps : KeepsOn P.tells (T.drawn l.fn.tape) (T.drawn l.tape) (L.written l.fn.ledger) (L.written l.ledger) l.fn.desk.session (P.history l.fn.platform) (P.history l.platform) (Unit {0}) (IsListed l.desk.session (P.history l.platform).present);
       counts : NoneFell (counts (P.faults l.fn.platform) (T.faults l.fn.tape) 0 (O.faults l.fn.output) (L.faults l.fn.ledger)) (counts (P.faults l.platform) (T.faults l.tape) 0 (O.faults l.output) (L.faults l.ledger));
       serving : (rest : List ℕ) → IsPending l.fn.pending rest
           → IsServing P.tells (world_of P l.fn.desk.session l.fn.platform) (world_of P l.desk.session l.platform)

@@ -1,30 +1,42 @@
-use Rattle.std.proofs.Common.{◌≡◌, None, Some, refl, ap, arith}
+use Rattle.std.proofs.Common.{◌≡◌, None, Some, Ok, refl, ap, arith}
 use Rattle.std.proofs.lemmas.Grind.{common_steps}
 use Rattle.device_cli.specs.declared.stop.DeviceStop.TheVariants as device
 use Rattle.device_cli.specs.World.{World, world_of}
 use Rattle.script_lang.specs.Commands.{Commit}
 use Rattle.device_cli.proofs.ServedLaws.{halts_still, gives_unmounted_commit}
 use Rattle.device_cli.proofs.ServingLaws.{serves_unmounted, serves_committed, serves_commit_full, halts_commit, keeps_same}
-use Rattle.device_course.proofs.KeysLaws.{on_start, on_call, on_done, listed_some, listed_none}
+use Rattle.device_course.proofs.CertifiedLaws.{certified_going, certified_commit}
+use Rattle.device_course.proofs.KeysLaws.{on_start, on_call, listed_some}
+use Rattle.root_codec.specs.RootRecord.{root_bytes}
+use Rattle.device_core.specs.Open.{IsOpen}
+use Rattle.device_cli.proofs.desk.Desk.commit.Given.{Over}
+use Rattle.device_cli.proofs.desk.Desk.commit.Goals.{In-Some}
 use Rattle.device_cli.proofs.desk.Desk.commit.Goals as goal
+
+-- the session is open, and on the root record in the cell
+open : (g : Over) (c : In-Some g) → IsOpen c.in-Some.session (g.P.Platform.head c.args.platform.now)
+open g c = rw c.in-Some.is at c.requires.ready
+
+cell : (g : Over) (c : In-Some g) → g.P.Platform.tells → (g.P.Platform.history c.args.platform.now).present.cell ≡ Some (root_bytes c.in-Some.session.root)
+cell g c = λ told. (rw c.in-Some.is at c.requires.mounted told).cell
 
 pub returns-in_default-clause-answered : goal.returns-in_default-clause-answered
 returns-in_default-clause-answered g c told entry rep =
     let P = g.P.Platform in
-    let none : c.args.self.now.session ≡ None = grind (arith, common_steps, c.take.ensures.value, c.in_default.is) in
-    serves_unmounted c.args.self.now.session c.take.new.self (P.history c.args.platform.now) (P.head c.args.platform.now) (P.capacity c.args.platform.now) entry Commit none c.take.ensures.after
+    let none : c.args.self.now.session ≡ None = grind (arith, common_steps, c.in_default.is) in
+    serves_unmounted c.args.self.now.session c.args.self.now.session (P.history c.args.platform.now) (P.head c.args.platform.now) (P.capacity c.args.platform.now) entry Commit none none
     (λ full there. gives_unmounted_commit full there) rep
 
 pub returns-in-Committed-clause-answered : goal.returns-in-Committed-clause-answered
 returns-in-Committed-clause-answered g c told entry rep =
     let P = g.P.Platform in
     let old : World = world_of P c.args.self.now.session c.args.platform.now in
-    let new : World = world_of P (Some c.in-Ok.answer.0) c.commit.new.platform in
-    let taken : c.args.self.now.session ≡ Some c.in-Some.session = cc (c.take.ensures.value, c.in-Some.is) in
-    serves_committed old new entry c.in-Some.session c.in-Ok.answer.0 c.in-Committed.number c.in-Ok.answer.1 taken refl c.in-Committed.is
-    (λ e. let idle = c.in-Ok.ensures.idle e in (idle.3.1, idle.3.0, ap (λ p. (P.history p).present) idle.0, keeps_same old new (ap (λ p. P.history p) idle.0)))
-    (λ e f. (c.in-Ok.ensures.full e f).3.1)
-    (λ e f. let raised = c.in-Ok.ensures.raised e f in (raised.reply, raised.untouched))
+    let new : World = world_of P (Some c.commit.new.self) c.commit.new.platform in
+    let taken : c.args.self.now.session ≡ Some c.in-Some.session = c.in-Some.is in
+    serves_committed old new entry c.in-Some.session c.commit.new.self c.in-Committed.number c.in-Ok.reply taken refl c.in-Committed.is
+    (λ e. let idle = c.in-Ok.ensures.idle e in (idle.4, idle.0, ap (λ p. (P.history p).present) idle.1, keeps_same old new (ap (λ p. P.history p) idle.1)))
+    (λ e f. (c.in-Ok.ensures.full e f).4)
+    (λ e f. let raised = c.in-Ok.ensures.raised e f in (raised.replied, raised.untouched))
     (λ d t holds. (c.in-Ok.ensures.array told d t.contents holds, c.commit.ensures.time told d t.contents holds))
     rep
 
@@ -32,75 +44,75 @@ pub returns-in-Full-clause-answered : goal.returns-in-Full-clause-answered
 returns-in-Full-clause-answered g c told entry rep =
     let P = g.P.Platform in
     let old : World = world_of P c.args.self.now.session c.args.platform.now in
-    let new : World = world_of P (Some c.in-Ok.answer.0) c.commit.new.platform in
-    let taken : c.args.self.now.session ≡ Some c.in-Some.session = cc (c.take.ensures.value, c.in-Some.is) in
-    serves_commit_full old new entry c.in-Some.session c.in-Ok.answer.0 c.in-Full.needed c.in-Full.free c.in-Ok.answer.1 taken refl c.in-Full.is
-    (λ e. (c.in-Ok.ensures.idle e).3.1)
-    (λ e f. let full = c.in-Ok.ensures.full e f in (full.3.0, ap (λ p. (P.history p).present) full.0, keeps_same old new (ap (λ p. P.history p) full.0)))
-    (λ e f. (c.in-Ok.ensures.raised e f).reply)
+    let new : World = world_of P (Some c.commit.new.self) c.commit.new.platform in
+    let taken : c.args.self.now.session ≡ Some c.in-Some.session = c.in-Some.is in
+    serves_commit_full old new entry c.in-Some.session c.commit.new.self c.in-Full.needed c.in-Full.free c.in-Ok.reply taken refl c.in-Full.is
+    (λ e. (c.in-Ok.ensures.idle e).4)
+    (λ e f. let full = c.in-Ok.ensures.full e f in (full.0, ap (λ p. (P.history p).present) full.1, keeps_same old new (ap (λ p. P.history p) full.1)))
+    (λ e f. (c.in-Ok.ensures.raised e f).replied)
     rep
 
 pub returns-in-Err-Memory-clause-answered : goal.returns-in-Err-Memory-clause-answered
 returns-in-Err-Memory-clause-answered g c told entry rep =
     let P = g.P.Platform in
     let old : World = world_of P c.args.self.now.session c.args.platform.now in
-    let new : World = world_of P c.take.new.self c.commit.new.platform in
-    halts_still old new entry Commit device.Memory tt rep (absurd (rw c.in-Err-Memory.field-0-is at c.in-Err-Memory.ensures.cause))
+    let new : World = world_of P (Some c.commit.new.self) c.commit.new.platform in
+    halts_still old new entry Commit device.Memory tt rep ((rw c.in-Err-Memory.field-0-is at c.in-Err-Memory.ensures.cause).1 told)
 
 pub returns-in-Err-TapeFault-clause-answered : goal.returns-in-Err-TapeFault-clause-answered
 returns-in-Err-TapeFault-clause-answered g c told entry rep =
     let P = g.P.Platform in
     let old : World = world_of P c.args.self.now.session c.args.platform.now in
-    let new : World = world_of P c.take.new.self c.commit.new.platform in
+    let new : World = world_of P (Some c.commit.new.self) c.commit.new.platform in
     halts_still old new entry Commit device.Tape tt rep ((rw c.in-Err-TapeFault.field-0-is at c.in-Err-TapeFault.ensures.cause).2 told)
 
 pub returns-in-Err-LedgerFault-clause-answered : goal.returns-in-Err-LedgerFault-clause-answered
 returns-in-Err-LedgerFault-clause-answered g c told entry rep =
     let P = g.P.Platform in
     let old : World = world_of P c.args.self.now.session c.args.platform.now in
-    let new : World = world_of P c.take.new.self c.commit.new.platform in
+    let new : World = world_of P (Some c.commit.new.self) c.commit.new.platform in
     halts_still old new entry Commit device.Ledger tt rep ((rw c.in-Err-LedgerFault.field-0-is at c.in-Err-LedgerFault.ensures.cause).1 told)
 
 pub returns-in-Err-PlatformFault-clause-answered : goal.returns-in-Err-PlatformFault-clause-answered
 returns-in-Err-PlatformFault-clause-answered g c told entry rep =
     let P = g.P.Platform in
     let old : World = world_of P c.args.self.now.session c.args.platform.now in
-    let new : World = world_of P c.take.new.self c.commit.new.platform in
-    let taken : c.args.self.now.session ≡ Some c.in-Some.session = cc (c.take.ensures.value, c.in-Some.is) in
+    let new : World = world_of P (Some c.commit.new.self) c.commit.new.platform in
+    let taken : c.args.self.now.session ≡ Some c.in-Some.session = c.in-Some.is in
     halts_commit old new entry c.in-Some.session taken
-    (λ e. let ok = (c.commit.ensures.idle e).4 in grind (arith, common_steps, ok))
-    (λ e f. let ok = (c.commit.ensures.full e f).4 in grind (arith, common_steps, ok))
+    (λ e. let ok = (c.commit.ensures.idle e).5 in grind (arith, common_steps, ok))
+    (λ e f. let ok = (c.commit.ensures.full e f).5 in grind (arith, common_steps, ok))
     (λ d t holds. c.commit.ensures.time told d t.contents holds) rep
 
 pub returns-in_default-clause-keeps : goal.returns-in_default-clause-keeps
-returns-in_default-clause-keeps g c = on_done _ _ _ c.args.self.now.session _ _ _ _ (on_start _ _ c.args.self.now.session _) (λ keys h. listed_none c.args.self.now.session c.take.new.self _ keys c.take.ensures.after h)
+returns-in_default-clause-keeps g c = on_start _ _ _ c.args.self.now.session _ _
 
 pub returns-in-Committed-clause-keeps : goal.returns-in-Committed-clause-keeps
 returns-in-Committed-clause-keeps g c =
-    let taken : c.args.self.now.session ≡ Some c.in-Some.session = cc (c.take.ensures.value, c.in-Some.is) in
-    on_call _ _ _ c.args.self.now.session _ _ _ _ _ c.in-Ok.ensures.discloses.keys (λ told keys h. listed_some _ c.in-Some.session _ keys taken h) (λ told keys h. c.commit.ensures.discloses.forgets told keys (listed_some _ c.in-Some.session _ keys taken h)) (λ told keys more h done. done) c.commit.ensures.discloses.serves
+    let taken : c.args.self.now.session ≡ Some c.in-Some.session = c.in-Some.is in
+    on_call _ _ _ _ _ c.args.self.now.session _ _ _ _ _ _ c.in-Ok.ensures.discloses.keys (λ told keys h. listed_some _ c.in-Some.session _ keys taken h) (λ told keys h. c.commit.ensures.discloses.forgets told keys (listed_some _ c.in-Some.session _ keys taken h)) (λ told keys more h done. done) c.commit.ensures.discloses.serves (certified_commit _ _ _ _ _ c.in-Some.session _ (Ok c.in-Ok.reply) (open g (goal.at.returns-in-Committed-clause-keeps g c).In-Some).served.fits (open g (goal.at.returns-in-Committed-clause-keeps g c).In-Some).served.key.0 c.commit.ensures.discloses.turns (cell g (goal.at.returns-in-Committed-clause-keeps g c).In-Some) c.in-Ok.ensures.certifies)
 
 pub returns-in-Full-clause-keeps : goal.returns-in-Full-clause-keeps
 returns-in-Full-clause-keeps g c =
-    let taken : c.args.self.now.session ≡ Some c.in-Some.session = cc (c.take.ensures.value, c.in-Some.is) in
-    on_call _ _ _ c.args.self.now.session _ _ _ _ _ c.in-Ok.ensures.discloses.keys (λ told keys h. listed_some _ c.in-Some.session _ keys taken h) (λ told keys h. c.commit.ensures.discloses.forgets told keys (listed_some _ c.in-Some.session _ keys taken h)) (λ told keys more h done. done) c.commit.ensures.discloses.serves
+    let taken : c.args.self.now.session ≡ Some c.in-Some.session = c.in-Some.is in
+    on_call _ _ _ _ _ c.args.self.now.session _ _ _ _ _ _ c.in-Ok.ensures.discloses.keys (λ told keys h. listed_some _ c.in-Some.session _ keys taken h) (λ told keys h. c.commit.ensures.discloses.forgets told keys (listed_some _ c.in-Some.session _ keys taken h)) (λ told keys more h done. done) c.commit.ensures.discloses.serves (certified_commit _ _ _ _ _ c.in-Some.session _ (Ok c.in-Ok.reply) (open g (goal.at.returns-in-Full-clause-keeps g c).In-Some).served.fits (open g (goal.at.returns-in-Full-clause-keeps g c).In-Some).served.key.0 c.commit.ensures.discloses.turns (cell g (goal.at.returns-in-Full-clause-keeps g c).In-Some) c.in-Ok.ensures.certifies)
 
 pub returns-in-Err-Memory-clause-keeps : goal.returns-in-Err-Memory-clause-keeps
 returns-in-Err-Memory-clause-keeps g c =
-    let taken : c.args.self.now.session ≡ Some c.in-Some.session = cc (c.take.ensures.value, c.in-Some.is) in
-    on_call _ _ _ c.args.self.now.session _ _ _ _ _ c.commit.ensures.discloses.keys (λ told keys h. listed_some _ c.in-Some.session _ keys taken h) (λ told keys h. c.commit.ensures.discloses.forgets told keys (listed_some _ c.in-Some.session _ keys taken h)) (λ told keys more h done. tt) c.commit.ensures.discloses.serves
+    let taken : c.args.self.now.session ≡ Some c.in-Some.session = c.in-Some.is in
+    on_call _ _ _ _ _ c.args.self.now.session _ _ _ _ _ _ c.commit.ensures.discloses.keys (λ told keys h. listed_some _ c.in-Some.session _ keys taken h) (λ told keys h. c.commit.ensures.discloses.forgets told keys (listed_some _ c.in-Some.session _ keys taken h)) (λ told keys more h done. tt) c.commit.ensures.discloses.serves (certified_going _ _ _ _ _ _ _ (λ never. absurd cc) (certified_commit _ _ _ _ _ c.in-Some.session _ c.commit.result (open g (goal.at.returns-in-Err-Memory-clause-keeps g c).In-Some).served.fits (open g (goal.at.returns-in-Err-Memory-clause-keeps g c).In-Some).served.key.0 c.commit.ensures.discloses.turns (cell g (goal.at.returns-in-Err-Memory-clause-keeps g c).In-Some) c.commit.ensures.certifies))
 
 pub returns-in-Err-TapeFault-clause-keeps : goal.returns-in-Err-TapeFault-clause-keeps
 returns-in-Err-TapeFault-clause-keeps g c =
-    let taken : c.args.self.now.session ≡ Some c.in-Some.session = cc (c.take.ensures.value, c.in-Some.is) in
-    on_call _ _ _ c.args.self.now.session _ _ _ _ _ c.commit.ensures.discloses.keys (λ told keys h. listed_some _ c.in-Some.session _ keys taken h) (λ told keys h. c.commit.ensures.discloses.forgets told keys (listed_some _ c.in-Some.session _ keys taken h)) (λ told keys more h done. tt) c.commit.ensures.discloses.serves
+    let taken : c.args.self.now.session ≡ Some c.in-Some.session = c.in-Some.is in
+    on_call _ _ _ _ _ c.args.self.now.session _ _ _ _ _ _ c.commit.ensures.discloses.keys (λ told keys h. listed_some _ c.in-Some.session _ keys taken h) (λ told keys h. c.commit.ensures.discloses.forgets told keys (listed_some _ c.in-Some.session _ keys taken h)) (λ told keys more h done. tt) c.commit.ensures.discloses.serves (certified_going _ _ _ _ _ _ _ (λ never. absurd cc) (certified_commit _ _ _ _ _ c.in-Some.session _ c.commit.result (open g (goal.at.returns-in-Err-TapeFault-clause-keeps g c).In-Some).served.fits (open g (goal.at.returns-in-Err-TapeFault-clause-keeps g c).In-Some).served.key.0 c.commit.ensures.discloses.turns (cell g (goal.at.returns-in-Err-TapeFault-clause-keeps g c).In-Some) c.commit.ensures.certifies))
 
 pub returns-in-Err-LedgerFault-clause-keeps : goal.returns-in-Err-LedgerFault-clause-keeps
 returns-in-Err-LedgerFault-clause-keeps g c =
-    let taken : c.args.self.now.session ≡ Some c.in-Some.session = cc (c.take.ensures.value, c.in-Some.is) in
-    on_call _ _ _ c.args.self.now.session _ _ _ _ _ c.commit.ensures.discloses.keys (λ told keys h. listed_some _ c.in-Some.session _ keys taken h) (λ told keys h. c.commit.ensures.discloses.forgets told keys (listed_some _ c.in-Some.session _ keys taken h)) (λ told keys more h done. tt) c.commit.ensures.discloses.serves
+    let taken : c.args.self.now.session ≡ Some c.in-Some.session = c.in-Some.is in
+    on_call _ _ _ _ _ c.args.self.now.session _ _ _ _ _ _ c.commit.ensures.discloses.keys (λ told keys h. listed_some _ c.in-Some.session _ keys taken h) (λ told keys h. c.commit.ensures.discloses.forgets told keys (listed_some _ c.in-Some.session _ keys taken h)) (λ told keys more h done. tt) c.commit.ensures.discloses.serves (certified_going _ _ _ _ _ _ _ (λ never. absurd cc) (certified_commit _ _ _ _ _ c.in-Some.session _ c.commit.result (open g (goal.at.returns-in-Err-LedgerFault-clause-keeps g c).In-Some).served.fits (open g (goal.at.returns-in-Err-LedgerFault-clause-keeps g c).In-Some).served.key.0 c.commit.ensures.discloses.turns (cell g (goal.at.returns-in-Err-LedgerFault-clause-keeps g c).In-Some) c.commit.ensures.certifies))
 
 pub returns-in-Err-PlatformFault-clause-keeps : goal.returns-in-Err-PlatformFault-clause-keeps
 returns-in-Err-PlatformFault-clause-keeps g c =
-    let taken : c.args.self.now.session ≡ Some c.in-Some.session = cc (c.take.ensures.value, c.in-Some.is) in
-    on_call _ _ _ c.args.self.now.session _ _ _ _ _ c.commit.ensures.discloses.keys (λ told keys h. listed_some _ c.in-Some.session _ keys taken h) (λ told keys h. c.commit.ensures.discloses.forgets told keys (listed_some _ c.in-Some.session _ keys taken h)) (λ told keys more h done. tt) c.commit.ensures.discloses.serves
+    let taken : c.args.self.now.session ≡ Some c.in-Some.session = c.in-Some.is in
+    on_call _ _ _ _ _ c.args.self.now.session _ _ _ _ _ _ c.commit.ensures.discloses.keys (λ told keys h. listed_some _ c.in-Some.session _ keys taken h) (λ told keys h. c.commit.ensures.discloses.forgets told keys (listed_some _ c.in-Some.session _ keys taken h)) (λ told keys more h done. tt) c.commit.ensures.discloses.serves (certified_going _ _ _ _ _ _ _ (λ never. absurd cc) (certified_commit _ _ _ _ _ c.in-Some.session _ c.commit.result (open g (goal.at.returns-in-Err-PlatformFault-clause-keeps g c).In-Some).served.fits (open g (goal.at.returns-in-Err-PlatformFault-clause-keeps g c).In-Some).served.key.0 c.commit.ensures.discloses.turns (cell g (goal.at.returns-in-Err-PlatformFault-clause-keeps g c).In-Some) c.commit.ensures.certifies))

@@ -3,6 +3,7 @@ use Rattle.device_core.specs.Sessions.{Session}
 use Rattle.device_course.specs.States.{IsListed}
 use Rattle.device_cli.specs.World.{World, world_of}
 use Rattle.device_cli.proofs.ServingLaws.{serves_erased, serves_erase_none, halts_erase}
+use Rattle.device_course.proofs.CertifiedLaws.{certified_emptied}
 use Rattle.device_course.proofs.KeysLaws.{on_kept, listed_image}
 use Rattle.device_cli.proofs.desk.Desk.erase.Goals as goal
 
@@ -28,10 +29,10 @@ returns-in-Err-PlatformFault-clause-answered g c told entry rep =
     halts_erase old new entry (c.erase.ensures.time told _ rep.device)
 
 pub returns-in-Ok-clause-keeps : goal.returns-in-Ok-clause-keeps
-returns-in-Ok-clause-keeps g c = λ drawn. on_kept _ drawn c.args.self.now.session _ _ _ (λ told. (c.erase.ensures.turns told).extends) (λ told. let pages = g.met.P.Platform.counts_pages in pages told c.erase.new.platform ∙ (c.erase.ensures.pages.0 ∙ sym (pages told c.args.platform.now))) c.erase.ensures.keeps c.erase.ensures.forgets (λ told keys h. subst (λ (s : Option Session). IsListed s (g.P.Platform.history c.erase.new.platform).present keys) (sym c.close.ensures) (None, (c.in-Ok.ensures.cause told).1)) c.erase.ensures.serves
+returns-in-Ok-clause-keeps g c = λ drawn written. on_kept _ drawn written c.args.self.now.session _ _ _ _ (λ told. (c.erase.ensures.turns told).extends) (λ told. let pages = g.met.P.Platform.counts_pages in pages told c.erase.new.platform ∙ (c.erase.ensures.pages.0 ∙ sym (pages told c.args.platform.now))) c.erase.ensures.keeps c.erase.ensures.forgets (λ told keys h. subst (λ (s : Option Session). IsListed s (g.P.Platform.history c.erase.new.platform).present keys) (sym c.close.ensures) (None, (c.in-Ok.ensures.cause told).1)) c.erase.ensures.serves (certified_emptied _ written _ _ _ c.erase.ensures.turns)
 
 pub returns-in-Err-NoDevice-clause-keeps : goal.returns-in-Err-NoDevice-clause-keeps
-returns-in-Err-NoDevice-clause-keeps g c = λ drawn. on_kept _ drawn c.args.self.now.session _ _ _ (λ told. (c.erase.ensures.turns told).extends) (λ told. let pages = g.met.P.Platform.counts_pages in pages told c.erase.new.platform ∙ (c.erase.ensures.pages.0 ∙ sym (pages told c.args.platform.now))) c.erase.ensures.keeps c.erase.ensures.forgets (λ told keys h. listed_image _ _ _ keys ((rw c.in-Err-NoDevice.field-0-is at c.in-Err-NoDevice.ensures.cause) told).1 h) c.erase.ensures.serves
+returns-in-Err-NoDevice-clause-keeps g c = λ drawn written. on_kept _ drawn written c.args.self.now.session _ _ _ _ (λ told. (c.erase.ensures.turns told).extends) (λ told. let pages = g.met.P.Platform.counts_pages in pages told c.erase.new.platform ∙ (c.erase.ensures.pages.0 ∙ sym (pages told c.args.platform.now))) c.erase.ensures.keeps c.erase.ensures.forgets (λ told keys h. listed_image _ _ _ keys ((rw c.in-Err-NoDevice.field-0-is at c.in-Err-NoDevice.ensures.cause) told).1 h) c.erase.ensures.serves (certified_emptied _ written _ _ _ c.erase.ensures.turns)
 
 pub returns-in-Err-PlatformFault-clause-keeps : goal.returns-in-Err-PlatformFault-clause-keeps
-returns-in-Err-PlatformFault-clause-keeps g c = λ drawn. on_kept _ drawn c.args.self.now.session _ _ _ (λ told. (c.erase.ensures.turns told).extends) (λ told. let pages = g.met.P.Platform.counts_pages in pages told c.erase.new.platform ∙ (c.erase.ensures.pages.0 ∙ sym (pages told c.args.platform.now))) c.erase.ensures.keeps c.erase.ensures.forgets (λ told keys h. tt) c.erase.ensures.serves
+returns-in-Err-PlatformFault-clause-keeps g c = λ drawn written. on_kept _ drawn written c.args.self.now.session _ _ _ _ (λ told. (c.erase.ensures.turns told).extends) (λ told. let pages = g.met.P.Platform.counts_pages in pages told c.erase.new.platform ∙ (c.erase.ensures.pages.0 ∙ sym (pages told c.args.platform.now))) c.erase.ensures.keeps c.erase.ensures.forgets (λ told keys h. tt) c.erase.ensures.serves (certified_emptied _ written _ _ _ c.erase.ensures.turns)

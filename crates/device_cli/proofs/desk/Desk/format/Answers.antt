@@ -16,6 +16,7 @@ use Rattle.script_lang.specs.Answers.{answer}
 use Rattle.sdbt_base.specs.Arrays.{Session as OpenSession}
 use Rattle.device_cli.proofs.ServedLaws.{on, halts_still, gives_format_range, gives_format_unbuilt}
 use Rattle.device_cli.proofs.ServingLaws.{KeepsCell, serves_formatted, serves_format_full, serves_not_empty, serves_refused, halts_format}
+use Rattle.device_course.proofs.CertifiedLaws.{certified_going, certified_format}
 use Rattle.device_course.proofs.KeysLaws.{on_look, on_call, sound_of, listed_image, listed_keys, format_listed}
 use Rattle.device_cli.proofs.ReachingLaws.{on_ok}
 use Rattle.device_cli.proofs.desk.Desk.format.Goals as goal
@@ -122,25 +123,25 @@ returns-in-Some-clause-answered g c told entry rep =
     refl rep
 
 pub returns-in-Ok-clause-keeps : goal.returns-in-Ok-clause-keeps
-returns-in-Ok-clause-keeps g c = on_call _ _ _ c.args.self.now.session _ _ _ _ _ c.format.ensures.discloses.keys (λ told keys h. sound_of _ _ keys h) (λ told keys h. c.format.ensures.discloses.forgets told keys (sound_of _ _ keys h)) (λ told keys more h done. format_listed _ _ _ keys _ _ (c.in-Ok.ensures.cause.0 told) (c.in-Ok.ensures.made told).0 h) c.format.ensures.discloses.serves
+returns-in-Ok-clause-keeps g c = on_call _ _ _ _ _ c.args.self.now.session _ _ _ _ _ _ c.format.ensures.discloses.keys (λ told keys h. sound_of _ _ keys h) (λ told keys h. c.format.ensures.discloses.forgets told keys (sound_of _ _ keys h)) (λ told keys more h done. format_listed _ _ _ keys _ _ (c.in-Ok.ensures.cause.0 told) (c.in-Ok.ensures.made told).0 h) c.format.ensures.discloses.serves (certified_format _ _ _ _ _ _ _ (Ok tt) c.format.ensures.discloses.turns (λ told full. (c.format.ensures.kept told (inl full)).1) (λ told ok. c.in-Ok.ensures.cause.0 told) c.in-Ok.ensures.certifies)
 
 pub returns-in-Err-NotEmpty-clause-keeps : goal.returns-in-Err-NotEmpty-clause-keeps
-returns-in-Err-NotEmpty-clause-keeps g c = on_call _ _ _ c.args.self.now.session _ _ _ _ _ c.format.ensures.discloses.keys (λ told keys h. sound_of _ _ keys h) (λ told keys h. c.format.ensures.discloses.forgets told keys (sound_of _ _ keys h)) (λ told keys more h done. listed_keys _ _ _ keys more ((rw c.in-Err-NotEmpty.field-0-is at c.in-Err-NotEmpty.ensures.cause).1.0.image told) h) c.format.ensures.discloses.serves
+returns-in-Err-NotEmpty-clause-keeps g c = on_call _ _ _ _ _ c.args.self.now.session _ _ _ _ _ _ c.format.ensures.discloses.keys (λ told keys h. sound_of _ _ keys h) (λ told keys h. c.format.ensures.discloses.forgets told keys (sound_of _ _ keys h)) (λ told keys more h done. listed_keys _ _ _ keys more ((rw c.in-Err-NotEmpty.field-0-is at c.in-Err-NotEmpty.ensures.cause).1.0.image told) h) c.format.ensures.discloses.serves (certified_going _ _ _ _ _ _ _ (λ never. absurd cc) (certified_format _ _ _ _ _ _ _ c.format.result c.format.ensures.discloses.turns (λ told full. (c.format.ensures.kept told (inl full)).1) (λ told ok. absurd cc) c.format.ensures.certifies))
 
 pub returns-in-Err-Full-clause-keeps : goal.returns-in-Err-Full-clause-keeps
-returns-in-Err-Full-clause-keeps g c = on_call _ _ _ c.args.self.now.session _ _ _ _ _ c.format.ensures.discloses.keys (λ told keys h. sound_of _ _ keys h) (λ told keys h. c.format.ensures.discloses.forgets told keys (sound_of _ _ keys h)) (λ told keys more h done. listed_keys _ _ _ keys more ((rw c.in-Err-Full.field-0-is at c.in-Err-Full.ensures.cause).2.0.image told) h) c.format.ensures.discloses.serves
+returns-in-Err-Full-clause-keeps g c = on_call _ _ _ _ _ c.args.self.now.session _ _ _ _ _ _ c.format.ensures.discloses.keys (λ told keys h. sound_of _ _ keys h) (λ told keys h. c.format.ensures.discloses.forgets told keys (sound_of _ _ keys h)) (λ told keys more h done. listed_keys _ _ _ keys more ((rw c.in-Err-Full.field-0-is at c.in-Err-Full.ensures.cause).2.0.image told) h) c.format.ensures.discloses.serves (certified_going _ _ _ _ _ _ _ (λ never. absurd cc) (certified_format _ _ _ _ _ _ _ c.format.result c.format.ensures.discloses.turns (λ told full. (c.format.ensures.kept told (inl full)).1) (λ told ok. absurd cc) c.format.ensures.certifies))
 
 pub returns-in-Err-Memory-clause-keeps : goal.returns-in-Err-Memory-clause-keeps
-returns-in-Err-Memory-clause-keeps g c = on_call _ _ _ c.args.self.now.session _ _ _ _ _ c.format.ensures.discloses.keys (λ told keys h. sound_of _ _ keys h) (λ told keys h. c.format.ensures.discloses.forgets told keys (sound_of _ _ keys h)) (λ told keys more h done. tt) c.format.ensures.discloses.serves
+returns-in-Err-Memory-clause-keeps g c = on_call _ _ _ _ _ c.args.self.now.session _ _ _ _ _ _ c.format.ensures.discloses.keys (λ told keys h. sound_of _ _ keys h) (λ told keys h. c.format.ensures.discloses.forgets told keys (sound_of _ _ keys h)) (λ told keys more h done. tt) c.format.ensures.discloses.serves (certified_going _ _ _ _ _ _ _ (λ never. absurd cc) (certified_format _ _ _ _ _ _ _ c.format.result c.format.ensures.discloses.turns (λ told full. (c.format.ensures.kept told (inl full)).1) (λ told ok. absurd cc) c.format.ensures.certifies))
 
 pub returns-in-Err-TapeFault-clause-keeps : goal.returns-in-Err-TapeFault-clause-keeps
-returns-in-Err-TapeFault-clause-keeps g c = on_call _ _ _ c.args.self.now.session _ _ _ _ _ c.format.ensures.discloses.keys (λ told keys h. sound_of _ _ keys h) (λ told keys h. c.format.ensures.discloses.forgets told keys (sound_of _ _ keys h)) (λ told keys more h done. tt) c.format.ensures.discloses.serves
+returns-in-Err-TapeFault-clause-keeps g c = on_call _ _ _ _ _ c.args.self.now.session _ _ _ _ _ _ c.format.ensures.discloses.keys (λ told keys h. sound_of _ _ keys h) (λ told keys h. c.format.ensures.discloses.forgets told keys (sound_of _ _ keys h)) (λ told keys more h done. tt) c.format.ensures.discloses.serves (certified_going _ _ _ _ _ _ _ (λ never. absurd cc) (certified_format _ _ _ _ _ _ _ c.format.result c.format.ensures.discloses.turns (λ told full. (c.format.ensures.kept told (inl full)).1) (λ told ok. absurd cc) c.format.ensures.certifies))
 
 pub returns-in-Err-LedgerFault-clause-keeps : goal.returns-in-Err-LedgerFault-clause-keeps
-returns-in-Err-LedgerFault-clause-keeps g c = on_call _ _ _ c.args.self.now.session _ _ _ _ _ c.format.ensures.discloses.keys (λ told keys h. sound_of _ _ keys h) (λ told keys h. c.format.ensures.discloses.forgets told keys (sound_of _ _ keys h)) (λ told keys more h done. tt) c.format.ensures.discloses.serves
+returns-in-Err-LedgerFault-clause-keeps g c = on_call _ _ _ _ _ c.args.self.now.session _ _ _ _ _ _ c.format.ensures.discloses.keys (λ told keys h. sound_of _ _ keys h) (λ told keys h. c.format.ensures.discloses.forgets told keys (sound_of _ _ keys h)) (λ told keys more h done. tt) c.format.ensures.discloses.serves (certified_going _ _ _ _ _ _ _ (λ never. absurd cc) (certified_format _ _ _ _ _ _ _ c.format.result c.format.ensures.discloses.turns (λ told full. (c.format.ensures.kept told (inl full)).1) (λ told ok. absurd cc) c.format.ensures.certifies))
 
 pub returns-in-Err-PlatformFault-clause-keeps : goal.returns-in-Err-PlatformFault-clause-keeps
-returns-in-Err-PlatformFault-clause-keeps g c = on_call _ _ _ c.args.self.now.session _ _ _ _ _ c.format.ensures.discloses.keys (λ told keys h. sound_of _ _ keys h) (λ told keys h. c.format.ensures.discloses.forgets told keys (sound_of _ _ keys h)) (λ told keys more h done. tt) c.format.ensures.discloses.serves
+returns-in-Err-PlatformFault-clause-keeps g c = on_call _ _ _ _ _ c.args.self.now.session _ _ _ _ _ _ c.format.ensures.discloses.keys (λ told keys h. sound_of _ _ keys h) (λ told keys h. c.format.ensures.discloses.forgets told keys (sound_of _ _ keys h)) (λ told keys more h done. tt) c.format.ensures.discloses.serves (certified_going _ _ _ _ _ _ _ (λ never. absurd cc) (certified_format _ _ _ _ _ _ _ c.format.result c.format.ensures.discloses.turns (λ told full. (c.format.ensures.kept told (inl full)).1) (λ told ok. absurd cc) c.format.ensures.certifies))
 
 pub returns-in-Some-clause-keeps : goal.returns-in-Some-clause-keeps
-returns-in-Some-clause-keeps g c = on_look _ _ c.args.self.now.session _ _ _ c.refuse_format.ensures.image c.refuse_format.ensures.time (λ told keys kept h. on_ok c.refuse_format.result _ (listed_image _ _ _ keys (c.refuse_format.ensures.image told) h))
+returns-in-Some-clause-keeps g c = on_look _ _ _ c.args.self.now.session _ _ _ _ c.refuse_format.ensures.image c.refuse_format.ensures.time (λ told keys kept h. on_ok c.refuse_format.result _ (listed_image _ _ _ keys (c.refuse_format.ensures.image told) h))

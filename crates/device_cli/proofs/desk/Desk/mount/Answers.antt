@@ -66,21 +66,21 @@ returns-in-Err-BadRoot-clause-answered g c told entry rep =
     absurd {A = Serves old new entry commands.Mount (Err device.BadRoot)} (refused_served old.history.present.cell old.head (subst (λ (n : ℕ). IsServedCell old.history.present.cell n) (g.met.P.Platform.counts_pages told c.args.platform.now) (c.requires.cell told)) ((rw c.in-Err-BadRoot.field-0-is at c.in-Err-BadRoot.ensures.refused) told))
 
 pub returns-then-is_some-clause-keeps : goal.returns-then-is_some-clause-keeps
-returns-then-is_some-clause-keeps g c = λ drawn. on_start _ drawn c.args.self.now.session _
+returns-then-is_some-clause-keeps g c = λ drawn written. on_start _ drawn written c.args.self.now.session _ _
 
 pub returns-in-Ok-clause-keeps : goal.returns-in-Ok-clause-keeps
-returns-in-Ok-clause-keeps g c = λ drawn. on_look _ drawn c.args.self.now.session _ _ _ c.mount.ensures.looks.image c.mount.ensures.looks.time (λ told keys kept h.
+returns-in-Ok-clause-keeps g c = λ drawn written. on_look _ drawn written c.args.self.now.session _ _ _ _ c.mount.ensures.looks.image c.mount.ensures.looks.time (λ told keys kept h.
     let none : c.args.self.now.session ≡ None = grind (arith, common_steps, c.is_some.ensures, c.if-is_some.false) in
     mount_listed c.args.self.now.session (g.P.Platform.history c.args.platform.now).present keys keys _ _ none (c.in-Ok.ensures.found told) h (λ device stands. c.in-Ok.ensures.listed told device stands keys))
 
 pub returns-in-Err-NoDevice-clause-keeps : goal.returns-in-Err-NoDevice-clause-keeps
-returns-in-Err-NoDevice-clause-keeps g c = λ drawn. on_look _ drawn c.args.self.now.session _ _ _ c.mount.ensures.looks.image c.mount.ensures.looks.time (λ told keys kept h. listed_image _ _ _ keys (c.mount.ensures.looks.image told) h)
+returns-in-Err-NoDevice-clause-keeps g c = λ drawn written. on_look _ drawn written c.args.self.now.session _ _ _ _ c.mount.ensures.looks.image c.mount.ensures.looks.time (λ told keys kept h. listed_image _ _ _ keys (c.mount.ensures.looks.image told) h)
 
 pub returns-in-Err-BadRoot-clause-keeps : goal.returns-in-Err-BadRoot-clause-keeps
-returns-in-Err-BadRoot-clause-keeps g c = λ drawn. on_look _ drawn c.args.self.now.session _ _ _ c.mount.ensures.looks.image c.mount.ensures.looks.time (λ told keys kept h. tt)
+returns-in-Err-BadRoot-clause-keeps g c = λ drawn written. on_look _ drawn written c.args.self.now.session _ _ _ _ c.mount.ensures.looks.image c.mount.ensures.looks.time (λ told keys kept h. tt)
 
 pub returns-in-Err-PlatformFault-clause-keeps : goal.returns-in-Err-PlatformFault-clause-keeps
-returns-in-Err-PlatformFault-clause-keeps g c = λ drawn. on_look _ drawn c.args.self.now.session _ _ _ c.mount.ensures.looks.image c.mount.ensures.looks.time (λ told keys kept h. tt)
+returns-in-Err-PlatformFault-clause-keeps g c = λ drawn written. on_look _ drawn written c.args.self.now.session _ _ _ _ c.mount.ensures.looks.image c.mount.ensures.looks.time (λ told keys kept h. tt)
 
 pub returns-in-Err-Memory-clause-keeps : goal.returns-in-Err-Memory-clause-keeps
-returns-in-Err-Memory-clause-keeps g c = λ drawn. on_look _ drawn c.args.self.now.session _ _ _ c.mount.ensures.looks.image c.mount.ensures.looks.time (λ told keys kept h. tt)
+returns-in-Err-Memory-clause-keeps g c = λ drawn written. on_look _ drawn written c.args.self.now.session _ _ _ _ c.mount.ensures.looks.image c.mount.ensures.looks.time (λ told keys kept h. tt)

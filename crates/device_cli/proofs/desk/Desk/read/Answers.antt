@@ -64,19 +64,19 @@ returns-in-Err-PlatformFault-clause-answered g c told entry rep =
     halts_still old new entry (Read c.args.block) device.Platform tt rep (c.read.ensures.looks.time told)
 
 pub returns-in_default-clause-keeps : goal.returns-in_default-clause-keeps
-returns-in_default-clause-keeps g c = λ drawn. on_start _ drawn c.args.self.now.session _
+returns-in_default-clause-keeps g c = λ drawn written. on_start _ drawn written c.args.self.now.session _ _
 
 pub returns-in-Ok-clause-keeps : goal.returns-in-Ok-clause-keeps
-returns-in-Ok-clause-keeps g c = λ drawn. on_look _ drawn c.args.self.now.session _ _ _ c.read.ensures.looks.image c.read.ensures.looks.time (λ told keys kept h. c.read.ensures.listed told keys kept (listed_some _ c.in-Some.session _ keys c.in-Some.is h))
+returns-in-Ok-clause-keeps g c = λ drawn written. on_look _ drawn written c.args.self.now.session _ _ _ _ c.read.ensures.looks.image c.read.ensures.looks.time (λ told keys kept h. c.read.ensures.listed told keys kept (listed_some _ c.in-Some.session _ keys c.in-Some.is h))
 
 pub returns-in-Err-Range-clause-keeps : goal.returns-in-Err-Range-clause-keeps
-returns-in-Err-Range-clause-keeps g c = λ drawn. on_look _ drawn c.args.self.now.session _ _ _ c.read.ensures.looks.image c.read.ensures.looks.time (λ told keys kept h. c.read.ensures.listed told keys kept (listed_some _ c.in-Some.session _ keys c.in-Some.is h))
+returns-in-Err-Range-clause-keeps g c = λ drawn written. on_look _ drawn written c.args.self.now.session _ _ _ _ c.read.ensures.looks.image c.read.ensures.looks.time (λ told keys kept h. c.read.ensures.listed told keys kept (listed_some _ c.in-Some.session _ keys c.in-Some.is h))
 
 pub returns-in-Err-BadRecord-clause-keeps : goal.returns-in-Err-BadRecord-clause-keeps
-returns-in-Err-BadRecord-clause-keeps g c = λ drawn. on_look _ drawn c.args.self.now.session _ _ _ c.read.ensures.looks.image c.read.ensures.looks.time (λ told keys kept h. tt)
+returns-in-Err-BadRecord-clause-keeps g c = λ drawn written. on_look _ drawn written c.args.self.now.session _ _ _ _ c.read.ensures.looks.image c.read.ensures.looks.time (λ told keys kept h. tt)
 
 pub returns-in-Err-PlatformFault-clause-keeps : goal.returns-in-Err-PlatformFault-clause-keeps
-returns-in-Err-PlatformFault-clause-keeps g c = λ drawn. on_look _ drawn c.args.self.now.session _ _ _ c.read.ensures.looks.image c.read.ensures.looks.time (λ told keys kept h. tt)
+returns-in-Err-PlatformFault-clause-keeps g c = λ drawn written. on_look _ drawn written c.args.self.now.session _ _ _ _ c.read.ensures.looks.image c.read.ensures.looks.time (λ told keys kept h. tt)
 
 pub returns-in-Ok-clause-after : goal.returns-in-Ok-clause-after
 returns-in-Ok-clause-after g c = record {

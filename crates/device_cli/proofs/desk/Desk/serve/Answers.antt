@@ -43,13 +43,13 @@ returns-in-Write-clause-pages g c told entry rep =
     (c.write.ensures.pages told entry rep)
 
 pub returns-in-Drop-clause-keeps : goal.returns-in-Drop-clause-keeps
-returns-in-Drop-clause-keeps g c = on_done _ _ _ c.args.self.now.session _ _ _ _ (on_start _ _ c.args.self.now.session _) (λ keys h. on_ok c.give_up.result _ (listed_none c.args.self.now.session c.give_up.new.self.session _ keys c.give_up.ensures.session h))
+returns-in-Drop-clause-keeps g c = on_done _ _ _ _ _ c.args.self.now.session _ _ _ _ _ _ (on_start _ _ _ c.args.self.now.session _ _) (λ going. going) (λ keys h. on_ok c.give_up.result _ (listed_none c.args.self.now.session c.give_up.new.self.session _ keys c.give_up.ensures.session h))
 
 pub returns-in-Stat-clause-keeps : goal.returns-in-Stat-clause-keeps
-returns-in-Stat-clause-keeps g c = on_done _ _ _ c.args.self.now.session _ _ _ _ (on_start _ _ c.args.self.now.session _) (λ keys h. on_ok c.stat.result _ h)
+returns-in-Stat-clause-keeps g c = on_done _ _ _ _ _ c.args.self.now.session _ _ _ _ _ _ (on_start _ _ _ c.args.self.now.session _ _) (λ going. going) (λ keys h. on_ok c.stat.result _ h)
 
 pub returns-in-Seize-clause-keeps : goal.returns-in-Seize-clause-keeps
-returns-in-Seize-clause-keeps g c = on_start _ _ c.args.self.now.session _
+returns-in-Seize-clause-keeps g c = on_start _ _ _ c.args.self.now.session _ _
 
 pub returns-in-Mount-clause-keeps : goal.returns-in-Mount-clause-keeps
 returns-in-Mount-clause-keeps g c = c.mount.ensures.keeps (g.T.Tape.drawn c.args.tape.now)
