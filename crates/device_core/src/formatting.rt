@@ -51,7 +51,7 @@ pub fn format<P: Platform, T: Tape, L: Sink>(
     ensures kept { P.tells → ((P.history platform.old).present.cell ≢ None) ⊎ (P.head platform.old ≡ P.capacity platform.old)
         → (tape.new ≡ tape.old) × CellStays (P.history platform.old) (P.history platform.new) }
     ensures undrawn { OnErr result (IsErrOf result FormatRefusal.PlatformFault ⊎ (IsErrOf result FormatRefusal.LedgerFault
-        ⊎ (T.drawn tape.new ≡ T.drawn tape.old))) }
+        ⊎ ((T.drawn tape.new ≡ T.drawn tape.old) × (L.written ledger.new ≡ L.written ledger.old)))) }
     // At each moment a loss of power leaves what there was before, until one from which on it leaves the new device.
     ensures time { P.tells → (device : Option Device) → Stands (P.history platform.old).present device
         → Turns (P.history platform.old) (P.history platform.new)

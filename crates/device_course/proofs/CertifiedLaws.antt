@@ -185,6 +185,10 @@ certified_start tells written history Going = certified_none tells written histo
 pub certified_stays : (tells : Type 0) (written : Option (List ℕ)) (old new : History) (Going : Type 0) → (tells → CellStays old new) → Certified tells written written old new Going
 certified_stays tells written old new Going stays = certified_none tells written old new Going (λ told. between_stays old new (stays told))
 
+-- where the ledger is as it was
+pub certified_unput : (tells : Type 0) (written written_now : Option (List ℕ)) (old new : History) (Going : Type 0) → written_now ≡ written → (tells → CellStays old new) → Certified tells written written_now old new Going
+certified_unput tells written written_now old new Going same stays = subst (λ (w : Option (List ℕ)). Certified tells written w old new Going) (sym same) (certified_stays tells written old new Going stays)
+
 pub certified_emptied : (tells : Type 0) (written : Option (List ℕ)) (old new : History) (Going : Type 0) → (tells → Turns old new (λ image. image.cell ≡ old.present.cell) (λ image. image.cell ≡ None)) → Certified tells written written old new Going
 certified_emptied tells written old new Going turns = certified_none tells written old new Going (λ told. between_empty old new (turns told))
 

@@ -118,13 +118,20 @@ fn failing_ends(rt: HostRuntime) -> Result<(), Fail> {
         put_part.failing_puts = &part;
         let mut put_whole = Given::script(SCRIPT);
         put_whole.failing_puts = &whole;
-        // The 105 bytes are 21 takes, and one tells the end; six records are sealed; 13 lines are answered. A line
-        // whose reply could not be put, or not whole, is done.
+        let mut entry_part = Given::script(SCRIPT);
+        entry_part.failing_entries = &part;
+        let mut entry_whole = Given::script(SCRIPT);
+        entry_whole.failing_entries = &whole;
+        // The 105 bytes are 21 takes, and one tells the end; six records are sealed; 13 lines are answered; two formats and
+        // two commits have an entry. A line whose reply could not be put, or not whole, is done; one whose entry could not be
+        // put is not.
         for (given, last, status, is_done) in [
             (take, 22, 3, false),
             (draw, 6, 6, false),
             (put_part, 13, 4, true),
             (put_whole, 13, 4, false),
+            (entry_part, 4, 7, false),
+            (entry_whole, 4, 7, false),
         ] {
             let stopped = Stopped { status, is_done };
             let answer = is_stopped(&rt, &given, &[], &stopped)?;

@@ -135,3 +135,19 @@ fn failed_ends(rt: HostRuntime) -> Result<(), Fail> {
     }
     Ok(())
 }
+
+#[test]
+fn failed_entry(rt: HostRuntime) -> Result<(), Fail> {
+    let mut platform = MemPlatform::blank(rt.alloc(), 262_144);
+    let mut given = Given::script(ONE_BLOCK);
+    given.failing_entries = &[(2, 10)];
+    let ran = run_over(rt.alloc(), &mut platform, &given)?;
+    let want = b"formatted\nmounted 0\nok\ndata 6869\n".as_slice();
+    assert_eq!(rt; ran.output.bytes(), want);
+    assert_eq!(rt; ran.status, 7);
+    let next = Given::script("mount\nwrite 3 00ff\ncommit\n");
+    let ran = run_over(rt.alloc(), &mut platform, &next)?;
+    let want = b"mounted 0\nok\ncommitted 1\n".as_slice();
+    assert_eq!(rt; ran.output.bytes(), want);
+    Ok(())
+}

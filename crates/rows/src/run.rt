@@ -12,16 +12,18 @@ use std::test::Fail;
 /// block and page 2 the new leaf.
 pub(crate) const ONE_BLOCK: &str = "format 8 64\nmount\nwrite 3 6869\nread 3\ncommit\nread 3\n";
 
-/// How a run ended, what it wrote, and how often its platform or its output was ever given no memory.
+/// How a run ended, what it wrote, and how often its platform, its output or its ledger was ever given no memory.
 #[derive(Drop)]
 pub(crate) struct Ran {
     pub(crate) status: u8,
     pub(crate) output: Line,
+    pub(crate) ledger: Line,
     pub(crate) starved: u64,
 }
 
 /// What a run is handed beside the platform: its words and its script, of which so many bytes come a take, and
-/// the numbers of the takes, the puts and the draws that fail, each put with the bytes that it still writes.
+/// the numbers of the takes, the puts, the entries of the ledger and the draws that fail, each put with the bytes that it
+/// still writes.
 #[derive(Clone, Copy)]
 pub(crate) struct Given<'a> {
     pub(crate) words: &'a [String],
@@ -29,6 +31,7 @@ pub(crate) struct Given<'a> {
     pub(crate) step: usize,
     pub(crate) failing_takes: &'a [u64],
     pub(crate) failing_puts: &'a [(u64, usize)],
+    pub(crate) failing_entries: &'a [(u64, usize)],
     pub(crate) failing_draws: &'a [u64],
 }
 
@@ -41,6 +44,7 @@ impl<'a> Given<'a> {
             step: 4_096,
             failing_takes: &[],
             failing_puts: &[],
+            failing_entries: &[],
             failing_draws: &[],
         }
     }
@@ -66,7 +70,7 @@ pub(crate) fn run_over(
     let mut tape = ListTape::new(alloc, &keys, given.failing_draws)?;
     let mut input = MemSource::new(alloc, given.script, given.step.max(1), given.failing_takes)?;
     let mut output = MemSink::new(alloc, given.failing_puts)?;
-    let mut ledger = MemSink::new(alloc, &[])?;
+    let mut ledger = MemSink::new(alloc, given.failing_entries)?;
     let status = run_main(
         alloc,
         given.words,
@@ -78,10 +82,14 @@ pub(crate) fn run_over(
     );
     let mut written = Line::new(alloc);
     written.append(output.bytes())?;
+    let mut entries = Line::new(alloc);
+    entries.append(ledger.bytes())?;
+    let sinks = output.starved().saturating_add(ledger.starved());
     Ok(Ran {
         status,
         output: written,
-        starved: platform.starved().saturating_add(output.starved()),
+        ledger: entries,
+        starved: platform.starved().saturating_add(sinks),
     })
 }
 

@@ -1,10 +1,13 @@
-use Rattle.std.proofs.Common.{◌≡◌, ◌⊎◌, [], Ok, Err, None, ℕ, refl, sym, subst, arith}
+use Rattle.std.proofs.Common.{◌≡◌, ◌⊎◌, [], Ok, Err, None, ℕ, refl, sym, subst, arith, ◌∙◌}
 use Rattle.sdbt_base.specs.Arrays.{closed}
 use Rattle.device_cli.specs.World.{World, world, world_of}
 use Rattle.device_cli.specs.Ran.{AnswersScript}
 use Rattle.device_cli.proofs.ScriptLaws.{answers_script, answers_nothing, made_by}
 use Rattle.device_cli.specs.Ran.{IsComplete}
-use Rattle.device_cli.specs.Run.{counts}
+use Rattle.device_cli.specs.Run.{counts, status_of}
+use Rattle.device_cli.specs.declared.stop.Stop.{Stop}
+use Rattle.device_cli.specs.declared.stop.Stop.TheVariants as stops
+use Rattle.device_cli.specs.declared.stop.DeviceStop.TheVariants as device
 use Rattle.device_cli.proofs.CompleteLaws.{complete_ending}
 use Rattle.device_course.proofs.CertifiedLaws.{certified_start, certified_going}
 use Rattle.device_course.proofs.KeysLaws.{on_start}
@@ -12,6 +15,18 @@ use Rattle.device_cli.proofs.ReachingLaws.{discloses}
 use Rattle.device_course.specs.States.{around}
 use Rattle.device_course.proofs.MadeLaws.{shut, made_start}
 use Rattle.device_cli.proofs.run_main.Goals as goal
+
+-- a run that was stopped has another status than 0
+never_zero : (stop : Stop) → status_of stop ≡ 0 → ⊥
+never_zero stops.Source is = omega (arith, is)
+never_zero stops.Sink is = omega (arith, is)
+never_zero stops.Limit is = omega (arith, is)
+never_zero (stops.Device device.Platform) is = omega (arith, is)
+never_zero (stops.Device device.Tape) is = omega (arith, is)
+never_zero (stops.Device device.Ledger) is = omega (arith, is)
+never_zero (stops.Device device.BadRoot) is = omega (arith, is)
+never_zero (stops.Device (device.BadRecord addr)) is = omega (arith, is)
+never_zero (stops.Device device.Memory) is = omega (arith, is)
 
 pub returns-then-not-are_run_words-clause-answers : goal.returns-then-not-are_run_words-clause-answers
 returns-then-not-are_run_words-clause-answers g c =
@@ -107,4 +122,4 @@ pub returns-in-Ok-clause-certified : goal.returns-in-Ok-clause-certified
 returns-in-Ok-clause-certified g c = certified_going _ _ _ _ _ _ _ (λ ok. refl) c.in-Ok.ensures.keeps.certified
 
 pub returns-in-Err-clause-certified : goal.returns-in-Err-clause-certified
-returns-in-Err-clause-certified g c = certified_going _ _ _ _ _ _ _ ? c.in-Err.ensures.keeps.certified
+returns-in-Err-clause-certified g c = certified_going _ _ _ _ _ _ _ (λ zero. absurd (never_zero c.in-Err.stop (sym c.status.ensures ∙ zero))) c.in-Err.ensures.keeps.certified

@@ -1,5 +1,5 @@
 use Rattle.std.proofs.Common.{List, ◌≡◌, ◌≢◌, ◌<◌, ◌≤◌, ℕ, Bool, true, false, Option, None, Some, Ok, Err, inl, inr, refl, sym, ap, subst, rules}
-use Rattle.std.specs.Prelude.{Result, IfOk, IfErr, ◌⊎◌}
+use Rattle.std.specs.Prelude.{Result, IfOk, IfErr, IsOk, ◌⊎◌}
 use Rattle.sdbt_base.specs.Faults.{Rose}
 use Rattle.sdbt_base.specs.Arrays.{State}
 use Rattle.script_lang.specs.Replies.{said}
@@ -16,7 +16,11 @@ use Rattle.script_lang.specs.Answers.{answer}
 use Rattle.sdbt_base.specs.Arrays.{Session as OpenSession}
 use Rattle.device_cli.proofs.ServedLaws.{on, halts_still, gives_format_range, gives_format_unbuilt}
 use Rattle.device_cli.proofs.ServingLaws.{KeepsCell, serves_formatted, serves_format_full, serves_not_empty, serves_refused, halts_format}
-use Rattle.device_course.proofs.CertifiedLaws.{certified_going, certified_format}
+use Rattle.sdbt_base.specs.declared.tapes.Tape.{Ghosts as TapeGhosts}
+use Rattle.platform.specs.declared.platforms.Platform.{Ghosts as PlatformGhosts}
+use Rattle.device_core.specs.Publishing.{IsFormatCause}
+use Rattle.device_core.specs.declared.refusals.FormatRefusal.{FormatRefusal}
+use Rattle.device_course.proofs.CertifiedLaws.{certified_going, certified_unput, certified_format}
 use Rattle.device_course.proofs.KeysLaws.{on_look, on_call, sound_of, listed_image, listed_keys, format_listed}
 use Rattle.device_cli.proofs.ReachingLaws.{on_ok}
 use Rattle.device_cli.proofs.desk.Desk.format.Goals as goal
@@ -46,6 +50,17 @@ gives_refused blocks order reply buffer (inl e) range unbuilt full there =
 gives_refused blocks order reply buffer (inr e) range unbuilt full there =
     let both = unbuilt e in
     subst (λ (r : Given). (said r buffer, on None there) ≡ answer full (on None there) (Format blocks order)) (sym e) (gives_format_unbuilt full there blocks order both.0 both.1)
+
+third : {X Y Z : Type 0} → (X → ⊥) → (Y → ⊥) → X ⊎ (Y ⊎ Z) → Z
+third not_one not_two (inl x) = absurd (not_one x)
+third not_one not_two (inr (inl y)) = absurd (not_two y)
+third not_one not_two (inr (inr z)) = z
+
+-- a device is made where the cell is empty
+empty_where_made : {S R : Type 0} (P : PlatformGhosts S) (T : TapeGhosts R) (platform platform_now : S) (tape tape_now : R) (Failed Undrawn Unput : Type 0) (result : Result (Unit {0}) FormatRefusal) → IsFormatCause P T platform platform_now tape tape_now Failed Undrawn Unput result
+    → P.tells → IsOk result → (P.history platform).present.cell ≡ None
+empty_where_made P T platform platform_now tape tape_now Failed Undrawn Unput (Ok done) cause told ok = cause.0 told
+empty_where_made P T platform platform_now tape tape_now Failed Undrawn Unput (Err refusal) cause told ok = absurd cc
 
 pub returns-in-Ok-clause-answered : goal.returns-in-Ok-clause-answered
 returns-in-Ok-clause-answered g c told entry rep =
@@ -123,25 +138,25 @@ returns-in-Some-clause-answered g c told entry rep =
     refl rep
 
 pub returns-in-Ok-clause-keeps : goal.returns-in-Ok-clause-keeps
-returns-in-Ok-clause-keeps g c = on_call _ _ _ _ _ c.args.self.now.session _ _ _ _ _ _ c.format.ensures.discloses.keys (λ told keys h. sound_of _ _ keys h) (λ told keys h. c.format.ensures.discloses.forgets told keys (sound_of _ _ keys h)) (λ told keys more h done. format_listed _ _ _ keys _ _ (c.in-Ok.ensures.cause.0 told) (c.in-Ok.ensures.made told).0 h) c.format.ensures.discloses.serves (certified_format _ _ _ _ _ _ _ (Ok tt) c.format.ensures.discloses.turns (λ told full. (c.format.ensures.kept told (inl full)).1) (λ told ok. c.in-Ok.ensures.cause.0 told) c.in-Ok.ensures.certifies)
+returns-in-Ok-clause-keeps g c = on_call _ _ _ _ _ c.args.self.now.session _ _ _ _ _ _ c.format.ensures.discloses.keys (λ told keys h. sound_of _ _ keys h) (λ told keys h. c.format.ensures.discloses.forgets told keys (sound_of _ _ keys h)) (λ told keys more h done. format_listed _ _ _ keys _ _ (c.in-Ok.ensures.cause.0 told) (c.in-Ok.ensures.made told).0 h) c.format.ensures.discloses.serves (certified_format {X = Unit {0}} {Y = FormatRefusal} _ _ _ _ _ _ _ (Ok (tt {0})) c.format.ensures.discloses.turns (λ told full. (c.format.ensures.kept told (inl full)).1) (λ told ok. c.in-Ok.ensures.cause.0 told) c.in-Ok.ensures.certifies)
 
 pub returns-in-Err-NotEmpty-clause-keeps : goal.returns-in-Err-NotEmpty-clause-keeps
-returns-in-Err-NotEmpty-clause-keeps g c = on_call _ _ _ _ _ c.args.self.now.session _ _ _ _ _ _ c.format.ensures.discloses.keys (λ told keys h. sound_of _ _ keys h) (λ told keys h. c.format.ensures.discloses.forgets told keys (sound_of _ _ keys h)) (λ told keys more h done. listed_keys _ _ _ keys more ((rw c.in-Err-NotEmpty.field-0-is at c.in-Err-NotEmpty.ensures.cause).1.0.image told) h) c.format.ensures.discloses.serves (certified_going _ _ _ _ _ _ _ (λ never. absurd cc) (certified_format _ _ _ _ _ _ _ c.format.result c.format.ensures.discloses.turns (λ told full. (c.format.ensures.kept told (inl full)).1) (λ told ok. absurd cc) c.format.ensures.certifies))
+returns-in-Err-NotEmpty-clause-keeps g c = on_call _ _ _ _ _ c.args.self.now.session _ _ _ _ _ _ c.format.ensures.discloses.keys (λ told keys h. sound_of _ _ keys h) (λ told keys h. c.format.ensures.discloses.forgets told keys (sound_of _ _ keys h)) (λ told keys more h done. listed_keys _ _ _ keys more ((rw c.in-Err-NotEmpty.field-0-is at c.in-Err-NotEmpty.ensures.cause).1.0.image told) h) c.format.ensures.discloses.serves (certified_unput _ _ _ _ _ _ (third (λ is. absurd cc) (λ is. absurd cc) (rw c.in-Err-NotEmpty.field-0-is at c.in-Err-NotEmpty.ensures.undrawn)).1 (λ told. (rw c.in-Err-NotEmpty.field-0-is at c.in-Err-NotEmpty.ensures.cause).1.1 told))
 
 pub returns-in-Err-Full-clause-keeps : goal.returns-in-Err-Full-clause-keeps
-returns-in-Err-Full-clause-keeps g c = on_call _ _ _ _ _ c.args.self.now.session _ _ _ _ _ _ c.format.ensures.discloses.keys (λ told keys h. sound_of _ _ keys h) (λ told keys h. c.format.ensures.discloses.forgets told keys (sound_of _ _ keys h)) (λ told keys more h done. listed_keys _ _ _ keys more ((rw c.in-Err-Full.field-0-is at c.in-Err-Full.ensures.cause).2.0.image told) h) c.format.ensures.discloses.serves (certified_going _ _ _ _ _ _ _ (λ never. absurd cc) (certified_format _ _ _ _ _ _ _ c.format.result c.format.ensures.discloses.turns (λ told full. (c.format.ensures.kept told (inl full)).1) (λ told ok. absurd cc) c.format.ensures.certifies))
+returns-in-Err-Full-clause-keeps g c = on_call _ _ _ _ _ c.args.self.now.session _ _ _ _ _ _ c.format.ensures.discloses.keys (λ told keys h. sound_of _ _ keys h) (λ told keys h. c.format.ensures.discloses.forgets told keys (sound_of _ _ keys h)) (λ told keys more h done. listed_keys _ _ _ keys more ((rw c.in-Err-Full.field-0-is at c.in-Err-Full.ensures.cause).2.0.image told) h) c.format.ensures.discloses.serves (certified_unput _ _ _ _ _ _ (third (λ is. absurd cc) (λ is. absurd cc) (rw c.in-Err-Full.field-0-is at c.in-Err-Full.ensures.undrawn)).1 (λ told. (rw c.in-Err-Full.field-0-is at c.in-Err-Full.ensures.cause).2.1 told))
 
 pub returns-in-Err-Memory-clause-keeps : goal.returns-in-Err-Memory-clause-keeps
-returns-in-Err-Memory-clause-keeps g c = on_call _ _ _ _ _ c.args.self.now.session _ _ _ _ _ _ c.format.ensures.discloses.keys (λ told keys h. sound_of _ _ keys h) (λ told keys h. c.format.ensures.discloses.forgets told keys (sound_of _ _ keys h)) (λ told keys more h done. tt) c.format.ensures.discloses.serves (certified_going _ _ _ _ _ _ _ (λ never. absurd cc) (certified_format _ _ _ _ _ _ _ c.format.result c.format.ensures.discloses.turns (λ told full. (c.format.ensures.kept told (inl full)).1) (λ told ok. absurd cc) c.format.ensures.certifies))
+returns-in-Err-Memory-clause-keeps g c = on_call _ _ _ _ _ c.args.self.now.session _ _ _ _ _ _ c.format.ensures.discloses.keys (λ told keys h. sound_of _ _ keys h) (λ told keys h. c.format.ensures.discloses.forgets told keys (sound_of _ _ keys h)) (λ told keys more h done. tt) c.format.ensures.discloses.serves (certified_going _ _ _ _ _ _ _ (λ never. absurd cc) (certified_format _ _ _ _ _ _ _ c.format.result c.format.ensures.discloses.turns (λ told full. (c.format.ensures.kept told (inl full)).1) (empty_where_made g.P.Platform g.T.Tape _ _ _ _ _ _ _ c.format.result c.format.ensures.cause) c.format.ensures.certifies))
 
 pub returns-in-Err-TapeFault-clause-keeps : goal.returns-in-Err-TapeFault-clause-keeps
-returns-in-Err-TapeFault-clause-keeps g c = on_call _ _ _ _ _ c.args.self.now.session _ _ _ _ _ _ c.format.ensures.discloses.keys (λ told keys h. sound_of _ _ keys h) (λ told keys h. c.format.ensures.discloses.forgets told keys (sound_of _ _ keys h)) (λ told keys more h done. tt) c.format.ensures.discloses.serves (certified_going _ _ _ _ _ _ _ (λ never. absurd cc) (certified_format _ _ _ _ _ _ _ c.format.result c.format.ensures.discloses.turns (λ told full. (c.format.ensures.kept told (inl full)).1) (λ told ok. absurd cc) c.format.ensures.certifies))
+returns-in-Err-TapeFault-clause-keeps g c = on_call _ _ _ _ _ c.args.self.now.session _ _ _ _ _ _ c.format.ensures.discloses.keys (λ told keys h. sound_of _ _ keys h) (λ told keys h. c.format.ensures.discloses.forgets told keys (sound_of _ _ keys h)) (λ told keys more h done. tt) c.format.ensures.discloses.serves (certified_going _ _ _ _ _ _ _ (λ never. absurd cc) (certified_format _ _ _ _ _ _ _ c.format.result c.format.ensures.discloses.turns (λ told full. (c.format.ensures.kept told (inl full)).1) (empty_where_made g.P.Platform g.T.Tape _ _ _ _ _ _ _ c.format.result c.format.ensures.cause) c.format.ensures.certifies))
 
 pub returns-in-Err-LedgerFault-clause-keeps : goal.returns-in-Err-LedgerFault-clause-keeps
-returns-in-Err-LedgerFault-clause-keeps g c = on_call _ _ _ _ _ c.args.self.now.session _ _ _ _ _ _ c.format.ensures.discloses.keys (λ told keys h. sound_of _ _ keys h) (λ told keys h. c.format.ensures.discloses.forgets told keys (sound_of _ _ keys h)) (λ told keys more h done. tt) c.format.ensures.discloses.serves (certified_going _ _ _ _ _ _ _ (λ never. absurd cc) (certified_format _ _ _ _ _ _ _ c.format.result c.format.ensures.discloses.turns (λ told full. (c.format.ensures.kept told (inl full)).1) (λ told ok. absurd cc) c.format.ensures.certifies))
+returns-in-Err-LedgerFault-clause-keeps g c = on_call _ _ _ _ _ c.args.self.now.session _ _ _ _ _ _ c.format.ensures.discloses.keys (λ told keys h. sound_of _ _ keys h) (λ told keys h. c.format.ensures.discloses.forgets told keys (sound_of _ _ keys h)) (λ told keys more h done. tt) c.format.ensures.discloses.serves (certified_going _ _ _ _ _ _ _ (λ never. absurd cc) (certified_format _ _ _ _ _ _ _ c.format.result c.format.ensures.discloses.turns (λ told full. (c.format.ensures.kept told (inl full)).1) (empty_where_made g.P.Platform g.T.Tape _ _ _ _ _ _ _ c.format.result c.format.ensures.cause) c.format.ensures.certifies))
 
 pub returns-in-Err-PlatformFault-clause-keeps : goal.returns-in-Err-PlatformFault-clause-keeps
-returns-in-Err-PlatformFault-clause-keeps g c = on_call _ _ _ _ _ c.args.self.now.session _ _ _ _ _ _ c.format.ensures.discloses.keys (λ told keys h. sound_of _ _ keys h) (λ told keys h. c.format.ensures.discloses.forgets told keys (sound_of _ _ keys h)) (λ told keys more h done. tt) c.format.ensures.discloses.serves (certified_going _ _ _ _ _ _ _ (λ never. absurd cc) (certified_format _ _ _ _ _ _ _ c.format.result c.format.ensures.discloses.turns (λ told full. (c.format.ensures.kept told (inl full)).1) (λ told ok. absurd cc) c.format.ensures.certifies))
+returns-in-Err-PlatformFault-clause-keeps g c = on_call _ _ _ _ _ c.args.self.now.session _ _ _ _ _ _ c.format.ensures.discloses.keys (λ told keys h. sound_of _ _ keys h) (λ told keys h. c.format.ensures.discloses.forgets told keys (sound_of _ _ keys h)) (λ told keys more h done. tt) c.format.ensures.discloses.serves (certified_going _ _ _ _ _ _ _ (λ never. absurd cc) (certified_format _ _ _ _ _ _ _ c.format.result c.format.ensures.discloses.turns (λ told full. (c.format.ensures.kept told (inl full)).1) (empty_where_made g.P.Platform g.T.Tape _ _ _ _ _ _ _ c.format.result c.format.ensures.cause) c.format.ensures.certifies))
 
 pub returns-in-Some-clause-keeps : goal.returns-in-Some-clause-keeps
 returns-in-Some-clause-keeps g c = on_look _ _ _ c.args.self.now.session _ _ _ _ c.refuse_format.ensures.image c.refuse_format.ensures.time (λ told keys kept h. on_ok c.refuse_format.result _ (listed_image _ _ _ keys (c.refuse_format.ensures.image told) h))

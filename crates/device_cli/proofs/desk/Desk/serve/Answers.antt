@@ -52,13 +52,16 @@ pub returns-in-Seize-clause-keeps : goal.returns-in-Seize-clause-keeps
 returns-in-Seize-clause-keeps g c = on_start _ _ _ c.args.self.now.session _ _
 
 pub returns-in-Mount-clause-keeps : goal.returns-in-Mount-clause-keeps
-returns-in-Mount-clause-keeps g c = c.mount.ensures.keeps (g.T.Tape.drawn c.args.tape.now)
+returns-in-Mount-clause-keeps g c = c.mount.ensures.keeps (g.T.Tape.drawn c.args.tape.now) (g.L.Sink.written c.args.ledger.now)
 
 pub returns-in-Read-clause-keeps : goal.returns-in-Read-clause-keeps
-returns-in-Read-clause-keeps g c = c.read.ensures.keeps (g.T.Tape.drawn c.args.tape.now)
+returns-in-Read-clause-keeps g c = c.read.ensures.keeps (g.T.Tape.drawn c.args.tape.now) (g.L.Sink.written c.args.ledger.now)
 
 pub returns-in-Trim-clause-keeps : goal.returns-in-Trim-clause-keeps
-returns-in-Trim-clause-keeps g c = c.trim.ensures.keeps (g.T.Tape.drawn c.args.tape.now)
+returns-in-Trim-clause-keeps g c = c.trim.ensures.keeps (g.T.Tape.drawn c.args.tape.now) (g.L.Sink.written c.args.ledger.now)
 
 pub returns-in-Erase-clause-keeps : goal.returns-in-Erase-clause-keeps
-returns-in-Erase-clause-keeps g c = c.erase.ensures.keeps (g.T.Tape.drawn c.args.tape.now)
+returns-in-Erase-clause-keeps g c = c.erase.ensures.keeps (g.T.Tape.drawn c.args.tape.now) (g.L.Sink.written c.args.ledger.now)
+
+pub returns-in-Write-clause-keeps : goal.returns-in-Write-clause-keeps
+returns-in-Write-clause-keeps g c = c.write.ensures.keeps (g.L.Sink.written c.args.ledger.now)
