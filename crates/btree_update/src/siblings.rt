@@ -11,7 +11,7 @@ ghost use Rattle.btree_walk.specs.Sights.{StandsOver};
 ghost use Rattle.btree_update.specs.Held.{AnyRead, IsReadAs};
 ghost use Rattle.btree_update.specs.Holding.{CanHoldBelow};
 ghost use Rattle.btree_update.specs.Wrong.{WrongOnWay};
-ghost use Rattle.btree_update.specs.Beside.{CanRead, LendsFrom, HoldsBeside, IsAfter};
+ghost use Rattle.btree_update.specs.Beside.{CanRead, LendsFrom, HoldsBeside, IsAfter, loses_for};
 
 use crate::reading::read_node;
 use crate::refusals::ReadyRefusal;
@@ -142,7 +142,8 @@ pub(crate) fn is_mapped(left: Left) -> bool
 
 /// Whether a node has a child to spare.
 fn can_lend(twig: &Twig, order: u16) -> bool
-    ensures { OnTrue result (order / 2 < length (children_of twig.now)) }
+    ensures spare { OnTrue result (order / 2 < length (children_of twig.now)) }
+    ensures none { OnFalse result (length (children_of twig.now) ≤ order / 2) }
 {
     twig.children.len() > order as usize / 2
 }
@@ -159,9 +160,9 @@ fn read_help<P: Platform>(
     high: u64,
 ) -> Result<Help, ReadyRefusal>
     requires can { CanRead order level high (P.head platform.old) child.now }
-    ensures helps { IfOk result (λ h. (loses : ℕ) → OnFalse h.lends (1 ≤ loses) → LendsFrom AnyRead order (level - 1) loses high (out-Child child.now) h.node) }
+    ensures helps { IfOk result (λ h. LendsFrom AnyRead order (level - 1) (loses_for h.lends) high (out-Child child.now) h.node) }
     ensures reads { P.tells → StandsOver (P.history platform.old).present.readable cache.old →
-        IfOk result (λ h. (loses : ℕ) → OnFalse h.lends (1 ≤ loses) → LendsFrom (IsReadAs (P.history platform.old).present.readable order) order (level - 1) loses high (out-Child child.now) h.node) }
+        IfOk result (λ h. LendsFrom (IsReadAs (P.history platform.old).present.readable order) order (level - 1) (loses_for h.lends) high (out-Child child.now) h.node) }
     ensures bad { P.tells → StandsOver (P.history platform.old).present.readable cache.old → (addr block : ℕ) → IsErrOf result (ReadyRefusal.BadRecord addr) →
         WrongOnWay (P.history platform.old).present.readable order block addr (stubs level high child.now) }
     ensures stands { P.tells → StandsOver (P.history platform.old).present.readable cache.old → StandsOver (P.history platform.old).present.readable cache.new }

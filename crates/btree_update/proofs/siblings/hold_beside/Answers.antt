@@ -11,10 +11,10 @@ use Rattle.btree_update.specs.declared.siblings.Left.{Left}
 use Rattle.btree_update.specs.Held.{AreBelow, AnyRead, IsReadAs}
 use Rattle.btree_update.specs.Holding.{CanHoldBelow}
 use Rattle.btree_update.specs.Wrong.{WrongOnWay}
-use Rattle.btree_update.specs.Beside.{CanRead, LendsFrom, HoldsBeside, HoldsHelp}
+use Rattle.btree_update.specs.Beside.{CanRead, loses_for, LendsFrom, HoldsBeside, HoldsHelp}
 use Rattle.btree_update.proofs.OpenLaws.{below_front, below_back}
 use Rattle.btree_update.proofs.WrongLaws.{wrong_at}
-use Rattle.btree_update.proofs.BesideLaws.{loses_for, loses_few, loses_one, after_for, helped_at}
+use Rattle.btree_update.proofs.BesideLaws.{loses_few, after_for, helped_at}
 use Rattle.btree_update.proofs.siblings.hold_beside.Goals as goal
 
 end_is : (high i end : ℕ) (ds cs : List Child) → ds ≡ cs → end ≡ start_by low_of (drop (i + 1) ds) high → end ≡ start_by low_of (drop (suc i) cs) high
@@ -66,7 +66,7 @@ returns-in_ok-keep-in-Short-clause-helps g c = λ front d back split_is n.
     let e = end_is c.args.high c.beside_of-other.result c.end_of-end.result c.deref.result.now cs c.deref.ensures.value c.end_of-end.ensures in
     let help = c.in_ok-help-in-Short.help in
     let loses = loses_for help.lends in
-    let lends = subst (λ m. LendsFrom AnyRead c.args.order (c.args.level - 1) loses m (out-Child c.index.result.now) help.node) e (c.in_ok-help-in-Short.ensures.helps loses (loses_one help.lends)) in
+    let lends = subst (λ m. LendsFrom AnyRead c.args.order (c.args.level - 1) loses m (out-Child c.index.result.now) help.node) e c.in_ok-help-in-Short.ensures.helps in
     let h : HoldsHelp AnyRead c.args.order (c.args.level - 1) (length cs) c.args.high front d back c.args.beside.now.items c.keep-in-Short.new.beside.items c.left_of-in-Short.result = record {
       one = help.node;
       is = c.in_ok-keep-in-Short.ensures.kept;
@@ -87,7 +87,7 @@ returns-in_ok-keep-in-Short-clause-reads g c = λ tells stands front d back spli
     let e = end_is c.args.high c.beside_of-other.result c.end_of-end.result c.deref.result.now cs c.deref.ensures.value c.end_of-end.ensures in
     let help = c.in_ok-help-in-Short.help in
     let loses = loses_for help.lends in
-    let lends = subst (λ m. LendsFrom Reads c.args.order (c.args.level - 1) loses m (out-Child c.index.result.now) help.node) e (c.in_ok-help-in-Short.ensures.reads tells stands loses (loses_one help.lends)) in
+    let lends = subst (λ m. LendsFrom Reads c.args.order (c.args.level - 1) loses m (out-Child c.index.result.now) help.node) e (c.in_ok-help-in-Short.ensures.reads tells stands) in
     let h : HoldsHelp Reads c.args.order (c.args.level - 1) (length cs) c.args.high front d back c.args.beside.now.items c.keep-in-Short.new.beside.items c.left_of-in-Short.result = record {
       one = help.node;
       is = c.in_ok-keep-in-Short.ensures.kept;

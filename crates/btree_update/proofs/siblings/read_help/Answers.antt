@@ -8,7 +8,7 @@ use Rattle.btree_update.specs.declared.refusals.ReadyRefusal.TheVariants.{BadRec
 use Rattle.btree_update.specs.Held.{AnyRead, IsReadAs}
 use Rattle.btree_update.specs.Holding.{IsNodeOf}
 use Rattle.btree_update.specs.Wrong.{WrongOnWay}
-use Rattle.btree_update.specs.Beside.{CanRead, LendsFrom}
+use Rattle.btree_update.specs.Beside.{CanRead, loses_for, LendsFrom}
 use Rattle.btree_update.proofs.HoldLaws.{read_as}
 use Rattle.btree_update.proofs.WrongLaws.{wrong_beside}
 use Rattle.btree_update.proofs.BesideLaws.{want_beside, spares_of, beside_lt, node_at, lends_kept}
@@ -34,17 +34,19 @@ returns-in_err-twig-in-Kept-clause-bad g c =
     (wrong_beside pages c.args.order block addr at.below c.args.high c.in-Kept.low c.in-Kept.addr c.in-Kept.key (b.0, nothing))))
 
 pub returns-in_ok-twig-in-Kept-clause-helps : goal.returns-in_ok-twig-in-Kept-clause-helps
-returns-in_ok-twig-in-Kept-clause-helps g c = λ loses merges.
-    (let twig = c.in_ok-twig-in-Kept.twig in
+returns-in_ok-twig-in-Kept-clause-helps g c =
+    let twig = c.in_ok-twig-in-Kept.twig in
+    let loses = loses_for c.can_lend-lends.result in
     let at = subst (CanRead c.args.order c.args.level c.args.high (g.P.Platform.head c.args.platform.now)) c.in-Kept.is c.requires.can in
     let n = node_at c.args.order c.args.level c.args.high (g.P.Platform.head c.args.platform.now) c.in-Kept.low c.in-Kept.addr c.in-Kept.key at AnyRead twig c.in_ok-twig-in-Kept.ensures.fits tt in
     subst (λ x. LendsFrom AnyRead c.args.order (c.args.level - 1) loses c.args.high (out-Child x) (Some twig)) (sym c.in-Kept.is)
     (lends_kept c.args.order c.args.level c.args.high (g.P.Platform.head c.args.platform.now) c.in-Kept.low c.in-Kept.addr c.in-Kept.key at AnyRead twig loses n
-    (spares_of c.args.order loses (length (children_of twig)) c.can_lend-lends.result merges c.can_lend-lends.ensures)))
+    (spares_of c.args.order (length (children_of twig)) c.can_lend-lends.result c.can_lend-lends.ensures.spare c.can_lend-lends.ensures.none))
 
 pub returns-in_ok-twig-in-Kept-clause-reads : goal.returns-in_ok-twig-in-Kept-clause-reads
-returns-in_ok-twig-in-Kept-clause-reads g c = λ tells stands loses merges.
+returns-in_ok-twig-in-Kept-clause-reads g c = λ tells stands.
     (let twig = c.in_ok-twig-in-Kept.twig in
+    let loses = loses_for c.can_lend-lends.result in
     let at = subst (CanRead c.args.order c.args.level c.args.high (g.P.Platform.head c.args.platform.now)) c.in-Kept.is c.requires.can in
     let pages = (g.P.Platform.history c.args.platform.now).present.readable in
     let Reads = IsReadAs pages c.args.order in
@@ -57,4 +59,4 @@ returns-in_ok-twig-in-Kept-clause-reads g c = λ tells stands loses merges.
     let n = node_at c.args.order c.args.level c.args.high (g.P.Platform.head c.args.platform.now) c.in-Kept.low c.in-Kept.addr c.in-Kept.key at Reads twig c.in_ok-twig-in-Kept.ensures.fits reads in
     subst (λ x. LendsFrom Reads c.args.order (c.args.level - 1) loses c.args.high (out-Child x) (Some twig)) (sym c.in-Kept.is)
     (lends_kept c.args.order c.args.level c.args.high (g.P.Platform.head c.args.platform.now) c.in-Kept.low c.in-Kept.addr c.in-Kept.key at Reads twig loses n
-    (spares_of c.args.order loses (length (children_of twig)) c.can_lend-lends.result merges c.can_lend-lends.ensures)))
+    (spares_of c.args.order (length (children_of twig)) c.can_lend-lends.result c.can_lend-lends.ensures.spare c.can_lend-lends.ensures.none)))
