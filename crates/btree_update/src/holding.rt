@@ -9,7 +9,7 @@ ghost use Rattle.btree_update.specs.Roots.{HeldRoot, RootMaps};
 ghost use Rattle.btree_twigs.specs.Stubs.{stubs, stubs_below, children_of};
 ghost use Rattle.page_store.specs.Tree.{Mapped};
 ghost use Rattle.btree_update.specs.GroveTree.{Maps};
-ghost use Rattle.btree_update.specs.Wrong.{WrongOnWay, WrongFrom};
+ghost use Rattle.btree_update.specs.Wrong.{WrongOnWay, WrongUnder, WrongFrom};
 ghost use Rattle.btree_update.specs.Beside.{IsLeft, HelpsBelow, LeftOf, IsMappedBy};
 ghost use Rattle.btree_update.specs.Holding.{CanHold, CanHoldBelow, CanHoldRoot};
 
@@ -47,7 +47,7 @@ pub(crate) fn hold_way<P: Platform>(
     ensures beside { P.tells → StandsOver (P.history platform.old).present.readable cache.old →
         IfOk result (LeftOf (IsReadAs (P.history platform.old).present.readable order) order block (level - 1) high child.now held.new.items beside.new.items) }
     ensures bad { P.tells → StandsOver (P.history platform.old).present.readable cache.old → (addr : ℕ) → IsErrOf result (ReadyRefusal.BadRecord addr) →
-        WrongOnWay (P.history platform.old).present.readable order block addr (stubs level high child.now) }
+        WrongOnWay (P.history platform.old).present.readable order block addr level high child.now }
     ensures mapped { P.tells → StandsOver (P.history platform.old).present.readable cache.old →
         IfOk result (λ left. (mapped : List Mapped) → Maps (P.history platform.old).present.readable order (stubs level high child.now) mapped → IsMappedBy block mapped left) }
     ensures stands { P.tells → StandsOver (P.history platform.old).present.readable cache.old → StandsOver (P.history platform.old).present.readable cache.new }
@@ -122,7 +122,7 @@ pub(crate) fn hold_below<P: Platform>(
     ensures beside { P.tells → StandsOver (P.history platform.old).present.readable cache.old →
         IfOk result (IsLeft (λ loses. HelpsBelow (IsReadAs (P.history platform.old).present.readable order) order block level high twig.now held.new.items beside.new.items loses) order (length (children_of twig.now))) }
     ensures bad { P.tells → StandsOver (P.history platform.old).present.readable cache.old → (addr : ℕ) → IsErrOf result (ReadyRefusal.BadRecord addr) →
-        WrongOnWay (P.history platform.old).present.readable order block addr (stubs_below level high twig.now) }
+        WrongUnder (P.history platform.old).present.readable order block addr level high twig.now }
     ensures mapped { P.tells → StandsOver (P.history platform.old).present.readable cache.old →
         IfOk result (λ left. (mapped : List Mapped) → Maps (P.history platform.old).present.readable order (stubs_below level high twig.now) mapped → IsMappedBy block mapped left) }
     ensures stands { P.tells → StandsOver (P.history platform.old).present.readable cache.old → StandsOver (P.history platform.old).present.readable cache.new }

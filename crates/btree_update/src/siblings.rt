@@ -4,13 +4,13 @@ ghost use Rattle.btree_update.specs.declared.refusals.ReadyRefusal.{ReadyRefusal
 ghost use Rattle.btree_update.specs.declared.siblings.Left.TheVariants.{Unmapped, Enough, Short};
 ghost use Rattle.btree_twigs.specs.declared.twigs.Child.{Child, out-Child};
 ghost use Rattle.btree_twigs.specs.declared.twigs.Twig.{Twig};
-ghost use Rattle.btree_twigs.specs.Stubs.{start_by, low_of as low_in, children_of, stubs, stubs_below};
+ghost use Rattle.btree_twigs.specs.Stubs.{low_of as low_in, children_of};
 ghost use Rattle.sdbt_base.specs.Faults.{Rose};
 ghost use Rattle.btree_walk.specs.Looks.{Looks};
 ghost use Rattle.btree_walk.specs.Sights.{StandsOver};
 ghost use Rattle.btree_update.specs.Held.{AnyRead, IsReadAs};
 ghost use Rattle.btree_update.specs.Holding.{CanHoldBelow};
-ghost use Rattle.btree_update.specs.Wrong.{WrongOnWay};
+ghost use Rattle.btree_update.specs.Wrong.{IsWrongBeside, IsWrongChild};
 ghost use Rattle.btree_update.specs.Beside.{CanRead, LendsFrom, HoldsBeside, IsAfter, loses_for};
 
 use crate::reading::read_node;
@@ -65,8 +65,9 @@ pub(crate) fn hold_beside<P: Platform>(
     ensures reads { P.tells → StandsOver (P.history platform.old).present.readable cache.old →
         (front : List Child) (c : Child) (back : List Child) → children_of twig.now ≡ front ++ c ∷ back → length front + 1 ≡ at
         → IfOk result (HoldsBeside (IsReadAs (P.history platform.old).present.readable order) order (level - 1) (length (children_of twig.now)) high front c back beside.old.items beside.new.items left) }
-    ensures bad { P.tells → StandsOver (P.history platform.old).present.readable cache.old → (addr block : ℕ) → IsErrOf result (ReadyRefusal.BadRecord addr) →
-        WrongOnWay (P.history platform.old).present.readable order block addr (stubs_below level high twig.now) }
+    ensures bad { P.tells → StandsOver (P.history platform.old).present.readable cache.old →
+        (front : List Child) (c : Child) (back : List Child) → children_of twig.now ≡ front ++ c ∷ back → length front + 1 ≡ at → (addr : ℕ) → IsErrOf result (ReadyRefusal.BadRecord addr)
+        → IsWrongBeside low_in (IsWrongChild (P.history platform.old).present.readable order addr level) high front c back }
     ensures stands { P.tells → StandsOver (P.history platform.old).present.readable cache.old → StandsOver (P.history platform.old).present.readable cache.new }
     ensures looks { Looks P.Platform 1 platform.old platform.new }
     ensures cause { IsErrOf result ReadyRefusal.PlatformFault → Rose (P.faults platform.old) (P.faults platform.new) }
@@ -163,8 +164,8 @@ fn read_help<P: Platform>(
     ensures helps { IfOk result (λ h. LendsFrom AnyRead order (level - 1) (loses_for h.lends) high (out-Child child.now) h.node) }
     ensures reads { P.tells → StandsOver (P.history platform.old).present.readable cache.old →
         IfOk result (λ h. LendsFrom (IsReadAs (P.history platform.old).present.readable order) order (level - 1) (loses_for h.lends) high (out-Child child.now) h.node) }
-    ensures bad { P.tells → StandsOver (P.history platform.old).present.readable cache.old → (addr block : ℕ) → IsErrOf result (ReadyRefusal.BadRecord addr) →
-        WrongOnWay (P.history platform.old).present.readable order block addr (stubs level high child.now) }
+    ensures bad { P.tells → StandsOver (P.history platform.old).present.readable cache.old → (addr : ℕ) → IsErrOf result (ReadyRefusal.BadRecord addr) →
+        IsWrongChild (P.history platform.old).present.readable order addr level high child.now }
     ensures stands { P.tells → StandsOver (P.history platform.old).present.readable cache.old → StandsOver (P.history platform.old).present.readable cache.new }
     ensures looks { Looks P.Platform 1 platform.old platform.new }
     ensures cause { IsErrOf result ReadyRefusal.PlatformFault → Rose (P.faults platform.old) (P.faults platform.new) }

@@ -11,7 +11,7 @@ use Rattle.btree_update.specs.Roots.{HeldRoot}
 use Rattle.btree_update.proofs.HoldLaws.{read_as}
 use Rattle.btree_update.proofs.RootHolds.{root_grown, root_held_grown, want_root, root_low, root_starts, root_read, root_held, root_lt}
 use Rattle.btree_twigs.specs.Stubs.{stubs_below}
-use Rattle.btree_update.specs.Wrong.{ComesToWrong, Here, WrongOnWay, WrongFrom}
+use Rattle.btree_update.specs.Wrong.{ComesToWrong, Here, WrongUnder, WrongFrom}
 use Rattle.btree_update.specs.declared.refusals.ReadyRefusal.TheVariants.{BadRecord}
 use Rattle.btree_update.proofs.WrongLaws.{wrong_below, wrong_root}
 use Rattle.page_store.specs.Places.{NothingFits}
@@ -110,7 +110,7 @@ returns-in_err-left-in-Kept-clause-bad g c =
     let l = above c.args.level at.one in
     let same : (g.P.Platform.history c.read_node.new.platform).present.readable ≡ pages = ap (λ i. i.readable) (c.in_ok-twig-in-Kept.ensures.looks.image tells) in
     let stands' = subst (λ p. StandsOver p c.read_node.new.cache) (sym same) (c.in_ok-twig-in-Kept.ensures.stands tells stands) in
-    let w = subst (λ p. WrongOnWay p c.args.order c.args.block addr (stubs_below (c.args.level - 1) c.args.high twig)) same (c.in_err-left-in-Kept.ensures.bad tells stands' addr (ap Err err)) in
+    let w = subst (λ p. WrongUnder p c.args.order c.args.block addr (c.args.level - 1) c.args.high twig) same (c.in_err-left-in-Kept.ensures.bad tells stands' addr (ap Err err)) in
     let node = subst (λ k. IsNodeOf pages (want_root c.args.order k c.in-Kept.low c.args.high c.in-Kept.addr c.least_of_root.result) c.in-Kept.key twig) l
     (subst (λ k. IsNodeOf pages (want_root c.args.order c.args.level c.in-Kept.low c.args.high c.in-Kept.addr c.least_of_root.result) k twig) c.from_bytes-key.ensures (c.in_ok-twig-in-Kept.ensures.reads tells stands)) in
     let fits = subst (λ k. IsNodeFor (want_root c.args.order k c.in-Kept.low c.args.high c.in-Kept.addr c.least_of_root.result) twig) l c.in_ok-twig-in-Kept.ensures.fits in

@@ -10,7 +10,7 @@ use Rattle.btree_update.specs.declared.refusals.ReadyRefusal.TheVariants.{BadRec
 use Rattle.btree_update.specs.declared.siblings.Left.{Left}
 use Rattle.btree_update.specs.Held.{AreBelow, AnyRead, IsReadAs}
 use Rattle.btree_update.specs.Holding.{CanHoldBelow}
-use Rattle.btree_update.specs.Wrong.{WrongOnWay}
+use Rattle.btree_update.specs.Wrong.{IsWrongChild}
 use Rattle.btree_update.specs.Beside.{CanRead, loses_for, LendsFrom, HoldsBeside, HoldsHelp}
 use Rattle.btree_update.proofs.OpenLaws.{below_front, below_back}
 use Rattle.btree_update.proofs.WrongLaws.{wrong_at}
@@ -48,15 +48,16 @@ read_help-requires g c =
 pub returns-in_err-help-in-Short-clause-bad : goal.returns-in_err-help-in-Short-clause-bad
 returns-in_err-help-in-Short-clause-bad g c =
     let p = err_from_is_err_and c.from_residual-in_err-help-in-Short.result c.from_residual-in_err-help-in-Short.ensures.1 in
-    rw (p.1, p.2) (λ tells stands addr block is.
+    rw (p.1, p.2) (λ tells stands front d back split_is n addr is.
     let same : c.in_err-help-in-Short.field-0.0 ≡ BadRecord addr = cc in
     let cs = children_of c.args.twig.now in
     let lt : c.beside_of-other.result < length cs = omega (arith, c.beside_of-other.ensures.within, c.len.ensures) in
     let split = split_here cs c.beside_of-other.result c.index.result.now lt c.index.ensures in
     let e = end_is c.args.high c.beside_of-other.result c.end_of-end.result c.deref.result.now cs c.deref.ensures.value c.end_of-end.ensures in
     let pages = (g.P.Platform.history c.args.platform.now).present.readable in
-    wrong_at pages c.args.order c.args.level c.args.high block addr c.beside_of-other.result cs c.index.result.now split
-    (subst (λ m. WrongOnWay pages c.args.order block addr (stubs c.args.level m c.index.result.now)) e (c.in_err-help-in-Short.ensures.bad tells stands addr block (ap Err same))))
+    wrong_at (IsWrongChild pages c.args.order addr c.args.level) c.args.high c.beside_of-other.result cs c.index.result.now split lt
+    (subst (λ m. IsWrongChild pages c.args.order addr c.args.level m c.index.result.now) e (c.in_err-help-in-Short.ensures.bad tells stands addr (ap Err same))) c.args.at front d back split_is n
+    (λ lt. c.beside_of-other.ensures.next (omega (arith, lt, c.len.ensures))) (λ is. c.beside_of-other.ensures.last (omega (arith, is, c.len.ensures))))
 
 pub returns-in_ok-keep-in-Short-clause-helps : goal.returns-in_ok-keep-in-Short-clause-helps
 returns-in_ok-keep-in-Short-clause-helps g c = λ front d back split_is n.

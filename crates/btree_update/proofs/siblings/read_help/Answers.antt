@@ -1,16 +1,15 @@
-use Rattle.std.proofs.Common.{◌≡◌, suc, ◌<◌, ◌-◌, ◌/◌, ◌^◌, Err, Some, length, sym, ap, subst, arith}
+use Rattle.std.proofs.Common.{◌≡◌, suc, ◌<◌, ◌≤◌, ◌-◌, ◌/◌, ◌^◌, Err, Some, length, sym, ap, subst, arith}
 use Rattle.std.proofs.lemmas.Result.{err_from_is_err_and}
 use Rattle.page_store.specs.Places.{NothingFits}
 use Rattle.btree_twigs.specs.declared.twigs.Child.{out-Child}
 use Rattle.btree_twigs.specs.declared.twigs.Child.TheVariants as made
-use Rattle.btree_twigs.specs.Stubs.{children_of, stubs}
+use Rattle.btree_twigs.specs.Stubs.{children_of}
 use Rattle.btree_update.specs.declared.refusals.ReadyRefusal.TheVariants.{BadRecord}
 use Rattle.btree_update.specs.Held.{AnyRead, IsReadAs}
 use Rattle.btree_update.specs.Holding.{IsNodeOf}
-use Rattle.btree_update.specs.Wrong.{WrongOnWay}
+use Rattle.btree_update.specs.Wrong.{IsWrongIn, IsWrongChild}
 use Rattle.btree_update.specs.Beside.{CanRead, loses_for, LendsFrom}
 use Rattle.btree_update.proofs.HoldLaws.{read_as}
-use Rattle.btree_update.proofs.WrongLaws.{wrong_beside}
 use Rattle.btree_update.proofs.BesideLaws.{want_beside, spares_of, beside_lt, node_at, lends_kept}
 use Rattle.btree_update.proofs.siblings.read_help.Goals as goal
 
@@ -22,16 +21,14 @@ read_node-requires-clause-within g c =
 pub returns-in_err-twig-in-Kept-clause-bad : goal.returns-in_err-twig-in-Kept-clause-bad
 returns-in_err-twig-in-Kept-clause-bad g c =
     let p = err_from_is_err_and c.from_residual.result c.from_residual.ensures.1 in
-    rw (p.1, p.2) (λ tells stands addr block is.
+    rw (p.1, p.2) (λ tells stands addr is.
     let same : c.in_err-twig-in-Kept.field-0.0 ≡ BadRecord addr = cc in
     let at = subst (CanRead c.args.order c.args.level c.args.high (g.P.Platform.head c.args.platform.now)) c.in-Kept.is c.requires.can in
     let pages = (g.P.Platform.history c.args.platform.now).present.readable in
     let b = c.in_err-twig-in-Kept.ensures.bad tells stands addr (ap Err same) in
-    let nothing = subst (λ l. NothingFits pages (want_beside c.args.order l c.in-Kept.low c.args.high c.in-Kept.addr) c.in-Kept.key) at.level_is
-    (subst (NothingFits pages (want_beside c.args.order c.args.level c.in-Kept.low c.args.high c.in-Kept.addr)) c.from_bytes-key.ensures b.1) in
-    subst (λ x. WrongOnWay pages c.args.order block addr (stubs c.args.level c.args.high x)) (sym c.in-Kept.is)
-    (subst (λ k. WrongOnWay pages c.args.order block addr (stubs k c.args.high (made.Kept c.in-Kept.low c.in-Kept.addr c.in-Kept.key))) (sym at.level_is)
-    (wrong_beside pages c.args.order block addr at.below c.args.high c.in-Kept.low c.in-Kept.addr c.in-Kept.key (b.0, nothing))))
+    let nothing = subst (NothingFits pages (want_beside c.args.order c.args.level c.in-Kept.low c.args.high c.in-Kept.addr)) c.from_bytes-key.ensures b.1 in
+    subst (IsWrongChild pages c.args.order addr c.args.level c.args.high) (sym c.in-Kept.is)
+    (subst (IsWrongIn pages c.args.order addr c.args.level c.args.high) (sym (made.outs-Kept c.in-Kept.low c.in-Kept.addr c.in-Kept.key)) (omega (arith, at.level_is), (b.0, nothing))))
 
 pub returns-in_ok-twig-in-Kept-clause-helps : goal.returns-in_ok-twig-in-Kept-clause-helps
 returns-in_ok-twig-in-Kept-clause-helps g c =
