@@ -3,8 +3,7 @@ use Rattle.std.proofs.Common.{◌≡◌, ℕ, zero, suc, ◌+◌, ◌-◌, ◌/�
 use Rattle.std.proofs.lemmas.List.{length-take-le}
 use Rattle.std.specs.Bool.{OnTrue, OnFalse}
 use Rattle.page_store.specs.declared.wants.Want.{Want}
-use Rattle.btree_twigs.specs.declared.twigs.Child.{Child, Child-F, out-Child}
-use Rattle.btree_twigs.specs.declared.twigs.Child.TheOpen as open_child
+use Rattle.btree_twigs.specs.declared.twigs.Child.{Child, out-Child}
 use Rattle.btree_twigs.specs.declared.twigs.Child.TheVariants as made
 use Rattle.btree_twigs.specs.declared.twigs.Twig.{Twig}
 use Rattle.btree_twigs.specs.Stubs.{Stub, start_by, low_of, children_of, stubs}

@@ -13,14 +13,13 @@ ghost use Rattle.btree_update.specs.Wrong.{WrongOnWay, WrongUnder, WrongFrom};
 ghost use Rattle.btree_update.specs.Beside.{IsLeft, HelpsBelow, LeftOf, IsMappedBy};
 ghost use Rattle.btree_update.specs.Holding.{CanHold, CanHoldBelow, CanHoldRoot};
 
-use crate::reading::read_node;
+use crate::kept::read_kept;
 use crate::refusals::ReadyRefusal;
 use crate::siblings::{Left, hold_beside, left_of_leaf};
 use btree_twigs::{Child, Twig, end_of, low_of, place};
 use node_cache::NodeCache;
-use page_store::{Buffers, Want};
+use page_store::Buffers;
 use platform::Platform;
-use sdbt_base::Key;
 use std::alloc::Global;
 
 /// Reads the nodes on the way to a block that aren't in memory, from a child down, and holds them, the topmost last, and with
@@ -69,16 +68,10 @@ pub(crate) fn hold_way<P: Platform>(
             beside,
         ),
         Child::Kept { low, addr, key } => {
-            let want = Want {
-                addr: *addr,
-                level,
-                low: *low,
-                high,
-                least: order / 2,
-                most: order,
-            };
-            let key = Key::from_bytes(*key);
-            let twig = read_node(alloc, platform, cache, &want, &key, buf)?;
+            let least = order / 2;
+            let twig = read_kept(
+                alloc, platform, cache, buf, order, least, level, *low, high, *addr, *key,
+            )?;
             let left = hold_below(
                 alloc,
                 platform,
@@ -191,16 +184,10 @@ pub(crate) fn hold_root<P: Platform>(
             beside,
         ),
         Child::Kept { low, addr, key } => {
-            let want = Want {
-                addr: *addr,
-                level,
-                low: *low,
-                high,
-                least: least_of_root(level),
-                most: order,
-            };
-            let key = Key::from_bytes(*key);
-            let twig = read_node(alloc, platform, cache, &want, &key, buf)?;
+            let least = least_of_root(level);
+            let twig = read_kept(
+                alloc, platform, cache, buf, order, least, level, *low, high, *addr, *key,
+            )?;
             let left = hold_below(
                 alloc,
                 platform,

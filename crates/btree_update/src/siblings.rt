@@ -1,4 +1,4 @@
-ghost use Rattle.std.specs.Prelude.{◌≡◌, ◌⊎◌, ◌↔◌, ◌<◌, ◌≤◌, ◌+◌, ◌-◌, ◌/◌, ℕ, suc, List, [], ◌∷◌, ◌++◌, Option, length, vec_len, IfOk, IsErrOf, IsTrue};
+ghost use Rattle.std.specs.Prelude.{◌≡◌, ◌↔◌, ◌<◌, ◌≤◌, ◌+◌, ◌-◌, ◌/◌, ℕ, List, [], ◌∷◌, ◌++◌, Option, length, IfOk, IsErrOf, IsTrue};
 ghost use Rattle.std.specs.Bool.{OnTrue, OnFalse};
 ghost use Rattle.btree_update.specs.declared.refusals.ReadyRefusal.{ReadyRefusal};
 ghost use Rattle.btree_update.specs.declared.siblings.Left.TheVariants.{Unmapped, Enough, Short};
@@ -13,13 +13,12 @@ ghost use Rattle.btree_update.specs.Holding.{CanHoldBelow};
 ghost use Rattle.btree_update.specs.Wrong.{IsWrongBeside, IsWrongChild};
 ghost use Rattle.btree_update.specs.Beside.{CanRead, LendsFrom, HoldsBeside, IsAfter, loses_for};
 
-use crate::reading::read_node;
+use crate::kept::read_kept;
 use crate::refusals::ReadyRefusal;
 use btree_twigs::{Child, Twig, end_of};
 use node_cache::NodeCache;
-use page_store::{Buffers, Want};
+use page_store::Buffers;
 use platform::Platform;
-use sdbt_base::Key;
 use std::alloc::Global;
 
 /// What a removal leaves of a node.
@@ -176,16 +175,10 @@ fn read_help<P: Platform>(
             lends: can_lend(twig, order),
         }),
         Child::Kept { low, addr, key } => {
-            let want = Want {
-                addr: *addr,
-                level,
-                low: *low,
-                high,
-                least: order / 2,
-                most: order,
-            };
-            let key = Key::from_bytes(*key);
-            let twig = read_node(alloc, platform, cache, &want, &key, buf)?;
+            let least = order / 2;
+            let twig = read_kept(
+                alloc, platform, cache, buf, order, least, level, *low, high, *addr, *key,
+            )?;
             let lends = can_lend(&twig, order);
             Ok(Help {
                 node: Some(twig),

@@ -22,7 +22,6 @@ use Rattle.btree_update.proofs.HoldLaws.{no_way, leaf_way, one_way, below_child,
 use Rattle.btree_update.specs.Wrong.{ComesToWrong, Here, WrongOnWay, WrongUnder}
 use Rattle.btree_update.specs.declared.refusals.ReadyRefusal.TheVariants.{BadRecord}
 use Rattle.btree_update.proofs.WrongLaws.{wrong_child, wrong_near, wrong_below, wrong_kept, wrong_grown}
-use Rattle.page_store.specs.Places.{NothingFits}
 use Rattle.std.proofs.Common.{Err}
 use Rattle.std.proofs.lemmas.Result.{err_from_is_err_and}
 use Rattle.std.proofs.Common.{◌==◌}
@@ -137,8 +136,8 @@ hold_way-hold_below-requires g t c κs within = (
   ),
 )
 
-pub hold_way-read_node-requires-clause-within : goal.hold_way-read_node-requires-clause-within
-hold_way-read_node-requires-clause-within g t c =
+pub hold_way-read_kept-requires-clause-within : goal.hold_way-read_kept-requires-clause-within
+hold_way-read_kept-requires-clause-within g t c =
     let at = c.requires.can in
     let kept = subst (λ x. AreBelow (g.P.Platform.head c.args.platform.now) (stubs c.args.level c.args.high x)) c.in-Kept.is at.within in
     kept_below (g.P.Platform.head c.args.platform.now) at.below c.args.high c.in-Kept.low c.in-Kept.addr c.in-Kept.key (subst (λ k. AreBelow (g.P.Platform.head c.args.platform.now) (stubs k c.args.high (made.Kept c.in-Kept.low c.in-Kept.addr c.in-Kept.key))) at.level_is kept)
@@ -224,16 +223,16 @@ hold_way-returns-in_ok-hold-in-Kept-clause-reads g t c = λ tells stands.
     let pages = (g.P.Platform.history c.args.platform.now).present.readable in
     let Reads = IsReadAs pages c.args.order in
     let l : c.args.level - 1 ≡ at.below = omega (arith, at.level_is) in
-    let same : (g.P.Platform.history c.read_node.new.platform).present.readable ≡ pages = ap (λ i. i.readable) (c.in_ok-twig-in-Kept.ensures.looks.image tells) in
+    let same : (g.P.Platform.history c.read_kept.new.platform).present.readable ≡ pages = ap (λ i. i.readable) (c.in_ok-twig-in-Kept.ensures.looks.image tells) in
     let shaped = shaped_here c.args.order c.args.level c.args.block c.args.high (g.P.Platform.head c.args.platform.now) c.in-Kept.low c.in-Kept.addr c.in-Kept.key twig at fits in
     let bare = bare_of at.below (want_here c.args.order c.args.level c.in-Kept.low c.args.high c.in-Kept.addr) twig fits in
-    let stands' = subst (λ p. StandsOver p c.read_node.new.cache) (sym same) (c.in_ok-twig-in-Kept.ensures.stands tells stands) in
+    let stands' = subst (λ p. StandsOver p c.read_kept.new.cache) (sym same) (c.in_ok-twig-in-Kept.ensures.stands tells stands) in
     let way0 = subst (λ p. OnWay c.args.block (λ end d. HeldFor (IsReadAs p c.args.order) c.args.order c.args.block (c.args.level - 1) end d c.hold_below-in-Kept.new.held.items) c.args.high twig) same (c.in_ok-left-in-Kept.ensures.reads tells stands') in
     let way = subst (λ k. OnWay c.args.block (λ end d. HeldFor Reads c.args.order c.args.block k end d c.hold_below-in-Kept.new.held.items) c.args.high twig) l way0 in
     let lt = head_of_kept c.args.order c.args.level c.args.block c.args.high (g.P.Platform.head c.args.platform.now) c.in-Kept.low c.in-Kept.addr c.in-Kept.key at in
     let small : c.in-Kept.addr < 2 ^ 64 = omega (arith, lt, g.met.P.Platform.has_room c.args.platform.now, g.met.P.Platform.is_limited c.args.platform.now) in
     let node = subst (λ k. IsNodeOf pages (want_here c.args.order k c.in-Kept.low c.args.high c.in-Kept.addr) c.in-Kept.key twig) at.level_is
-    (subst (λ k. IsNodeOf pages (want_here c.args.order c.args.level c.in-Kept.low c.args.high c.in-Kept.addr) k twig) c.from_bytes-key.ensures (c.in_ok-twig-in-Kept.ensures.reads tells stands)) in
+    (c.in_ok-twig-in-Kept.ensures.reads tells stands) in
     let reads = read_as pages c.args.order at.below c.in-Kept.low c.args.high c.in-Kept.addr (c.args.order / 2) c.in-Kept.key twig small node in
     let h = holds_kept Reads c.args.order c.args.block at.below c.args.high c.in-Kept.low c.in-Kept.addr c.in-Kept.key twig c.hold_below-in-Kept.new.held.items c.hold.new.held.items c.in_ok-hold-in-Kept.ensures.held reads shaped bare (read_lower at.below c.args.high (want_here c.args.order c.args.level c.in-Kept.low c.args.high c.in-Kept.addr) twig fits) way in
     subst (λ x. HeldFor Reads c.args.order c.args.block c.args.level c.args.high x c.hold.new.held.items) (sym c.in-Kept.is)
@@ -331,8 +330,8 @@ hold_way-returns-in_ok-hold-in-Kept-clause-helps g t c =
 pub hold_way-returns-in_ok-hold-in-Kept-clause-beside : goal.hold_way-returns-in_ok-hold-in-Kept-clause-beside
 hold_way-returns-in_ok-hold-in-Kept-clause-beside g t c = λ tells stands.
     (let pages = (g.P.Platform.history c.args.platform.now).present.readable in
-    let same : (g.P.Platform.history c.read_node.new.platform).present.readable ≡ pages = ap (λ i. i.readable) (c.in_ok-twig-in-Kept.ensures.looks.image tells) in
-    let stands' = subst (λ p. StandsOver p c.read_node.new.cache) (sym same) (c.in_ok-twig-in-Kept.ensures.stands tells stands) in
+    let same : (g.P.Platform.history c.read_kept.new.platform).present.readable ≡ pages = ap (λ i. i.readable) (c.in_ok-twig-in-Kept.ensures.looks.image tells) in
+    let stands' = subst (λ p. StandsOver p c.read_kept.new.cache) (sym same) (c.in_ok-twig-in-Kept.ensures.stands tells stands) in
     let twig = c.in_ok-twig-in-Kept.twig in
     let left = subst (λ p. IsLeft (λ loses. HelpsBelow (IsReadAs p c.args.order) c.args.order c.args.block (c.args.level - 1) c.args.high twig c.hold_below-in-Kept.new.held.items c.hold_below-in-Kept.new.beside.items loses) c.args.order (length (children_of twig)) c.in_ok-left-in-Kept.left) same
     (c.in_ok-left-in-Kept.ensures.beside tells stands') in
@@ -365,9 +364,8 @@ hold_way-returns-in_err-twig-in-Kept-clause-bad g t c =
     let at = subst (CanHold c.args.order c.args.level c.args.block c.args.high (g.P.Platform.head c.args.platform.now)) c.in-Kept.is c.requires.can in
     let pages = (g.P.Platform.history c.args.platform.now).present.readable in
     let b = c.in_err-twig-in-Kept.ensures.bad tells stands addr (ap Err same) in
-    let nothing = subst (NothingFits pages (want_here c.args.order c.args.level c.in-Kept.low c.args.high c.in-Kept.addr)) c.from_bytes-key.ensures b.1 in
     subst (WrongOnWay pages c.args.order c.args.block addr c.args.level c.args.high) (sym c.in-Kept.is)
-    (wrong_here pages c.args.order c.args.level c.args.block c.args.high (g.P.Platform.head c.args.platform.now) c.in-Kept.low c.in-Kept.addr addr c.in-Kept.key at (Here (b.0, nothing))))
+    (wrong_here pages c.args.order c.args.level c.args.block c.args.high (g.P.Platform.head c.args.platform.now) c.in-Kept.low c.in-Kept.addr addr c.in-Kept.key at (Here b)))
 
 pub hold_way-returns-in_err-left-in-Kept-clause-bad : goal.hold_way-returns-in_err-left-in-Kept-clause-bad
 hold_way-returns-in_err-left-in-Kept-clause-bad g t c =
@@ -378,12 +376,12 @@ hold_way-returns-in_err-left-in-Kept-clause-bad g t c =
     let twig = c.in_ok-twig-in-Kept.twig in
     let pages = (g.P.Platform.history c.args.platform.now).present.readable in
     let l : c.args.level - 1 ≡ at.below = omega (arith, at.level_is) in
-    let same : (g.P.Platform.history c.read_node.new.platform).present.readable ≡ pages = ap (λ i. i.readable) (c.in_ok-twig-in-Kept.ensures.looks.image tells) in
-    let stands' = subst (λ p. StandsOver p c.read_node.new.cache) (sym same) (c.in_ok-twig-in-Kept.ensures.stands tells stands) in
+    let same : (g.P.Platform.history c.read_kept.new.platform).present.readable ≡ pages = ap (λ i. i.readable) (c.in_ok-twig-in-Kept.ensures.looks.image tells) in
+    let stands' = subst (λ p. StandsOver p c.read_kept.new.cache) (sym same) (c.in_ok-twig-in-Kept.ensures.stands tells stands) in
     let w0 = subst (λ p. WrongUnder p c.args.order c.args.block addr (c.args.level - 1) c.args.high twig) same (c.in_err-left-in-Kept.ensures.bad tells stands' addr (ap Err err)) in
     let w = subst (λ k. WrongUnder pages c.args.order c.args.block addr k c.args.high twig) l w0 in
     let node = subst (λ k. IsNodeOf pages (want_here c.args.order k c.in-Kept.low c.args.high c.in-Kept.addr) c.in-Kept.key twig) at.level_is
-    (subst (λ k. IsNodeOf pages (want_here c.args.order c.args.level c.in-Kept.low c.args.high c.in-Kept.addr) k twig) c.from_bytes-key.ensures (c.in_ok-twig-in-Kept.ensures.reads tells stands)) in
+    (c.in_ok-twig-in-Kept.ensures.reads tells stands) in
     let fits = subst (λ k. IsNodeFor (want_here c.args.order k c.in-Kept.low c.args.high c.in-Kept.addr) twig) at.level_is c.in_ok-twig-in-Kept.ensures.fits in
     let comes = wrong_below pages c.args.order c.args.block addr at.below c.in-Kept.low c.args.high c.in-Kept.addr (c.args.order / 2) c.args.order c.in-Kept.key twig fits node w in
     subst (WrongOnWay pages c.args.order c.args.block addr c.args.level c.args.high) (sym c.in-Kept.is)
@@ -438,12 +436,12 @@ hold_way-returns-in_ok-hold-in-Kept-clause-mapped g t c = λ tells stands mapped
     let twig = c.in_ok-twig-in-Kept.twig in
     let pages = (g.P.Platform.history c.args.platform.now).present.readable in
     let l : c.args.level - 1 ≡ at.below = omega (arith, at.level_is) in
-    let same : (g.P.Platform.history c.read_node.new.platform).present.readable ≡ pages = ap (λ i. i.readable) (c.in_ok-twig-in-Kept.ensures.looks.image tells) in
-    let stands' = subst (λ p. StandsOver p c.read_node.new.cache) (sym same) (c.in_ok-twig-in-Kept.ensures.stands tells stands) in
+    let same : (g.P.Platform.history c.read_kept.new.platform).present.readable ≡ pages = ap (λ i. i.readable) (c.in_ok-twig-in-Kept.ensures.looks.image tells) in
+    let stands' = subst (λ p. StandsOver p c.read_kept.new.cache) (sym same) (c.in_ok-twig-in-Kept.ensures.stands tells stands) in
     let lt = head_of_kept c.args.order c.args.level c.args.block c.args.high (g.P.Platform.head c.args.platform.now) c.in-Kept.low c.in-Kept.addr c.in-Kept.key at in
     let small : c.in-Kept.addr < 2 ^ 64 = omega (arith, lt, g.met.P.Platform.has_room c.args.platform.now, g.met.P.Platform.is_limited c.args.platform.now) in
     let node = subst (λ k. IsNodeOf pages (want_here c.args.order k c.in-Kept.low c.args.high c.in-Kept.addr) c.in-Kept.key twig) at.level_is
-    (subst (λ k. IsNodeOf pages (want_here c.args.order c.args.level c.in-Kept.low c.args.high c.in-Kept.addr) k twig) c.from_bytes-key.ensures (c.in_ok-twig-in-Kept.ensures.reads tells stands)) in
+    (c.in_ok-twig-in-Kept.ensures.reads tells stands) in
     let reads = read_as pages c.args.order at.below c.in-Kept.low c.args.high c.in-Kept.addr (c.args.order / 2) c.in-Kept.key twig small node in
     let k = kept_mapped pages c.args.order at.below c.args.high c.in-Kept.low c.in-Kept.addr c.in-Kept.key twig reads mapped
     (subst (λ k. Maps pages c.args.order (stubs k c.args.high (made.Kept c.in-Kept.low c.in-Kept.addr c.in-Kept.key)) mapped) at.level_is (subst (λ x. Maps pages c.args.order (stubs c.args.level c.args.high x) mapped) c.in-Kept.is m)) in

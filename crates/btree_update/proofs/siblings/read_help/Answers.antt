@@ -1,6 +1,5 @@
-use Rattle.std.proofs.Common.{◌≡◌, suc, ◌<◌, ◌≤◌, ◌-◌, ◌/◌, ◌^◌, Err, Some, length, sym, ap, subst, arith}
+use Rattle.std.proofs.Common.{◌≡◌, suc, ◌<◌, ◌-◌, ◌/◌, ◌^◌, Err, Some, length, sym, ap, subst, arith}
 use Rattle.std.proofs.lemmas.Result.{err_from_is_err_and}
-use Rattle.page_store.specs.Places.{NothingFits}
 use Rattle.btree_twigs.specs.declared.twigs.Child.{out-Child}
 use Rattle.btree_twigs.specs.declared.twigs.Child.TheVariants as made
 use Rattle.btree_twigs.specs.Stubs.{children_of}
@@ -13,8 +12,8 @@ use Rattle.btree_update.proofs.HoldLaws.{read_as}
 use Rattle.btree_update.proofs.BesideLaws.{want_beside, spares_of, beside_lt, node_at, lends_kept}
 use Rattle.btree_update.proofs.siblings.read_help.Goals as goal
 
-pub read_node-requires-clause-within : goal.read_node-requires-clause-within
-read_node-requires-clause-within g c =
+pub read_kept-requires-clause-within : goal.read_kept-requires-clause-within
+read_kept-requires-clause-within g c =
     beside_lt c.args.order c.args.level c.args.high (g.P.Platform.head c.args.platform.now) c.in-Kept.low c.in-Kept.addr c.in-Kept.key
     (subst (CanRead c.args.order c.args.level c.args.high (g.P.Platform.head c.args.platform.now)) c.in-Kept.is c.requires.can)
 
@@ -26,9 +25,8 @@ returns-in_err-twig-in-Kept-clause-bad g c =
     let at = subst (CanRead c.args.order c.args.level c.args.high (g.P.Platform.head c.args.platform.now)) c.in-Kept.is c.requires.can in
     let pages = (g.P.Platform.history c.args.platform.now).present.readable in
     let b = c.in_err-twig-in-Kept.ensures.bad tells stands addr (ap Err same) in
-    let nothing = subst (NothingFits pages (want_beside c.args.order c.args.level c.in-Kept.low c.args.high c.in-Kept.addr)) c.from_bytes-key.ensures b.1 in
     subst (IsWrongChild pages c.args.order addr c.args.level c.args.high) (sym c.in-Kept.is)
-    (subst (IsWrongIn pages c.args.order addr c.args.level c.args.high) (sym (made.outs-Kept c.in-Kept.low c.in-Kept.addr c.in-Kept.key)) (omega (arith, at.level_is), (b.0, nothing))))
+    (subst (IsWrongIn pages c.args.order addr c.args.level c.args.high) (sym (made.outs-Kept c.in-Kept.low c.in-Kept.addr c.in-Kept.key)) (omega (arith, at.level_is), b)))
 
 pub returns-in_ok-twig-in-Kept-clause-helps : goal.returns-in_ok-twig-in-Kept-clause-helps
 returns-in_ok-twig-in-Kept-clause-helps g c =
@@ -51,7 +49,7 @@ returns-in_ok-twig-in-Kept-clause-reads g c = λ tells stands.
     let small : c.in-Kept.addr < 2 ^ 64 = omega (arith, lt, g.met.P.Platform.has_room c.args.platform.now, g.met.P.Platform.is_limited c.args.platform.now) in
     let l : c.args.level ≡ suc (c.args.level - 1) = omega (arith, at.level_is) in
     let node = subst (λ k. IsNodeOf pages (want_beside c.args.order k c.in-Kept.low c.args.high c.in-Kept.addr) c.in-Kept.key twig) l
-    (subst (λ k. IsNodeOf pages (want_beside c.args.order c.args.level c.in-Kept.low c.args.high c.in-Kept.addr) k twig) c.from_bytes-key.ensures (c.in_ok-twig-in-Kept.ensures.reads tells stands)) in
+    (c.in_ok-twig-in-Kept.ensures.reads tells stands) in
     let reads = read_as pages c.args.order (c.args.level - 1) c.in-Kept.low c.args.high c.in-Kept.addr (c.args.order / 2) c.in-Kept.key twig small node in
     let n = node_at c.args.order c.args.level c.args.high (g.P.Platform.head c.args.platform.now) c.in-Kept.low c.in-Kept.addr c.in-Kept.key at Reads twig c.in_ok-twig-in-Kept.ensures.fits reads in
     subst (λ x. LendsFrom Reads c.args.order (c.args.level - 1) loses c.args.high (out-Child x) (Some twig)) (sym c.in-Kept.is)
