@@ -21,11 +21,11 @@ use Rattle.btree_twigs.proofs.Children.{begins_le}
 use Rattle.btree_twigs.proofs.Nodes.{low_of_grown, children_of_roll, start_first}
 use Rattle.btree_twigs.proofs.Ways.{IsWay}
 
-all_append : (P : Node → Type 0) (xs ys : List Node) → AllByRecursion P xs → AllByRecursion P ys → AllByRecursion P (xs ++ ys)
+pub all_append : (P : Node → Type 0) (xs ys : List Node) → AllByRecursion P xs → AllByRecursion P ys → AllByRecursion P (xs ++ ys)
 all_append P [] ys h k = k
 all_append P (x ∷ xs) ys h k = (h.0, all_append P xs ys h.1 k)
 
-all_weaker : (P Q : Node → Type 0) → ((n : Node) → P n → Q n) → (xs : List Node) → AllByRecursion P xs → AllByRecursion Q xs
+pub all_weaker : (P Q : Node → Type 0) → ((n : Node) → P n → Q n) → (xs : List Node) → AllByRecursion P xs → AllByRecursion Q xs
 all_weaker P Q f [] h = tt
 all_weaker P Q f (x ∷ xs) h = (f x h.0, all_weaker P Q f xs h.1)
 
@@ -37,7 +37,7 @@ rows_append below high (x ∷ xs) ys = rw (start_append low_of xs ys high, rows_
 abbrev Within : ℕ → ℕ → List Node → Type 0
 Within low high = AllByRecursion (λ n. (low ≤ n.low) × (n.low < high))
 
-rows_within : (Below : ℕ → Child → Type 0) (below : ℕ → Child → List Node) → ((high : ℕ) (c : Child) → low_of c < high → Below high c → Within (low_of c) high (below high c)) →
+pub rows_within : (Below : ℕ → Child → Type 0) (below : ℕ → Child → List Node) → ((high : ℕ) (c : Child) → low_of c < high → Below high c → Within (low_of c) high (below high c)) →
     (high : ℕ) (cs : List Child) → EachBy low_of Below high cs → Within (start_by low_of cs high) high (rows_by below high cs)
 rows_within Below below one high [] h = tt
 rows_within Below below one high (c ∷ cs) h =
@@ -63,7 +63,7 @@ row_within medium m j order (suc level) high c lt h = here (λ high c. row_withi
         by false le w = all_weaker _ _ (λ n k. (omega (arith, k.0, le), k.1)) _ w
 
 -- a row between others
-replaces_lift : (block : ℕ) (xs old new ys old' new' : List Node) (node : Node) (news : List Node) → old' ≡ xs ++ (old ++ ys) → new' ≡ xs ++ (new ++ ys) → AllByRecursion (λ n. n.low ≤ block) xs → AllByRecursion (λ n. block < n.low) ys →
+pub replaces_lift : (block : ℕ) (xs old new ys old' new' : List Node) (node : Node) (news : List Node) → old' ≡ xs ++ (old ++ ys) → new' ≡ xs ++ (new ++ ys) → AllByRecursion (λ n. n.low ≤ block) xs → AllByRecursion (λ n. block < n.low) ys →
     Replaces block old new node news → Replaces block old' new' node news
 replaces_lift block xs old new ys old' new' node news was now before after r = record {
   front = xs ++ r.front;
@@ -331,7 +331,7 @@ module _ (medium : Stub → ℕ → List Node) (m : IsMedium medium) (order bloc
             (subst (λ xs. TakesLow (low_of part) (map low_of (fs ++ c ∷ bs)) (map low_of xs)) (sym now) (lows_two medium m order block w.below least low high fs c bs node w.from to d low_is part));
       })
 
-uncons : (xs : List Child) → 0 < length xs → (x : Child) × (ys : List Child) × (xs ≡ x ∷ ys)
+pub uncons : (xs : List Child) → 0 < length xs → (x : Child) × (ys : List Child) × (xs ≡ x ∷ ys)
 uncons [] lt = absurd (omega (arith, lt))
 uncons (x ∷ xs) lt = (x, xs, refl)
 

@@ -10,3 +10,4 @@ pub mod Removals
 pub mod Tops
 pub mod Counts
 pub mod LevelLaws
+pub mod SinkLaws
