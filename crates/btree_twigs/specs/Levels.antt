@@ -1,4 +1,4 @@
--- The levels of a tree, and what an insertion makes of them: a reshape of flat rows.
+-- The levels of a tree, and what an update makes of them: a reshape of flat rows.
 use Rattle.std.specs.Prelude.{◌≡◌, ◌⊎◌, ◌==◌, if◌then◌else◌, ℕ, zero, suc, ◌+◌, ◌/◌, ◌<◌, ◌≤◌, List, [], ◌∷◌, ◌++◌, Option, None, Some, length, map}
 use Rattle.std.specs.List.{AllByRecursion}
 use Rattle.btree_twigs.specs.declared.twigs.Child.{Child, Child-F, out-Child}
@@ -73,7 +73,8 @@ pub record CutAt (order block : ℕ) (old new : List Node) (low part : ℕ) : Ty
   pub half : length left ≡ order / 2
   pub rest : length left + suc (length right) ≡ order + 1
 
--- on so many levels from one on: the node on the way takes the low, and the levels above stay; or it is cut, and the low of the right part goes to the level above.
+-- on so many levels from one on: the node on the way takes the low, and the levels above stay;
+-- or it is cut, and the low of the right part goes to the level above.
 -- What goes to the level above the last, if anything
 unfoldable pub Rises : ℕ → ℕ → (ℕ → List Node) → (ℕ → List Node) → ℕ → ℕ → ℕ → Option ℕ → Type 0
 Rises order block old new zero j low out = out ≡ Some low
@@ -109,7 +110,8 @@ IsRowPutBelow medium order block level high old new None = Rises order block (λ
 IsRowPutBelow medium order block level high old new (Some part) =
     Rises order block (λ j. row medium j level high old) (λ j. row medium j level (low_of part) new ++ row medium j level high part) level 1 block (Some (low_of part))
 
--- the levels of a tree after an insertion are a reshape of those before: they rise up to the root; where the root is cut there is a new one over the two parts
+-- the levels of a tree after an insertion are a reshape of those before: they rise up to the root;
+-- where the root is cut there is a new one over the two parts
 abbrev pub IsReshaped : (Stub → ℕ → List Node) → ℕ → ℕ → ℕ → ℕ → Child → Child → Type 0
 IsReshaped medium order block level high old new =
     Rises order block (λ j. row medium j (suc level) high old) (λ j. row medium j (suc level) high new) (suc level) 1 block None
@@ -172,7 +174,8 @@ pub record MendedAt (order block : ℕ) (old new : List Node) (change next : Cha
   pub here : node.low ≤ block
   pub after : AllByRecursion (λ n. block < n.low) back
 
--- on so many levels from one on, a change comes to the node on the way: it keeps enough, and the levels above stay; or it is evened out, and the node above changes.
+-- on so many levels from one on, a change comes to the node on the way: it keeps enough, and the levels above stay;
+-- or it is evened out, and the node above changes.
 -- What comes to the level above the last
 unfoldable pub Sinks : ℕ → ℕ → (ℕ → List Node) → (ℕ → List Node) → ℕ → ℕ → Change → Change → Type 0
 Sinks order block old new zero j change out = out ≡ change
@@ -192,7 +195,8 @@ IsRowTakenBy medium order block level high (Grown low old) (Grown low' new) = (l
 IsRowTakenBy medium order block level high (Grown low old) (Kept low' addr key) = ⊥
 IsRowTakenBy medium order block level high (Kept low addr key) new = ⊥
 
--- the levels of a tree after a removal are a reshape of those before: they sink up to the root, whose lows change; an inner root that is left with one child gives way to it
+-- the levels of a tree after a removal are a reshape of those before: they sink up to the root, whose lows change;
+-- an inner root that is left with one child gives way to it
 pub record IsReshapedDown (medium : Stub → ℕ → List Node) (order block level high : ℕ) (old new : Child) : Type 0 where
   pub twig : Twig
   pub left : Twig
