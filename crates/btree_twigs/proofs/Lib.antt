@@ -9,3 +9,5 @@ pub mod Takings
 pub mod Removals
 pub mod Tops
 pub mod Counts
+pub mod LevelLaws
+pub mod SinkLaws

@@ -29,7 +29,7 @@ pub wide : (order level high : ℕ) (d : Child) → IsGrown order level (order /
 unfolding IsChild
 wide order level high d h le = wide_by order level high (out-Child d) h le
 
-least_by : (order level least high : ℕ) (x : Child-F Child Twig) → IsGrownBy order level least high x → IsGrownBy order level 0 high x × (least ≤ width_in x) × (width_in x ≤ order)
+pub least_by : (order level least high : ℕ) (x : Child-F Child Twig) → IsGrownBy order level least high x → IsGrownBy order level 0 high x × (least ≤ width_in x) × (width_in x ≤ order)
 least_by order level least high (Kept low addr key) h = absurd h
 least_by order level least high (Grown low twig) h = (
   record {
@@ -45,11 +45,11 @@ held_by : (order level high : ℕ) (x : Child-F Child Twig) → IsHeldIn x → I
 held_by order level high (Kept low addr key) held h = absurd held
 held_by order level high (Grown low twig) held h = h
 
-held : (order level high : ℕ) (c : Child) → IsHeldIn (out-Child c) → IsChild order (suc level) high c → IsGrown order level 0 high c × (order / 2 ≤ width_of c) × (width_of c ≤ order)
+pub held : (order level high : ℕ) (c : Child) → IsHeldIn (out-Child c) → IsChild order (suc level) high c → IsGrown order level 0 high c × (order / 2 ≤ width_of c) × (width_of c ≤ order)
 unfolding IsChild
 held order level high c h k = least_by order level (order / 2) high (out-Child c) (held_by order level high (out-Child c) h k)
 
-short_one : (order : ℕ) (a b : ℕ) → order / 2 - 1 ≤ a → a < order / 2 → order / 2 ≤ b → b ≤ order → OneShort order a b × OneShort order b a
+pub short_one : (order : ℕ) (a b : ℕ) → order / 2 - 1 ≤ a → a < order / 2 → order / 2 ≤ b → b ≤ order → OneShort order a b × OneShort order b a
 short_one order a b h k l m = (inl (omega (arith, h, k), l, m), inr (omega (arith, h, k), l, m))
 
 one_tiles : (order level : ℕ) (high : ℕ) (c : Child) → low_of c < high → IsChild order level high c → Tiles (low_of c) high (stubs level high c)
@@ -134,7 +134,7 @@ module _ (order l least low high block : ℕ) (fs : List Child) (c : Child) (bs 
 -- it is mended with the one that follows
 module _ (order l least low high block : ℕ) (four : 4 ≤ order) (fs : List Child) (c b : Child) (bs : List Child) (d : Child) (h : IsNode order (suc l) least order low high (fs ++ c ∷ b ∷ bs)) (fewer : ℕ) (t : IsChildTaken order l (low_of b) block fewer c d)
     (in_memory : IsHeldIn (out-Child b)) (short : width_of d < order / 2) where
-  abbrev can_next : CanMend order d b
+  abbrev pub can_next : CanMend order d b
   can_next =
       let back = each_back low_of (IsChild order (suc l)) high fs (c ∷ b ∷ bs) h.each in
       let g = least_by order l (order / 2 - 1) (low_of b) (out-Child d) t.grown in
@@ -160,10 +160,10 @@ module _ (order l least low high block : ℕ) (four : 4 ≤ order) (fs : List Ch
 -- or with the one before
 module _ (order l least low high block : ℕ) (four : 4 ≤ order) (fs : List Child) (g c : Child) (d : Child) (h : IsNode order (suc l) least order low high ((fs ++ g ∷ []) ++ c ∷ [])) (fewer : ℕ) (t : IsChildTaken order l high block fewer c d)
     (in_memory : IsHeldIn (out-Child g)) (short : width_of d < order / 2) where
-  regrouped : IsNode order (suc l) least order low high (fs ++ ((g ∷ c ∷ []) ++ []))
+  pub regrouped : IsNode order (suc l) least order low high (fs ++ ((g ∷ c ∷ []) ++ []))
   regrouped = subst (IsNode order (suc l) least order low high) (append_assoc fs (g ∷ []) (c ∷ [])) h
 
-  abbrev can_last : CanMend order g d
+  abbrev pub can_last : CanMend order g d
   can_last =
       let back = each_back low_of (IsChild order (suc l)) high fs (g ∷ c ∷ []) regrouped.each in
       let k = held order l (low_of c) g in_memory back.1 in
@@ -215,27 +215,27 @@ child_taken order level low high block loses old new p = record {
 }
 
 -- the last of a list
-record IsSnoc (fs : List Child) : Type 0 where
-  front : List Child
-  last : Child
-  is : fs ≡ front ++ last ∷ []
+pub record IsSnoc (fs : List Child) : Type 0 where
+  pub front : List Child
+  pub last : Child
+  pub is : fs ≡ front ++ last ∷ []
 
-snoc : (fs : List Child) → 0 < length fs → IsSnoc fs
+pub snoc : (fs : List Child) → 0 < length fs → IsSnoc fs
 snoc [] h = absurd (omega (arith, h))
 snoc (f ∷ []) h = record { front = []; last = f; is = refl }
 snoc (f ∷ g ∷ fs) h = let s = snoc (g ∷ fs) (omega arith) in record { front = f ∷ s.front; last = s.last; is = ap (λ ys. f ∷ ys) s.is }
 
 module _ (order l least low high block i loses fewer : ℕ) (four : 4 ≤ order) (fs : List Child) (c d : Child) (at : length fs ≡ i) (short : width_of d < order / 2) where
-  abbrev next_at : (b : Child) (bs : List Child) → IsNode order (suc l) least order low high (fs ++ c ∷ b ∷ bs) → IsChildTaken order l (low_of b) block fewer c d → IsHeldIn (out-Child b) → MendsAt order (fs ++ d ∷ b ∷ bs) i
+  abbrev pub next_at : (b : Child) (bs : List Child) → IsNode order (suc l) least order low high (fs ++ c ∷ b ∷ bs) → IsChildTaken order l (low_of b) block fewer c d → IsHeldIn (out-Child b) → MendsAt order (fs ++ d ∷ b ∷ bs) i
   next_at b bs h t in_memory = record { front = fs; one = d; other = b; back = bs; is = refl; at = at; can = can_next order l least low high block four fs c b bs d h fewer t in_memory short }
 
-  last_is : (gs : List Child) (g : Child) → fs ≡ gs ++ g ∷ [] → (fs ++ d ∷ []) ≡ gs ++ g ∷ d ∷ []
+  pub last_is : (gs : List Child) (g : Child) → fs ≡ gs ++ g ∷ [] → (fs ++ d ∷ []) ≡ gs ++ g ∷ d ∷ []
   last_is gs g e = ap (λ ys. ys ++ d ∷ []) e ∙ append_assoc gs (g ∷ []) (d ∷ [])
 
-  last_place : (gs : List Child) (g : Child) → fs ≡ gs ++ g ∷ [] → length gs ≡ i - 1
+  pub last_place : (gs : List Child) (g : Child) → fs ≡ gs ++ g ∷ [] → length gs ≡ i - 1
   last_place gs g e = omega (arith, at, ap length e, length-append gs (g ∷ []))
 
-  abbrev last_at : (gs : List Child) (g : Child) → fs ≡ gs ++ g ∷ [] → IsNode order (suc l) least order low high (fs ++ c ∷ []) → IsChildTaken order l high block fewer c d → IsHeldIn (out-Child g) → MendsAt order (fs ++ d ∷ []) (i - 1)
+  abbrev pub last_at : (gs : List Child) (g : Child) → fs ≡ gs ++ g ∷ [] → IsNode order (suc l) least order low high (fs ++ c ∷ []) → IsChildTaken order l high block fewer c d → IsHeldIn (out-Child g) → MendsAt order (fs ++ d ∷ []) (i - 1)
   last_at gs g e h t in_memory = record {
     front = gs;
     one = g;

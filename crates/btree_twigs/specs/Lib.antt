@@ -4,3 +4,4 @@ pub mod Updates
 pub mod Search
 pub mod Removal
 pub mod Top
+pub mod Levels

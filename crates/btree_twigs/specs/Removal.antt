@@ -5,6 +5,7 @@ use Rattle.btree_twigs.specs.declared.twigs.Child.TheOpen.{Kept, Grown}
 use Rattle.btree_twigs.specs.declared.twigs.Twig.{Twig}
 use Rattle.btree_twigs.specs.Stubs.{Takes, start_by, low_of, children_of, stubs, stubs_below, nodes, nodes_below, sum_by}
 use Rattle.btree_twigs.specs.Shape.{IsChild, IsTwig}
+use Rattle.btree_twigs.specs.Levels.{IsEvenedBy}
 use Rattle.btree_twigs.specs.Updates.{IsNode, IsOpen, IsGrown, CanMend, IsMended, stubs_under, width_of}
 
 -- a leaf without the block's record: it may have one child fewer than it must
@@ -62,6 +63,7 @@ pub record AreMended (order : ℕ) (cs : List Child) (left : ℕ) (m : MendsAt o
   pub few : length news ≤ 2
   pub mended : IsMended order (suc m.can.level) m.can.high m.one m.other news
   pub two : ((order / 2 < width_of m.one) ⊎ (order / 2 < width_of m.other)) → 2 ≤ length news
+  pub evened : IsEvenedBy order (out-Child m.one) (out-Child m.other) news
 
 -- a node over children of some level, over bounds that have the block, out of which it can be taken: the way is in memory, and so are the neighbours that are to help out
 pub record CanTake (order block : ℕ) (twig : Twig) : Type 0 where

@@ -1,5 +1,6 @@
-ghost use Rattle.std.specs.Prelude.{◌-◌, suc, ◌≡◌, ℕ, ◌<◌, ◌≤◌, ◌+◌, ◌/◌, length, vec_capacity, vec_len};
-ghost use Rattle.btree_twigs.specs.Stubs.{Puts, datum, children_of, nodes, nodes_below, sum_by};
+ghost use Rattle.std.specs.Prelude.{◌-◌, suc, ◌≡◌, ℕ, ◌<◌, ◌≤◌, ◌+◌, ◌/◌, List, length, map, vec_capacity, vec_len};
+ghost use Rattle.btree_twigs.specs.Stubs.{Stub, Puts, datum, children_of, low_of as low_in, nodes, nodes_below, sum_by};
+ghost use Rattle.btree_twigs.specs.Levels.{Node, IsMedium, TakesLow, IsCut, IsRowPut, IsRowPutBelow, IsReshaped};
 ghost use Rattle.btree_twigs.specs.Shape.{IsTwig};
 ghost use Rattle.btree_twigs.specs.Updates.{IsNode, IsPut, HasSpares, IsSplit, IsTwigPut, IsChildPut, CanPut, CanPutBelow};
 ghost use Rattle.std.specs.Option.{option_to_list};
@@ -14,6 +15,7 @@ pub fn put_datum(children: &mut Vec<Child>, block: u64, addr: u64, key: [u8; 32]
     requires { vec_len children.old < vec_capacity children.old }
     ensures put { (order least most low high : ℕ) → IsNode order 0 least most low high children.old.items → low ≤ block → block < high
         → IsPut order 0 least (most + 1) low high (datum block addr key) children.old.items children.new.items }
+    ensures lows { TakesLow block (map low_in children.old.items) (map low_in children.new.items) }
     ensures capacity { vec_capacity children.new ≡ vec_capacity children.old }
 {
     let child = Child::Kept {
@@ -45,6 +47,7 @@ fn split(twig: &mut Twig, order: usize, spares: &mut Vec<Vec<Child>>) -> Child
         → IsSplit order level low high twig.old twig.new result }
     ensures spares { (count : ℕ) → HasSpares order (count + 1) spares.old.items → HasSpares order count spares.new.items }
     ensures exact { length (children_of twig.new) ≡ order / 2 }
+    ensures cut { IsCut order twig.old twig.new result }
     ensures nodes { (level : ℕ) → nodes_below level twig.new + nodes (suc level) result ≡ nodes_below level twig.old + 1 }
 {
     let mut right = take_spare(spares);
@@ -76,6 +79,8 @@ pub fn put(
     ensures spares { (at : CanPut order block spares.old.items twig.old) (count : ℕ)
         → HasSpares order (count + at.level) spares.old.items → HasSpares order count spares.new.items }
     ensures nodes { (at : CanPut order block spares.old.items twig.old) → nodes_below at.level twig.new ≤ nodes_below at.level twig.old + at.level }
+    ensures levels { (medium : Stub → ℕ → List Node) → IsMedium medium → (at : CanPut order block spares.old.items twig.old)
+        → IsRowPut medium order block at.level at.high twig.old twig.new }
 {
     if twig.level == 1 {
         let _old = put_datum(&mut twig.children, block, addr, key);
@@ -107,6 +112,8 @@ fn put_below(
         → HasSpares order (count + suc at.level) spares.old.items → HasSpares order count spares.new.items }
     ensures nodes { (at : CanPutBelow order block spares.old.items child.old)
         → nodes (suc at.level) child.new + sum_by (nodes (suc at.level)) (option_to_list result) ≤ nodes (suc at.level) child.old + suc at.level }
+    ensures levels { (medium : Stub → ℕ → List Node) → IsMedium medium → (at : CanPutBelow order block spares.old.items child.old)
+        → IsRowPutBelow medium order block (suc at.level) at.high child.old child.new result }
 {
     match child {
         Child::Kept { .. } => unreachable!(),
@@ -135,6 +142,8 @@ pub fn put_top(
     ensures put { (at : CanPutTop order block spares.old.items top.old)
         → IsTopPut order at.level at.high (datum block addr key) top.old top.new }
     ensures spares { HasSpares order 0 spares.new.items }
+    ensures levels { (medium : Stub → ℕ → List Node) → IsMedium medium → (at : CanPutTop order block spares.old.items top.old)
+        → IsReshaped medium order block at.level at.high top.old top.new }
 {
     if let Child::Grown { twig, .. } = top {
         put(twig, order, block, addr, key, spares);

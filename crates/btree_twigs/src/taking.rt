@@ -1,5 +1,6 @@
-ghost use Rattle.std.specs.Prelude.{◌⊎◌, IsTrue, IsSome, ◌↔◌, ◌-◌, suc, ◌∷◌, [], ◌++◌, ◌≡◌, ℕ, ◌<◌, ◌≤◌, ◌+◌, ◌/◌, length, take, vec_capacity, vec_len};
-ghost use Rattle.btree_twigs.specs.Stubs.{children_of, nodes, level_of as level_in};
+ghost use Rattle.std.specs.Prelude.{List, map, ◌⊎◌, IsTrue, IsSome, ◌↔◌, ◌-◌, suc, ◌∷◌, [], ◌++◌, ◌≡◌, ℕ, ◌<◌, ◌≤◌, ◌+◌, ◌/◌, length, take, vec_capacity, vec_len};
+ghost use Rattle.btree_twigs.specs.Stubs.{Stub, children_of, low_of as low_in, nodes, level_of as level_in};
+ghost use Rattle.btree_twigs.specs.Levels.{Node, IsMedium, Drops, Changes, IsEvenedBy, IsRowTaken, IsRowTakenBy, IsReshapedDown};
 ghost use Rattle.btree_twigs.specs.Updates.{IsNode, OneShort, HasRoom, width_of, CanMend, IsMended};
 ghost use Rattle.std.specs.Option.{option_to_list};
 ghost use Rattle.btree_twigs.specs.Removal.{below_in, IsTaken, MendsAt, AreMended, CanTake, CanTakeBelow, IsTwigTaken, IsChildTaken, CanMendBeside};
@@ -16,6 +17,7 @@ fn take_datum(children: &mut Vec<Child>, block: u64)
         → IsTaken order 0 least low high block children.old.items children.new.items }
     ensures wide { length children.old.items ≤ length children.new.items + 1 }
     ensures capacity { vec_capacity children.new ≡ vec_capacity children.old }
+    ensures lows { Changes (Drops block) (map low_in children.old.items) (map low_in children.new.items) }
 {
     let at = place(children, block);
     if at == 0 {
@@ -35,7 +37,7 @@ fn even_out(left: &mut Vec<Child>, right: &mut Vec<Child>, order: usize) -> bool
     requires short { OneShort order (length left.old.items) (length right.old.items) }
     ensures all { left.new.items ++ right.new.items ≡ left.old.items ++ right.old.items }
     ensures two { OnTrue result ((order / 2 ≤ length left.new.items) × (length left.new.items ≤ order) × (order / 2 ≤ length right.new.items) × (length right.new.items ≤ order)) }
-    ensures one { OnFalse result ((length right.new.items ≡ 0) × (order / 2 ≤ length left.new.items) × (length left.new.items ≤ order)) }
+    ensures one { OnFalse result ((length right.new.items ≡ 0) × (order / 2 ≤ length left.new.items) × (length left.new.items ≤ order) × (length left.old.items ≤ order / 2) × (length right.old.items ≤ order / 2)) }
     ensures room { (order < vec_capacity left.new) × (order < vec_capacity right.new) }
     ensures lent { OnTrue result ((order / 2 < length right.old.items → length left.new.items ≡ length left.old.items + 1)
         × (length right.old.items ≤ order / 2 → length right.new.items ≡ length right.old.items + 1)) }
@@ -61,10 +63,12 @@ fn even_twigs(left: &mut Twig, right: &mut Twig, order: usize) -> bool
     requires short { OneShort order (length (children_of left.old)) (length (children_of right.old)) }
     ensures all { children_of left.new ++ children_of right.new ≡ children_of left.old ++ children_of right.old }
     ensures two { OnTrue result ((order / 2 ≤ length (children_of left.new)) × (length (children_of left.new) ≤ order) × (order / 2 ≤ length (children_of right.new)) × (length (children_of right.new) ≤ order)) }
-    ensures one { OnFalse result ((length (children_of right.new) ≡ 0) × (order / 2 ≤ length (children_of left.new)) × (length (children_of left.new) ≤ order)) }
+    ensures one { OnFalse result ((length (children_of right.new) ≡ 0) × (order / 2 ≤ length (children_of left.new)) × (length (children_of left.new) ≤ order) × (length (children_of left.old) ≤ order / 2) × (length (children_of right.old) ≤ order / 2)) }
     ensures room { HasRoom order left.new × HasRoom order right.new }
     ensures levels { (level_in left.new ≡ level_in left.old) × (level_in right.new ≡ level_in right.old) }
     ensures lends { ((order / 2 < length (children_of left.old)) ⊎ (order / 2 < length (children_of right.old))) → IsTrue result }
+    ensures lent { OnTrue result ((order / 2 < length (children_of right.old) → length (children_of left.new) ≡ length (children_of left.old) + 1)
+        × (length (children_of right.old) ≤ order / 2 → length (children_of right.new) ≡ length (children_of right.old) + 1)) }
 {
     even_out(&mut left.children, &mut right.children, order)
 }
@@ -76,6 +80,7 @@ fn mend_pair(left: &mut Child, right: Child, order: usize) -> Option<Child>
     requires can { CanMend order left.old right }
     ensures mended { (at : CanMend order left.old right) → IsMended order (suc at.level) at.high left.old right (left.new ∷ option_to_list result) }
     ensures lends { ((order / 2 < width_of left.old) ⊎ (order / 2 < width_of right)) → IsSome result }
+    ensures evened { IsEvenedBy order (out-Child left.old) (out-Child right) (left.new ∷ option_to_list result) }
 {
     let Child::Grown {
         twig: mut right,
@@ -133,7 +138,8 @@ fn mend(children: &mut Vec<Child>, at: usize, order: usize)
 pub fn take(twig: &mut Twig, order: usize, block: u64)
     requires four { 4 ≤ order }
     requires can { CanTake order block twig.old }
-    ensures { (at : CanTake order block twig.old) → IsTwigTaken order at.level at.least at.low at.high block at.loses twig.old twig.new }
+    ensures taken { (at : CanTake order block twig.old) → IsTwigTaken order at.level at.least at.low at.high block at.loses twig.old twig.new }
+    ensures levels { (medium : Stub → ℕ → List Node) → IsMedium medium → (at : CanTake order block twig.old) → IsRowTaken medium order block at.level at.high twig.old twig.new }
 {
     if twig.level == 1 {
         take_datum(&mut twig.children, block);
@@ -153,6 +159,8 @@ fn take_below(child: &mut Child, order: usize, block: u64) -> bool
     requires can { CanTakeBelow order block child.old }
     ensures taken { (at : CanTakeBelow order block child.old) → IsChildTaken order at.level at.high block at.loses child.old child.new }
     ensures short { IsTrue result ↔ (width_of child.new < order / 2) }
+    ensures levels { (medium : Stub → ℕ → List Node) → IsMedium medium → (at : CanTakeBelow order block child.old)
+        → IsRowTakenBy medium order block at.level at.high (out-Child child.old) (out-Child child.new) }
 {
     match child {
         Child::Kept { .. } => unreachable!(),
@@ -168,7 +176,8 @@ fn take_below(child: &mut Child, order: usize, block: u64) -> bool
 pub fn take_top(top: &mut Child, order: usize, block: u64)
     requires four { 4 ≤ order }
     requires can { CanTakeTop order block top.old }
-    ensures { (at : CanTakeTop order block top.old) → IsTopTaken order at.level at.high block top.old top.new }
+    ensures taken { (at : CanTakeTop order block top.old) → IsTopTaken order at.level at.high block top.old top.new }
+    ensures levels { (medium : Stub → ℕ → List Node) → IsMedium medium → (at : CanTakeTop order block top.old) → IsReshapedDown medium order block at.level at.high top.old top.new }
 {
     if let Child::Grown { twig, .. } = top {
         take(twig, order, block);

@@ -3,8 +3,7 @@ use Rattle.std.proofs.Common.{◌≡◌, ℕ, zero, suc, ◌+◌, ◌-◌, ◌/�
 use Rattle.std.proofs.lemmas.List.{length-take-le}
 use Rattle.std.specs.Bool.{OnTrue, OnFalse}
 use Rattle.page_store.specs.declared.wants.Want.{Want}
-use Rattle.btree_twigs.specs.declared.twigs.Child.{Child, Child-F, out-Child}
-use Rattle.btree_twigs.specs.declared.twigs.Child.TheOpen as open_child
+use Rattle.btree_twigs.specs.declared.twigs.Child.{Child, out-Child}
 use Rattle.btree_twigs.specs.declared.twigs.Child.TheVariants as made
 use Rattle.btree_twigs.specs.declared.twigs.Twig.{Twig}
 use Rattle.btree_twigs.specs.Stubs.{Stub, start_by, low_of, children_of, stubs}
@@ -14,7 +13,7 @@ use Rattle.btree_update.specs.Held.{stub_at, AreBelow}
 use Rattle.btree_update.specs.Holding.{IsNodeFor}
 use Rattle.btree_update.specs.declared.siblings.Left.{Left}
 use Rattle.btree_update.specs.declared.siblings.Left.TheVariants.{Unmapped, Enough, Short}
-use Rattle.btree_update.specs.Beside.{LeftOf, IsNodeAt, Spares, LendsFrom, HasHelp, IsNodeHeld, HelpsOnWay, HelpsBelow, HelpsFrom, IsLeft, IsAfter, HoldsHelp, HoldsBeside, CanRead}
+use Rattle.btree_update.specs.Beside.{LeftOf, IsNodeAt, loses_for, Spares, LendsFrom, HasHelp, IsNodeHeld, HelpsOnWay, HelpsBelow, HelpsFrom, IsLeft, IsAfter, HoldsHelp, HoldsBeside, CanRead}
 use Rattle.btree_update.proofs.OpenLaws.{IsOnWay}
 use Rattle.btree_update.proofs.HoldLaws.{same_way, bare_of, read_lower, node_is_twig, kept_below}
 
@@ -25,9 +24,9 @@ IfOk_all P (Err e) all = tt
 abbrev pub want_beside : ℕ → ℕ → ℕ → ℕ → ℕ → Want
 want_beside order level low high addr = record { addr = addr; level = level; low = low; high = high; least = order / 2; most = order }
 
-pub spares_of : (order loses width : ℕ) (lends : Bool) → OnFalse lends (1 ≤ loses) → OnTrue lends (order / 2 < width) → Spares order loses width
-spares_of order loses width true f t = inl t
-spares_of order loses width false f t = inr f
+pub spares_of : (order width : ℕ) (lends : Bool) → OnTrue lends (order / 2 < width) → OnFalse lends (width ≤ order / 2) → Spares order (loses_for lends) width
+spares_of order width true t f = inl (t, refl)
+spares_of order width false t f = inr (f, refl)
 
 -- a neighbour on the medium whose node was read
 module _ (order level high head low addr : ℕ) (key : List ℕ) (at : CanRead order level high head (made.Kept low addr key)) where
@@ -55,18 +54,9 @@ pub lends_grown : (Reads : ℕ → Stub → Twig → Type 0) (order below loses 
     LendsFrom Reads order below loses high (out-Child (made.Grown low twig)) None
 lends_grown Reads order below loses high low twig s = subst (λ x. LendsFrom Reads order below loses high x None) (sym (made.outs-Grown low twig)) s
 
--- how many children a node loses of which a neighbour lends, or merges
-abbrev pub loses_for : Bool → ℕ
-loses_for true = 0
-loses_for false = 1
-
 pub loses_few : (lends : Bool) → loses_for lends ≤ 1
 loses_few true = omega arith
 loses_few false = omega arith
-
-pub loses_one : (lends : Bool) → OnFalse lends (1 ≤ loses_for lends)
-loses_one true = tt
-loses_one false = omega arith
 
 pub after_for : (order width : ℕ) (lends : Bool) (after : Left) → OnTrue lends (IsAfter order width 0 after) → OnFalse lends (IsAfter order width 1 after) → IsAfter order width (loses_for lends) after
 after_for order width true after t f = t
@@ -104,22 +94,6 @@ module _ (Reads : ℕ → Stub → Twig → Type 0) (order below loses high i : 
       let rest : drop (suc i) cs ≡ c ∷ [] = cc in
       subst (λ bs. LendsFrom Reads order below loses (start_by low_of bs high) (out-Child last) one) rest (subst (λ x. LendsFrom Reads order below loses (start_by low_of (drop (suc i) cs) high) (out-Child x) one) first h))
 
--- where more may be lost there is help as well
-more_spares : (order loses more width : ℕ) → loses ≤ more → Spares order loses width → Spares order more width
-more_spares order loses more width le (inl h) = inl h
-more_spares order loses more width le (inr h) = inr (omega (arith, h, le))
-
-more_lends : (Reads : ℕ → Stub → Twig → Type 0) (order below loses more high : ℕ) (x : Child-F Child Twig) (one : Option Twig) → loses ≤ more → LendsFrom Reads order below loses high x one → LendsFrom Reads order below more high x one
-more_lends Reads order below loses more high (open_child.Kept low addr key) None le h = absurd h
-more_lends Reads order below loses more high (open_child.Kept low addr key) (Some t) le h = (h.0, more_spares order loses more _ le h.1)
-more_lends Reads order below loses more high (open_child.Grown low twig) None le h = more_spares order loses more _ le h
-more_lends Reads order below loses more high (open_child.Grown low twig) (Some t) le h = absurd h
-
-pub more_help : (Reads : ℕ → Stub → Twig → Type 0) (order below loses more high : ℕ) (front : List Child) (c : Child) (back : List Child) (one : Option Twig) → loses ≤ more →
-    HasHelp Reads order below loses high front c back one → HasHelp Reads order below more high front c back one
-more_help Reads order below loses more high front c (next ∷ back) one le h = more_lends Reads order below loses more _ (out-Child next) one le h
-more_help Reads order below loses more high front c [] one le h = λ others last is. more_lends Reads order below loses more _ (out-Child last) one le (h others last is)
-
 -- what holds for the child on the way, and beside it, holds for the node
 module _ (Reads : ℕ → Stub → Twig → Type 0) (order block l least low high n : ℕ) (twig : Twig) (c : Child) (shaped : IsTwig order (suc l) least order low high twig) (w : IsOnWay order block (suc l) high (children_of twig) n c) (held : List Twig) (new : List (Option Twig)) where
   on_way_is : (loses : ℕ) → HelpsOnWay Reads order l high (take w.at (children_of twig)) c (drop (suc w.at) (children_of twig)) (HelpsBelow Reads order block l) held new loses → HelpsBelow Reads order block (suc l) high twig held new loses
@@ -136,21 +110,21 @@ module _ (Reads : ℕ → Stub → Twig → Type 0) (order block l least low hig
       (subst (λ x. HelpsOnWay Reads order l high (take w.at cs) x (drop (suc w.at) cs) (HelpsBelow Reads order block l) held new loses) same.0 h)))
 
   module _ (old : List (Option Twig)) where
-    enough_on : (f : LeftOf Reads order block l (start_by low_of (drop (suc w.at) (children_of twig)) high) c held old Enough) → new ≡ old ++ None ∷ [] → (loses : ℕ) → HelpsBelow Reads order block (suc l) high twig held new loses
-    enough_on f is loses = on_way_is loses (record {
+    enough_on : (f : LeftOf Reads order block l (start_by low_of (drop (suc w.at) (children_of twig)) high) c held old Enough) → new ≡ old ++ None ∷ [] → HelpsBelow Reads order block (suc l) high twig held new 0
+    enough_on f is = on_way_is 0 (record {
       node = f.node;
       left = f.rest;
       is_node = f.is_node;
-      helps = record { rest = old; one = None; is = is; fewer = f.left.0; lower = f.left.1; helped = inl (refl, f.left.2) };
+      helps = record { rest = old; one = None; is = is; fewer = f.left.0; lower = f.left.1; helped = inl (refl, f.left.2, refl) };
     })
 
     short_on : (f : LeftOf Reads order block l (start_by low_of (drop (suc w.at) (children_of twig)) high) c held old Short) (after : Left) →
-        (h : HoldsHelp Reads order l (length (children_of twig)) high (take w.at (children_of twig)) c (drop (suc w.at) (children_of twig)) old new after) → (loses : ℕ) → h.loses ≤ loses → HelpsBelow Reads order block (suc l) high twig held new loses
-    short_on f after h loses le = on_way_is loses (record {
+        (h : HoldsHelp Reads order l (length (children_of twig)) high (take w.at (children_of twig)) c (drop (suc w.at) (children_of twig)) old new after) → HelpsBelow Reads order block (suc l) high twig held new h.loses
+    short_on f after h = on_way_is h.loses (record {
       node = f.node;
       left = f.rest;
       is_node = f.is_node;
-      helps = record { rest = old; one = h.one; is = h.is; fewer = 1; lower = f.left; helped = inr (more_help Reads order l h.loses loses high (take w.at (children_of twig)) c (drop (suc w.at) (children_of twig)) h.one le h.helped) };
+      helps = record { rest = old; one = h.one; is = h.is; fewer = f.left.0; lower = f.left.1; helped = inr (f.left.2, h.helped) };
     })
 
     pub left_beside : (left after : Left) → LeftOf Reads order block l (start_by low_of (drop (suc w.at) (children_of twig)) high) c held old left →
@@ -158,19 +132,19 @@ module _ (Reads : ℕ → Stub → Twig → Type 0) (order block l least low hig
         IsLeft (λ loses. HelpsBelow Reads order block (suc l) high twig held new loses) order (length (children_of twig)) after
     left_beside Unmapped after f h = subst (IsLeft (λ loses. HelpsBelow Reads order block (suc l) high twig held new loses) order (length (children_of twig))) (sym h) tt
     left_beside Enough Unmapped f h = absurd h.1
-    left_beside Enough Enough f h = (0, enough_on f h.0 0, h.1)
-    left_beside Enough Short f h = enough_on f h.0 1
+    left_beside Enough Enough f h = (0, enough_on f h.0, h.1)
+    left_beside Enough Short f h = (0, enough_on f h.0, h.1)
     left_beside Short Unmapped f h = absurd h.left
-    left_beside Short Enough f h = (h.loses, short_on f Enough h h.loses (omega arith), h.left)
-    left_beside Short Short f h = short_on f Short h 1 h.few
+    left_beside Short Enough f h = (h.loses, short_on f Enough h, h.left)
+    left_beside Short Short f h = (h.loses, short_on f Short h, h.left)
 
 -- a leaf loses the block's record
 pub left_of_leaf : (Reads : ℕ → Stub → Twig → Type 0) (order block level high : ℕ) (twig : Twig) (held : List Twig) (beside : List (Option Twig)) (after : Left) → level ≡ 0 → IsAfter order (length (children_of twig)) 1 after →
     IsLeft (λ loses. HelpsBelow Reads order block level high twig held beside loses) order (length (children_of twig)) after
 unfolding HelpsBelow
 left_of_leaf Reads order block zero high twig held beside Unmapped is h = absurd h
-left_of_leaf Reads order block zero high twig held beside Enough is h = (1, omega arith, h)
-left_of_leaf Reads order block zero high twig held beside Short is h = omega arith
+left_of_leaf Reads order block zero high twig held beside Enough is h = (1, refl, h)
+left_of_leaf Reads order block zero high twig held beside Short is h = (1, refl, h)
 left_of_leaf Reads order block (suc level) high twig held beside after is h = absurd (omega (arith, is))
 
 -- what a removal asks of a node below which nothing is left open
@@ -178,7 +152,7 @@ pub loses_of : (Reads : ℕ → Stub → Twig → Type 0) (order block below hig
     (loses : ℕ) × HelpsFrom Reads order block below high c held beside loses
 loses_of Reads order block below high c held beside Unmapped mapped f = absurd (mapped refl)
 loses_of Reads order block below high c held beside Enough mapped f = (f.left.0, record { node = f.node; left = f.rest; is_node = f.is_node; helps = f.left.1 })
-loses_of Reads order block below high c held beside Short mapped f = (1, record { node = f.node; left = f.rest; is_node = f.is_node; helps = f.left })
+loses_of Reads order block below high c held beside Short mapped f = (f.left.0, record { node = f.node; left = f.rest; is_node = f.is_node; helps = f.left.1 })
 
 pub leaf_left : (Reads : ℕ → Stub → Twig → Type 0) (order block level high : ℕ) (twig : Twig) (held : List Twig) (beside : List (Option Twig)) (mapped : Bool) (after : Left) → level ≡ 0 →
     OnTrue mapped (IsAfter order (length (children_of twig)) 1 after) → OnFalse mapped (after ≡ Unmapped) → IsLeft (λ loses. HelpsBelow Reads order block level high twig held beside loses) order (length (children_of twig)) after

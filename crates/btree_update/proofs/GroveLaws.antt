@@ -20,6 +20,8 @@ use Rattle.btree_update.specs.GroveTree.{Maps}
 use Rattle.btree_update.specs.Held.{AreBelow}
 use Rattle.btree_update.proofs.OpenLaws.{below_front, below_back, below_append}
 use Rattle.btree_update.specs.Roots.{IsRoot, IsRootBy, RootMaps, RootMapsBy}
+use Rattle.btree_update.specs.declared.groves.Grove.{Grove}
+use Rattle.btree_update.specs.Groves.{IsSound}
 
 -- where a search ends below a root
 pub spot_at : (order below block high low : ℕ) (twig : Twig) (spot : Spot) → IsTop order below high (made.Grown low twig) → block < high →
@@ -60,6 +62,16 @@ top_maps pages order level high c mapped h m = top_maps_by pages order level hig
 
 pub above_it : (level : ℕ) → 1 ≤ level → level ≡ suc (level - 1)
 above_it level one = omega (arith, one)
+
+-- with other lists beside the tree a grove is still sound
+pub sound_as : (old new : Grove) → IsSound old → (new.order ≡ old.order) × (new.blocks ≡ old.blocks) × (new.level ≡ old.level) × (new.top ≡ old.top) → HasSpares old.order 0 new.spares.items → IsSound new
+sound_as old new h same spares = record {
+  least = omega (arith, h.least, same.0);
+  most = omega (arith, h.most, same.0);
+  one = omega (arith, h.one, same.2);
+  shaped = rw (same.0, same.1, same.2, same.3) h.shaped;
+  spares = rw same.0 spares;
+}
 
 -- one list more
 pub spares_push : (order : ℕ) (spares : List (Vec Child Global)) (spare : Vec Child Global) → order ≤ 64 → spare.items ≡ [] → 64 < vec_capacity spare → HasSpares order 0 spares → HasSpares order 0 (spares ++ spare ∷ [])

@@ -1,5 +1,5 @@
 -- What is held beside the way, while the way is opened.
-use Rattle.std.proofs.Common.{◌≡◌, ◌⊎◌, ℕ, zero, suc, ◌+◌, ◌-◌, ◌/◌, ◌≤◌, List, [], ◌∷◌, ◌++◌, Option, None, length, take, drop, inl, inr, refl, sym, ap, subst, ◌∙◌, arith, length-append}
+use Rattle.std.proofs.Common.{◌≡◌, ℕ, zero, suc, ◌-◌, List, [], ◌∷◌, ◌++◌, Option, length, take, drop, inl, inr, refl, sym, ap, subst, ◌∙◌, arith, length-append}
 use Rattle.std.proofs.lemmas.List.{same_from_push}
 use Rattle.btree_twigs.specs.declared.twigs.Child.{Child, Child-F, out-Child}
 use Rattle.btree_twigs.specs.declared.twigs.Child.TheOpen.{Kept, Grown}
@@ -8,7 +8,7 @@ use Rattle.btree_twigs.specs.declared.twigs.Twig.{Twig}
 use Rattle.btree_twigs.specs.Stubs.{Stub, start_by, low_of, children_of}
 use Rattle.btree_twigs.specs.Shape.{EachBy, IsChild, IsTwig}
 use Rattle.btree_update.specs.Held.{IsTakenUp}
-use Rattle.btree_update.specs.Beside.{LendsFrom, HasHelp, IsNodeHeld, HelpsOnWay, HelpsBelow, HelpsFrom, HelpsWide}
+use Rattle.btree_update.specs.Beside.{LendsFrom, HasHelp, KeepsOrHasHelp, IsNodeHeld, HelpsOnWay, HelpsBelow, HelpsFrom, HelpsWide}
 use Rattle.btree_update.proofs.OpenLaws.{IsOnWay}
 use Rattle.btree_update.proofs.HoldLaws.{same_way}
 use Rattle.btree_update.proofs.BesideLaws.{same_split}
@@ -81,10 +81,10 @@ module _ (Reads : ℕ → Stub → Twig → Type 0) (order block l least low hig
       (subst (λ cs. HelpsOnWay Reads order l high fs e cs (HelpsBelow Reads order block l) rest beside loses) same.1
       (subst (λ x. HelpsOnWay Reads order l high fs x bs (HelpsBelow Reads order block l) rest beside loses) same.0 r)))
     where
-      by : (fewer width width' : ℕ) (one : Option Twig) → width ≡ width' → ((one ≡ None) × (order / 2 + fewer ≤ width)) ⊎ HasHelp Reads order l loses high (take w.at (children_of twig)) c (drop (suc w.at) (children_of twig)) one →
-          ((one ≡ None) × (order / 2 + fewer ≤ width')) ⊎ HasHelp Reads order l loses high (take w.at (children_of twig)) d (drop (suc w.at) (children_of twig)) one
-      by fewer width width' one is (inl k) = inl (k.0, omega (arith, k.1, is))
-      by fewer width width' one is (inr k) = inr (other_help Reads order l loses high (take w.at (children_of twig)) c d (drop (suc w.at) (children_of twig)) one low_is k)
+      by : (fewer width width' : ℕ) (one : Option Twig) → width ≡ width' → KeepsOrHasHelp Reads order l fewer width loses high (take w.at (children_of twig)) c (drop (suc w.at) (children_of twig)) one →
+          KeepsOrHasHelp Reads order l fewer width' loses high (take w.at (children_of twig)) d (drop (suc w.at) (children_of twig)) one
+      by fewer width width' one is (inl k) = inl (k.0, omega (arith, k.1, is), k.2)
+      by fewer width width' one is (inr k) = inr (omega (arith, k.0, is), other_help Reads order l loses high (take w.at (children_of twig)) c d (drop (suc w.at) (children_of twig)) one low_is k.1)
 
 -- a node over data records asks for nothing
 pub leaf_asks : (Reads : ℕ → Stub → Twig → Type 0) (order block level high : ℕ) (twig new : Twig) (held rest : List Twig) (beside : List (Option Twig)) (loses : ℕ) → level ≡ 0 →

@@ -16,7 +16,7 @@ use Rattle.btree_twigs.specs.Top.{IsTopBy, top_least}
 use Rattle.btree_twigs.proofs.Ways.{open_front, open_back, child_is_twig}
 use Rattle.btree_update.specs.Held.{stub_at, AreBelow, AnyRead, IsReadAs}
 use Rattle.btree_update.specs.Opens.{Opens, Here, GivesWay}
-use Rattle.btree_update.specs.Beside.{LendsFrom, HasHelp, IsNodeHeld, HelpsOnWay, HelpsBelow, HelpsFrom}
+use Rattle.btree_update.specs.Beside.{Spares, LendsFrom, HasHelp, KeepsOrHasHelp, IsNodeHeld, HelpsOnWay, HelpsBelow, HelpsFrom}
 use Rattle.btree_update.specs.Helping.{IsPutBy, TakesHelp, IsHelpTaken, CanHelp, CanHelpWay, HelpedOut, HelpedWay, HelpedRoot}
 use Rattle.btree_update.proofs.OpenLaws.{child_is, opened, still_opens, still_below, lower, gives_none, gives_then}
 use Rattle.btree_update.proofs.BesideLaws.{same_split}
@@ -29,12 +29,17 @@ record IsUp (order l loses end : ℕ) (x : Child-F Child Twig) (new : Child) : T
   below : (head : ℕ) → AreBelow head (stubs_in (stubs l) (suc l) end x) → AreBelow head (stubs_in (stubs l) (suc l) end (out-Child new))
   few : nodes_in (nodes l) (out-Child new) ≤ nodes_in (nodes l) x + 1
 
+-- it lends, or the node above loses one
+lends_by : (order loses width : ℕ) → Spares order loses width → (order / 2 < width) ⊎ (1 ≤ loses)
+lends_by order loses width (inl h) = inl h.0
+lends_by order loses width (inr h) = inr (omega (arith, h.1))
+
 up : (order l loses end : ℕ) (x : Child-F Child Twig) (new : Child) (node : Twig) (gone more : List ℕ) → LendsFrom AnyRead order l loses end x (Some node) → IsPutBy x new node gone more → IsUp order l loses end x new
 up order l loses end (Grown low twig) new node gone more h p = absurd h
 up order l loses end (Kept low addr key) new node gone more h p = record {
   low_is = ap low_in p.0;
   shaped = subst (IsChildBy (IsChild order l) order l end) (sym p.0) h.0.shaped;
-  lends = subst (λ (y : Child-F Child Twig). IsHeldIn y × ((order / 2 < width_in y) ⊎ (1 ≤ loses))) (sym p.0) (tt, h.1);
+  lends = subst (λ (y : Child-F Child Twig). IsHeldIn y × ((order / 2 < width_in y) ⊎ (1 ≤ loses))) (sym p.0) (tt, lends_by order loses _ h.1);
   below = λ head b. subst (λ y. AreBelow head (stubs_in (stubs l) (suc l) end y)) (sym p.0) (lower addr head _ (omega (arith, b.0)) h.0.lower);
   few = omega (arith, ap (nodes_in (nodes l)) p.0, h.0.bare);
 }
@@ -51,7 +56,7 @@ up_gives pages order l loses end (Kept low addr key) new node gone more h p = re
 -- in memory it lends as it stands
 lends_none : (Reads : ℕ → Stub → Twig → Type 0) (order l loses end : ℕ) (x : Child-F Child Twig) → LendsFrom Reads order l loses end x None → IsHeldIn x × ((order / 2 < width_in x) ⊎ (1 ≤ loses))
 lends_none Reads order l loses end (Kept low addr key) h = absurd h
-lends_none Reads order l loses end (Grown low twig) h = (tt, h)
+lends_none Reads order l loses end (Grown low twig) h = (tt, lends_by order loses _ h)
 
 helped_none : (Reads : ℕ → Stub → Twig → Type 0) (order l loses high : ℕ) (fs : List Child) (c : Child) (bs : List Child) → HasHelp Reads order l loses high fs c bs None → IsHelped order loses fs bs
 helped_none Reads order l loses high fs c (next ∷ back) h = lends_none Reads order l loses _ (out-Child next) h
@@ -145,14 +150,14 @@ placed_none order l least low high at loses fewer old mid fs c bs h is n same he
 })
 
 pub placed : (order l least low high at loses fewer width : ℕ) (old mid : Twig) (gone more : List ℕ) (fs : List Child) (c : Child) (bs : List Child) (one : Option Twig) → IsNode order (suc l) least order low high (children_of old) → children_of old ≡ fs ++ c ∷ bs → length fs + 1 ≡ at →
-    width ≡ width_of c → IsHelpTaken at one old mid gone more → ((one ≡ None) × (order / 2 + fewer ≤ width)) ⊎ HasHelp AnyRead order l loses high fs c bs one → Placed order l least low high at loses fewer (children_of old) (children_of mid) c bs
+    width ≡ width_of c → IsHelpTaken at one old mid gone more → KeepsOrHasHelp AnyRead order l fewer width loses high fs c bs one → Placed order l least low high at loses fewer (children_of old) (children_of mid) c bs
 placed order l least low high at loses fewer width old mid gone more fs c bs None h is n wide t (inl e) = placed_none order l least low high at loses fewer old mid fs c bs h is n t.0 (inl (omega (arith, e.1, wide)))
-placed order l least low high at loses fewer width old mid gone more fs c bs None h is n wide t (inr k) = placed_none order l least low high at loses fewer old mid fs c bs h is n t.0 (inr (helped_none AnyRead order l loses high fs c bs k))
+placed order l least low high at loses fewer width old mid gone more fs c bs None h is n wide t (inr k) = placed_none order l least low high at loses fewer old mid fs c bs h is n t.0 (inr (helped_none AnyRead order l loses high fs c bs k.1))
 placed order l least low high at loses fewer width old mid gone more fs c bs (Some node) h is n wide t (inl e) = absurd (some_none node e.0)
   where
     some_none : (x : Twig) → Some x ≡ None → ⊥
     some_none x e = absurd cc
-placed order l least low high at loses fewer width old mid gone more fs c bs (Some node) h is n wide t (inr k) = placed_some order l least low high at loses fewer old mid gone more fs c bs node h is n t k
+placed order l least low high at loses fewer width old mid gone more fs c bs (Some node) h is n wide t (inr k) = placed_some order l least low high at loses fewer old mid gone more fs c bs node h is n t k.1
 
 gives_some : (pages : List (List ℕ)) (order l least low high at loses : ℕ) (old mid : Twig) (gone more : List ℕ) (fs : List Child) (c : Child) (bs : List Child) (node : Twig) → IsNode order (suc l) least order low high (children_of old) → children_of old ≡ fs ++ c ∷ bs → length fs + 1 ≡ at →
     TakesHelp at node old mid gone more → HasHelp AnyRead order l loses high fs c bs (Some node) → (loses' : ℕ) → HasHelp (IsReadAs pages order) order l loses' high fs c bs (Some node) →
@@ -172,11 +177,11 @@ gives_some pages order l least low high at loses old mid gone more fs c bs node 
     }
 
 pub placed_gives : (pages : List (List ℕ)) (order l least low high at loses fewer width loses' fewer' width' : ℕ) (old mid : Twig) (gone more : List ℕ) (fs : List Child) (c : Child) (bs : List Child) (one : Option Twig) → IsNode order (suc l) least order low high (children_of old) → children_of old ≡ fs ++ c ∷ bs → length fs + 1 ≡ at →
-    IsHelpTaken at one old mid gone more → ((one ≡ None) × (order / 2 + fewer ≤ width)) ⊎ HasHelp AnyRead order l loses high fs c bs one →
-    ((one ≡ None) × (order / 2 + fewer' ≤ width')) ⊎ HasHelp (IsReadAs pages order) order l loses' high fs c bs one → GivesWay pages order (stubs_below (suc l) high old) (stubs_below (suc l) high mid) gone more
+    IsHelpTaken at one old mid gone more → KeepsOrHasHelp AnyRead order l fewer width loses high fs c bs one →
+    KeepsOrHasHelp (IsReadAs pages order) order l fewer' width' loses' high fs c bs one → GivesWay pages order (stubs_below (suc l) high old) (stubs_below (suc l) high mid) gone more
 placed_gives pages order l least low high at loses fewer width loses' fewer' width' old mid gone more fs c bs None h is n t e k =
     subst (GivesWay pages order (stubs_below (suc l) high old) (stubs_below (suc l) high mid) gone) (sym t.1) (subst (λ w. GivesWay pages order (stubs_below (suc l) high old) (stubs_below (suc l) high w) gone gone) (sym t.0) (gives_none pages order (stubs_below (suc l) high old) gone))
-placed_gives pages order l least low high at loses fewer width loses' fewer' width' old mid gone more fs c bs (Some node) h is n t (inr e) (inr k) = gives_some pages order l least low high at loses old mid gone more fs c bs node h is n t e loses' k
+placed_gives pages order l least low high at loses fewer width loses' fewer' width' old mid gone more fs c bs (Some node) h is n t (inr e) (inr k) = gives_some pages order l least low high at loses old mid gone more fs c bs node h is n t e.1 loses' k.1
 placed_gives pages order l least low high at loses fewer width loses' fewer' width' old mid gone more fs c bs (Some node) h is n t (inl e) k = absurd (some_none e.0)
   where
     some_none : Some node ≡ None → ⊥
@@ -339,7 +344,7 @@ module _ (order l least low high block n loses : ℕ) (old mid : Twig) (beside :
                 (let o' = way_asks (IsReadAs pages order) order block (suc l) l high loses' old held' beside fs x bs refl asks split from to in
                 let popped = same_from_push o.helps.rest o'.helps.rest o.helps.one o'.helps.one (sym o.helps.is ∙ o'.helps.is) in
                 let first = placed_gives pages order l least low high n loses o.helps.fewer (length (children_of o.node)) loses' o'.helps.fewer (length (children_of o'.node)) old mid gone gone' fs x bs o.helps.one shaped.node split n_is t o.helps.helped
-                (subst (λ one. ((one ≡ None) × (order / 2 + o'.helps.fewer ≤ length (children_of o'.node))) ⊎ HasHelp (IsReadAs pages order) order l loses' high fs x bs one) (sym popped.1) o'.helps.helped) in
+                (subst (KeepsOrHasHelp (IsReadAs pages order) order l o'.helps.fewer (length (children_of o'.node)) loses' high fs x bs) (sym popped.1) o'.helps.helped) in
                 let g = h.gives pages held' o'.helps.fewer (asks_y (IsReadAs pages order) held' loses' o' rest (rest_is ∙ popped.0)) in
                 let opens = still_opens order (suc l) least low high block f y b node_y pages d g.addrs h.low_is g.opens in
                 let second : GivesWay pages order (stubs_under (suc l) high (children_of mid)) (stubs_under (suc l) high (children_of new)) gone' more = record {
@@ -375,7 +380,7 @@ unfolding HelpsBelow Helps
 leaf_out order zero least low high block loses twig held beside gone is shaped is_open h = record {
   shaped = shaped;
   is_open = is_open;
-  helps = h;
+  helps = omega (arith, h);
   wide = refl;
   below = λ head k. k;
   few = omega arith;

@@ -1,44 +1,66 @@
 -- How the way to a block comes to a wrong place.
-use Rattle.std.proofs.Common.{◌≡◌, ◌⊎◌, inl, inr, ℕ, zero, suc, ◌-◌, ◌<◌, ◌≤◌, List, [], ◌∷◌, ◌++◌, take, drop, ◌==◌, if◌then◌else◌, refl, sym, ap, subst, ◌∙◌, arith}
-use Rattle.std.proofs.lemmas.List.Elements.{Contains-append_left, Contains-append_right}
+use Rattle.std.proofs.Common.{◌≡◌, ◌⊎◌, inl, inr, ℕ, zero, suc, ◌+◌, ◌-◌, ◌<◌, ◌≤◌, List, [], ◌∷◌, ◌++◌, length, take, drop, ◌==◌, if◌then◌else◌, refl, sym, ap, subst, ◌∙◌, arith, length-append, append_assoc}
+use Rattle.std.proofs.lemmas.List.{length-take-le}
 use Rattle.node_codec.specs.declared.body.Entry.{Entry}
 use Rattle.node_codec.specs.Record.{NodeRecord}
-use Rattle.page_store.specs.Places.{FitsAt}
+use Rattle.page_store.specs.Places.{FitsAt, child_want}
 use Rattle.btree_twigs.specs.declared.twigs.Child.{Child, out-Child}
 use Rattle.btree_twigs.specs.declared.twigs.Child.TheOpen as open_child
 use Rattle.btree_twigs.specs.declared.twigs.Child.TheVariants as made
 use Rattle.btree_twigs.specs.declared.twigs.Twig.{Twig}
-use Rattle.btree_twigs.specs.Stubs.{Stub, start_by, low_of, children_of, stubs, stubs_in, stubs_below}
-use Rattle.btree_twigs.specs.Updates.{stubs_under}
-use Rattle.btree_twigs.proofs.ListLaws.{stubs_append}
+use Rattle.btree_twigs.specs.Stubs.{start_by, low_of, children_of}
+use Rattle.btree_twigs.proofs.Children.{low_of_kept}
 use Rattle.btree_twigs.specs.Top.{top_least}
-use Rattle.btree_update.specs.GroveTree.{want_of, top_want, stubs_at}
+use Rattle.btree_update.specs.GroveTree.{want_of, top_want}
 use Rattle.btree_update.specs.Reading.{kept_of, all_kept}
 use Rattle.btree_update.specs.Held.{stub_at}
 use Rattle.btree_update.specs.Holding.{IsNodeFor, IsNodeOf}
-use Rattle.btree_update.specs.Wrong.{HasNode, SpansBlock, IsWrongAt, ComesToWrong, Below, Beside, WrongOnWay, WrongFrom, WrongFromBy}
+use Rattle.btree_update.specs.Wrong.{IsWrongBeside, entry_low, IsWrongEntry, ComesToWrong, Below, Beside, IsWrongIn, IsWrongChild, WrongChildBy, WrongOnWay, WrongUnder, WrongFrom, WrongFromBy}
 use Rattle.btree_update.proofs.OpenLaws.{IsOnWay}
-use Rattle.btree_update.proofs.Readings.{kept_stubs}
+use Rattle.btree_update.proofs.BesideLaws.{same_split}
 use Rattle.btree_update.proofs.RootHolds.{want_root}
-
--- among more places
-within : (pages : List (List ℕ)) (order block addr : ℕ) (fs ss bs : List Stub) → WrongOnWay pages order block addr ss → WrongOnWay pages order block addr (fs ++ (ss ++ bs))
-within pages order block addr fs ss bs w = record {
-  stub = w.stub;
-  has = record {
-    among = Contains-append_right fs (ss ++ bs) w.stub (Contains-append_left ss bs w.stub w.has.among);
-    inner = w.has.inner;
-  };
-  comes = w.comes;
-}
 
 -- below the child on the way, so below the node
 pub wrong_child : (pages : List (List ℕ)) (order level high block addr n : ℕ) (twig : Twig) (c : Child) → (w : IsOnWay order block level high (children_of twig) n c) →
-    WrongOnWay pages order block addr (stubs level (start_by low_of (drop (suc w.at) (children_of twig)) high) c) → WrongOnWay pages order block addr (stubs_below level high twig)
-wrong_child pages order level high block addr n twig c w wrong =
-    let cs = children_of twig in
-    subst (WrongOnWay pages order block addr) (sym (ap (stubs_under level high) w.split ∙ stubs_append low_of (stubs level) high (take w.at cs) (c ∷ drop (suc w.at) cs)))
-    (within pages order block addr (stubs_under level (low_of c) (take w.at cs)) (stubs level (start_by low_of (drop (suc w.at) cs) high) c) (stubs_under level high (drop (suc w.at) cs)) wrong)
+    WrongOnWay pages order block addr level (start_by low_of (drop (suc w.at) (children_of twig)) high) c → WrongUnder pages order block addr level high twig
+wrong_child pages order level high block addr n twig c w wrong = record {
+  front = take w.at (children_of twig);
+  child = c;
+  back = drop (suc w.at) (children_of twig);
+  is = w.split;
+  from = w.from;
+  to = w.to;
+  comes = inl wrong;
+}
+
+-- or at its neighbour
+pub wrong_near : (pages : List (List ℕ)) (order level high block addr n : ℕ) (twig : Twig) (c : Child) → (w : IsOnWay order block level high (children_of twig) n c) →
+    IsWrongBeside low_of (IsWrongChild pages order addr level) high (take w.at (children_of twig)) c (drop (suc w.at) (children_of twig)) → WrongUnder pages order block addr level high twig
+wrong_near pages order level high block addr n twig c w wrong = record {
+  front = take w.at (children_of twig);
+  child = c;
+  back = drop (suc w.at) (children_of twig);
+  is = w.split;
+  from = w.from;
+  to = w.to;
+  comes = inr wrong;
+}
+
+-- the neighbour of the child before a place
+pub wrong_at : (Wrong : ℕ → Child → Type 0) (high i : ℕ) (cs : List Child) (d : Child) → cs ≡ take i cs ++ d ∷ drop (suc i) cs → i < length cs → Wrong (start_by low_of (drop (suc i) cs) high) d →
+    (at : ℕ) (front : List Child) (c : Child) (back : List Child) → cs ≡ front ++ c ∷ back → length front + 1 ≡ at → (at < length cs → i ≡ at) → (at ≡ length cs → i + 2 ≡ at) → IsWrongBeside low_of Wrong high front c back
+wrong_at Wrong high i cs d split lt h at front c (next ∷ back) is n at_next at_last =
+    let i_is = at_next (omega (arith, n, ap length is, length-append front (c ∷ next ∷ back))) in
+    let before = length-take-le i cs (omega (arith, lt)) in
+    let same = same_split (front ++ c ∷ []) (take i cs) (next ∷ back) (d ∷ drop (suc i) cs) (omega (arith, before, length-append front (c ∷ []), i_is, n)) (append_assoc front (c ∷ []) (next ∷ back) ∙ sym is ∙ split) in
+    let first : d ≡ next = cc in
+    let rest : drop (suc i) cs ≡ back = cc in
+    subst (λ bs. Wrong (start_by low_of bs high) next) rest (subst (Wrong (start_by low_of (drop (suc i) cs) high)) first h)
+wrong_at Wrong high i cs d split lt h at front c [] is n at_next at_last =
+    let i_is = at_last (omega (arith, n, ap length is, length-append front (c ∷ []))) in
+    let before = length-take-le i cs (omega (arith, lt)) in
+    let same = same_split (take i cs ++ d ∷ []) front (drop (suc i) cs) (c ∷ []) (omega (arith, before, length-append (take i cs) (d ∷ []), i_is, n)) (append_assoc (take i cs) (d ∷ []) (drop (suc i) cs) ∙ sym split ∙ is) in
+    (take i cs, d, sym same.0, subst (λ bs. Wrong (start_by low_of bs high) d) same.1 h)
 
 -- children on the medium name their entries
 entry_is : (e f : Entry) → e.low ≡ f.low → e.addr ≡ f.addr → e.key ≡ f.key → e ≡ f
@@ -65,36 +87,100 @@ all_kept_is (e ∷ es) (f ∷ fs) same =
 pub read_fits : (pages : List (List ℕ)) (level low high addr least most : ℕ) (key : List ℕ) (twig : Twig) →
     IsNodeFor (record { addr = addr; level = suc level; low = low; high = high; least = least; most = most }) twig →
     IsNodeOf pages (record { addr = addr; level = suc level; low = low; high = high; least = least; most = most }) key twig →
-    (entries : List Entry) × FitsAt pages (record { addr = addr; level = suc level; low = low; high = high; least = least; most = most }) key (NodeRecord (suc level) entries) × (stubs_below level high twig ≡ stubs_at level high entries)
+    (entries : List Entry) × FitsAt pages (record { addr = addr; level = suc level; low = low; high = high; least = least; most = most }) key (NodeRecord (suc level) entries) × (children_of twig ≡ all_kept entries)
 read_fits pages level low high addr least most key twig h o =
     let same = all_kept_is o.entries h.entries (sym o.children ∙ h.children) in (
       h.entries,
       (subst (λ es. FitsAt pages (record { addr = addr; level = suc level; low = low; high = high; least = least; most = most }) key (NodeRecord (suc level) es)) same (o.here, rw same h.wanted)),
-      ap (stubs_under level high) h.children ∙ kept_stubs level high h.entries,
+      h.children,
     )
+
+-- where the children are split, so are the entries
+record SplitsAs (es : List Entry) (fs : List Child) (c : Child) (bs : List Child) : Type 0 where
+  front : List Entry
+  e : Entry
+  back : List Entry
+  is : es ≡ front ++ e ∷ back
+  fronts : fs ≡ all_kept front
+  one : c ≡ kept_of e
+  backs : bs ≡ all_kept back
+
+split_kept : (es : List Entry) (fs : List Child) (c : Child) (bs : List Child) → all_kept es ≡ fs ++ c ∷ bs → SplitsAs es fs c bs
+split_kept [] [] c bs same = absurd cc
+split_kept [] (f ∷ fs) c bs same = absurd cc
+split_kept (e ∷ es) [] c bs same =
+    let first : kept_of e ≡ c = cc in
+    let rest : all_kept es ≡ bs = cc in
+    record { front = []; e = e; back = es; is = refl; fronts = refl; one = sym first; backs = sym rest }
+split_kept (e ∷ es) (f ∷ fs) c bs same =
+    let first : kept_of e ≡ f = cc in
+    let rest : all_kept es ≡ fs ++ c ∷ bs = cc in
+    let s = split_kept es fs c bs rest in
+    record { front = e ∷ s.front; e = s.e; back = s.back; is = ap (λ xs. e ∷ xs) s.is; fronts = ap (λ x. x ∷ fs) (sym first) ∙ ap (λ xs. kept_of e ∷ xs) s.fronts; one = s.one; backs = s.backs }
+
+none_kept : (es : List Entry) → [] ≡ all_kept es → es ≡ []
+none_kept [] same = refl
+none_kept (e ∷ es) same = absurd cc
+
+starts_kept : (es : List Entry) (high : ℕ) → start_by low_of (all_kept es) high ≡ start_by entry_low es high
+starts_kept [] high = refl
+starts_kept (e ∷ es) high = low_of_kept e.low e.addr e.key
+
+wrong_entry : (pages : List (List ℕ)) (order addr level high : ℕ) (e : Entry) → IsWrongChild pages order addr level high (kept_of e) → IsWrongEntry pages order addr level high e
+wrong_entry pages order addr level high e h = subst (IsWrongIn pages order addr level high) (made.outs-Kept e.low e.addr e.key) h
+
+entry_beside : (pages : List (List ℕ)) (order addr level high : ℕ) (front : List Entry) (e : Entry) (back : List Entry) →
+    IsWrongBeside low_of (IsWrongChild pages order addr level) high (all_kept front) (kept_of e) (all_kept back) → IsWrongBeside entry_low (IsWrongEntry pages order addr level) high front e back
+entry_beside pages order addr level high front e (next ∷ back) h =
+    wrong_entry pages order addr level (start_by entry_low back high) next (subst (λ m. IsWrongChild pages order addr level m (kept_of next)) (starts_kept back high) h)
+entry_beside pages order addr level high front e [] h =
+    let s = split_kept front h.0 h.1 [] h.2 in
+    let last = subst (λ m. IsWrongChild pages order addr level m h.1) (low_of_kept e.low e.addr e.key) h.3 in (
+      s.front,
+      s.e,
+      s.is ∙ ap (λ bs. s.front ++ s.e ∷ bs) (none_kept s.back s.backs),
+      wrong_entry pages order addr level e.low s.e (subst (IsWrongChild pages order addr level e.low) s.one last),
+    )
+
+comes_entry : (pages : List (List ℕ)) (order block addr level end : ℕ) (e : Entry) → WrongOnWay pages order block addr level end (kept_of e) → (1 ≤ level) × ComesToWrong pages order block addr (child_want order level e end) e.key
+unfolding WrongOnWay
+comes_entry pages order block addr zero end e h = absurd h
+comes_entry pages order block addr (suc level) end e h = (omega arith, subst (WrongChildBy pages order block addr (WrongOnWay pages order block addr level) level end) (made.outs-Kept e.low e.addr e.key) h)
 
 -- and where it comes to a wrong place from one of its children on, it does so from the node on
 pub wrong_below : (pages : List (List ℕ)) (order block wrong level low high addr least most : ℕ) (key : List ℕ) (twig : Twig) →
     IsNodeFor (record { addr = addr; level = suc level; low = low; high = high; least = least; most = most }) twig →
     IsNodeOf pages (record { addr = addr; level = suc level; low = low; high = high; least = least; most = most }) key twig →
-    WrongOnWay pages order block wrong (stubs_below level high twig) → ComesToWrong pages order block wrong (record { addr = addr; level = suc level; low = low; high = high; least = least; most = most }) key
+    WrongUnder pages order block wrong level high twig → ComesToWrong pages order block wrong (record { addr = addr; level = suc level; low = low; high = high; least = least; most = most }) key
 wrong_below pages order block wrong level low high addr least most key twig h o w =
     let f = read_fits pages level low high addr least most key twig h o in
-    by f.0 f.1 (subst (λ ss. HasNode ss w.stub) f.2 w.has) w.comes
+    let s = split_kept f.0 w.front w.child w.back (sym f.2 ∙ w.is) in
+    by s (subst (λ es. FitsAt pages (record { addr = addr; level = suc level; low = low; high = high; least = least; most = most }) key (NodeRecord (suc level) es)) s.is f.1)
+    (ap (λ bs. start_by low_of bs high) s.backs ∙ starts_kept s.back high) (ap low_of s.one ∙ low_of_kept s.e.low s.e.addr s.e.key) w.comes
   where
-    by : (entries : List Entry) → FitsAt pages (record { addr = addr; level = suc level; low = low; high = high; least = least; most = most }) key (NodeRecord (suc level) entries) → HasNode (stubs_at level high entries) w.stub →
-        (SpansBlock block w.stub × ComesToWrong pages order block wrong (want_of order w.stub) w.stub.key) ⊎ IsWrongAt pages wrong (want_of order w.stub) w.stub.key →
+    by : {es : List Entry} (s : SplitsAs es w.front w.child w.back) → FitsAt pages (record { addr = addr; level = suc level; low = low; high = high; least = least; most = most }) key (NodeRecord (suc level) (s.front ++ s.e ∷ s.back)) →
+        start_by low_of w.back high ≡ start_by entry_low s.back high → low_of w.child ≡ s.e.low →
+        WrongOnWay pages order block wrong level (start_by low_of w.back high) w.child ⊎ IsWrongBeside low_of (IsWrongChild pages order wrong level) high w.front w.child w.back →
         ComesToWrong pages order block wrong (record { addr = addr; level = suc level; low = low; high = high; least = least; most = most }) key
-    by entries fits has (inl comes) = Below level entries w.stub fits has comes.0 comes.1
-    by entries fits has (inr here) = Beside level entries w.stub fits has here
+    by s fits ends low_is (inl comes) =
+        let e = comes_entry pages order block wrong level (start_by entry_low s.back high) s.e (subst (WrongOnWay pages order block wrong level (start_by entry_low s.back high)) s.one (subst (λ m. WrongOnWay pages order block wrong level m w.child) ends comes)) in
+        Below level s.front s.e s.back fits e.0 (omega (arith, w.from, low_is)) (omega (arith, w.to, ends)) e.1
+    by s fits ends low_is (inr near) =
+        let a = subst (λ fs. IsWrongBeside low_of (IsWrongChild pages order wrong level) high fs w.child w.back) s.fronts near in
+        let b = subst (λ c. IsWrongBeside low_of (IsWrongChild pages order wrong level) high (all_kept s.front) c w.back) s.one a in
+        let c = subst (IsWrongBeside low_of (IsWrongChild pages order wrong level) high (all_kept s.front) (kept_of s.e)) s.backs b in
+        Beside level s.front s.e s.back fits (omega (arith, w.from, low_is)) (omega (arith, w.to, ends)) (entry_beside pages order wrong level high s.front s.e s.back c)
 
--- a child on the medium is a place on the way
-pub wrong_kept : (pages : List (List ℕ)) (order block wrong level high low addr : ℕ) (key : List ℕ) → low ≤ block → block < high →
-    ComesToWrong pages order block wrong (want_of order (stub_at (suc level) low high addr key)) key → WrongOnWay pages order block wrong (stubs (suc level) high (made.Kept low addr key))
-unfolding stubs
-wrong_kept pages order block wrong level high low addr key from to w =
-    subst (λ x. WrongOnWay pages order block wrong (stubs_in (stubs level) (suc level) high x)) (sym (made.outs-Kept low addr key))
-    (record { stub = stub_at (suc level) low high addr key; has = record { among = (0, omega arith, refl); inner = omega arith }; comes = inl ((from, to), w) })
+-- a child on the medium, and one in memory
+pub wrong_kept : (pages : List (List ℕ)) (order block wrong level high low addr : ℕ) (key : List ℕ) →
+    ComesToWrong pages order block wrong (want_of order (stub_at (suc level) low high addr key)) key → WrongOnWay pages order block wrong (suc level) high (made.Kept low addr key)
+unfolding WrongOnWay
+wrong_kept pages order block wrong level high low addr key w = subst (WrongChildBy pages order block wrong (WrongOnWay pages order block wrong level) level high) (sym (made.outs-Kept low addr key)) w
+
+pub wrong_grown : (pages : List (List ℕ)) (order block wrong level high low : ℕ) (twig : Twig) →
+    WrongUnder pages order block wrong level high twig → WrongOnWay pages order block wrong (suc level) high (made.Grown low twig)
+unfolding WrongOnWay
+wrong_grown pages order block wrong level high low twig w = subst (WrongChildBy pages order block wrong (WrongOnWay pages order block wrong level) level high) (sym (made.outs-Grown low twig)) w
 
 -- what is wanted of a root
 least_is : (below : ℕ) → top_least below ≡ (if suc below == 1 then 0 else 2)
@@ -111,18 +197,3 @@ wrong_root pages order block wrong level low high addr least key one low_is is w
     subst (WrongFromBy pages order block wrong (level - 1) high) (sym (made.outs-Kept low addr key))
     (subst (λ v. ComesToWrong pages order block wrong v key) (root_want order (level - 1) low high addr least low_is is)
     (subst (λ k. ComesToWrong pages order block wrong (want_root order k low high addr least) key) l w))
-
--- a child on the medium where nothing fits
-pub wrong_beside : (pages : List (List ℕ)) (order block wrong level high low addr : ℕ) (key : List ℕ) →
-    IsWrongAt pages wrong (want_of order (stub_at (suc level) low high addr key)) key → WrongOnWay pages order block wrong (stubs (suc level) high (made.Kept low addr key))
-unfolding stubs
-wrong_beside pages order block wrong level high low addr key w =
-    subst (λ x. WrongOnWay pages order block wrong (stubs_in (stubs level) (suc level) high x)) (sym (made.outs-Kept low addr key))
-    (record { stub = stub_at (suc level) low high addr key; has = record { among = (0, omega arith, refl); inner = omega arith }; comes = inr w })
-
--- where a child is wrong, so is the node on the way
-pub wrong_at : (pages : List (List ℕ)) (order level high block addr i : ℕ) (cs : List Child) (c : Child) → cs ≡ take i cs ++ c ∷ drop (suc i) cs →
-    WrongOnWay pages order block addr (stubs level (start_by low_of (drop (suc i) cs) high) c) → WrongOnWay pages order block addr (stubs_under level high cs)
-wrong_at pages order level high block addr i cs c split wrong =
-    subst (WrongOnWay pages order block addr) (sym (ap (stubs_under level high) split ∙ stubs_append low_of (stubs level) high (take i cs) (c ∷ drop (suc i) cs)))
-    (within pages order block addr (stubs_under level (low_of c) (take i cs)) (stubs level (start_by low_of (drop (suc i) cs) high) c) (stubs_under level high (drop (suc i) cs)) wrong)

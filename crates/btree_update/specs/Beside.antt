@@ -1,5 +1,5 @@
 -- What a removal may need beside the way to its block: the nodes of neighbours that are to lend a child or to merge.
-use Rattle.std.specs.Prelude.{◌≡◌, ◌⊎◌, ℕ, zero, suc, ◌+◌, ◌/◌, ◌<◌, ◌≤◌, List, [], ◌∷◌, ◌++◌, Option, None, Some, length}
+use Rattle.std.specs.Prelude.{◌≡◌, ◌⊎◌, ℕ, zero, suc, ◌+◌, ◌/◌, ◌<◌, ◌≤◌, List, [], ◌∷◌, ◌++◌, Option, None, Some, Bool, true, false, length}
 use Rattle.btree_twigs.specs.declared.twigs.Child.{Child, Child-F, out-Child}
 use Rattle.btree_twigs.specs.declared.twigs.Child.TheOpen.{Kept, Grown}
 use Rattle.btree_twigs.specs.declared.twigs.Twig.{Twig}
@@ -18,9 +18,14 @@ pub record IsNodeAt (Reads : ℕ → Stub → Twig → Type 0) (order below low 
   pub bare : nodes_below below twig ≡ 0
   pub lower : AreBelow addr (stubs_below below high twig)
 
--- a node with so many children has one to spare, or the node above loses one
+-- how many children a node loses of which a child is short, where a neighbour lends it one, or else the two merge
+abbrev pub loses_for : Bool → ℕ
+loses_for true = 0
+loses_for false = 1
+
+-- a node with so many children has one to spare, and the node above loses none; or it has none, and the node above loses one
 abbrev pub Spares : ℕ → ℕ → ℕ → Type 0
-Spares order loses width = (order / 2 < width) ⊎ (1 ≤ loses)
+Spares order loses width = ((order / 2 < width) × (loses ≡ 0)) ⊎ ((width ≤ order / 2) × (loses ≡ 1))
 
 -- a neighbour helps out: it is in memory, or else its node is held
 abbrev pub LendsFrom : (ℕ → Stub → Twig → Type 0) → ℕ → ℕ → ℕ → ℕ → Child-F Child Twig → Option Twig → Type 0
@@ -34,14 +39,19 @@ abbrev pub HasHelp : (ℕ → Stub → Twig → Type 0) → ℕ → ℕ → ℕ 
 HasHelp Reads order below loses high front c (next ∷ back) one = LendsFrom Reads order below loses (start_by low_of back high) (out-Child next) one
 HasHelp Reads order below loses high front c [] one = (others : List Child) (last : Child) → front ≡ others ++ last ∷ [] → LendsFrom Reads order below loses (low_of c) (out-Child last) one
 
--- a child on the way keeps enough children, or a neighbour helps out: then its node is held last, where it isn't in memory
+-- a child with so many children that loses some keeps enough, and nothing is held for it; or it is short, and a neighbour helps out
+abbrev pub KeepsOrHasHelp : (ℕ → Stub → Twig → Type 0) → ℕ → ℕ → ℕ → ℕ → ℕ → ℕ → List Child → Child → List Child → Option Twig → Type 0
+KeepsOrHasHelp Reads order below fewer width loses high front c back one =
+    ((one ≡ None) × (order / 2 + fewer ≤ width) × (loses ≡ 0)) ⊎ ((width < order / 2 + fewer) × HasHelp Reads order below loses high front c back one)
+
+-- a neighbour is held last just where the child on the way falls short and it isn't in memory; what is held for the nodes below stands before it
 pub record HelpsBeside (Reads : ℕ → Stub → Twig → Type 0) (order below width high : ℕ) (front : List Child) (c : Child) (back : List Child) (Below : List (Option Twig) → ℕ → Type 0) (beside : List (Option Twig)) (loses : ℕ) : Type 0 where
   pub rest : List (Option Twig)
   pub one : Option Twig
   pub is : beside ≡ rest ++ one ∷ []
   pub fewer : ℕ
   pub lower : Below rest fewer
-  pub helped : ((one ≡ None) × (order / 2 + fewer ≤ width)) ⊎ HasHelp Reads order below loses high front c back one
+  pub helped : KeepsOrHasHelp Reads order below fewer width loses high front c back one
 
 -- the node of a child: the one that is held last, where it isn't in memory
 abbrev pub IsNodeHeld : Child-F Child Twig → Twig → List Twig → List Twig → Type 0
@@ -55,9 +65,9 @@ pub record HelpsOnWay (Reads : ℕ → Stub → Twig → Type 0) (order below hi
   pub is_node : IsNodeHeld (out-Child c) node held left
   pub helps : HelpsBeside Reads order below (length (children_of node)) high front c back (Below (start_by low_of back high) node left) beside loses
 
--- a node over children of this level loses so many of them at most, and each neighbour that is to help out below it is in memory or held, the topmost last
+-- a node over children of this level loses so many of them, and each neighbour that is to help out below it is in memory or held, the topmost last
 unfoldable pub HelpsBelow : (ℕ → Stub → Twig → Type 0) → ℕ → ℕ → ℕ → ℕ → Twig → List Twig → List (Option Twig) → ℕ → Type 0
-HelpsBelow Reads order block zero high twig held beside loses = 1 ≤ loses
+HelpsBelow Reads order block zero high twig held beside loses = loses ≡ 1
 HelpsBelow Reads order block (suc level) high twig held beside loses = (front back : List Child) (c : Child) → children_of twig ≡ front ++ c ∷ back → low_of c ≤ block → block < start_by low_of back high →
     HelpsOnWay Reads order level high front c back (HelpsBelow Reads order block level) held beside loses
 
@@ -78,11 +88,11 @@ abbrev pub ReadOver : Option (List (List ℕ)) → ℕ → ℕ → Stub → Twig
 ReadOver None order = AnyRead
 ReadOver (Some pages) order = IsReadAs pages order
 
--- what a removal leaves of a node with so many children: nothing is said where the block isn't mapped; else it keeps enough, or loses one at most
+-- what a removal leaves of a node with so many children: nothing is said where the block isn't mapped; else it keeps enough, or is short
 abbrev pub IsLeft : (ℕ → Type 0) → ℕ → ℕ → Left → Type 0
 IsLeft Helps order width Unmapped = Unit {0}
 IsLeft Helps order width Enough = (loses : ℕ) × Helps loses × (order / 2 + loses ≤ width)
-IsLeft Helps order width Short = Helps 1
+IsLeft Helps order width Short = (loses : ℕ) × Helps loses × (width < order / 2 + loses)
 
 -- the same of the node of a child over children of this level
 pub record LeftOf (Reads : ℕ → Stub → Twig → Type 0) (order block below high : ℕ) (c : Child) (held : List Twig) (beside : List (Option Twig)) (after : Left) : Type 0 where
@@ -95,7 +105,7 @@ pub record LeftOf (Reads : ℕ → Stub → Twig → Type 0) (order block below 
 abbrev pub IsAfter : ℕ → ℕ → ℕ → Left → Type 0
 IsAfter order width loses Unmapped = ⊥
 IsAfter order width loses Enough = order / 2 + loses ≤ width
-IsAfter order width loses Short = Unit {0}
+IsAfter order width loses Short = width < order / 2 + loses
 
 -- help for a child that is short is in memory or held, and this is left of its node
 pub record HoldsHelp (Reads : ℕ → Stub → Twig → Type 0) (order below width high : ℕ) (front : List Child) (c : Child) (back : List Child) (old new : List (Option Twig)) (after : Left) : Type 0 where

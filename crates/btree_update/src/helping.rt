@@ -1,4 +1,4 @@
-ghost use Rattle.std.specs.Prelude.{◌≡◌, ◌<◌, ◌≤◌, ◌+◌, ◌-◌, ℕ, List, [], ◌∷◌, ◌++◌, Option, length, vec_len, vec_capacity};
+ghost use Rattle.std.specs.Prelude.{◌≡◌, ◌<◌, ◌≤◌, ◌+◌, ◌-◌, List, [], ◌∷◌, ◌++◌, Option, length, vec_len, vec_capacity};
 ghost use Rattle.btree_twigs.specs.declared.twigs.Child.{out-Child};
 ghost use Rattle.btree_twigs.specs.declared.twigs.Twig.{Twig};
 ghost use Rattle.btree_twigs.specs.Stubs.{children_of};

@@ -9,18 +9,17 @@ ghost use Rattle.btree_update.specs.Roots.{HeldRoot, RootMaps};
 ghost use Rattle.btree_twigs.specs.Stubs.{stubs, stubs_below, children_of};
 ghost use Rattle.page_store.specs.Tree.{Mapped};
 ghost use Rattle.btree_update.specs.GroveTree.{Maps};
-ghost use Rattle.btree_update.specs.Wrong.{WrongOnWay, WrongFrom};
+ghost use Rattle.btree_update.specs.Wrong.{WrongOnWay, WrongUnder, WrongFrom};
 ghost use Rattle.btree_update.specs.Beside.{IsLeft, HelpsBelow, LeftOf, IsMappedBy};
 ghost use Rattle.btree_update.specs.Holding.{CanHold, CanHoldBelow, CanHoldRoot};
 
-use crate::reading::read_node;
+use crate::kept::read_kept;
 use crate::refusals::ReadyRefusal;
 use crate::siblings::{Left, hold_beside, left_of_leaf};
 use btree_twigs::{Child, Twig, end_of, low_of, place};
 use node_cache::NodeCache;
-use page_store::{Buffers, Want};
+use page_store::Buffers;
 use platform::Platform;
-use sdbt_base::Key;
 use std::alloc::Global;
 
 /// Reads the nodes on the way to a block that aren't in memory, from a child down, and holds them, the topmost last, and with
@@ -47,7 +46,7 @@ pub(crate) fn hold_way<P: Platform>(
     ensures beside { P.tells → StandsOver (P.history platform.old).present.readable cache.old →
         IfOk result (LeftOf (IsReadAs (P.history platform.old).present.readable order) order block (level - 1) high child.now held.new.items beside.new.items) }
     ensures bad { P.tells → StandsOver (P.history platform.old).present.readable cache.old → (addr : ℕ) → IsErrOf result (ReadyRefusal.BadRecord addr) →
-        WrongOnWay (P.history platform.old).present.readable order block addr (stubs level high child.now) }
+        WrongOnWay (P.history platform.old).present.readable order block addr level high child.now }
     ensures mapped { P.tells → StandsOver (P.history platform.old).present.readable cache.old →
         IfOk result (λ left. (mapped : List Mapped) → Maps (P.history platform.old).present.readable order (stubs level high child.now) mapped → IsMappedBy block mapped left) }
     ensures stands { P.tells → StandsOver (P.history platform.old).present.readable cache.old → StandsOver (P.history platform.old).present.readable cache.new }
@@ -69,16 +68,10 @@ pub(crate) fn hold_way<P: Platform>(
             beside,
         ),
         Child::Kept { low, addr, key } => {
-            let want = Want {
-                addr: *addr,
-                level,
-                low: *low,
-                high,
-                least: order / 2,
-                most: order,
-            };
-            let key = Key::from_bytes(*key);
-            let twig = read_node(alloc, platform, cache, &want, &key, buf)?;
+            let least = order / 2;
+            let twig = read_kept(
+                alloc, platform, cache, buf, order, least, level, *low, high, *addr, *key,
+            )?;
             let left = hold_below(
                 alloc,
                 platform,
@@ -122,7 +115,7 @@ pub(crate) fn hold_below<P: Platform>(
     ensures beside { P.tells → StandsOver (P.history platform.old).present.readable cache.old →
         IfOk result (IsLeft (λ loses. HelpsBelow (IsReadAs (P.history platform.old).present.readable order) order block level high twig.now held.new.items beside.new.items loses) order (length (children_of twig.now))) }
     ensures bad { P.tells → StandsOver (P.history platform.old).present.readable cache.old → (addr : ℕ) → IsErrOf result (ReadyRefusal.BadRecord addr) →
-        WrongOnWay (P.history platform.old).present.readable order block addr (stubs_below level high twig.now) }
+        WrongUnder (P.history platform.old).present.readable order block addr level high twig.now }
     ensures mapped { P.tells → StandsOver (P.history platform.old).present.readable cache.old →
         IfOk result (λ left. (mapped : List Mapped) → Maps (P.history platform.old).present.readable order (stubs_below level high twig.now) mapped → IsMappedBy block mapped left) }
     ensures stands { P.tells → StandsOver (P.history platform.old).present.readable cache.old → StandsOver (P.history platform.old).present.readable cache.new }
@@ -191,16 +184,10 @@ pub(crate) fn hold_root<P: Platform>(
             beside,
         ),
         Child::Kept { low, addr, key } => {
-            let want = Want {
-                addr: *addr,
-                level,
-                low: *low,
-                high,
-                least: least_of_root(level),
-                most: order,
-            };
-            let key = Key::from_bytes(*key);
-            let twig = read_node(alloc, platform, cache, &want, &key, buf)?;
+            let least = least_of_root(level);
+            let twig = read_kept(
+                alloc, platform, cache, buf, order, least, level, *low, high, *addr, *key,
+            )?;
             let left = hold_below(
                 alloc,
                 platform,

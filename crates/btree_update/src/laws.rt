@@ -1,5 +1,5 @@
 //! Laws of trees that are partly in memory. The functions do nothing: each has its law as its contract.
-ghost use Rattle.std.specs.Prelude.{◌≡◌, ℕ, List, suc, ◌<◌, ◌^◌};
+ghost use Rattle.std.specs.Prelude.{ℕ, List, suc, ◌<◌, ◌^◌};
 ghost use Rattle.node_codec.specs.declared.body.Entry.{Entry};
 ghost use Rattle.node_codec.specs.Record.{DataRecord, NodeRecord};
 ghost use Rattle.page_store.specs.declared.wants.Want.{Want};

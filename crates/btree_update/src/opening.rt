@@ -1,4 +1,4 @@
-ghost use Rattle.std.specs.Prelude.{◌≡◌, ℕ, List, [], ◌∷◌, ◌++◌, ◌+◌, ◌<◌, ◌≤◌, ◌-◌, suc, length, Option, vec_len, vec_capacity};
+ghost use Rattle.std.specs.Prelude.{◌≡◌, ℕ, List, [], ◌∷◌, ◌++◌, ◌+◌, ◌<◌, ◌≤◌, ◌-◌, length, Option, vec_len, vec_capacity};
 ghost use Rattle.btree_twigs.specs.Stubs.{children_of, stubs, stubs_below, nodes, nodes_below};
 ghost use Rattle.btree_twigs.specs.declared.twigs.Child.{out-Child};
 ghost use Rattle.btree_twigs.specs.declared.twigs.Child.TheOpen.{Grown};

@@ -1,25 +1,24 @@
-ghost use Rattle.std.specs.Prelude.{◌≡◌, ◌⊎◌, ◌↔◌, ◌<◌, ◌≤◌, ◌+◌, ◌-◌, ◌/◌, ℕ, suc, List, [], ◌∷◌, ◌++◌, Option, length, vec_len, IfOk, IsErrOf, IsTrue};
+ghost use Rattle.std.specs.Prelude.{◌≡◌, ◌↔◌, ◌<◌, ◌≤◌, ◌+◌, ◌-◌, ◌/◌, ℕ, List, [], ◌∷◌, ◌++◌, Option, length, IfOk, IsErrOf, IsTrue};
 ghost use Rattle.std.specs.Bool.{OnTrue, OnFalse};
 ghost use Rattle.btree_update.specs.declared.refusals.ReadyRefusal.{ReadyRefusal};
 ghost use Rattle.btree_update.specs.declared.siblings.Left.TheVariants.{Unmapped, Enough, Short};
 ghost use Rattle.btree_twigs.specs.declared.twigs.Child.{Child, out-Child};
 ghost use Rattle.btree_twigs.specs.declared.twigs.Twig.{Twig};
-ghost use Rattle.btree_twigs.specs.Stubs.{start_by, low_of as low_in, children_of, stubs, stubs_below};
+ghost use Rattle.btree_twigs.specs.Stubs.{low_of as low_in, children_of};
 ghost use Rattle.sdbt_base.specs.Faults.{Rose};
 ghost use Rattle.btree_walk.specs.Looks.{Looks};
 ghost use Rattle.btree_walk.specs.Sights.{StandsOver};
 ghost use Rattle.btree_update.specs.Held.{AnyRead, IsReadAs};
 ghost use Rattle.btree_update.specs.Holding.{CanHoldBelow};
-ghost use Rattle.btree_update.specs.Wrong.{WrongOnWay};
-ghost use Rattle.btree_update.specs.Beside.{CanRead, LendsFrom, HoldsBeside, IsAfter};
+ghost use Rattle.btree_update.specs.Wrong.{IsWrongBeside, IsWrongChild};
+ghost use Rattle.btree_update.specs.Beside.{CanRead, LendsFrom, HoldsBeside, IsAfter, loses_for};
 
-use crate::reading::read_node;
+use crate::kept::read_kept;
 use crate::refusals::ReadyRefusal;
 use btree_twigs::{Child, Twig, end_of};
 use node_cache::NodeCache;
-use page_store::{Buffers, Want};
+use page_store::Buffers;
 use platform::Platform;
-use sdbt_base::Key;
 use std::alloc::Global;
 
 /// What a removal leaves of a node.
@@ -65,8 +64,9 @@ pub(crate) fn hold_beside<P: Platform>(
     ensures reads { P.tells → StandsOver (P.history platform.old).present.readable cache.old →
         (front : List Child) (c : Child) (back : List Child) → children_of twig.now ≡ front ++ c ∷ back → length front + 1 ≡ at
         → IfOk result (HoldsBeside (IsReadAs (P.history platform.old).present.readable order) order (level - 1) (length (children_of twig.now)) high front c back beside.old.items beside.new.items left) }
-    ensures bad { P.tells → StandsOver (P.history platform.old).present.readable cache.old → (addr block : ℕ) → IsErrOf result (ReadyRefusal.BadRecord addr) →
-        WrongOnWay (P.history platform.old).present.readable order block addr (stubs_below level high twig.now) }
+    ensures bad { P.tells → StandsOver (P.history platform.old).present.readable cache.old →
+        (front : List Child) (c : Child) (back : List Child) → children_of twig.now ≡ front ++ c ∷ back → length front + 1 ≡ at → (addr : ℕ) → IsErrOf result (ReadyRefusal.BadRecord addr)
+        → IsWrongBeside low_in (IsWrongChild (P.history platform.old).present.readable order addr level) high front c back }
     ensures stands { P.tells → StandsOver (P.history platform.old).present.readable cache.old → StandsOver (P.history platform.old).present.readable cache.new }
     ensures looks { Looks P.Platform 1 platform.old platform.new }
     ensures cause { IsErrOf result ReadyRefusal.PlatformFault → Rose (P.faults platform.old) (P.faults platform.new) }
@@ -142,7 +142,8 @@ pub(crate) fn is_mapped(left: Left) -> bool
 
 /// Whether a node has a child to spare.
 fn can_lend(twig: &Twig, order: u16) -> bool
-    ensures { OnTrue result (order / 2 < length (children_of twig.now)) }
+    ensures spare { OnTrue result (order / 2 < length (children_of twig.now)) }
+    ensures none { OnFalse result (length (children_of twig.now) ≤ order / 2) }
 {
     twig.children.len() > order as usize / 2
 }
@@ -159,11 +160,11 @@ fn read_help<P: Platform>(
     high: u64,
 ) -> Result<Help, ReadyRefusal>
     requires can { CanRead order level high (P.head platform.old) child.now }
-    ensures helps { IfOk result (λ h. (loses : ℕ) → OnFalse h.lends (1 ≤ loses) → LendsFrom AnyRead order (level - 1) loses high (out-Child child.now) h.node) }
+    ensures helps { IfOk result (λ h. LendsFrom AnyRead order (level - 1) (loses_for h.lends) high (out-Child child.now) h.node) }
     ensures reads { P.tells → StandsOver (P.history platform.old).present.readable cache.old →
-        IfOk result (λ h. (loses : ℕ) → OnFalse h.lends (1 ≤ loses) → LendsFrom (IsReadAs (P.history platform.old).present.readable order) order (level - 1) loses high (out-Child child.now) h.node) }
-    ensures bad { P.tells → StandsOver (P.history platform.old).present.readable cache.old → (addr block : ℕ) → IsErrOf result (ReadyRefusal.BadRecord addr) →
-        WrongOnWay (P.history platform.old).present.readable order block addr (stubs level high child.now) }
+        IfOk result (λ h. LendsFrom (IsReadAs (P.history platform.old).present.readable order) order (level - 1) (loses_for h.lends) high (out-Child child.now) h.node) }
+    ensures bad { P.tells → StandsOver (P.history platform.old).present.readable cache.old → (addr : ℕ) → IsErrOf result (ReadyRefusal.BadRecord addr) →
+        IsWrongChild (P.history platform.old).present.readable order addr level high child.now }
     ensures stands { P.tells → StandsOver (P.history platform.old).present.readable cache.old → StandsOver (P.history platform.old).present.readable cache.new }
     ensures looks { Looks P.Platform 1 platform.old platform.new }
     ensures cause { IsErrOf result ReadyRefusal.PlatformFault → Rose (P.faults platform.old) (P.faults platform.new) }
@@ -174,16 +175,10 @@ fn read_help<P: Platform>(
             lends: can_lend(twig, order),
         }),
         Child::Kept { low, addr, key } => {
-            let want = Want {
-                addr: *addr,
-                level,
-                low: *low,
-                high,
-                least: order / 2,
-                most: order,
-            };
-            let key = Key::from_bytes(*key);
-            let twig = read_node(alloc, platform, cache, &want, &key, buf)?;
+            let least = order / 2;
+            let twig = read_kept(
+                alloc, platform, cache, buf, order, least, level, *low, high, *addr, *key,
+            )?;
             let lends = can_lend(&twig, order);
             Ok(Help {
                 node: Some(twig),

@@ -12,6 +12,10 @@ use Rattle.std.specs.Option.{option_to_list}
 use Rattle.std.specs.Vec.{with_item}
 use Rattle.btree_twigs.specs.Stubs.{nodes, sum_by}
 use Rattle.btree_twigs.proofs.Counts.{nodes_grown, leaf_nodes, one_nodes, two_nodes}
+use Rattle.std.proofs.Common.{Option, None, Some}
+use Rattle.btree_twigs.specs.Stubs.{Stub}
+use Rattle.btree_twigs.specs.Levels.{IsRowPutBelow}
+use Rattle.btree_twigs.proofs.LevelLaws.{leaf_rows, row_alone, row_two, fits_child, cut_child}
 use Rattle.btree_twigs.proofs.putting.+put.Goals as goal
 
 -- below a child in memory
@@ -208,3 +212,56 @@ put_below-returns-clause-nodes t c at =
     let m = e.nodes open_at in
     let p = c.split.ensures.nodes at.level in
     rw (c.in-Grown.is, made.outs-Grown c.in-Grown.low c.in-Grown.twig) (omega (arith, a, b, m, p))
+
+pub put-returns-then-twig-eq1-clause-levels : goal.put-returns-then-twig-eq1-clause-levels
+put-returns-then-twig-eq1-clause-levels t c medium m at =
+    leaf_rows medium c.args.order c.args.block at.level at.high (out-Twig c.args.twig.now).level c.args.twig.now c.put_datum-old.new.children at.shaped.level_is c.if-twig-eq1.true c.put_datum-old.ensures.lows
+
+-- a child begins where it did
+begins_alike : (order level high : ℕ) (stub : Stub) (old new : Child) (part : Option Child) → IsChildPut order level high stub old new part → low_of new ≡ low_of old
+begins_alike order level high stub old new None p = p.0
+begins_alike order level high stub old new (Some part) p = p.0
+
+pub put-returns-in-None-clause-levels : goal.put-returns-in-None-clause-levels
+put-returns-in-None-clause-levels t c medium m at =
+    let n = c.place-at.result in
+    let w = the_way c.args.order c.args.block n c.args.twig.now _ c.deref.result.now c.index_mut-child.result.now at c.deref.ensures.value c.if-twig-eq1.false
+    c.place-at.ensures.within c.place-at.ensures.before c.place-at.ensures.after c.index_mut-child.ensures.value in
+    let can = below_way c.args.order c.args.block n c.args.twig.now _ c.index_mut-child.result.now at w in
+    let put = c.put_below.ensures.put can in
+    let rows = c.put_below.ensures.levels medium m can in
+    row_alone medium m c.args.order c.args.block at.level at.least at.low at.high n (out-Twig c.args.twig.now).level c.args.twig.now c.index_mut-child.result.now c.put_below.new.child at.shaped.node w
+    (begins_alike c.args.order _ _ _ c.index_mut-child.result.now c.put_below.new.child c.put_below.result put)
+    (with_item (out-Twig c.args.twig.now).children (n - 1) c.put_below.new.child) (set_on_way n w.at (children_of c.args.twig.now) c.put_below.new.child w.at_is w.within)
+    (subst (IsRowPutBelow medium c.args.order c.args.block (suc w.below) (start_by low_of (drop n (children_of c.args.twig.now)) at.high) c.index_mut-child.result.now c.put_below.new.child) c.in-None.is rows)
+
+pub put-returns-in-Some-clause-levels : goal.put-returns-in-Some-clause-levels
+put-returns-in-Some-clause-levels t c medium m at =
+    let n = c.place-at.result in
+    let w = the_way c.args.order c.args.block n c.args.twig.now _ c.deref.result.now c.index_mut-child.result.now at c.deref.ensures.value c.if-twig-eq1.false
+    c.place-at.ensures.within c.place-at.ensures.before c.place-at.ensures.after c.index_mut-child.ensures.value in
+    let can = below_way c.args.order c.args.block n c.args.twig.now _ c.index_mut-child.result.now at w in
+    let put = c.put_below.ensures.put can in
+    let rows = c.put_below.ensures.levels medium m can in
+    row_two medium m c.args.order c.args.block at.level at.least at.low at.high n (out-Twig c.args.twig.now).level c.args.twig.now c.index_mut-child.result.now c.put_below.new.child at.shaped.node w
+    (begins_alike c.args.order _ _ _ c.index_mut-child.result.now c.put_below.new.child c.put_below.result put)
+    c.insert.new.children c.in-Some.part (c.insert.ensures.items ∙ insert_on_way n w.at (children_of c.args.twig.now) c.put_below.new.child c.in-Some.part w.at_is w.within)
+    (subst (IsRowPutBelow medium c.args.order c.args.block (suc w.below) (start_by low_of (drop n (children_of c.args.twig.now)) at.high) c.index_mut-child.result.now c.put_below.new.child) c.in-Some.is rows)
+
+pub put_below-returns-then-len-order-clause-levels : goal.put_below-returns-then-len-order-clause-levels
+put_below-returns-then-len-order-clause-levels t c medium m at =
+    let grown = subst (CanPutBelow c.args.order c.args.block c.args.spares.now.items) c.in-Grown.is at in
+    let open_at = below_grown c.args.order c.args.block c.in-Grown.low _ c.in-Grown.twig grown in
+    let e = rw (c.in-Grown.is, made.outs-Grown c.in-Grown.low c.in-Grown.twig) at c.put.ensures in
+    let q = fits_child medium c.args.order c.args.block at.level at.high c.in-Grown.low c.in-Grown.twig c.put.new.twig open_at.from (omega arith) (e.levels medium m open_at) in
+    rw (c.in-Grown.is, made.outs-Grown c.in-Grown.low c.in-Grown.twig) q
+
+pub put_below-returns-clause-levels : goal.put_below-returns-clause-levels
+put_below-returns-clause-levels t c medium m at =
+    let grown = subst (CanPutBelow c.args.order c.args.block c.args.spares.now.items) c.in-Grown.is at in
+    let open_at = below_grown c.args.order c.args.block c.in-Grown.low _ c.in-Grown.twig grown in
+    let e = rw (c.in-Grown.is, made.outs-Grown c.in-Grown.low c.in-Grown.twig) at c.put.ensures in
+    let p = e.put open_at in
+    let q = cut_child medium c.args.order c.args.block at.level at.high c.in-Grown.low c.in-Grown.twig c.put.new.twig c.split.new.twig c.split.result open_at.from open_at.shaped.node.within (omega (arith, p.shaped.node.within))
+    (e.levels medium m open_at) c.split.ensures.cut in
+    rw (c.in-Grown.is, made.outs-Grown c.in-Grown.low c.in-Grown.twig) q

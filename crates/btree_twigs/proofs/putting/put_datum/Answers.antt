@@ -1,4 +1,4 @@
-use Rattle.std.proofs.Common.{◌≡◌, ℕ, suc, ◌+◌, ◌-◌, ◌<◌, ◌≤◌, List, ◌∷◌, ◌++◌, length, take, drop, get_or, set, sym, ap, subst, ◌∙◌, arith, add-one}
+use Rattle.std.proofs.Common.{◌≡◌, ℕ, suc, ◌+◌, ◌-◌, ◌<◌, ◌≤◌, List, ◌∷◌, ◌++◌, length, take, drop, get_or, set, map, sym, ap, subst, ◌∙◌, arith, add-one}
 use Rattle.std.specs.List.{AllByRecursion, insert}
 use Rattle.std.proofs.lemmas.List.{set_split}
 use Rattle.btree_twigs.specs.declared.twigs.Child.{Child}
@@ -7,6 +7,9 @@ use Rattle.btree_twigs.specs.Stubs.{datum, start_by, low_of}
 use Rattle.btree_twigs.specs.Updates.{IsPut}
 use Rattle.btree_twigs.proofs.ListLaws.{split_here, insert_here, at_end}
 use Rattle.btree_twigs.proofs.Leaf.{IsLeaf, replaced, inserted, first}
+use Rattle.btree_twigs.proofs.Children.{low_of_kept}
+use Rattle.btree_twigs.specs.Levels.{TakesLow}
+use Rattle.btree_twigs.proofs.LevelLaws.{lows_in, lows_first, lows_same}
 use Rattle.btree_twigs.proofs.putting.put_datum.Goals as goal
 
 module _ (order least most low high block addr : ℕ) (key : List ℕ) (cs : List Child) (h : IsLeaf order least most low high cs) where
@@ -53,3 +56,44 @@ returns-clause-put c order least most low high h le lt =
     let at_most = at_end (λ d. low_of d ≤ c.args.block) cs (n - 1) n last (omega arith) (omega arith) c.index-last.ensures before in
     at_replaced order least most low high c.args.block c.args.addr c.args.key cs h (n - 1) last
     (omega arith) c.index-last.ensures (omega arith)
+
+-- the lows: before all others, behind the last one before it, and in the place of the one that is there
+lows_inserted : (cs : List Child) (i n : ℕ) (c d : Child) → suc i ≡ n → i < length cs → c ≡ get_or cs i c → TakesLow (low_of d) (map low_of cs) (map low_of (insert cs n d))
+lows_inserted cs i n c d is lt e =
+    subst (λ ds. TakesLow (low_of d) (map low_of ds) (map low_of (insert cs n d))) (sym (split_here cs i c lt e))
+    (subst (λ ds. TakesLow (low_of d) (map low_of (take i cs ++ c ∷ drop (suc i) cs)) (map low_of ds)) (sym (ap (λ m. insert cs m d) (sym is ∙ sym (add-one i)) ∙ insert_here cs i c d lt e))
+    (lows_in (take i cs) c d (drop (suc i) cs)))
+
+lows_replaced : (cs : List Child) (i : ℕ) (c d : Child) → i < length cs → c ≡ get_or cs i c → low_of d ≡ low_of c → TakesLow (low_of d) (map low_of cs) (map low_of (set cs i d))
+lows_replaced cs i c d lt e same =
+    subst (λ ds. TakesLow (low_of d) (map low_of ds) (map low_of (set cs i d))) (sym (split_here cs i c lt e))
+    (subst (λ ds. TakesLow (low_of d) (map low_of (take i cs ++ c ∷ drop (suc i) cs)) (map low_of ds)) (sym (set_split cs i d lt))
+    (lows_same (take i cs) c d (drop (suc i) cs) same))
+
+pub returns-then-at-eq0-clause-lows : goal.returns-then-at-eq0-clause-lows
+returns-then-at-eq0-clause-lows c =
+    let cs = c.args.children.now.items in
+    subst (λ ds. TakesLow c.args.block (map low_of cs) (map low_of ds)) (sym c.insert.ensures.items)
+    (subst (λ l. TakesLow l (map low_of cs) (map low_of (made.Kept c.args.block c.args.addr c.args.key ∷ cs))) (low_of_kept c.args.block c.args.addr c.args.key)
+    (lows_first (made.Kept c.args.block c.args.addr c.args.key) cs))
+
+pub returns-then-low_of-block-clause-lows : goal.returns-then-low_of-block-clause-lows
+returns-then-low_of-block-clause-lows c =
+    let cs = c.args.children.now.items in
+    let n = c.place-at.result in
+    let d = made.Kept c.args.block c.args.addr c.args.key in
+    subst (λ ds. TakesLow c.args.block (map low_of cs) (map low_of ds)) (sym c.insert-then-low_of-block.ensures.items)
+    (subst (λ l. TakesLow l (map low_of cs) (map low_of (insert cs n d))) (low_of_kept c.args.block c.args.addr c.args.key)
+    (lows_inserted cs (n - 1) n c.index-last.result.now d (omega arith) (omega arith) c.index-last.ensures))
+
+pub returns-clause-lows : goal.returns-clause-lows
+returns-clause-lows c =
+    let cs = c.args.children.now.items in
+    let n = c.place-at.result in
+    let last = c.index-last.result.now in
+    let d = made.Kept c.args.block c.args.addr c.args.key in
+    let before = subst (λ ds. AllByRecursion (λ d. low_of d ≤ c.args.block) (take n ds)) c.deref.ensures.value c.place-at.ensures.before in
+    let at_most = at_end (λ d. low_of d ≤ c.args.block) cs (n - 1) n last (omega arith) (omega arith) c.index-last.ensures before in
+    let low_d = low_of_kept c.args.block c.args.addr c.args.key in
+    subst (λ l. TakesLow l (map low_of cs) (map low_of (set cs (n - 1) d))) low_d
+    (lows_replaced cs (n - 1) last d (omega arith) c.index-last.ensures (omega (arith, low_d, at_most)))

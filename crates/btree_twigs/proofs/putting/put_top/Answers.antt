@@ -1,4 +1,4 @@
-use Rattle.std.proofs.Common.{◌≡◌, ℕ, suc, ◌+◌, ◌/◌, ◌<◌, ◌≤◌, List, length, ap, subst, ◌∙◌, arith}
+use Rattle.std.proofs.Common.{◌≡◌, inl, ℕ, suc, ◌+◌, ◌/◌, ◌<◌, ◌≤◌, List, length, ap, subst, ◌∙◌, arith}
 use Rattle.std.specs.declared.vec.Vec.{Vec}
 use Rattle.std.specs.declared.alloc.Global.{Global}
 use Rattle.btree_twigs.specs.declared.twigs.Child.{Child}
@@ -11,6 +11,7 @@ use Rattle.btree_twigs.specs.Top.{CanRaise, IsTopBy, top_least, level_in, CanPut
 use Rattle.btree_twigs.proofs.Ways.{fewer}
 use Rattle.btree_twigs.proofs.Nodes.{stubs_of_grown}
 use Rattle.btree_twigs.proofs.Tops.{top_kept, top_raised}
+use Rattle.btree_twigs.proofs.LevelLaws.{fits_child, raised_rows}
 use Rattle.btree_twigs.proofs.putting.put_top.Goals as goal
 
 -- below the root
@@ -119,3 +120,33 @@ returns-else-len-order-clause-spares c =
     let grown = subst (CanPutTop c.args.order c.args.block c.args.spares.now.items) c.in-Grown.is at in
     let open_at = open_top c.args.order c.args.block c.in-Grown.low _ c.in-Grown.twig grown in
     e.spares open_at 0 (fewer c.args.order (0 + at.level) (at.level + 2) _ (omega arith) at.enough)
+
+pub returns-else-len-order-clause-levels : goal.returns-else-len-order-clause-levels
+returns-else-len-order-clause-levels c medium m at =
+    let e = rw (c.in-Grown.is, made.outs-Grown c.in-Grown.low c.in-Grown.twig) at c.put.ensures in
+    let grown = subst (CanPutTop c.args.order c.args.block c.args.spares.now.items) c.in-Grown.is at in
+    let open_at = open_top c.args.order c.args.block c.in-Grown.low _ c.in-Grown.twig grown in
+    let zero_is = (subst (IsTopBy c.args.order at.level at.high) (made.outs-Grown c.in-Grown.low c.in-Grown.twig) grown.shaped).0 in
+    let q = fits_child medium c.args.order c.args.block at.level at.high c.in-Grown.low c.in-Grown.twig c.put.new.twig (omega (arith, zero_is)) (omega arith) (e.levels medium m open_at) in
+    rw (c.in-Grown.is, made.outs-Grown c.in-Grown.low c.in-Grown.twig) (inl q)
+
+pub returns-then-len-order-clause-levels : goal.returns-then-len-order-clause-levels
+returns-then-len-order-clause-levels c medium m at =
+    let e = rw (c.in-Grown.is, made.outs-Grown c.in-Grown.low c.in-Grown.twig) at c.put.ensures in
+    let grown = subst (CanPutTop c.args.order c.args.block c.args.spares.now.items) c.in-Grown.is at in
+    let open_at = open_top c.args.order c.args.block c.in-Grown.low _ c.in-Grown.twig grown in
+    let p = e.put open_at in
+    let long : length (children_of c.put.new.twig) ≡ c.args.order + 1 = omega (arith, p.shaped.node.within) in
+    let zero_is = (subst (IsTopBy c.args.order at.level at.high) (made.outs-Grown c.in-Grown.low c.in-Grown.twig) grown.shaped).0 in
+    let full : IsTwig c.args.order at.level (c.args.order / 2) (c.args.order + 1) 0 at.high c.put.new.twig = record {
+      level_is = p.shaped.level_is;
+      room = p.shaped.room;
+      node = record { enough = omega (arith, c.requires.four); within = p.shaped.node.within; begins = p.shaped.node.begins; each = p.shaped.node.each };
+    } in
+    let s = c.split-part.ensures.split at.level 0 at.high full in
+    let spare = e.spares open_at 2 (fewer c.args.order (2 + at.level) (at.level + 2) _ (omega arith) at.enough) in
+    let left = c.split-part.ensures.spares 1 spare in
+    let r = rw (c.in-Grown.is, made.outs-Grown c.in-Grown.low c.in-Grown.twig) at c.raise.ensures.raised in
+    let raised = r (record { level = at.level; level_is = ap level_in (made.outs-Grown c.in-Grown.low c.split-part.new.twig) ∙ s.left.level_is; small = at.small; order = c.args.order; four = c.requires.four; spare = left }) c.args.order left in
+    rw c.in-Grown.is (raised_rows medium c.args.order c.args.block at.level at.high c.in-Grown.low c.in-Grown.twig c.put.new.twig c.split-part.new.twig c.split-part.result c.raise.new.top
+    zero_is open_at.shaped.node.within long (e.levels medium m open_at) c.split-part.ensures.cut raised)

@@ -2,6 +2,7 @@ use Rattle.std.proofs.Common.{◌/◌, arith}
 use Rattle.btree_twigs.proofs.Nodes.{split_made}
 use Rattle.btree_twigs.specs.declared.twigs.Twig.{out-Twig}
 use Rattle.btree_twigs.proofs.Counts.{nodes_cut}
+use Rattle.btree_twigs.proofs.LevelLaws.{cut_made}
 use Rattle.btree_twigs.proofs.putting.split.Goals as goal
 
 pub move_tail-requires-clause-room : goal.move_tail-requires-clause-room
@@ -22,3 +23,8 @@ returns-clause-spares c count h = (c.take_spare-right.ensures c.args.order count
 pub returns-clause-nodes : goal.returns-clause-nodes
 returns-clause-nodes c level =
     nodes_cut level (out-Twig c.args.twig.now).level c.low_of-low.result (out-Twig c.args.twig.now).level (c.args.order / 2) c.args.twig.now c.move_tail.new.from c.move_tail.new.to c.move_tail.ensures.kept c.move_tail.ensures.moved
+
+pub returns-clause-cut : goal.returns-clause-cut
+returns-clause-cut c =
+    cut_made c.args.order (out-Twig c.args.twig.now).level c.low_of-low.result c.args.twig.now c.move_tail.new.from c.move_tail.new.to c.index.result.now
+    c.requires.long c.requires.four c.move_tail.ensures.kept c.move_tail.ensures.moved c.index.ensures c.low_of-low.ensures

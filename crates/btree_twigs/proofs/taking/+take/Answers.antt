@@ -13,6 +13,14 @@ use Rattle.btree_twigs.proofs.ListLaws.{split_here}
 use Rattle.btree_twigs.proofs.Nodes.{stubs_of_grown, low_of_grown}
 use Rattle.btree_twigs.proofs.Ways.{IsWay, way, child_is_twig, open_is_grown, set_on_way}
 use Rattle.btree_twigs.proofs.Removals.{help_at, helped_if, still_wide, beside, after_mend, twig_taken, leaf_taken, child_taken}
+use Rattle.std.proofs.Common.{refl}
+use Rattle.std.specs.declared.vec.Vec.{Vec}
+use Rattle.std.specs.declared.alloc.Global.{Global}
+use Rattle.std.specs.Vec.{with_item}
+use Rattle.btree_twigs.specs.declared.twigs.Child.{out-Child}
+use Rattle.btree_twigs.specs.declared.twigs.Twig.{roll-Twig}
+use Rattle.btree_twigs.specs.Levels.{IsMedium, IsRowTaken, IsRowTakenBy}
+use Rattle.btree_twigs.proofs.SinkLaws.{RowsTaken, grown_as, leaf_sinks, node_sinks, kept_rows, mend_rows}
 use Rattle.btree_twigs.proofs.taking.+take.Goals as goal
 
 at_least : (a b : ℕ) → (a < b → ⊥) → b ≤ a
@@ -114,8 +122,8 @@ module _ (order block n : ℕ) (twig : Twig) (child : Child) (at : CanTake order
       (subst (IsTaken order (suc w.below) at.least at.low at.high block (take w.at (children_of twig) ++ child ∷ drop (suc w.at) (children_of twig))) (sym (set_is d))
       (still_wide order w.below at.least at.low at.high block (take w.at (children_of twig)) child (drop (suc w.at) (children_of twig)) d node near.fewer (taken_at d t) le)))
 
-pub take-returns-then-twig-eq1 : goal.take-returns-then-twig-eq1
-take-returns-then-twig-eq1 t c at =
+pub take-returns-then-twig-eq1-clause-taken : goal.take-returns-then-twig-eq1-clause-taken
+take-returns-then-twig-eq1-clause-taken t c at =
     leaf_taken c.args.order c.args.block at.level at.least at.low at.high at.loses (out-Twig c.args.twig.now).level c.args.twig.now c.take_datum.new.children
     at.shaped at.shaped.level_is c.if-twig-eq1.true at.from at.to (omega (arith, c.take_datum.ensures.capacity, at.shaped.room)) at.helps c.take_datum.ensures.wide (c.take_datum.ensures.take c.args.order at.least at.low at.high)
 
@@ -134,8 +142,8 @@ take-mend-requires-clause-can t c =
     mends c.args.order c.args.block c.place-at.result c.args.twig.now c.index_mut.result.now at w c.take_below.new.child c.requires.four (c.take_below.ensures.short.0 c.if-take_below.true)
     (c.take_below.ensures.taken (below_way c.args.order c.args.block c.place-at.result c.args.twig.now c.index_mut.result.now at w))
 
-pub take-returns-then-take_below : goal.take-returns-then-take_below
-take-returns-then-take_below t c at =
+pub take-returns-then-take_below-clause-taken : goal.take-returns-then-take_below-clause-taken
+take-returns-then-take_below-clause-taken t c at =
     let w = the_way c.args.order c.args.block c.place-at.result c.args.twig.now c.deref.result.now c.index_mut.result.now at c.deref.ensures.value c.if-twig-eq1.false
     c.place-at.ensures.within c.place-at.ensures.before c.place-at.ensures.after c.index_mut.ensures.value in
     let r = mended c.args.order c.args.block c.place-at.result c.args.twig.now c.index_mut.result.now at w c.take_below.new.child c.mend.new.children.items c.requires.four (c.take_below.ensures.short.0 c.if-take_below.true)
@@ -143,8 +151,8 @@ take-returns-then-take_below t c at =
     twig_taken c.args.order at.level at.least at.low at.high c.args.block at.loses (out-Twig c.args.twig.now).level c.args.twig.now c.mend.new.children at.shaped.level_is
     (omega (arith, c.mend.ensures.capacity, at.shaped.room)) r.0 r.1
 
-pub take-returns-else-take_below : goal.take-returns-else-take_below
-take-returns-else-take_below t c at =
+pub take-returns-else-take_below-clause-taken : goal.take-returns-else-take_below-clause-taken
+take-returns-else-take_below-clause-taken t c at =
     let w = the_way c.args.order c.args.block c.place-at.result c.args.twig.now c.deref.result.now c.index_mut.result.now at c.deref.ensures.value c.if-twig-eq1.false
     c.place-at.ensures.within c.place-at.ensures.before c.place-at.ensures.after c.index_mut.ensures.value in
     let r = kept c.args.order c.args.block c.place-at.result c.args.twig.now c.index_mut.result.now at w c.take_below.new.child (at_least _ _ (λ lt. false≢true (sym c.if-take_below.false ∙ c.take_below.ensures.short.1 lt)))
@@ -171,5 +179,63 @@ take_below-returns-clause-taken t c at =
     let grown = subst (CanTakeBelow c.args.order c.args.block) c.in-Grown.is at in
     let e = rw (c.in-Grown.is, made.outs-Grown c.in-Grown.low c.in-Grown.twig) at c.take.ensures in
     let q = child_taken c.args.order at.level c.in-Grown.low at.high c.args.block grown.loses c.in-Grown.twig c.take.new.twig
-    (e (below_grown c.args.order c.args.block c.in-Grown.low c.in-Grown.twig c.requires.four grown)) in
+    (e.taken (below_grown c.args.order c.args.block c.in-Grown.low c.in-Grown.twig c.requires.four grown)) in
     rw (c.in-Grown.is, made.outs-Grown c.in-Grown.low c.in-Grown.twig) q
+
+pub take-returns-then-twig-eq1-clause-levels : goal.take-returns-then-twig-eq1-clause-levels
+take-returns-then-twig-eq1-clause-levels t c medium m at =
+    leaf_sinks medium c.args.order c.args.block at.level at.high (out-Twig c.args.twig.now).level c.args.twig.now c.take_datum.new.children at.shaped.level_is c.if-twig-eq1.true c.take_datum.ensures.lows
+
+-- the levels of a node, from those of its list of children
+module _ (medium : _) (m : IsMedium medium) (order block n : ℕ) (twig : Twig) (child d : Child) (at : CanTake order block twig) (w : IsWay order block at.level at.high (children_of twig) n child)
+    (r : IsRowTakenBy medium order block w.below (start_by low_of (drop n (children_of twig)) at.high) (out-Child child) (out-Child d)) where
+  rows_here : IsRowTakenBy medium order block w.below (start_by low_of (drop (suc w.at) (children_of twig)) at.high) (out-Child child) (out-Child d)
+  rows_here = subst (λ e. IsRowTakenBy medium order block w.below e (out-Child child) (out-Child d)) (bound_is order block n twig child at w) r
+
+  to_here : block < start_by low_of (drop (suc w.at) (children_of twig)) at.high
+  to_here = subst (λ e. block < e) (bound_is order block n twig child at w) w.to
+
+  kept_levels : (lev : ℕ) (new : Vec Child Global) → 4 ≤ order → new.items ≡ set (children_of twig) (n - 1) d → order / 2 ≤ width_of d → IsRowTaken medium order block at.level at.high twig (roll-Twig (record { level = lev; children = new }))
+  kept_levels lev new four is le = node_sinks medium order block at.level w.below at.high lev twig new w.level_is (children_of twig) new.items refl refl
+      (subst (λ xs. RowsTaken medium order block (suc w.below) at.high xs new.items) (sym (split order block n twig child at w))
+      (subst (RowsTaken medium order block (suc w.below) at.high (take w.at (children_of twig) ++ child ∷ drop (suc w.at) (children_of twig))) (sym (is ∙ set_is order block n twig child at w d))
+      (kept_rows medium m order w.below at.least at.low at.high block (n - 1) at.loses (near order block n twig child at w).fewer four (take w.at (children_of twig)) child d (place_is order block n twig child at w) w.from
+      (drop (suc w.at) (children_of twig)) (node order block n twig child at w) to_here rows_here le)))
+
+  mended_levels : (lev : ℕ) (new : Vec Child Global) → 4 ≤ order → width_of d < order / 2 → IsChildTaken order w.below (start_by low_of (drop n (children_of twig)) at.high) block (near order block n twig child at w).fewer child d →
+      (suc (n - 1) < length (set (children_of twig) (n - 1) d) → (m : MendsAt order (set (children_of twig) (n - 1) d) (n - 1)) → AreMended order (set (children_of twig) (n - 1) d) (n - 1) m new.items) →
+      (suc (n - 1) ≡ length (set (children_of twig) (n - 1) d) → (m : MendsAt order (set (children_of twig) (n - 1) d) (n - 1 - 1)) → AreMended order (set (children_of twig) (n - 1) d) (n - 1 - 1) m new.items) →
+      IsRowTaken medium order block at.level at.high twig (roll-Twig (record { level = lev; children = new }))
+  mended_levels lev new four short t next last = node_sinks medium order block at.level w.below at.high lev twig new w.level_is (children_of twig) new.items refl refl
+      (subst (λ xs. RowsTaken medium order block (suc w.below) at.high xs new.items) (sym (split order block n twig child at w))
+      (mend_rows medium m order w.below at.least at.low at.high block (n - 1) at.loses (near order block n twig child at w).fewer four (take w.at (children_of twig)) child d (place_is order block n twig child at w) w.from short
+      (drop (suc w.at) (children_of twig)) new.items (node order block n twig child at w) (taken_at order block n twig child at w d t) (helped order block n twig child at w d short t) (two order block n twig child at w) to_here
+      (subst (λ xs. suc (n - 1) < length xs → (m : MendsAt order xs (n - 1)) → AreMended order xs (n - 1) m new.items) (set_is order block n twig child at w d) next)
+      (subst (λ xs. suc (n - 1) ≡ length xs → (m : MendsAt order xs (n - 1 - 1)) → AreMended order xs (n - 1 - 1) m new.items) (set_is order block n twig child at w d) last) rows_here))
+
+pub take-returns-then-take_below-clause-levels : goal.take-returns-then-take_below-clause-levels
+take-returns-then-take_below-clause-levels t c medium m at =
+    let w = the_way c.args.order c.args.block c.place-at.result c.args.twig.now c.deref.result.now c.index_mut.result.now at c.deref.ensures.value c.if-twig-eq1.false
+    c.place-at.ensures.within c.place-at.ensures.before c.place-at.ensures.after c.index_mut.ensures.value in
+    let can = below_way c.args.order c.args.block c.place-at.result c.args.twig.now c.index_mut.result.now at w in
+    let taken = c.take_below.ensures.taken can in
+    let rows = c.take_below.ensures.levels medium m can in
+    mended_levels medium m c.args.order c.args.block c.place-at.result c.args.twig.now c.index_mut.result.now c.take_below.new.child at w rows (out-Twig c.args.twig.now).level c.mend.new.children c.requires.four
+    (c.take_below.ensures.short.0 c.if-take_below.true) taken c.mend.ensures.next c.mend.ensures.last
+
+pub take-returns-else-take_below-clause-levels : goal.take-returns-else-take_below-clause-levels
+take-returns-else-take_below-clause-levels t c medium m at =
+    let w = the_way c.args.order c.args.block c.place-at.result c.args.twig.now c.deref.result.now c.index_mut.result.now at c.deref.ensures.value c.if-twig-eq1.false
+    c.place-at.ensures.within c.place-at.ensures.before c.place-at.ensures.after c.index_mut.ensures.value in
+    let can = below_way c.args.order c.args.block c.place-at.result c.args.twig.now c.index_mut.result.now at w in
+    let taken = c.take_below.ensures.taken can in
+    let rows = c.take_below.ensures.levels medium m can in
+    kept_levels medium m c.args.order c.args.block c.place-at.result c.args.twig.now c.index_mut.result.now c.take_below.new.child at w rows (out-Twig c.args.twig.now).level
+    (with_item (out-Twig c.args.twig.now).children (c.place-at.result - 1) c.take_below.new.child) c.requires.four refl (at_least _ _ (λ lt. false≢true (sym c.if-take_below.false ∙ c.take_below.ensures.short.1 lt)))
+
+pub take_below-returns-clause-levels : goal.take_below-returns-clause-levels
+take_below-returns-clause-levels t c medium m at =
+    let grown = subst (CanTakeBelow c.args.order c.args.block) c.in-Grown.is at in
+    let e = rw (c.in-Grown.is, made.outs-Grown c.in-Grown.low c.in-Grown.twig) at c.take.ensures in
+    let q = e.levels medium m (below_grown c.args.order c.args.block c.in-Grown.low c.in-Grown.twig c.requires.four grown) in
+    rw (c.in-Grown.is, made.outs-Grown c.in-Grown.low c.in-Grown.twig) (subst (λ y. IsRowTakenBy medium c.args.order c.args.block at.level at.high (grown_as c.in-Grown.low c.in-Grown.twig) y) (sym (made.outs-Grown c.in-Grown.low c.take.new.twig)) (refl, q))

@@ -3,7 +3,8 @@ use Rattle.std.specs.Option.{option_to_list}
 use Rattle.std.specs.List.{insert, remove}
 use Rattle.std.proofs.lemmas.Bool.{false≢true}
 use Rattle.std.proofs.lemmas.List.{get_or_at, set_at}
-use Rattle.btree_twigs.specs.declared.twigs.Child.{Child}
+use Rattle.btree_twigs.specs.declared.twigs.Child.{Child, out-Child}
+use Rattle.btree_twigs.specs.Levels.{IsEvenedBy}
 use Rattle.btree_twigs.specs.Updates.{CanMend, IsMended, width_of}
 use Rattle.btree_twigs.specs.Removal.{MendsAt}
 use Rattle.btree_twigs.proofs.ListLaws.{without_other, other_is, with_behind}
@@ -30,6 +31,9 @@ module _ (order left : ℕ) (cs rest : List Child) (m : MendsAt order cs left) (
   spare_is : ((order / 2 < width_of m.one) ⊎ (order / 2 < width_of m.other)) → (order / 2 < width_of one) ⊎ (order / 2 < width_of right)
   spare_is s = subst (λ x. (order / 2 < width_of one) ⊎ (order / 2 < width_of x)) right_is (subst (λ x. (order / 2 < width_of x) ⊎ (order / 2 < width_of m.other)) one_is s)
 
+  evened_is : (ns : List Child) → IsEvenedBy order (out-Child one) (out-Child right) ns → IsEvenedBy order (out-Child m.one) (out-Child m.other) ns
+  evened_is ns h = subst (λ x. IsEvenedBy order (out-Child m.one) (out-Child x) ns) (sym right_is) (subst (λ x. IsEvenedBy order (out-Child x) (out-Child right) ns) (sym one_is) h)
+
   set_is : set rest left new ≡ m.front ++ new ∷ m.back
   set_is = ap (λ ys. set ys left new) rest_is ∙ set_at m.front m.one m.back new left m.at
 
@@ -46,6 +50,8 @@ returns-in-None-clause-mended c m =
       mended = subst (λ o. IsMended c.args.order (suc m.can.level) m.can.high m.one m.other (c.mend_pair.new.left ∷ option_to_list o)) c.in-None.is e;
       two = λ s. absurd (false≢true (subst IsSome c.in-None.is (c.mend_pair.ensures.lends (spare_is c.args.order c.args.left c.args.children.now.items c.remove-right.new.self.items m c.remove-right.result c.index_mut.result.now c.mend_pair.new.left c.mend_pair.result
           c.remove-right.ensures.value c.remove-right.ensures.items c.index_mut.ensures.value c.mend_pair.ensures.mended s))));
+      evened = subst (λ o. IsEvenedBy c.args.order (out-Child m.one) (out-Child m.other) (c.mend_pair.new.left ∷ option_to_list o)) c.in-None.is (evened_is c.args.order c.args.left c.args.children.now.items c.remove-right.new.self.items m c.remove-right.result c.index_mut.result.now c.mend_pair.new.left c.mend_pair.result
+          c.remove-right.ensures.value c.remove-right.ensures.items c.index_mut.ensures.value c.mend_pair.ensures.mended _ c.mend_pair.ensures.evened);
     }
 
 pub returns-in-Some-clause-mended : goal.returns-in-Some-clause-mended
@@ -60,4 +66,6 @@ returns-in-Some-clause-mended c m =
       few = omega arith;
       mended = subst (λ o. IsMended c.args.order (suc m.can.level) m.can.high m.one m.other (c.mend_pair.new.left ∷ option_to_list o)) c.in-Some.is e;
       two = λ s. omega arith;
+      evened = subst (λ o. IsEvenedBy c.args.order (out-Child m.one) (out-Child m.other) (c.mend_pair.new.left ∷ option_to_list o)) c.in-Some.is (evened_is c.args.order c.args.left c.args.children.now.items c.remove-right.new.self.items m c.remove-right.result c.index_mut.result.now c.mend_pair.new.left c.mend_pair.result
+          c.remove-right.ensures.value c.remove-right.ensures.items c.index_mut.ensures.value c.mend_pair.ensures.mended _ c.mend_pair.ensures.evened);
     }

@@ -1,5 +1,6 @@
-use Rattle.std.proofs.Common.{◌≡◌, ◌≢◌, ℕ, suc, ◌<◌, ◌≤◌, ◌-◌, ◌++◌, ◌∷◌, List, length, take, drop, get_or, sym, subst, ◌∙◌, arith}
+use Rattle.std.proofs.Common.{map, inr, ap, ◌≡◌, ◌≢◌, ℕ, suc, ◌<◌, ◌≤◌, ◌-◌, ◌++◌, ◌∷◌, List, length, take, drop, get_or, sym, subst, ◌∙◌, arith}
 use Rattle.std.specs.List.{AllByRecursion, remove}
+use Rattle.std.proofs.lemmas.List.{map-append}
 use Rattle.btree_twigs.specs.declared.twigs.Child.{Child}
 use Rattle.btree_twigs.specs.Stubs.{start_by, low_of}
 use Rattle.btree_twigs.specs.Updates.{IsNode}
@@ -48,3 +49,17 @@ returns-clause-take c order least low high h from to =
     subst (IsTaken order 0 least low high c.args.block c.args.children.now.items) (sym c.remove-child.ensures.items)
     (there order least low high c.args.block c.place-at.result c.args.children.now.items c.deref.result.now c.index.result.now h c.deref.ensures.value c.if-at-eq0.false c.place-at.ensures.within
     c.place-at.ensures.before c.place-at.ensures.after c.index.ensures to (sym c.low_of.ensures ∙ c.if-low_of-block.false))
+
+pub returns-clause-lows : goal.returns-clause-lows
+returns-clause-lows c =
+    let cs = c.args.children.now.items in
+    let n = c.place-at.result in
+    let within = subst (λ xs. n ≤ length xs) c.deref.ensures.value c.place-at.ensures.within in
+    let here : low_of c.index.result.now ≡ c.args.block = sym c.low_of.ensures ∙ c.if-low_of-block.false in
+    let split = split_here cs (n - 1) c.index.result.now (omega (arith, c.if-at-eq0.false, within)) c.index.ensures in
+    inr (
+      map low_of (take (n - 1) cs),
+      map low_of (drop (suc (n - 1)) cs),
+      ap (map low_of) split ∙ map-append low_of (take (n - 1) cs) (c.index.result.now ∷ drop (suc (n - 1)) cs) ∙ ap (λ x. map low_of (take (n - 1) cs) ++ (x ∷ map low_of (drop (suc (n - 1)) cs))) here,
+      ap (map low_of) c.remove-child.ensures.items ∙ map-append low_of (take (n - 1) cs) (drop (suc (n - 1)) cs),
+    )

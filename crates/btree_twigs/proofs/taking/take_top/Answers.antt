@@ -1,4 +1,4 @@
-use Rattle.std.proofs.Common.{◌≡◌, ℕ, zero, suc, ◌<◌, ◌≤◌, [], ◌∷◌, length, refl, ◌-◌, sym, ap, subst, ◌∙◌, arith}
+use Rattle.std.proofs.Common.{inl, inr, ◌≡◌, ℕ, zero, suc, ◌<◌, ◌≤◌, [], ◌∷◌, length, refl, ◌-◌, sym, ap, subst, ◌∙◌, arith}
 use Rattle.btree_twigs.specs.declared.twigs.Child.{Child}
 use Rattle.btree_twigs.specs.declared.twigs.Child.TheVariants as made
 use Rattle.btree_twigs.specs.declared.twigs.Twig.{Twig, out-Twig}
@@ -8,6 +8,7 @@ use Rattle.btree_twigs.specs.Removal.{below_in, Helps, CanTake, IsTwigTaken}
 use Rattle.btree_twigs.specs.Top.{IsTopBy, top_least, CanTakeTop, IsTopTaken, HasOnlyBy}
 use Rattle.btree_twigs.proofs.Nodes.{stubs_of_grown}
 use Rattle.btree_twigs.proofs.Tops.{top_taken, top_gone}
+use Rattle.btree_twigs.proofs.SinkLaws.{grown_as}
 use Rattle.btree_twigs.proofs.taking.take_top.Goals as goal
 
 least_two : (level : ℕ) → 1 ≤ level → 2 ≤ top_least level
@@ -60,31 +61,79 @@ one_left n least level is one le lt = omega (arith, is, least_two level one, le,
 pub give_way-requires : goal.give_way-requires
 give_way-requires c =
     let at = c.requires.can in
-    let e = rw (c.in-Grown.is, made.outs-Grown c.in-Grown.low c.in-Grown.twig) at c.take.ensures in
+    let e = rw (c.in-Grown.is, made.outs-Grown c.in-Grown.low c.in-Grown.twig) at c.take.ensures.taken in
     let t = taken_of c.args.order c.args.block c.in-Grown.low c.args.top.now c.in-Grown.twig c.take.new.twig c.in-Grown.is at e in
     let one = above_leaf at.level (out-Twig c.take.new.twig).level t.1.shaped.level_is c.if-twig-eq1.false in
     let only : length (children_of c.take.new.twig) ≡ 1 = one_left (length (children_of c.take.new.twig)) (top_least at.level) at.level refl one t.1.shaped.node.enough (omega (arith, c.len.ensures, c.if-len-lt2.true)) in
     rw (c.in-Grown.is, made.outs-Grown c.in-Grown.low c.in-Grown.twig) (subst HasOnlyBy (sym (made.outs-Grown c.in-Grown.low c.take.new.twig)) only)
 
-pub returns-then-twig-eq1 : goal.returns-then-twig-eq1
-returns-then-twig-eq1 c at =
-    let e = rw (c.in-Grown.is, made.outs-Grown c.in-Grown.low c.in-Grown.twig) at c.take.ensures in
+pub returns-then-twig-eq1-clause-taken : goal.returns-then-twig-eq1-clause-taken
+returns-then-twig-eq1-clause-taken c at =
+    let e = rw (c.in-Grown.is, made.outs-Grown c.in-Grown.low c.in-Grown.twig) at c.take.ensures.taken in
     let t = taken_of c.args.order c.args.block c.in-Grown.low c.args.top.now c.in-Grown.twig c.take.new.twig c.in-Grown.is at e in
     rw (c.in-Grown.is, made.outs-Grown c.in-Grown.low c.in-Grown.twig)
     (top_taken c.args.order at.level at.high c.args.block at.loses c.in-Grown.twig c.take.new.twig c.in-Grown.low t.0 t.1 (λ one. absurd (omega (arith, one, t.1.shaped.level_is, c.if-twig-eq1.true))))
 
-pub returns-then-len-lt2 : goal.returns-then-len-lt2
-returns-then-len-lt2 c at =
-    let e = rw (c.in-Grown.is, made.outs-Grown c.in-Grown.low c.in-Grown.twig) at c.take.ensures in
+pub returns-then-len-lt2-clause-taken : goal.returns-then-len-lt2-clause-taken
+returns-then-len-lt2-clause-taken c at =
+    let e = rw (c.in-Grown.is, made.outs-Grown c.in-Grown.low c.in-Grown.twig) at c.take.ensures.taken in
     let t = taken_of c.args.order c.args.block c.in-Grown.low c.args.top.now c.in-Grown.twig c.take.new.twig c.in-Grown.is at e in
     let one = above_leaf at.level (out-Twig c.take.new.twig).level t.1.shaped.level_is c.if-twig-eq1.false in
     let g = rw (c.in-Grown.is, made.outs-Grown c.in-Grown.low c.in-Grown.twig) at c.give_way.ensures in
     let only : children_of c.take.new.twig ≡ c.give_way.new.top ∷ [] = sym (ap below_in (made.outs-Grown c.in-Grown.low c.take.new.twig)) ∙ g in
     rw c.in-Grown.is (gone_at c.args.order at.level at.high c.args.block at.loses c.in-Grown.twig c.take.new.twig c.in-Grown.low c.give_way.new.top c.requires.four t.0 at.to t.2 t.1 one only)
 
-pub returns-else-len-lt2 : goal.returns-else-len-lt2
-returns-else-len-lt2 c at =
-    let e = rw (c.in-Grown.is, made.outs-Grown c.in-Grown.low c.in-Grown.twig) at c.take.ensures in
+pub returns-else-len-lt2-clause-taken : goal.returns-else-len-lt2-clause-taken
+returns-else-len-lt2-clause-taken c at =
+    let e = rw (c.in-Grown.is, made.outs-Grown c.in-Grown.low c.in-Grown.twig) at c.take.ensures.taken in
     let t = taken_of c.args.order c.args.block c.in-Grown.low c.args.top.now c.in-Grown.twig c.take.new.twig c.in-Grown.is at e in
     rw (c.in-Grown.is, made.outs-Grown c.in-Grown.low c.in-Grown.twig)
     (top_taken c.args.order at.level at.high c.args.block at.loses c.in-Grown.twig c.take.new.twig c.in-Grown.low t.0 t.1 (λ one. omega (arith, c.len.ensures, c.if-len-lt2.false)))
+
+pub returns-then-twig-eq1-clause-levels : goal.returns-then-twig-eq1-clause-levels
+returns-then-twig-eq1-clause-levels c medium m at =
+    let e = rw (c.in-Grown.is, made.outs-Grown c.in-Grown.low c.in-Grown.twig) at c.take.ensures in
+    let grown = subst (CanTakeTop c.args.order c.args.block) c.in-Grown.is at in
+    let can = open_top c.args.order c.args.block c.in-Grown.low c.in-Grown.twig grown in
+    let t = taken_of c.args.order c.args.block c.in-Grown.low c.args.top.now c.in-Grown.twig c.take.new.twig c.in-Grown.is at e.taken in
+    let was = made.outs-Grown c.in-Grown.low c.in-Grown.twig ∙ ap (λ l. grown_as l c.in-Grown.twig) t.0 in
+    rw (c.in-Grown.is, made.outs-Grown c.in-Grown.low c.in-Grown.twig) (record {
+      twig = c.in-Grown.twig;
+      left = c.take.new.twig;
+      was = was;
+      rows = e.levels medium m can;
+      now = inl (made.outs-Grown c.in-Grown.low c.take.new.twig ∙ ap (λ l. grown_as l c.take.new.twig) t.0, λ one. absurd (omega (arith, one, t.1.shaped.level_is, c.if-twig-eq1.true)));
+    })
+
+pub returns-then-len-lt2-clause-levels : goal.returns-then-len-lt2-clause-levels
+returns-then-len-lt2-clause-levels c medium m at =
+    let e = rw (c.in-Grown.is, made.outs-Grown c.in-Grown.low c.in-Grown.twig) at c.take.ensures in
+    let grown = subst (CanTakeTop c.args.order c.args.block) c.in-Grown.is at in
+    let can = open_top c.args.order c.args.block c.in-Grown.low c.in-Grown.twig grown in
+    let t = taken_of c.args.order c.args.block c.in-Grown.low c.args.top.now c.in-Grown.twig c.take.new.twig c.in-Grown.is at e.taken in
+    let was = made.outs-Grown c.in-Grown.low c.in-Grown.twig ∙ ap (λ l. grown_as l c.in-Grown.twig) t.0 in
+    let one = above_leaf at.level (out-Twig c.take.new.twig).level t.1.shaped.level_is c.if-twig-eq1.false in
+    let g = rw (c.in-Grown.is, made.outs-Grown c.in-Grown.low c.in-Grown.twig) at c.give_way.ensures in
+    let only : children_of c.take.new.twig ≡ c.give_way.new.top ∷ [] = sym (ap below_in (made.outs-Grown c.in-Grown.low c.take.new.twig)) ∙ g in
+    rw c.in-Grown.is (record {
+      twig = c.in-Grown.twig;
+      left = c.take.new.twig;
+      was = was;
+      rows = e.levels medium m can;
+      now = inr (one, only);
+    })
+
+pub returns-else-len-lt2-clause-levels : goal.returns-else-len-lt2-clause-levels
+returns-else-len-lt2-clause-levels c medium m at =
+    let e = rw (c.in-Grown.is, made.outs-Grown c.in-Grown.low c.in-Grown.twig) at c.take.ensures in
+    let grown = subst (CanTakeTop c.args.order c.args.block) c.in-Grown.is at in
+    let can = open_top c.args.order c.args.block c.in-Grown.low c.in-Grown.twig grown in
+    let t = taken_of c.args.order c.args.block c.in-Grown.low c.args.top.now c.in-Grown.twig c.take.new.twig c.in-Grown.is at e.taken in
+    let was = made.outs-Grown c.in-Grown.low c.in-Grown.twig ∙ ap (λ l. grown_as l c.in-Grown.twig) t.0 in
+    rw (c.in-Grown.is, made.outs-Grown c.in-Grown.low c.in-Grown.twig) (record {
+      twig = c.in-Grown.twig;
+      left = c.take.new.twig;
+      was = was;
+      rows = e.levels medium m can;
+      now = inl (made.outs-Grown c.in-Grown.low c.take.new.twig ∙ ap (λ l. grown_as l c.take.new.twig) t.0, λ one. omega (arith, c.len.ensures, c.if-len-lt2.false));
+    })

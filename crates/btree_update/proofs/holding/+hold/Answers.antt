@@ -19,10 +19,9 @@ use Rattle.btree_update.specs.Holding.{CanHold, CanHoldBelow, IsNodeFor, IsNodeO
 use Rattle.btree_update.specs.Held.{AreBelow}
 use Rattle.btree_update.proofs.OpenLaws.{IsOnWay, on_way, child_is}
 use Rattle.btree_update.proofs.HoldLaws.{no_way, leaf_way, one_way, below_child, bare_of, read_below, read_lower, node_is_twig, read_as, holds_kept, holds_grown, kept_below}
-use Rattle.btree_update.specs.Wrong.{ComesToWrong, Here, WrongOnWay}
+use Rattle.btree_update.specs.Wrong.{ComesToWrong, Here, WrongOnWay, WrongUnder}
 use Rattle.btree_update.specs.declared.refusals.ReadyRefusal.TheVariants.{BadRecord}
-use Rattle.btree_update.proofs.WrongLaws.{wrong_child, wrong_below, wrong_kept}
-use Rattle.page_store.specs.Places.{NothingFits}
+use Rattle.btree_update.proofs.WrongLaws.{wrong_child, wrong_near, wrong_below, wrong_kept, wrong_grown}
 use Rattle.std.proofs.Common.{Err}
 use Rattle.std.proofs.lemmas.Result.{err_from_is_err_and}
 use Rattle.std.proofs.Common.{◌==◌}
@@ -137,8 +136,8 @@ hold_way-hold_below-requires g t c κs within = (
   ),
 )
 
-pub hold_way-read_node-requires-clause-within : goal.hold_way-read_node-requires-clause-within
-hold_way-read_node-requires-clause-within g t c =
+pub hold_way-read_kept-requires-clause-within : goal.hold_way-read_kept-requires-clause-within
+hold_way-read_kept-requires-clause-within g t c =
     let at = c.requires.can in
     let kept = subst (λ x. AreBelow (g.P.Platform.head c.args.platform.now) (stubs c.args.level c.args.high x)) c.in-Kept.is at.within in
     kept_below (g.P.Platform.head c.args.platform.now) at.below c.args.high c.in-Kept.low c.in-Kept.addr c.in-Kept.key (subst (λ k. AreBelow (g.P.Platform.head c.args.platform.now) (stubs k c.args.high (made.Kept c.in-Kept.low c.in-Kept.addr c.in-Kept.key))) at.level_is kept)
@@ -224,20 +223,23 @@ hold_way-returns-in_ok-hold-in-Kept-clause-reads g t c = λ tells stands.
     let pages = (g.P.Platform.history c.args.platform.now).present.readable in
     let Reads = IsReadAs pages c.args.order in
     let l : c.args.level - 1 ≡ at.below = omega (arith, at.level_is) in
-    let same : (g.P.Platform.history c.read_node.new.platform).present.readable ≡ pages = ap (λ i. i.readable) (c.in_ok-twig-in-Kept.ensures.looks.image tells) in
+    let same : (g.P.Platform.history c.read_kept.new.platform).present.readable ≡ pages = ap (λ i. i.readable) (c.in_ok-twig-in-Kept.ensures.looks.image tells) in
     let shaped = shaped_here c.args.order c.args.level c.args.block c.args.high (g.P.Platform.head c.args.platform.now) c.in-Kept.low c.in-Kept.addr c.in-Kept.key twig at fits in
     let bare = bare_of at.below (want_here c.args.order c.args.level c.in-Kept.low c.args.high c.in-Kept.addr) twig fits in
-    let stands' = subst (λ p. StandsOver p c.read_node.new.cache) (sym same) (c.in_ok-twig-in-Kept.ensures.stands tells stands) in
+    let stands' = subst (λ p. StandsOver p c.read_kept.new.cache) (sym same) (c.in_ok-twig-in-Kept.ensures.stands tells stands) in
     let way0 = subst (λ p. OnWay c.args.block (λ end d. HeldFor (IsReadAs p c.args.order) c.args.order c.args.block (c.args.level - 1) end d c.hold_below-in-Kept.new.held.items) c.args.high twig) same (c.in_ok-left-in-Kept.ensures.reads tells stands') in
     let way = subst (λ k. OnWay c.args.block (λ end d. HeldFor Reads c.args.order c.args.block k end d c.hold_below-in-Kept.new.held.items) c.args.high twig) l way0 in
     let lt = head_of_kept c.args.order c.args.level c.args.block c.args.high (g.P.Platform.head c.args.platform.now) c.in-Kept.low c.in-Kept.addr c.in-Kept.key at in
     let small : c.in-Kept.addr < 2 ^ 64 = omega (arith, lt, g.met.P.Platform.has_room c.args.platform.now, g.met.P.Platform.is_limited c.args.platform.now) in
     let node = subst (λ k. IsNodeOf pages (want_here c.args.order k c.in-Kept.low c.args.high c.in-Kept.addr) c.in-Kept.key twig) at.level_is
-    (subst (λ k. IsNodeOf pages (want_here c.args.order c.args.level c.in-Kept.low c.args.high c.in-Kept.addr) k twig) c.from_bytes-key.ensures (c.in_ok-twig-in-Kept.ensures.reads tells stands)) in
+    (c.in_ok-twig-in-Kept.ensures.reads tells stands) in
     let reads = read_as pages c.args.order at.below c.in-Kept.low c.args.high c.in-Kept.addr (c.args.order / 2) c.in-Kept.key twig small node in
     let h = holds_kept Reads c.args.order c.args.block at.below c.args.high c.in-Kept.low c.in-Kept.addr c.in-Kept.key twig c.hold_below-in-Kept.new.held.items c.hold.new.held.items c.in_ok-hold-in-Kept.ensures.held reads shaped bare (read_lower at.below c.args.high (want_here c.args.order c.args.level c.in-Kept.low c.args.high c.in-Kept.addr) twig fits) way in
     subst (λ x. HeldFor Reads c.args.order c.args.block c.args.level c.args.high x c.hold.new.held.items) (sym c.in-Kept.is)
     (subst (λ k. HeldFor Reads c.args.order c.args.block k c.args.high (made.Kept c.in-Kept.low c.in-Kept.addr c.in-Kept.key) c.hold.new.held.items) (sym at.level_is) h))
+
+before_is : (i n : ℕ) (cs : List Child) → i < length cs → suc i ≡ n → length (take i cs) + 1 ≡ n
+before_is i n cs lt is = omega (arith, length-take-le i cs (omega (arith, lt)), is)
 
 pub hold_below-returns-in_err-left-clause-bad : goal.hold_below-returns-in_err-left-clause-bad
 hold_below-returns-in_err-left-clause-bad g t c =
@@ -250,14 +252,20 @@ hold_below-returns-in_err-left-clause-bad g t c =
     let e = end_is c.args.high c.place-at.result w.at c.end_of-end.result c.deref-2.result.now (children_of c.args.twig.now) c.deref-2.ensures.value w.at_is c.end_of-end.ensures in
     let pages = (g.P.Platform.history c.args.platform.now).present.readable in
     wrong_child pages c.args.order c.args.level c.args.high c.args.block addr c.place-at.result c.args.twig.now c.index-child.result.now w
-    (subst (λ m. WrongOnWay pages c.args.order c.args.block addr (stubs c.args.level m c.index-child.result.now)) e (c.in_err-left.ensures.bad tells stands addr (ap Err err))))
+    (subst (λ m. WrongOnWay pages c.args.order c.args.block addr c.args.level m c.index-child.result.now) e (c.in_err-left.ensures.bad tells stands addr (ap Err err))))
 
 pub hold_below-returns-clause-bad : goal.hold_below-returns-clause-bad
 hold_below-returns-clause-bad g t c = λ tells stands addr is.
-    (let pages = (g.P.Platform.history c.args.platform.now).present.readable in
+    (let at = c.requires.can in
+    let cs = children_of c.args.twig.now in
+    let w = on_way c.args.order c.args.block c.args.level c.args.high c.place-at.result cs c.deref.result.now c.index-child.result.now c.deref.ensures.value c.if-at-eq0.false
+    c.place-at.ensures.within c.place-at.ensures.before c.place-at.ensures.after at.to c.index-child.ensures in
+    let pages = (g.P.Platform.history c.args.platform.now).present.readable in
     let same : (g.P.Platform.history c.hold_way.new.platform).present.readable ≡ pages = ap (λ i. i.readable) (c.in_ok-left.ensures.looks.image tells) in
     let stands' = subst (λ p. StandsOver p c.hold_way.new.cache) (sym same) (c.in_ok-left.ensures.stands tells stands) in
-    subst (λ p. WrongOnWay p c.args.order c.args.block addr (stubs_below c.args.level c.args.high c.args.twig.now)) same (c.hold_beside.ensures.bad tells stands' addr c.args.block is))
+    let near = c.hold_beside.ensures.bad tells stands' (take w.at cs) c.index-child.result.now (drop (suc w.at) cs) w.split (before_is w.at c.place-at.result cs w.within w.at_is) addr is in
+    subst (λ p. WrongUnder p c.args.order c.args.block addr c.args.level c.args.high c.args.twig.now) same
+    (wrong_near (g.P.Platform.history c.hold_way.new.platform).present.readable c.args.order c.args.level c.args.high c.args.block addr c.place-at.result c.args.twig.now c.index-child.result.now w near))
 
 pub hold_below-returns-then-level-eq0-clause-helps : goal.hold_below-returns-then-level-eq0-clause-helps
 hold_below-returns-then-level-eq0-clause-helps g t c =
@@ -266,9 +274,6 @@ hold_below-returns-then-level-eq0-clause-helps g t c =
 pub hold_below-returns-then-level-eq0-clause-beside : goal.hold_below-returns-then-level-eq0-clause-beside
 hold_below-returns-then-level-eq0-clause-beside g t c = λ tells stands.
     leaf_left (IsReadAs (g.P.Platform.history c.args.platform.now).present.readable c.args.order) c.args.order c.args.block c.args.level c.args.high c.args.twig.now c.args.held.now.items c.args.beside.now.items _ c.left_of_leaf.result c.if-level-eq0.true c.left_of_leaf.ensures.mapped c.left_of_leaf.ensures.unmapped
-
-before_is : (i n : ℕ) (cs : List Child) → i < length cs → suc i ≡ n → length (take i cs) + 1 ≡ n
-before_is i n cs lt is = omega (arith, length-take-le i cs (omega (arith, lt)), is)
 
 pub hold_below-returns-clause-helps : goal.hold_below-returns-clause-helps
 hold_below-returns-clause-helps g t c =
@@ -325,8 +330,8 @@ hold_way-returns-in_ok-hold-in-Kept-clause-helps g t c =
 pub hold_way-returns-in_ok-hold-in-Kept-clause-beside : goal.hold_way-returns-in_ok-hold-in-Kept-clause-beside
 hold_way-returns-in_ok-hold-in-Kept-clause-beside g t c = λ tells stands.
     (let pages = (g.P.Platform.history c.args.platform.now).present.readable in
-    let same : (g.P.Platform.history c.read_node.new.platform).present.readable ≡ pages = ap (λ i. i.readable) (c.in_ok-twig-in-Kept.ensures.looks.image tells) in
-    let stands' = subst (λ p. StandsOver p c.read_node.new.cache) (sym same) (c.in_ok-twig-in-Kept.ensures.stands tells stands) in
+    let same : (g.P.Platform.history c.read_kept.new.platform).present.readable ≡ pages = ap (λ i. i.readable) (c.in_ok-twig-in-Kept.ensures.looks.image tells) in
+    let stands' = subst (λ p. StandsOver p c.read_kept.new.cache) (sym same) (c.in_ok-twig-in-Kept.ensures.stands tells stands) in
     let twig = c.in_ok-twig-in-Kept.twig in
     let left = subst (λ p. IsLeft (λ loses. HelpsBelow (IsReadAs p c.args.order) c.args.order c.args.block (c.args.level - 1) c.args.high twig c.hold_below-in-Kept.new.held.items c.hold_below-in-Kept.new.beside.items loses) c.args.order (length (children_of twig)) c.in_ok-left-in-Kept.left) same
     (c.in_ok-left-in-Kept.ensures.beside tells stands') in
@@ -339,18 +344,17 @@ hold_way-returns-in-Grown-clause-bad g t c = λ tells stands addr is.
     (let at = c.requires.can in
     let l : c.args.level - 1 ≡ at.below = omega (arith, at.level_is) in
     let pages = (g.P.Platform.history c.args.platform.now).present.readable in
-    let w = subst (λ k. WrongOnWay pages c.args.order c.args.block addr (stubs_below k c.args.high c.in-Grown.twig)) l (c.hold_below.ensures.bad tells stands addr is) in
-    subst (λ x. WrongOnWay pages c.args.order c.args.block addr (stubs c.args.level c.args.high x)) (sym c.in-Grown.is)
-    (subst (λ k. WrongOnWay pages c.args.order c.args.block addr (stubs k c.args.high (made.Grown c.in-Grown.low c.in-Grown.twig))) (sym at.level_is)
-    (subst (WrongOnWay pages c.args.order c.args.block addr) (sym (stubs_of_grown at.below c.args.high c.in-Grown.low c.in-Grown.twig)) w)))
+    let w = subst (λ k. WrongUnder pages c.args.order c.args.block addr k c.args.high c.in-Grown.twig) l (c.hold_below.ensures.bad tells stands addr is) in
+    subst (WrongOnWay pages c.args.order c.args.block addr c.args.level c.args.high) (sym c.in-Grown.is)
+    (subst (λ k. WrongOnWay pages c.args.order c.args.block addr k c.args.high (made.Grown c.in-Grown.low c.in-Grown.twig)) (sym at.level_is)
+    (wrong_grown pages c.args.order c.args.block addr at.below c.args.high c.in-Grown.low c.in-Grown.twig w)))
 
 -- from a child on the medium on
 wrong_here : (pages : List (List ℕ)) (order level block high head low addr wrong : ℕ) (key : List ℕ) → CanHold order level block high head (made.Kept low addr key) → ComesToWrong pages order block wrong (want_here order level low high addr) key →
-    WrongOnWay pages order block wrong (stubs level high (made.Kept low addr key))
+    WrongOnWay pages order block wrong level high (made.Kept low addr key)
 wrong_here pages order level block high head low addr wrong key at w =
-    subst (λ k. WrongOnWay pages order block wrong (stubs k high (made.Kept low addr key))) (sym at.level_is)
-    (wrong_kept pages order block wrong at.below high low addr key (omega (arith, at.from, low_of_kept low addr key)) at.to
-    (subst (λ k. ComesToWrong pages order block wrong (want_here order k low high addr) key) at.level_is w))
+    subst (λ k. WrongOnWay pages order block wrong k high (made.Kept low addr key)) (sym at.level_is)
+    (wrong_kept pages order block wrong at.below high low addr key (subst (λ k. ComesToWrong pages order block wrong (want_here order k low high addr) key) at.level_is w))
 
 pub hold_way-returns-in_err-twig-in-Kept-clause-bad : goal.hold_way-returns-in_err-twig-in-Kept-clause-bad
 hold_way-returns-in_err-twig-in-Kept-clause-bad g t c =
@@ -360,9 +364,8 @@ hold_way-returns-in_err-twig-in-Kept-clause-bad g t c =
     let at = subst (CanHold c.args.order c.args.level c.args.block c.args.high (g.P.Platform.head c.args.platform.now)) c.in-Kept.is c.requires.can in
     let pages = (g.P.Platform.history c.args.platform.now).present.readable in
     let b = c.in_err-twig-in-Kept.ensures.bad tells stands addr (ap Err same) in
-    let nothing = subst (NothingFits pages (want_here c.args.order c.args.level c.in-Kept.low c.args.high c.in-Kept.addr)) c.from_bytes-key.ensures b.1 in
-    subst (λ x. WrongOnWay pages c.args.order c.args.block addr (stubs c.args.level c.args.high x)) (sym c.in-Kept.is)
-    (wrong_here pages c.args.order c.args.level c.args.block c.args.high (g.P.Platform.head c.args.platform.now) c.in-Kept.low c.in-Kept.addr addr c.in-Kept.key at (Here (b.0, nothing))))
+    subst (WrongOnWay pages c.args.order c.args.block addr c.args.level c.args.high) (sym c.in-Kept.is)
+    (wrong_here pages c.args.order c.args.level c.args.block c.args.high (g.P.Platform.head c.args.platform.now) c.in-Kept.low c.in-Kept.addr addr c.in-Kept.key at (Here b)))
 
 pub hold_way-returns-in_err-left-in-Kept-clause-bad : goal.hold_way-returns-in_err-left-in-Kept-clause-bad
 hold_way-returns-in_err-left-in-Kept-clause-bad g t c =
@@ -373,15 +376,15 @@ hold_way-returns-in_err-left-in-Kept-clause-bad g t c =
     let twig = c.in_ok-twig-in-Kept.twig in
     let pages = (g.P.Platform.history c.args.platform.now).present.readable in
     let l : c.args.level - 1 ≡ at.below = omega (arith, at.level_is) in
-    let same : (g.P.Platform.history c.read_node.new.platform).present.readable ≡ pages = ap (λ i. i.readable) (c.in_ok-twig-in-Kept.ensures.looks.image tells) in
-    let stands' = subst (λ p. StandsOver p c.read_node.new.cache) (sym same) (c.in_ok-twig-in-Kept.ensures.stands tells stands) in
-    let w0 = subst (λ p. WrongOnWay p c.args.order c.args.block addr (stubs_below (c.args.level - 1) c.args.high twig)) same (c.in_err-left-in-Kept.ensures.bad tells stands' addr (ap Err err)) in
-    let w = subst (λ k. WrongOnWay pages c.args.order c.args.block addr (stubs_below k c.args.high twig)) l w0 in
+    let same : (g.P.Platform.history c.read_kept.new.platform).present.readable ≡ pages = ap (λ i. i.readable) (c.in_ok-twig-in-Kept.ensures.looks.image tells) in
+    let stands' = subst (λ p. StandsOver p c.read_kept.new.cache) (sym same) (c.in_ok-twig-in-Kept.ensures.stands tells stands) in
+    let w0 = subst (λ p. WrongUnder p c.args.order c.args.block addr (c.args.level - 1) c.args.high twig) same (c.in_err-left-in-Kept.ensures.bad tells stands' addr (ap Err err)) in
+    let w = subst (λ k. WrongUnder pages c.args.order c.args.block addr k c.args.high twig) l w0 in
     let node = subst (λ k. IsNodeOf pages (want_here c.args.order k c.in-Kept.low c.args.high c.in-Kept.addr) c.in-Kept.key twig) at.level_is
-    (subst (λ k. IsNodeOf pages (want_here c.args.order c.args.level c.in-Kept.low c.args.high c.in-Kept.addr) k twig) c.from_bytes-key.ensures (c.in_ok-twig-in-Kept.ensures.reads tells stands)) in
+    (c.in_ok-twig-in-Kept.ensures.reads tells stands) in
     let fits = subst (λ k. IsNodeFor (want_here c.args.order k c.in-Kept.low c.args.high c.in-Kept.addr) twig) at.level_is c.in_ok-twig-in-Kept.ensures.fits in
     let comes = wrong_below pages c.args.order c.args.block addr at.below c.in-Kept.low c.args.high c.in-Kept.addr (c.args.order / 2) c.args.order c.in-Kept.key twig fits node w in
-    subst (λ x. WrongOnWay pages c.args.order c.args.block addr (stubs c.args.level c.args.high x)) (sym c.in-Kept.is)
+    subst (WrongOnWay pages c.args.order c.args.block addr c.args.level c.args.high) (sym c.in-Kept.is)
     (wrong_here pages c.args.order c.args.level c.args.block c.args.high (g.P.Platform.head c.args.platform.now) c.in-Kept.low c.in-Kept.addr addr c.in-Kept.key at
     (subst (λ k. ComesToWrong pages c.args.order c.args.block addr (want_here c.args.order k c.in-Kept.low c.args.high c.in-Kept.addr) c.in-Kept.key) (sym at.level_is) comes)))
 
@@ -433,12 +436,12 @@ hold_way-returns-in_ok-hold-in-Kept-clause-mapped g t c = λ tells stands mapped
     let twig = c.in_ok-twig-in-Kept.twig in
     let pages = (g.P.Platform.history c.args.platform.now).present.readable in
     let l : c.args.level - 1 ≡ at.below = omega (arith, at.level_is) in
-    let same : (g.P.Platform.history c.read_node.new.platform).present.readable ≡ pages = ap (λ i. i.readable) (c.in_ok-twig-in-Kept.ensures.looks.image tells) in
-    let stands' = subst (λ p. StandsOver p c.read_node.new.cache) (sym same) (c.in_ok-twig-in-Kept.ensures.stands tells stands) in
+    let same : (g.P.Platform.history c.read_kept.new.platform).present.readable ≡ pages = ap (λ i. i.readable) (c.in_ok-twig-in-Kept.ensures.looks.image tells) in
+    let stands' = subst (λ p. StandsOver p c.read_kept.new.cache) (sym same) (c.in_ok-twig-in-Kept.ensures.stands tells stands) in
     let lt = head_of_kept c.args.order c.args.level c.args.block c.args.high (g.P.Platform.head c.args.platform.now) c.in-Kept.low c.in-Kept.addr c.in-Kept.key at in
     let small : c.in-Kept.addr < 2 ^ 64 = omega (arith, lt, g.met.P.Platform.has_room c.args.platform.now, g.met.P.Platform.is_limited c.args.platform.now) in
     let node = subst (λ k. IsNodeOf pages (want_here c.args.order k c.in-Kept.low c.args.high c.in-Kept.addr) c.in-Kept.key twig) at.level_is
-    (subst (λ k. IsNodeOf pages (want_here c.args.order c.args.level c.in-Kept.low c.args.high c.in-Kept.addr) k twig) c.from_bytes-key.ensures (c.in_ok-twig-in-Kept.ensures.reads tells stands)) in
+    (c.in_ok-twig-in-Kept.ensures.reads tells stands) in
     let reads = read_as pages c.args.order at.below c.in-Kept.low c.args.high c.in-Kept.addr (c.args.order / 2) c.in-Kept.key twig small node in
     let k = kept_mapped pages c.args.order at.below c.args.high c.in-Kept.low c.in-Kept.addr c.in-Kept.key twig reads mapped
     (subst (λ k. Maps pages c.args.order (stubs k c.args.high (made.Kept c.in-Kept.low c.in-Kept.addr c.in-Kept.key)) mapped) at.level_is (subst (λ x. Maps pages c.args.order (stubs c.args.level c.args.high x) mapped) c.in-Kept.is m)) in

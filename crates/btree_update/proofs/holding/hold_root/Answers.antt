@@ -11,10 +11,9 @@ use Rattle.btree_update.specs.Roots.{HeldRoot}
 use Rattle.btree_update.proofs.HoldLaws.{read_as}
 use Rattle.btree_update.proofs.RootHolds.{root_grown, root_held_grown, want_root, root_low, root_starts, root_read, root_held, root_lt}
 use Rattle.btree_twigs.specs.Stubs.{stubs_below}
-use Rattle.btree_update.specs.Wrong.{ComesToWrong, Here, WrongOnWay, WrongFrom}
+use Rattle.btree_update.specs.Wrong.{ComesToWrong, Here, WrongUnder, WrongFrom}
 use Rattle.btree_update.specs.declared.refusals.ReadyRefusal.TheVariants.{BadRecord}
 use Rattle.btree_update.proofs.WrongLaws.{wrong_below, wrong_root}
-use Rattle.page_store.specs.Places.{NothingFits}
 use Rattle.std.proofs.Common.{Err}
 use Rattle.std.proofs.lemmas.Result.{err_from_is_err_and}
 use Rattle.btree_update.specs.GroveTree.{Maps}
@@ -31,8 +30,8 @@ hold_below-requires g c = record {
       (subst (CanHoldRoot c.args.order c.args.level c.args.block c.args.high (g.P.Platform.head c.args.platform.now)) c.in-Grown.is c.requires.can);
 }
 
-pub read_node-requires-clause-within : goal.read_node-requires-clause-within
-read_node-requires-clause-within g c =
+pub read_kept-requires-clause-within : goal.read_kept-requires-clause-within
+read_kept-requires-clause-within g c =
     root_lt c.args.order c.args.level c.args.block c.args.high (g.P.Platform.head c.args.platform.now) c.in-Kept.low c.in-Kept.addr c.in-Kept.key
     (subst (CanHoldRoot c.args.order c.args.level c.args.block c.args.high (g.P.Platform.head c.args.platform.now)) c.in-Kept.is c.requires.can)
 
@@ -41,7 +40,7 @@ hold_below-requires-in-Kept g c =
     let at = subst (CanHoldRoot c.args.order c.args.level c.args.block c.args.high (g.P.Platform.head c.args.platform.now)) c.in-Kept.is c.requires.can in
     record {
       can = subst (λ m. CanHoldBelow c.args.order (c.args.level - 1) c.args.block c.args.high m c.in_ok-twig-in-Kept.twig) (sym c.in_ok-twig-in-Kept.ensures.looks.head)
-          (root_read c.args.order c.args.level c.args.block c.args.high (g.P.Platform.head c.args.platform.now) c.in-Kept.low c.in-Kept.addr c.least_of_root.result c.in-Kept.key c.in_ok-twig-in-Kept.twig at c.least_of_root.ensures c.in_ok-twig-in-Kept.ensures.fits);
+          (root_read c.args.order c.args.level c.args.block c.args.high (g.P.Platform.head c.args.platform.now) c.in-Kept.low c.in-Kept.addr c.least_of_root-least.result c.in-Kept.key c.in_ok-twig-in-Kept.twig at c.least_of_root-least.ensures c.in_ok-twig-in-Kept.ensures.fits);
     }
 
 pub returns-in-Grown-clause-at_hand : goal.returns-in-Grown-clause-at_hand
@@ -62,7 +61,7 @@ returns-in-Grown-clause-reads g c = λ tells stands.
 pub returns-in_ok-hold-in-Kept-clause-at_hand : goal.returns-in_ok-hold-in-Kept-clause-at_hand
 returns-in_ok-hold-in-Kept-clause-at_hand g c =
     let at = subst (CanHoldRoot c.args.order c.args.level c.args.block c.args.high (g.P.Platform.head c.args.platform.now)) c.in-Kept.is c.requires.can in
-    let h = root_held c.args.order c.args.level c.args.block c.args.high (g.P.Platform.head c.args.platform.now) c.in-Kept.low c.in-Kept.addr c.least_of_root.result c.in-Kept.key c.in_ok-twig-in-Kept.twig at c.least_of_root.ensures c.in_ok-twig-in-Kept.ensures.fits
+    let h = root_held c.args.order c.args.level c.args.block c.args.high (g.P.Platform.head c.args.platform.now) c.in-Kept.low c.in-Kept.addr c.least_of_root-least.result c.in-Kept.key c.in_ok-twig-in-Kept.twig at c.least_of_root-least.ensures c.in_ok-twig-in-Kept.ensures.fits
     AnyRead c.hold_below-in-Kept.new.held.items c.hold.new.held.items c.in_ok-hold-in-Kept.ensures.held tt c.in_ok-left-in-Kept.ensures.at_hand in
     subst (λ x. HeldRoot AnyRead c.args.order c.args.block (c.args.level - 1) c.args.high x c.hold.new.held.items) (sym c.in-Kept.is) h
 
@@ -72,17 +71,17 @@ returns-in_ok-hold-in-Kept-clause-reads g c = λ tells stands.
     let twig = c.in_ok-twig-in-Kept.twig in
     let pages = (g.P.Platform.history c.args.platform.now).present.readable in
     let Reads = IsReadAs pages c.args.order in
-    let same : (g.P.Platform.history c.read_node.new.platform).present.readable ≡ pages = ap (λ i. i.readable) (c.in_ok-twig-in-Kept.ensures.looks.image tells) in
-    let stands' = subst (λ p. StandsOver p c.read_node.new.cache) (sym same) (c.in_ok-twig-in-Kept.ensures.stands tells stands) in
+    let same : (g.P.Platform.history c.read_kept.new.platform).present.readable ≡ pages = ap (λ i. i.readable) (c.in_ok-twig-in-Kept.ensures.looks.image tells) in
+    let stands' = subst (λ p. StandsOver p c.read_kept.new.cache) (sym same) (c.in_ok-twig-in-Kept.ensures.stands tells stands) in
     let way = subst (λ p. OnWay c.args.block (λ end d. HeldFor (IsReadAs p c.args.order) c.args.order c.args.block (c.args.level - 1) end d c.hold_below-in-Kept.new.held.items) c.args.high twig) same (c.in_ok-left-in-Kept.ensures.reads tells stands') in
     let lt = root_lt c.args.order c.args.level c.args.block c.args.high (g.P.Platform.head c.args.platform.now) c.in-Kept.low c.in-Kept.addr c.in-Kept.key at in
     let small : c.in-Kept.addr < 2 ^ 64 = omega (arith, lt, g.met.P.Platform.has_room c.args.platform.now, g.met.P.Platform.is_limited c.args.platform.now) in
-    let low_is = root_low c.args.order c.args.level c.args.block c.args.high (g.P.Platform.head c.args.platform.now) c.in-Kept.low c.in-Kept.addr c.least_of_root.result c.in-Kept.key twig at c.least_of_root.ensures c.in_ok-twig-in-Kept.ensures.fits in
-    let node = subst (λ k. IsNodeOf pages (want_root c.args.order k c.in-Kept.low c.args.high c.in-Kept.addr c.least_of_root.result) c.in-Kept.key twig) (above c.args.level at.one)
-    (subst (λ k. IsNodeOf pages (want_root c.args.order c.args.level c.in-Kept.low c.args.high c.in-Kept.addr c.least_of_root.result) k twig) c.from_bytes-key.ensures (c.in_ok-twig-in-Kept.ensures.reads tells stands)) in
-    let reads0 = read_as pages c.args.order (c.args.level - 1) c.in-Kept.low c.args.high c.in-Kept.addr c.least_of_root.result c.in-Kept.key twig small node in
+    let low_is = root_low c.args.order c.args.level c.args.block c.args.high (g.P.Platform.head c.args.platform.now) c.in-Kept.low c.in-Kept.addr c.least_of_root-least.result c.in-Kept.key twig at c.least_of_root-least.ensures c.in_ok-twig-in-Kept.ensures.fits in
+    let node = subst (λ k. IsNodeOf pages (want_root c.args.order k c.in-Kept.low c.args.high c.in-Kept.addr c.least_of_root-least.result) c.in-Kept.key twig) (above c.args.level at.one)
+    (c.in_ok-twig-in-Kept.ensures.reads tells stands) in
+    let reads0 = read_as pages c.args.order (c.args.level - 1) c.in-Kept.low c.args.high c.in-Kept.addr c.least_of_root-least.result c.in-Kept.key twig small node in
     let reads = subst (λ l. IsReadAs pages c.args.order (c.args.level - 1) (stub_at (suc (c.args.level - 1)) l c.args.high c.in-Kept.addr c.in-Kept.key) twig) low_is reads0 in
-    let h = root_held c.args.order c.args.level c.args.block c.args.high (g.P.Platform.head c.args.platform.now) c.in-Kept.low c.in-Kept.addr c.least_of_root.result c.in-Kept.key twig at c.least_of_root.ensures c.in_ok-twig-in-Kept.ensures.fits
+    let h = root_held c.args.order c.args.level c.args.block c.args.high (g.P.Platform.head c.args.platform.now) c.in-Kept.low c.in-Kept.addr c.least_of_root-least.result c.in-Kept.key twig at c.least_of_root-least.ensures c.in_ok-twig-in-Kept.ensures.fits
     Reads c.hold_below-in-Kept.new.held.items c.hold.new.held.items c.in_ok-hold-in-Kept.ensures.held reads way in
     subst (λ x. HeldRoot Reads c.args.order c.args.block (c.args.level - 1) c.args.high x c.hold.new.held.items) (sym c.in-Kept.is) h)
 
@@ -94,10 +93,9 @@ returns-in_err-twig-in-Kept-clause-bad g c =
     let at = subst (CanHoldRoot c.args.order c.args.level c.args.block c.args.high (g.P.Platform.head c.args.platform.now)) c.in-Kept.is c.requires.can in
     let pages = (g.P.Platform.history c.args.platform.now).present.readable in
     let b = c.in_err-twig-in-Kept.ensures.bad tells stands addr (ap Err same) in
-    let nothing = subst (NothingFits pages (want_root c.args.order c.args.level c.in-Kept.low c.args.high c.in-Kept.addr c.least_of_root.result)) c.from_bytes-key.ensures b.1 in
     let low_is = root_starts c.args.order c.args.level c.args.block c.args.high (g.P.Platform.head c.args.platform.now) c.in-Kept.low c.in-Kept.addr c.in-Kept.key at in
     subst (WrongFrom pages c.args.order c.args.block addr (c.args.level - 1) c.args.high) (sym c.in-Kept.is)
-    (wrong_root pages c.args.order c.args.block addr c.args.level c.in-Kept.low c.args.high c.in-Kept.addr c.least_of_root.result c.in-Kept.key at.one low_is c.least_of_root.ensures (Here (b.0, nothing))))
+    (wrong_root pages c.args.order c.args.block addr c.args.level c.in-Kept.low c.args.high c.in-Kept.addr c.least_of_root-least.result c.in-Kept.key at.one low_is c.least_of_root-least.ensures (Here b)))
 
 pub returns-in_err-left-in-Kept-clause-bad : goal.returns-in_err-left-in-Kept-clause-bad
 returns-in_err-left-in-Kept-clause-bad g c =
@@ -108,17 +106,17 @@ returns-in_err-left-in-Kept-clause-bad g c =
     let twig = c.in_ok-twig-in-Kept.twig in
     let pages = (g.P.Platform.history c.args.platform.now).present.readable in
     let l = above c.args.level at.one in
-    let same : (g.P.Platform.history c.read_node.new.platform).present.readable ≡ pages = ap (λ i. i.readable) (c.in_ok-twig-in-Kept.ensures.looks.image tells) in
-    let stands' = subst (λ p. StandsOver p c.read_node.new.cache) (sym same) (c.in_ok-twig-in-Kept.ensures.stands tells stands) in
-    let w = subst (λ p. WrongOnWay p c.args.order c.args.block addr (stubs_below (c.args.level - 1) c.args.high twig)) same (c.in_err-left-in-Kept.ensures.bad tells stands' addr (ap Err err)) in
-    let node = subst (λ k. IsNodeOf pages (want_root c.args.order k c.in-Kept.low c.args.high c.in-Kept.addr c.least_of_root.result) c.in-Kept.key twig) l
-    (subst (λ k. IsNodeOf pages (want_root c.args.order c.args.level c.in-Kept.low c.args.high c.in-Kept.addr c.least_of_root.result) k twig) c.from_bytes-key.ensures (c.in_ok-twig-in-Kept.ensures.reads tells stands)) in
-    let fits = subst (λ k. IsNodeFor (want_root c.args.order k c.in-Kept.low c.args.high c.in-Kept.addr c.least_of_root.result) twig) l c.in_ok-twig-in-Kept.ensures.fits in
-    let comes = wrong_below pages c.args.order c.args.block addr (c.args.level - 1) c.in-Kept.low c.args.high c.in-Kept.addr c.least_of_root.result c.args.order c.in-Kept.key twig fits node w in
+    let same : (g.P.Platform.history c.read_kept.new.platform).present.readable ≡ pages = ap (λ i. i.readable) (c.in_ok-twig-in-Kept.ensures.looks.image tells) in
+    let stands' = subst (λ p. StandsOver p c.read_kept.new.cache) (sym same) (c.in_ok-twig-in-Kept.ensures.stands tells stands) in
+    let w = subst (λ p. WrongUnder p c.args.order c.args.block addr (c.args.level - 1) c.args.high twig) same (c.in_err-left-in-Kept.ensures.bad tells stands' addr (ap Err err)) in
+    let node = subst (λ k. IsNodeOf pages (want_root c.args.order k c.in-Kept.low c.args.high c.in-Kept.addr c.least_of_root-least.result) c.in-Kept.key twig) l
+    (c.in_ok-twig-in-Kept.ensures.reads tells stands) in
+    let fits = subst (λ k. IsNodeFor (want_root c.args.order k c.in-Kept.low c.args.high c.in-Kept.addr c.least_of_root-least.result) twig) l c.in_ok-twig-in-Kept.ensures.fits in
+    let comes = wrong_below pages c.args.order c.args.block addr (c.args.level - 1) c.in-Kept.low c.args.high c.in-Kept.addr c.least_of_root-least.result c.args.order c.in-Kept.key twig fits node w in
     let low_is = root_starts c.args.order c.args.level c.args.block c.args.high (g.P.Platform.head c.args.platform.now) c.in-Kept.low c.in-Kept.addr c.in-Kept.key at in
     subst (WrongFrom pages c.args.order c.args.block addr (c.args.level - 1) c.args.high) (sym c.in-Kept.is)
-    (wrong_root pages c.args.order c.args.block addr c.args.level c.in-Kept.low c.args.high c.in-Kept.addr c.least_of_root.result c.in-Kept.key at.one low_is c.least_of_root.ensures
-    (subst (λ k. ComesToWrong pages c.args.order c.args.block addr (want_root c.args.order k c.in-Kept.low c.args.high c.in-Kept.addr c.least_of_root.result) c.in-Kept.key) (sym l) comes)))
+    (wrong_root pages c.args.order c.args.block addr c.args.level c.in-Kept.low c.args.high c.in-Kept.addr c.least_of_root-least.result c.in-Kept.key at.one low_is c.least_of_root-least.ensures
+    (subst (λ k. ComesToWrong pages c.args.order c.args.block addr (want_root c.args.order k c.in-Kept.low c.args.high c.in-Kept.addr c.least_of_root-least.result) c.in-Kept.key) (sym l) comes)))
 
 pub returns-in-Grown-clause-helps : goal.returns-in-Grown-clause-helps
 returns-in-Grown-clause-helps g c =
@@ -144,8 +142,8 @@ returns-in_ok-hold-in-Kept-clause-helps g c =
 pub returns-in_ok-hold-in-Kept-clause-beside : goal.returns-in_ok-hold-in-Kept-clause-beside
 returns-in_ok-hold-in-Kept-clause-beside g c = λ tells stands.
     (let pages = (g.P.Platform.history c.args.platform.now).present.readable in
-    let same : (g.P.Platform.history c.read_node.new.platform).present.readable ≡ pages = ap (λ i. i.readable) (c.in_ok-twig-in-Kept.ensures.looks.image tells) in
-    let stands' = subst (λ p. StandsOver p c.read_node.new.cache) (sym same) (c.in_ok-twig-in-Kept.ensures.stands tells stands) in
+    let same : (g.P.Platform.history c.read_kept.new.platform).present.readable ≡ pages = ap (λ i. i.readable) (c.in_ok-twig-in-Kept.ensures.looks.image tells) in
+    let stands' = subst (λ p. StandsOver p c.read_kept.new.cache) (sym same) (c.in_ok-twig-in-Kept.ensures.stands tells stands) in
     let twig = c.in_ok-twig-in-Kept.twig in
     let left = subst (λ p. IsLeft (λ loses. HelpsBelow (IsReadAs p c.args.order) c.args.order c.args.block (c.args.level - 1) c.args.high twig c.hold_below-in-Kept.new.held.items c.hold_below-in-Kept.new.beside.items loses) c.args.order (length (children_of twig)) c.in_ok-left-in-Kept.left) same
     (c.in_ok-left-in-Kept.ensures.beside tells stands') in
@@ -158,14 +156,14 @@ returns-in_ok-hold-in-Kept-clause-mapped g c = λ tells stands mapped m.
     (let at = subst (CanHoldRoot c.args.order c.args.level c.args.block c.args.high (g.P.Platform.head c.args.platform.now)) c.in-Kept.is c.requires.can in
     let twig = c.in_ok-twig-in-Kept.twig in
     let pages = (g.P.Platform.history c.args.platform.now).present.readable in
-    let same : (g.P.Platform.history c.read_node.new.platform).present.readable ≡ pages = ap (λ i. i.readable) (c.in_ok-twig-in-Kept.ensures.looks.image tells) in
-    let stands' = subst (λ p. StandsOver p c.read_node.new.cache) (sym same) (c.in_ok-twig-in-Kept.ensures.stands tells stands) in
+    let same : (g.P.Platform.history c.read_kept.new.platform).present.readable ≡ pages = ap (λ i. i.readable) (c.in_ok-twig-in-Kept.ensures.looks.image tells) in
+    let stands' = subst (λ p. StandsOver p c.read_kept.new.cache) (sym same) (c.in_ok-twig-in-Kept.ensures.stands tells stands) in
     let lt = root_lt c.args.order c.args.level c.args.block c.args.high (g.P.Platform.head c.args.platform.now) c.in-Kept.low c.in-Kept.addr c.in-Kept.key at in
     let small : c.in-Kept.addr < 2 ^ 64 = omega (arith, lt, g.met.P.Platform.has_room c.args.platform.now, g.met.P.Platform.is_limited c.args.platform.now) in
     let low_is = root_starts c.args.order c.args.level c.args.block c.args.high (g.P.Platform.head c.args.platform.now) c.in-Kept.low c.in-Kept.addr c.in-Kept.key at in
-    let node = subst (λ k. IsNodeOf pages (want_root c.args.order k c.in-Kept.low c.args.high c.in-Kept.addr c.least_of_root.result) c.in-Kept.key twig) (above c.args.level at.one)
-    (subst (λ k. IsNodeOf pages (want_root c.args.order c.args.level c.in-Kept.low c.args.high c.in-Kept.addr c.least_of_root.result) k twig) c.from_bytes-key.ensures (c.in_ok-twig-in-Kept.ensures.reads tells stands)) in
-    let reads0 = read_as pages c.args.order (c.args.level - 1) c.in-Kept.low c.args.high c.in-Kept.addr c.least_of_root.result c.in-Kept.key twig small node in
+    let node = subst (λ k. IsNodeOf pages (want_root c.args.order k c.in-Kept.low c.args.high c.in-Kept.addr c.least_of_root-least.result) c.in-Kept.key twig) (above c.args.level at.one)
+    (c.in_ok-twig-in-Kept.ensures.reads tells stands) in
+    let reads0 = read_as pages c.args.order (c.args.level - 1) c.in-Kept.low c.args.high c.in-Kept.addr c.least_of_root-least.result c.in-Kept.key twig small node in
     let reads = subst (λ l. IsReadAs pages c.args.order (c.args.level - 1) (stub_at (suc (c.args.level - 1)) l c.args.high c.in-Kept.addr c.in-Kept.key) twig) low_is reads0 in
     let k = root_kept_mapped pages c.args.order (c.args.level - 1) c.args.high c.in-Kept.low c.in-Kept.addr c.in-Kept.key twig reads mapped (subst (λ x. RootMaps pages c.args.order (c.args.level - 1) c.args.high x mapped) c.in-Kept.is m) in
     c.in_ok-left-in-Kept.ensures.mapped tells stands' mapped (subst (λ p. Maps p c.args.order (stubs_below (c.args.level - 1) c.args.high twig) mapped) (sym same) k))

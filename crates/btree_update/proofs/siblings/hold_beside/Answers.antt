@@ -10,11 +10,11 @@ use Rattle.btree_update.specs.declared.refusals.ReadyRefusal.TheVariants.{BadRec
 use Rattle.btree_update.specs.declared.siblings.Left.{Left}
 use Rattle.btree_update.specs.Held.{AreBelow, AnyRead, IsReadAs}
 use Rattle.btree_update.specs.Holding.{CanHoldBelow}
-use Rattle.btree_update.specs.Wrong.{WrongOnWay}
-use Rattle.btree_update.specs.Beside.{CanRead, LendsFrom, HoldsBeside, HoldsHelp}
+use Rattle.btree_update.specs.Wrong.{IsWrongChild}
+use Rattle.btree_update.specs.Beside.{CanRead, loses_for, LendsFrom, HoldsBeside, HoldsHelp}
 use Rattle.btree_update.proofs.OpenLaws.{below_front, below_back}
 use Rattle.btree_update.proofs.WrongLaws.{wrong_at}
-use Rattle.btree_update.proofs.BesideLaws.{loses_for, loses_few, loses_one, after_for, helped_at}
+use Rattle.btree_update.proofs.BesideLaws.{loses_few, after_for, helped_at}
 use Rattle.btree_update.proofs.siblings.hold_beside.Goals as goal
 
 end_is : (high i end : ℕ) (ds cs : List Child) → ds ≡ cs → end ≡ start_by low_of (drop (i + 1) ds) high → end ≡ start_by low_of (drop (suc i) cs) high
@@ -48,15 +48,16 @@ read_help-requires g c =
 pub returns-in_err-help-in-Short-clause-bad : goal.returns-in_err-help-in-Short-clause-bad
 returns-in_err-help-in-Short-clause-bad g c =
     let p = err_from_is_err_and c.from_residual-in_err-help-in-Short.result c.from_residual-in_err-help-in-Short.ensures.1 in
-    rw (p.1, p.2) (λ tells stands addr block is.
+    rw (p.1, p.2) (λ tells stands front d back split_is n addr is.
     let same : c.in_err-help-in-Short.field-0.0 ≡ BadRecord addr = cc in
     let cs = children_of c.args.twig.now in
     let lt : c.beside_of-other.result < length cs = omega (arith, c.beside_of-other.ensures.within, c.len.ensures) in
     let split = split_here cs c.beside_of-other.result c.index.result.now lt c.index.ensures in
     let e = end_is c.args.high c.beside_of-other.result c.end_of-end.result c.deref.result.now cs c.deref.ensures.value c.end_of-end.ensures in
     let pages = (g.P.Platform.history c.args.platform.now).present.readable in
-    wrong_at pages c.args.order c.args.level c.args.high block addr c.beside_of-other.result cs c.index.result.now split
-    (subst (λ m. WrongOnWay pages c.args.order block addr (stubs c.args.level m c.index.result.now)) e (c.in_err-help-in-Short.ensures.bad tells stands addr block (ap Err same))))
+    wrong_at (IsWrongChild pages c.args.order addr c.args.level) c.args.high c.beside_of-other.result cs c.index.result.now split lt
+    (subst (λ m. IsWrongChild pages c.args.order addr c.args.level m c.index.result.now) e (c.in_err-help-in-Short.ensures.bad tells stands addr (ap Err same))) c.args.at front d back split_is n
+    (λ lt. c.beside_of-other.ensures.next (omega (arith, lt, c.len.ensures))) (λ is. c.beside_of-other.ensures.last (omega (arith, is, c.len.ensures))))
 
 pub returns-in_ok-keep-in-Short-clause-helps : goal.returns-in_ok-keep-in-Short-clause-helps
 returns-in_ok-keep-in-Short-clause-helps g c = λ front d back split_is n.
@@ -66,7 +67,7 @@ returns-in_ok-keep-in-Short-clause-helps g c = λ front d back split_is n.
     let e = end_is c.args.high c.beside_of-other.result c.end_of-end.result c.deref.result.now cs c.deref.ensures.value c.end_of-end.ensures in
     let help = c.in_ok-help-in-Short.help in
     let loses = loses_for help.lends in
-    let lends = subst (λ m. LendsFrom AnyRead c.args.order (c.args.level - 1) loses m (out-Child c.index.result.now) help.node) e (c.in_ok-help-in-Short.ensures.helps loses (loses_one help.lends)) in
+    let lends = subst (λ m. LendsFrom AnyRead c.args.order (c.args.level - 1) loses m (out-Child c.index.result.now) help.node) e c.in_ok-help-in-Short.ensures.helps in
     let h : HoldsHelp AnyRead c.args.order (c.args.level - 1) (length cs) c.args.high front d back c.args.beside.now.items c.keep-in-Short.new.beside.items c.left_of-in-Short.result = record {
       one = help.node;
       is = c.in_ok-keep-in-Short.ensures.kept;
@@ -87,7 +88,7 @@ returns-in_ok-keep-in-Short-clause-reads g c = λ tells stands front d back spli
     let e = end_is c.args.high c.beside_of-other.result c.end_of-end.result c.deref.result.now cs c.deref.ensures.value c.end_of-end.ensures in
     let help = c.in_ok-help-in-Short.help in
     let loses = loses_for help.lends in
-    let lends = subst (λ m. LendsFrom Reads c.args.order (c.args.level - 1) loses m (out-Child c.index.result.now) help.node) e (c.in_ok-help-in-Short.ensures.reads tells stands loses (loses_one help.lends)) in
+    let lends = subst (λ m. LendsFrom Reads c.args.order (c.args.level - 1) loses m (out-Child c.index.result.now) help.node) e (c.in_ok-help-in-Short.ensures.reads tells stands) in
     let h : HoldsHelp Reads c.args.order (c.args.level - 1) (length cs) c.args.high front d back c.args.beside.now.items c.keep-in-Short.new.beside.items c.left_of-in-Short.result = record {
       one = help.node;
       is = c.in_ok-keep-in-Short.ensures.kept;

@@ -1,40 +1,23 @@
-use Rattle.std.proofs.Common.{◌-◌, arith}
-use Rattle.btree_update.specs.Groves.{IsSound}
+use Rattle.std.proofs.Common.{◌-◌, refl, arith}
 use Rattle.btree_update.specs.Held.{AnyRead, IsReadAs}
 use Rattle.btree_update.proofs.BesideLaws.{loses_of}
+use Rattle.btree_update.proofs.GroveLaws.{sound_as}
 use Rattle.btree_update.proofs.MappedLaws.{told}
 use Rattle.btree_update.proofs.groves.Grove.ready.Goals as goal
 
 pub returns-in_err-make_spares-clause-sound : goal.returns-in_err-make_spares-clause-sound
-returns-in_err-make_spares-clause-sound g c = record {
-  least = c.requires.sound.least;
-  most = c.requires.sound.most;
-  one = c.requires.sound.one;
-  shaped = c.requires.sound.shaped;
-  spares = c.make_spares.ensures.kept c.args.self.now.order c.requires.sound.most c.requires.sound.spares;
-}
+returns-in_err-make_spares-clause-sound g c =
+    sound_as c.args.self.now _ c.requires.sound (refl, refl, refl, refl) (c.make_spares.ensures.kept c.args.self.now.order c.requires.sound.most c.requires.sound.spares)
 
 pub returns-in_err-make_room-clause-sound : goal.returns-in_err-make_room-clause-sound
-returns-in_err-make_room-clause-sound g c = record {
-  least = c.requires.sound.least;
-  most = c.requires.sound.most;
-  one = c.requires.sound.one;
-  shaped = c.requires.sound.shaped;
-  spares = c.make_spares.ensures.kept c.args.self.now.order c.requires.sound.most c.requires.sound.spares;
-}
+returns-in_err-make_room-clause-sound g c =
+    sound_as c.args.self.now _ c.requires.sound (refl, refl, refl, refl) (c.make_spares.ensures.kept c.args.self.now.order c.requires.sound.most c.requires.sound.spares)
 
 pub returns-clause-can : goal.returns-clause-can
 returns-clause-can g c =
-    let sound : IsSound c.args.self.now = c.requires.sound in
     let spared = c.make_spares.ensures.kept c.args.self.now.order c.requires.sound.most c.requires.sound.spares in (
       record {
-        sound = record {
-          least = c.requires.sound.least;
-          most = c.requires.sound.most;
-          one = c.requires.sound.one;
-          shaped = c.requires.sound.shaped;
-          spares = spared;
-        };
+        sound = sound_as c.args.self.now _ c.requires.sound (refl, refl, refl, refl) spared;
         to = c.requires.to;
         at_hand = c.in_ok-left.ensures.at_hand;
         spares = c.in_ok-make_spares.ensures.made c.args.self.now.order c.requires.sound.most c.requires.sound.spares;
@@ -45,13 +28,7 @@ returns-clause-can g c =
           (let l = loses_of AnyRead c.args.self.now.order c.args.block (c.args.self.now.level - 1) c.args.self.now.blocks c.args.self.now.top c.hold_root.new.held.items c.hold_root.new.beside.items c.in_ok-left.left
           (c.is_mapped.ensures.0 mapped) c.in_ok-left.ensures.helps in
           record {
-            sound = record {
-              least = c.requires.sound.least;
-              most = c.requires.sound.most;
-              one = c.requires.sound.one;
-              shaped = c.requires.sound.shaped;
-              spares = spared;
-            };
+            sound = sound_as c.args.self.now _ c.requires.sound (refl, refl, refl, refl) spared;
             to = c.requires.to;
             at_hand = c.in_ok-left.ensures.at_hand;
             loses = l.0;
@@ -69,13 +46,8 @@ returns-clause-reads g c = λ tells stands. (
 )
 
 pub returns-clause-sound : goal.returns-clause-sound
-returns-clause-sound g c = record {
-  least = c.requires.sound.least;
-  most = c.requires.sound.most;
-  one = c.requires.sound.one;
-  shaped = c.requires.sound.shaped;
-  spares = c.make_spares.ensures.kept c.args.self.now.order c.requires.sound.most c.requires.sound.spares;
-}
+returns-clause-sound g c =
+    sound_as c.args.self.now _ c.requires.sound (refl, refl, refl, refl) (c.make_spares.ensures.kept c.args.self.now.order c.requires.sound.most c.requires.sound.spares)
 
 pub returns-clause-mapped : goal.returns-clause-mapped
 returns-clause-mapped g c = λ tells stands map m. told c.args.block map c.in_ok-left.left c.is_mapped.result c.is_mapped.ensures (c.in_ok-left.ensures.mapped tells stands map m)

@@ -79,7 +79,7 @@ pub returns-clause-sound : goal.returns-clause-sound
 returns-clause-sound c =
     let can = can_open c.args.block c.args.self.now c.requires.can in
     let h = c.help_root.ensures.helped (can_help c.args.block c.args.self.now c.open_root.new.top c.open_root.new.held.items c.requires.can (c.open_root.ensures.opened can) (c.open_root.ensures.helps can None c.args.self.now.beside.items c.requires.can.loses c.requires.can.beside)) in
-    let p = c.take_top.ensures (can_take c.args.block c.args.self.now c.open_root.new.top c.help_root.new.top _ _ c.requires.can h) in
+    let p = c.take_top.ensures.taken (can_take c.args.block c.args.self.now c.open_root.new.top c.help_root.new.top _ _ c.requires.can h) in
     let l = c.level_of-self.ensures ∙ top_level c.args.self.now.order p.new_level c.args.self.now.blocks c.take_top.new.top p.shaped in
     record {
       least = c.requires.can.sound.least;
@@ -97,14 +97,14 @@ pub returns-clause-level : goal.returns-clause-level
 returns-clause-level c =
     let can = can_open c.args.block c.args.self.now c.requires.can in
     let h = c.help_root.ensures.helped (can_help c.args.block c.args.self.now c.open_root.new.top c.open_root.new.held.items c.requires.can (c.open_root.ensures.opened can) (c.open_root.ensures.helps can None c.args.self.now.beside.items c.requires.can.loses c.requires.can.beside)) in
-    let p = c.take_top.ensures (can_take c.args.block c.args.self.now c.open_root.new.top c.help_root.new.top _ _ c.requires.can h) in
+    let p = c.take_top.ensures.taken (can_take c.args.block c.args.self.now c.open_root.new.top c.help_root.new.top _ _ c.requires.can h) in
     level_by c.args.self.now.level p.new_level c.level_of-self.result c.requires.can.sound.one p.level_is (c.level_of-self.ensures ∙ top_level c.args.self.now.order p.new_level c.args.self.now.blocks c.take_top.new.top p.shaped)
 
 pub returns-clause-maps : goal.returns-clause-maps
 returns-clause-maps c pages mapped held beside m =
     let can = can_open c.args.block c.args.self.now c.requires.can in
     let h = c.help_root.ensures.helped (can_help c.args.block c.args.self.now c.open_root.new.top c.open_root.new.held.items c.requires.can (c.open_root.ensures.opened can) (c.open_root.ensures.helps can None c.args.self.now.beside.items c.requires.can.loses c.requires.can.beside)) in
-    let p = c.take_top.ensures (can_take c.args.block c.args.self.now c.open_root.new.top c.help_root.new.top _ _ c.requires.can h) in
+    let p = c.take_top.ensures.taken (can_take c.args.block c.args.self.now c.open_root.new.top c.help_root.new.top _ _ c.requires.can h) in
     let l = c.level_of-self.ensures ∙ top_level c.args.self.now.order p.new_level c.args.self.now.blocks c.take_top.new.top p.shaped in
     let opened = subst (λ k. Maps pages c.args.self.now.order (stubs k c.args.self.now.blocks c.open_root.new.top) mapped) can.level_is (c.open_root.ensures.maps pages can held mapped m) in
     let g = h.gives pages c.open_root.new.held.items beside.0 (c.open_root.ensures.helps can (Some pages) c.args.self.now.beside.items beside.0 beside.1) in
@@ -135,7 +135,7 @@ pub returns-clause-below : goal.returns-clause-below
 returns-clause-below c head below =
     let can = can_open c.args.block c.args.self.now c.requires.can in
     let h = c.help_root.ensures.helped (can_help c.args.block c.args.self.now c.open_root.new.top c.open_root.new.held.items c.requires.can (c.open_root.ensures.opened can) (c.open_root.ensures.helps can None c.args.self.now.beside.items c.requires.can.loses c.requires.can.beside)) in
-    let p = c.take_top.ensures (can_take c.args.block c.args.self.now c.open_root.new.top c.help_root.new.top _ _ c.requires.can h) in
+    let p = c.take_top.ensures.taken (can_take c.args.block c.args.self.now c.open_root.new.top c.help_root.new.top _ _ c.requires.can h) in
     let l = c.level_of-self.ensures ∙ top_level c.args.self.now.order p.new_level c.args.self.now.blocks c.take_top.new.top p.shaped in
     let opened = subst (λ k. AreBelow head (stubs k c.args.self.now.blocks c.open_root.new.top)) can.level_is (c.open_root.ensures.below head can below) in
     subst (λ k. AreBelow head (stubs k c.args.self.now.blocks c.take_top.new.top)) (sym l) (takes_below 0 c.args.self.now.blocks c.args.block head _ _ p.takes (h.below_it head opened))
@@ -144,7 +144,7 @@ pub returns-clause-grown : goal.returns-clause-grown
 returns-clause-grown c =
     let can = can_open c.args.block c.args.self.now c.requires.can in
     let h = c.help_root.ensures.helped (can_help c.args.block c.args.self.now c.open_root.new.top c.open_root.new.held.items c.requires.can (c.open_root.ensures.opened can) (c.open_root.ensures.helps can None c.args.self.now.beside.items c.requires.can.loses c.requires.can.beside)) in
-    let p = c.take_top.ensures (can_take c.args.block c.args.self.now c.open_root.new.top c.help_root.new.top _ _ c.requires.can h) in
+    let p = c.take_top.ensures.taken (can_take c.args.block c.args.self.now c.open_root.new.top c.help_root.new.top _ _ c.requires.can h) in
     let l = c.level_of-self.ensures ∙ top_level c.args.self.now.order p.new_level c.args.self.now.blocks c.take_top.new.top p.shaped in
     let few = subst (λ k. nodes k c.open_root.new.top ≤ nodes c.args.self.now.level c.args.self.now.top + c.args.self.now.level) can.level_is (c.open_root.ensures.nodes can) in
     let r : nodes (suc p.new_level) c.take_top.new.top ≤ nodes c.args.self.now.level c.args.self.now.top + 2 * c.args.self.now.level

@@ -1,0 +1,53 @@
+ghost use Rattle.std.specs.Prelude.{◌≡◌, ◌<◌, ◌≤◌, ℕ, IfOk, IsErrOf};
+ghost use Rattle.sdbt_base.specs.Faults.{Rose};
+ghost use Rattle.page_store.specs.Places.{NothingFits};
+ghost use Rattle.btree_walk.specs.Looks.{Looks};
+ghost use Rattle.btree_walk.specs.Sights.{StandsOver};
+ghost use Rattle.btree_update.specs.declared.refusals.ReadyRefusal.{ReadyRefusal};
+ghost use Rattle.btree_update.specs.Holding.{IsNodeFor, IsNodeOf};
+
+use crate::reading::read_node;
+use crate::refusals::ReadyRefusal;
+use btree_twigs::Twig;
+use node_cache::NodeCache;
+use page_store::{Buffers, Want};
+use platform::Platform;
+use sdbt_base::Key;
+use std::alloc::Global;
+
+/// Reads the node of a child on the medium, up to where the child ends, with so many children at least.
+pub(crate) fn read_kept<P: Platform>(
+    alloc: Global,
+    platform: &mut P,
+    cache: &mut NodeCache,
+    buf: &mut Buffers,
+    order: u16,
+    least: u16,
+    level: u8,
+    low: u64,
+    high: u64,
+    addr: u64,
+    key: [u8; 32],
+) -> Result<Twig, ReadyRefusal>
+    requires within { addr < P.head platform.old }
+    requires inner { 1 ≤ level }
+    ensures fits { IfOk result (IsNodeFor (record { addr = addr; level = level; low = low; high = high; least = least; most = order })) }
+    ensures reads { P.tells → StandsOver (P.history platform.old).present.readable cache.old →
+        IfOk result (IsNodeOf (P.history platform.old).present.readable (record { addr = addr; level = level; low = low; high = high; least = least; most = order }) key) }
+    ensures bad { P.tells → StandsOver (P.history platform.old).present.readable cache.old → (wrong : ℕ) → IsErrOf result (ReadyRefusal.BadRecord wrong) →
+        (wrong ≡ addr) × NothingFits (P.history platform.old).present.readable (record { addr = addr; level = level; low = low; high = high; least = least; most = order }) key }
+    ensures stands { P.tells → StandsOver (P.history platform.old).present.readable cache.old → StandsOver (P.history platform.old).present.readable cache.new }
+    ensures looks { Looks P.Platform 1 platform.old platform.new }
+    ensures cause { IsErrOf result ReadyRefusal.PlatformFault → Rose (P.faults platform.old) (P.faults platform.new) }
+{
+    let want = Want {
+        addr,
+        level,
+        low,
+        high,
+        least,
+        most: order,
+    };
+    let key = Key::from_bytes(key);
+    read_node(alloc, platform, cache, &want, &key, buf)
+}
