@@ -84,4 +84,4 @@ pub returns-in-Err-clause-keeps : goal.returns-in-Err-clause-keeps
 returns-in-Err-clause-keeps g c = on_then _ _ _ _ _ _ _ c.args.desk.now.session c.loop-front.desk.session _ _ _ _ _ _ tt c.loop-front.invariant.keeps (on_done _ _ _ _ _ c.loop-front.desk.session _ _ _ _ _ _ c.answer.ensures.keeps (λ never. absurd cc) (λ keys h. tt))
 
 pub returns-clause-keeps : goal.returns-clause-keeps
-returns-clause-keeps g c = c.loop-front.invariant.keeps
+returns-clause-keeps g c = on_done _ _ _ _ _ c.args.desk.now.session _ _ _ _ _ _ c.loop-front.invariant.keeps (λ ok. tt) (λ keys h. h)
