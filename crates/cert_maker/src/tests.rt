@@ -20,10 +20,7 @@ fn orders_its_lists(rt: HostRuntime) -> Result<(), Fail> {
         children: Addrs::new(alloc),
     })?;
     let gone = [2, 0, 2];
-    let never = [
-        Unkept { block: 9, addr: 2 },
-        Unkept { block: 9, addr: 1 },
-    ];
+    let never = [Unkept { block: 9, addr: 2 }, Unkept { block: 9, addr: 1 }];
 
     let cert = Cert::build(alloc, 1, 2, 6, 5, added, &gone, &never)?;
     assert_eq!(rt; cert.commit(), 1);

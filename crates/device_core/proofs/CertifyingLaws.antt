@@ -245,6 +245,7 @@ differ base addr root leaf entries released added pages f adds named unnamed onl
           subst (Has (entry_in (says root leaf))) g.0.here (record { trace = DataOf g.0.entry.low; is = old_of (record_of g.0.entry) (says_of root leaf g.0.entry g.0.listed) }),
           unsaid addr at entries (λ same. omega (arith, same, low, g.0.here, f.node, f.within)) g.1,
         )
+
     old_gone : (at : ℕ) → Has (entry_in (says root leaf)) at → entry_in (says addr entries) at ≡ None → ApartAll (says addr entries) → Contains (root ∷ released.gone) at
     old_gone at has none new_apart = elim (said_of root leaf (record { addr = at; trace = has.trace }) (entry_has (says root leaf) at has.trace has.is)) [
       | inl node ↦ (0, omega arith, sym (ap (λ (t : Traced). t.addr) node))

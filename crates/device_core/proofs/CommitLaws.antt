@@ -161,10 +161,13 @@ pub puts_entry : (tells : Type 0) (written written_now : Option (List ℕ)) (old
     → (Got written (entry cert) written_now × (tells → (new.present.cell ≡ Some (root_bytes root)) ⊎ (CellStays old new × (Done → ⊥))))
     ⊎ (GotPart written (entry cert) written_now × (tells → CellStays old new) × (Done → ⊥))
 puts_entry tells written written_now old mid new line cert root Done is before put = elim put [
-  | inl whole ↦ inl (subst (λ (bytes : List ℕ). Got written bytes written_now) is whole.0, λ told. elim (whole.1 told) [
+  | inl whole ↦ inl (
+    subst (λ (bytes : List ℕ). Got written bytes written_now) is whole.0,
+    λ told. elim (whole.1 told) [
       | inl came ↦ inl came
       | inr stays ↦ inr (stays_then old mid new (before told) stays.0, stays.1)
-    ])
+    ],
+  )
   | inr part ↦ inr (subst (λ (bytes : List ℕ). GotPart written bytes written_now) is part.0, λ told. stays_then old mid new (before told) (part.1 told), part.2)
 ]
 

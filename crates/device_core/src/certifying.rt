@@ -28,12 +28,7 @@ pub(crate) fn entry_of(
 }
 
 /// What a leaf of these entries adds at this address.
-fn added_with(
-    alloc: Global,
-    base: u64,
-    addr: u64,
-    entries: &[Entry],
-) -> Result<AddedList, Memory>
+fn added_with(alloc: Global, base: u64, addr: u64, entries: &[Entry]) -> Result<AddedList, Memory>
     ensures { IfOk result (AddsLeaf base addr entries.now) }
 {
     let mut added = added_records(alloc, base, entries)?;

@@ -32,14 +32,17 @@ came_same history other from (suc k) records same came =
     let before : (image_at other (from + k)).cell ≡ (image_at history (from + k)).cell = ap (λ (i : Image). i.cell) (same (from + k) (omega arith)) in
     elim came [
       | inl stays ↦ inl (
-          came_same history other from k records (λ i past. same i (omega (arith, past))) stays.0,
-          elim stays.1 [ inl is ↦ inl (now ∙ is ∙ sym before) | inr none ↦ inr (now ∙ none) ],
-        )
+        came_same history other from k records (λ i past. same i (omega (arith, past))) stays.0,
+        elim stays.1 [ inl is ↦ inl (now ∙ is ∙ sym before) | inr none ↦ inr (now ∙ none) ],
+      )
       | inr next ↦ inr (
-          next.0, next.1, next.2,
-          came_same history other from k next.0 (λ i past. same i (omega (arith, past))) next.3,
-          now ∙ next.4, λ is. next.5 (sym before ∙ is),
-        )
+        next.0,
+        next.1,
+        next.2,
+        came_same history other from k next.0 (λ i past. same i (omega (arith, past))) next.3,
+        now ∙ next.4,
+        λ is. next.5 (sym before ∙ is),
+      )
     ]
 
 -- one time after another
@@ -53,17 +56,18 @@ came_then history from m (suc n) one two first second =
     let before : from + m + n ≡ from + (m + n) = omega arith in
     let there : Came history from (suc (m + n)) (one ++ two) = elim second [
       | inl stays ↦ inl (
-          came_then history from m n one two first stays.0,
-          subst (λ (k : ℕ). ((image_at history k).cell ≡ (image_at history (from + (m + n))).cell) ⊎ ((image_at history k).cell ≡ None)) now
-              (subst (λ (k : ℕ). ((image_at history (from + m + suc n)).cell ≡ (image_at history k).cell) ⊎ ((image_at history (from + m + suc n)).cell ≡ None)) before stays.1),
-        )
+        came_then history from m n one two first stays.0,
+        subst (λ (k : ℕ). ((image_at history k).cell ≡ (image_at history (from + (m + n))).cell) ⊎ ((image_at history k).cell ≡ None)) now
+            (subst (λ (k : ℕ). ((image_at history (from + m + suc n)).cell ≡ (image_at history k).cell) ⊎ ((image_at history (from + m + suc n)).cell ≡ None)) before stays.1),
+      )
       | inr next ↦ inr (
-          one ++ next.0, next.1,
-          ap (λ (records : List (List ℕ)). one ++ records) next.2 ∙ grind (arith, common_steps),
-          came_then history from m n one next.0 first next.3,
-          subst (λ (k : ℕ). (image_at history k).cell ≡ Some next.1) now next.4,
-          subst (λ (k : ℕ). (image_at history k).cell ≢ Some next.1) before next.5,
-        )
+        one ++ next.0,
+        next.1,
+        ap (λ (records : List (List ℕ)). one ++ records) next.2 ∙ grind (arith, common_steps),
+        came_then history from m n one next.0 first next.3,
+        subst (λ (k : ℕ). (image_at history k).cell ≡ Some next.1) now next.4,
+        subst (λ (k : ℕ). (image_at history k).cell ≢ Some next.1) before next.5,
+      )
     ] in
     let many : suc (m + n) ≡ m + suc n = omega arith in
     subst (λ (k : ℕ). Came history from k (one ++ two)) many there
@@ -86,13 +90,17 @@ came_one history from (suc k) turn was last early other before after =
       ),
       λ come. elim (cases_lt (from + k) turn) [
         | inl yet ↦ inr (
-            [], last, refl, earlier.0 yet, after (from + suc k) (omega arith) (omega arith) come,
-            λ is. other (sym (before (from + k) (omega arith) (omega arith) yet) ∙ is),
-          )
+          [],
+          last,
+          refl,
+          earlier.0 yet,
+          after (from + suc k) (omega arith) (omega arith) come,
+          λ is. other (sym (before (from + k) (omega arith) (omega arith) yet) ∙ is),
+        )
         | inr there ↦ inl (
-            earlier.1 there,
-            inl (after (from + suc k) (omega arith) (omega arith) come ∙ sym (after (from + k) (omega arith) (omega arith) there)),
-          )
+          earlier.1 there,
+          inl (after (from + suc k) (omega arith) (omega arith) come ∙ sym (after (from + k) (omega arith) (omega arith) there)),
+        )
       ],
     )
 
@@ -260,31 +268,31 @@ certified_puts tells written written_now old new base commit Is Done turns other
 }
 certified_puts tells written written_now old new base commit Is Done turns other p (inr undone) = elim p.put [
   | inl whole ↦ record {
-      certs = [];
-      more = p.cert;
-      count = length (entry p.cert);
-      got = subst (λ (bytes : List ℕ). Got written bytes written_now) (sym (take_all (entry p.cert))) whole.0;
-      of = λ told. elim (whole.1 told) [
-        | inl came ↦ elim (other p.root p.in_range p.number told) [
-          | inl differs ↦ record {
-              records = root_bytes p.root ∷ [];
-              came = between_one old new (root_bytes p.root) (turns told) came differs;
-              each = inr (take_all (entry p.cert), (cert_of p.cert base p.root p.in_range p.speaks, tt));
-            }
-          | inr stays ↦ record { records = []; came = between_stays old new stays.0; each = inl zip_none }
-        ]
+    certs = [];
+    more = p.cert;
+    count = length (entry p.cert);
+    got = subst (λ (bytes : List ℕ). Got written bytes written_now) (sym (take_all (entry p.cert))) whole.0;
+    of = λ told. elim (whole.1 told) [
+      | inl came ↦ elim (other p.root p.in_range p.number told) [
+        | inl differs ↦ record {
+          records = root_bytes p.root ∷ [];
+          came = between_one old new (root_bytes p.root) (turns told) came differs;
+          each = inr (take_all (entry p.cert), (cert_of p.cert base p.root p.in_range p.speaks, tt));
+        }
         | inr stays ↦ record { records = []; came = between_stays old new stays.0; each = inl zip_none }
-      ];
-      whole = λ going. absurd (undone going);
-    }
+      ]
+      | inr stays ↦ record { records = []; came = between_stays old new stays.0; each = inl zip_none }
+    ];
+    whole = λ going. absurd (undone going);
+  }
   | inr part ↦ record {
-      certs = [];
-      more = p.cert;
-      count = part.0.0;
-      got = part.0.1;
-      of = λ told. record { records = []; came = between_stays old new (part.1 told); each = inl zip_none };
-      whole = λ going. absurd (undone going);
-    }
+    certs = [];
+    more = p.cert;
+    count = part.0.0;
+    got = part.0.1;
+    of = λ told. record { records = []; came = between_stays old new (part.1 told); each = inl zip_none };
+    whole = λ going. absurd (undone going);
+  }
 ]
   where
     take_all : (bytes : List ℕ) → take (length bytes) bytes ≡ bytes

@@ -30,7 +30,7 @@ course_then Going first second third before between after entry mid exit one two
   later = record { capacity = b.later.capacity ∙ a.later.capacity; rises = omega (arith, a.later.rises, b.later.rises); within = b.later.within };
   on =
       on_then (Unit {0}) first.drawn second.drawn third.drawn first.written second.written third.written before between first.history second.history third.history (Unit {0}) Going (IsListed after third.history.present) tt
-          a.on b.on;
+      a.on b.on;
 }
 
 -- the session is given up
@@ -40,7 +40,7 @@ course_closed Going old new before after entry exit marks c = record {
   later = c.later;
   on =
       on_done (Unit {0}) old.drawn new.drawn old.written new.written before old.history new.history Going Going (IsListed after new.history.present) (IsListed None new.history.present) c.on (λ going. going)
-          (λ keys h. sound_of after new.history.present keys h);
+      (λ keys h. sound_of after new.history.present keys h);
 }
 
 -- where a run goes on it may also stop
@@ -50,7 +50,7 @@ course_stops old new before after entry exit marks c = record {
   later = c.later;
   on =
       on_done (Unit {0}) old.drawn new.drawn old.written new.written before old.history new.history (Unit {0}) ⊥ (IsListed after new.history.present) (IsListed after new.history.present) c.on (λ never. tt)
-          (λ keys h. h);
+      (λ keys h. h);
 }
 
 -- a run that ended without a session, from what it kept on any image and what it made from this one

@@ -6,10 +6,12 @@ use std::alloc::Global;
 use std::test::Fail;
 
 /// The certificate of a format of a blank medium.
-const FIRST: &str = r#"{"added":[[0,1]],"base":0,"commit":0,"gone":[],"head":1,"never":[],"root":0}"#;
+const FIRST: &str =
+    r#"{"added":[[0,1]],"base":0,"commit":0,"gone":[],"head":1,"never":[],"root":0}"#;
 
 /// That of the commit of its block 3.
-const ONE: &str = r#"{"added":[[1,0,3],[2,1,1]],"base":1,"commit":1,"gone":[0],"head":3,"never":[],"root":2}"#;
+const ONE: &str =
+    r#"{"added":[[1,0,3],[2,1,1]],"base":1,"commit":1,"gone":[0],"head":3,"never":[],"root":2}"#;
 
 /// A script, and the certificates that the ledger gets.
 const ROWS: [(&str, &[&str]); 7] = [

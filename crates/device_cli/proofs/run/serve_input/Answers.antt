@@ -109,7 +109,7 @@ loop-left-preserved g c =
       mounted = c.in-Ok-serve_piece.ensures.after.mounted;
       keeps =
           on_done _ _ _ _ _ c.args.desk.now.session _ _ _ _ _ _
-              (on_then _ _ _ _ _ _ _ c.args.desk.now.session c.loop-left.desk.session _ _ _ _ _ _ tt c.loop-left.invariant.keeps c.in-Ok-serve_piece.ensures.keeps) (λ yes. refl) (λ keys h. h);
+          (on_then _ _ _ _ _ _ _ c.args.desk.now.session c.loop-left.desk.session _ _ _ _ _ _ tt c.loop-left.invariant.keeps c.in-Ok-serve_piece.ensures.keeps) (λ yes. refl) (λ keys h. h);
       counts = grind (arith, c.loop-left.invariant.counts, c.serve_piece.ensures.blame.fell, c.take.ensures.count);
       reading = IsReading-more P.tells old mid new (left c.args.input.now) (left c.loop-left.input) (left c.take.new.self) (written c.args.output.now) (written c.loop-left.output) (written c.serve_piece.new.output)
           c.loop-left.pending c.serve_piece.new.pending c.loop-left.left (c.loop-left.left - c.in-Ok.count) piece reading gave less

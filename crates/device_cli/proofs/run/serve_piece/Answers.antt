@@ -31,7 +31,7 @@ loop-front-preserved g c =
       mounted = c.in_default-answer.ensures.after.mounted;
       keeps =
           on_done _ _ _ _ _ c.args.desk.now.session _ _ _ _ _ _
-              (on_then _ _ _ _ _ _ _ c.args.desk.now.session c.loop-front.desk.session _ _ _ _ _ _ tt c.loop-front.invariant.keeps c.in_default-answer.ensures.keeps) (λ yes. refl) (λ keys h. h);
+          (on_then _ _ _ _ _ _ _ c.args.desk.now.session c.loop-front.desk.session _ _ _ _ _ _ tt c.loop-front.invariant.keeps c.in_default-answer.ensures.keeps) (λ yes. refl) (λ keys h. h);
       counts = grind (arith, c.loop-front.invariant.counts, c.answer.ensures.blame.fell);
       serving = λ rest pending.
           let so_far = c.loop-front.invariant.serving rest pending in

@@ -29,14 +29,17 @@ returns-in-Err-clause-time g c = λ told.
 
 -- the last step failed, and was taken or not
 pub returns-in-Err-clause-put : goal.returns-in-Err-clause-put
-returns-in-Err-clause-put g c = inl (c.in-Ok-put.ensures.put, λ told.
-    let history = g.P.Platform.history in
-    elim (c.swap_root.ensures.either told) [
-      | inl still ↦ inr (
+returns-in-Err-clause-put g c = inl (
+  c.in-Ok-put.ensures.put,
+  λ told.
+      let history = g.P.Platform.history in
+      elim (c.swap_root.ensures.either told) [
+        | inl still ↦ inr (
           call_more (history c.args.platform.now) (history c.sync.new.self) (history c.swap_root.new.self)
               (one_call (history c.args.platform.now) (history c.sync.new.self) (c.sync.ensures.time told) (c.sync.ensures.cell told))
               (c.swap_root.ensures.time told) (ap (λ (i : Image). i.cell) still),
           λ ok. absurd cc,
         )
-      | inr there ↦ inl (ap (λ (i : Image). i.cell) there ∙ ap (λ (bytes : List ℕ). Some bytes) c.encode_root.ensures.record)
-    ])
+        | inr there ↦ inl (ap (λ (i : Image). i.cell) there ∙ ap (λ (bytes : List ℕ). Some bytes) c.encode_root.ensures.record)
+      ],
+)
