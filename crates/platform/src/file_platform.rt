@@ -1,5 +1,5 @@
 //! A platform in a folder.
-ghost use Rattle.std.specs.Prelude.{◌≡◌, ◌≢◌, ◌<◌, ◌≤◌, ◌+◌, ◌*◌, ◌^◌, ◌↔◌, length, All, Some, IfSome, IfOk, IfErr, IsOk, IsErr, IsTrue, OnOk, false};
+ghost use Rattle.std.specs.Prelude.{◌≡◌, ◌≢◌, ◌<◌, ◌≤◌, ◌+◌, ◌*◌, ◌^◌, ◌↔◌, length, All, Some, IfSome, IfOk, IfErr, IsOk, IsErr, IsTrue, OnOk, OnErr, false};
 ghost use Rattle.std.specs.Io.KnownBytes.{Appends, Consumes};
 ghost use Rattle.std.specs.Io.Seek.{MovesTo};
 ghost use Rattle.std.specs.Int.{div_ceil};
@@ -101,6 +101,22 @@ where
 }
 
 impl<R: Files + Alloc + Clone + Drop> FilePlatform<R> {
+    // Makes the last page whole, with zeros. As long as that fails it is marked as torn.
+    fn fill_last(&mut self) -> io::Result<()>
+        ensures whole { OnOk result (self.new.is_torn ≡ false) }
+        ensures torn { OnErr result (IsTrue self.old.is_torn × IsTrue self.new.is_torn) }
+        ensures place { R.File.stream_position self.new.media ≡ R.File.stream_position self.old.media }
+        ensures head { self.new.head ≡ self.old.head }
+        ensures unsure { self.new.is_unsure ≡ self.old.is_unsure }
+        ensures faults { self.new.faults ≡ self.old.faults }
+    {
+        if self.is_torn {
+            fill_up(&self.media, self.head * PAGE_LEN)?;
+            self.is_torn = false;
+        }
+        Ok(())
+    }
+
     // Moves to the end of the last page, once that is whole.
     fn go_to_end(&mut self) -> io::Result<()>
         ensures whole { OnOk result (self.new.is_torn ≡ false) }
@@ -111,10 +127,7 @@ impl<R: Files + Alloc + Clone + Drop> FilePlatform<R> {
         ensures unsure { self.new.is_unsure ≡ self.old.is_unsure }
         ensures faults { self.new.faults ≡ self.old.faults }
     {
-        if self.is_torn {
-            fill_up(&self.media, self.head * PAGE_LEN)?;
-            self.is_torn = false;
-        }
+        self.fill_last()?;
         go_to_page(&mut self.media, self.head)
     }
 
