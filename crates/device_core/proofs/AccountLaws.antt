@@ -14,7 +14,7 @@ use Rattle.device_core.proofs.EntryLaws.{All-insert, All-remove}
 
 -- ---- what an edit at a place leaves of a list
 
-contains_set : {X : Type 0} (xs : List X) (at : ℕ) (new x : X) → Contains xs x → Contains (set xs at new) x ⊎ ((d : X) → x ≡ get_or xs at d)
+pub contains_set : {X : Type 0} (xs : List X) (at : ℕ) (new x : X) → Contains xs x → Contains (set xs at new) x ⊎ ((d : X) → x ≡ get_or xs at d)
 contains_set [] at new x (i, within, is) = absurd (omega (arith, within))
 contains_set (y ∷ xs) zero new x (zero, within, is) = inr (λ d. sym is)
 contains_set (y ∷ xs) zero new x (suc i, within, is) = inl (suc i, omega (arith, within), is)
@@ -24,7 +24,7 @@ contains_set (y ∷ xs) (suc at) new x (suc i, within, is) = elim (contains_set 
   | inr same ↦ inr same
 ]
 
-contains_remove : {X : Type 0} (xs : List X) (at : ℕ) (x : X) → Contains xs x → Contains (remove xs at) x ⊎ ((d : X) → x ≡ get_or xs at d)
+pub contains_remove : {X : Type 0} (xs : List X) (at : ℕ) (x : X) → Contains xs x → Contains (remove xs at) x ⊎ ((d : X) → x ≡ get_or xs at d)
 contains_remove [] at x (i, within, is) = absurd (omega (arith, within))
 contains_remove (y ∷ xs) zero x (zero, within, is) = inr (λ d. sym is)
 contains_remove (y ∷ xs) zero x (suc i, within, is) = inl (i, omega (arith, within), is)
@@ -34,7 +34,7 @@ contains_remove (y ∷ xs) (suc at) x (suc i, within, is) = elim (contains_remov
   | inr same ↦ inr same
 ]
 
-contains_insert : {X : Type 0} (xs : List X) (at : ℕ) (new x : X) → Contains xs x → Contains (insert xs at new) x
+pub contains_insert : {X : Type 0} (xs : List X) (at : ℕ) (new x : X) → Contains xs x → Contains (insert xs at new) x
 contains_insert xs zero new x (i, within, is) = (suc i, omega (arith, within), is)
 contains_insert [] (suc at) new x (i, within, is) = absurd (omega (arith, within))
 contains_insert (y ∷ xs) (suc at) new x (zero, within, is) = (zero, omega arith, is)

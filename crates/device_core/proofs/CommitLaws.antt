@@ -7,6 +7,8 @@ use Rattle.platform.specs.Image.{Image, LeavesOnly, with_page, with_cell, all_sy
 use Rattle.sdbt_base.specs.Told.{Got, GotPart}
 use Rattle.platform.specs.History.{History, Steps, Turns, CellStays}
 use Rattle.platform.proofs.Moments.{whole-now, Extends-earlier}
+use Rattle.std.proofs.lemmas.List.Elements.{All-weaker}
+use Rattle.sdbt_base.specs.declared.lists.Unkept.{Unkept}
 use Rattle.cert_maker.specs.Cert.{Cert}
 use Rattle.cert_codec.specs.Text.{entry}
 use Rattle.page_store.specs.Tree.{Parts, Tree}
@@ -15,7 +17,7 @@ use Rattle.page_store.proofs.LeafLaws.{leaf_tree}
 use Rattle.page_store.proofs.TreeLaws.{one_tree}
 use Rattle.page_store.proofs.KeptLaws.{tree_later}
 use Rattle.device_core.specs.Accounts.{Accounts}
-use Rattle.device_core.specs.Certifying.{Certifies, PutsEntry, IsOfCommit, IsOfTrees, IsCommitEntry}
+use Rattle.device_core.specs.Certifying.{page_of, Certifies, PutsEntry, IsOfCommit, IsOfTrees, IsCommitEntry}
 use Rattle.device_core.proofs.CertifyingLaws.{Comes, leaf_cert}
 use Rattle.seal_record.specs.Sealing.{masked}
 use Rattle.node_codec.specs.declared.body.Entry.{Entry}
@@ -209,7 +211,10 @@ commit_cert tells old mid new session pages key line all told e = λ device cont
       after = leaf_parts pages key session.entries h.texts;
       tree = next_tree tells old mid new session next pages device contents all told h;
       is = leaf_cert (root.commit + 1) root.head pages root.addr h.leaf session.entries session.released written root.key key h.leaf_texts h.texts line
-          (comes tells old mid new session next pages device contents all told h) e are.named are.unnamed are.only;
+          (comes tells old mid new session next pages device contents all told h) e (are.named all.commit.loaded) are.unnamed
+          (All-weaker (λ (page : Unkept). Contains session.released.never page ⊎ ((session.is_loaded ≡ true) × ((e : Entry) × Contains session.entries e × (root.head ≤ e.addr) × (page ≡ page_of e))))
+          (λ (page : Unkept). Contains session.released.never page ⊎ ((e : Entry) × Contains session.entries e × (root.head ≤ e.addr) × (page ≡ page_of e)))
+          (λ page is. elim is [ inl never ↦ inl never | inr own ↦ inr own.1 ]) written are.only);
     }
 
 pub published_done : (tells : Type 0) (written written_now : Option (List ℕ)) (mid new : History) (line : List ℕ) (root : Root) (Was Done : Type 0) → ((Was → ⊥) → Done → ⊥) → Published tells written written_now mid new line root Was → Published tells written written_now mid new line root Done

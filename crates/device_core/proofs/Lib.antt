@@ -1,6 +1,7 @@
 pub mod Ascending
 pub mod EntryLaws
 pub mod ArrayLaws
+pub mod DataPageLaws
 pub mod CertifyingLaws
 pub mod AccountLaws
 pub mod HoldLaws

@@ -1,5 +1,5 @@
 -- What a format and a commit put to the ledger.
-use Rattle.std.specs.Prelude.{◌≡◌, ◌≤◌, ◌+◌, ◌⊎◌, ◌∷◌, ℕ, List, All, Contains, Option, Some, map}
+use Rattle.std.specs.Prelude.{◌≡◌, ◌≤◌, ◌+◌, ◌⊎◌, true, ◌∷◌, ℕ, List, All, Contains, Option, Some, map}
 use Rattle.sdbt_base.specs.Told.{Got, GotPart}
 use Rattle.sdbt_base.specs.Traces.{Traced, DataOf, NodeOver}
 use Rattle.sdbt_base.specs.Arrays.{Device, Blocks}
@@ -26,9 +26,10 @@ page_of e = record { block = e.low; addr = e.addr }
 
 -- these are the pages of the data records that a session wrote since its mount or its last commit, whether an entry names them still or not
 pub record AreDataPages (session : Session) (pages : List Unkept) : Type 0 where
-  pub named : All (λ e. session.root.head ≤ e.addr → Contains pages (page_of e)) session.entries
+  pub named : session.is_loaded ≡ true → All (λ e. session.root.head ≤ e.addr → Contains pages (page_of e)) session.entries
   pub unnamed : All (Contains pages) session.released.never
-  pub only : All (λ page. Contains session.released.never page ⊎ ((e : Entry) × Contains session.entries e × (session.root.head ≤ e.addr) × (page ≡ page_of e))) pages
+  pub only : All (λ page. Contains session.released.never page
+      ⊎ ((session.is_loaded ≡ true) × ((e : Entry) × Contains session.entries e × (session.root.head ≤ e.addr) × (page ≡ page_of e)))) pages
 
 -- the certificate speaks of this root record, before which there were so many pages
 pub record SpeaksOf (cert : Cert) (base : ℕ) (root : Root) : Type 0 where

@@ -1,5 +1,5 @@
 -- What the calls say that may replace the root record: a format, a commit and an erasure.
-use Rattle.std.specs.Prelude.{◌≡◌, ◌≢◌, ◌+◌, ℕ, false, List, Option, Some, None, Result, Ok, Err}
+use Rattle.std.specs.Prelude.{◌≡◌, ◌≢◌, ◌+◌, ℕ, false, [], List, Option, Some, None, Result, Ok, Err}
 use Rattle.sdbt_base.specs.Arrays.{Device, Blocks}
 use Rattle.sdbt_base.specs.declared.tapes.Tape.{Ghosts as TapeGhosts}
 use Rattle.platform.specs.declared.platforms.Platform.{Ghosts as PlatformGhosts}
@@ -9,6 +9,7 @@ use Rattle.page_store.specs.Buffer.{IsBlank}
 use Rattle.page_store.specs.Keeping.{KeepsKeys}
 use Rattle.page_store.specs.Floors.{Forgets}
 use Rattle.page_store.specs.Stands.{Stands}
+use Rattle.device_core.specs.Certifying.{AreDataPages}
 use Rattle.device_core.specs.Changes.{AddsNothing}
 use Rattle.device_core.specs.Drawing.{NamesLast, KeepsTree}
 use Rattle.device_core.specs.Holds.{Holds}
@@ -35,12 +36,13 @@ pub record Discloses (tells : Type 0) (drawn drawn_now : Option (List (List ℕ)
   pub serves : tells → IsServedImage old.present → During old new IsServedImage
   pub forgets : tells → (keys : List (List ℕ)) → Ready keys → Forgets old new
 
--- a commit that raised the number: one page was added, which the root record in the cell names with the key that was drawn last; every key that the
--- session has is one of the new tree, and nothing of what was read or sealed is left in its buffers
+-- a commit that raised the number: one page was added, which the root record in the cell names with the key that was drawn last; the session has no
+-- data pages that weren't told of, every key that it has is one of the new tree, and nothing of what was read or sealed is left in its buffers
 pub record HasRaised {S R : Type 0} (P : PlatformGhosts S) (T : TapeGhosts R) (platform platform_now : S) (tape tape_now : R) (session now : Session) (reply : CommitReply) : Type 0 where
   pub replied : reply ≡ Committed (number_of session + 1)
   pub number : number_of now ≡ number_of session + 1
   pub untouched : is_touched now ≡ false
+  pub pages : AreDataPages now []
   pub wiped : IsBlank now.buffers
   pub head : P.head platform_now ≡ P.head platform + 1
   pub names : NamesLast (T.drawn tape) (T.drawn tape_now) (P.head platform_now) (root_of now)

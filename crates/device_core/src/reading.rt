@@ -9,6 +9,8 @@ ghost use Rattle.node_codec.specs.declared.body.Entry.{Entry};
 ghost use Rattle.node_codec.specs.Record.{Record, DataRecord};
 ghost use Rattle.device_core.specs.Damage.{IsDamaged};
 ghost use Rattle.device_core.specs.Causes.{IsReadCause};
+ghost use Rattle.device_core.specs.Certifying.{AreDataPages};
+ghost use Rattle.sdbt_base.specs.declared.lists.Unkept.{Unkept};
 
 use crate::leaves::place_of;
 use crate::refusals::ReadRefusal;
@@ -54,6 +56,7 @@ impl Session {
         // Where the image keeps the keys, those of the session's data records are listed still.
         ensures listed { P.tells → (keys : List (List ℕ)) → Kept keys (P.history platform.old).present
             → HoldsListed self.old (P.history platform.old).present keys → HoldsListed self.new (P.history platform.new).present keys }
+        ensures pages { (pages : List Unkept) → AreDataPages self.old pages → AreDataPages self.new pages }
         ensures open { IsOpen self.new (P.head platform.new) }
         ensures same { (self.new.root ≡ self.old.root) × (self.new.mapped ≡ self.old.mapped) × (is_touched self.new ≡ is_touched self.old) }
 

@@ -1,4 +1,4 @@
-ghost use Rattle.std.specs.Prelude.{◌≡◌, ◌<◌, ◌≤◌, ◌+◌, ℕ, List, Some, true, false, IfOk, IfErr, OnOk, IsErrOf};
+ghost use Rattle.std.specs.Prelude.{◌≡◌, ◌<◌, ◌≤◌, ◌+◌, ℕ, List, [], Some, true, false, IfOk, IfErr, OnOk, IsErrOf};
 ghost use Rattle.sdbt_base.specs.Faults.{Rose};
 ghost use Rattle.platform.specs.Calls.{Looks};
 ghost use Rattle.root_codec.specs.RootRecord.{root_bytes};
@@ -9,6 +9,8 @@ ghost use Rattle.page_store.specs.Stands.{Stands};
 ghost use Rattle.page_store.specs.Tree.{Wrong};
 ghost use Rattle.page_store.specs.Places.{NothingFits, root_want};
 ghost use Rattle.device_core.specs.Causes.{IsMountCause};
+ghost use Rattle.device_core.specs.Certifying.{AreDataPages};
+ghost use Rattle.sdbt_base.specs.declared.lists.Unkept.{Unkept};
 
 use crate::leaves::is_one_leaf;
 use crate::refusals::MountRefusal;
@@ -82,6 +84,7 @@ impl Session {
         ensures listed { P.tells → (device : Device) → Stands (P.history platform.old).present (Some device)
             → (keys : List (List ℕ)) → IfOk result (λ session. HoldsListed session (P.history platform.new).present keys) }
         ensures follows { P.tells → IfOk result (λ session. Follows session (P.history platform.new).present) }
+        ensures pages { IfOk result (λ session. AreDataPages session []) }
         ensures found { P.tells → IfOk result (λ session. (P.history platform.old).present.cell ≡ Some (root_bytes session.root)) }
         ensures refused { P.tells → IfErr result (λ refusal. IsMountCause (P.history platform.old).present.cell (P.head platform.old) refusal) }
 
@@ -152,6 +155,7 @@ impl Session {
 
         ensures open { IsOpen self.new (P.head platform.new) }
         ensures same { (self.new.root ≡ self.old.root) × (self.new.mapped ≡ self.old.mapped) × (self.new.is_touched ≡ self.old.is_touched) }
+        ensures pages { (pages : List Unkept) → AreDataPages self.old pages → AreDataPages self.new pages }
         ensures holds { P.tells → (device : Device) (contents : Blocks) → Holds self.old (P.history platform.old).present device contents
             → Holds self.new (P.history platform.new).present device contents }
         ensures sound { P.tells → (device : Device) (contents : Blocks) → Holds self.old (P.history platform.old).present device contents

@@ -1,4 +1,4 @@
-ghost use Rattle.std.specs.Prelude.{◌≡◌, ◌≢◌, ◌<◌, ◌≤◌, ◌⊎◌, ℕ, List, true, All, OnOk, OnErr, IsOk, IsErrOf, length};
+ghost use Rattle.std.specs.Prelude.{◌≡◌, ◌≢◌, ◌<◌, ◌≤◌, ◌⊎◌, ◌++◌, ◌∷◌, [], ℕ, List, true, All, OnOk, OnErr, IsOk, IsErrOf, length};
 ghost use Rattle.sdbt_base.specs.Faults.{Rose};
 ghost use Rattle.platform.specs.Calls.{Looks, Grows};
 ghost use Rattle.platform.specs.History.{CellStays};
@@ -10,6 +10,8 @@ ghost use Rattle.node_codec.specs.declared.body.Entry.{Entry};
 ghost use Rattle.device_core.specs.Damage.{IsDamaged};
 ghost use Rattle.device_core.specs.Causes.{IsWriteCause, IsTrimCause};
 ghost use Rattle.device_core.specs.Changes.{WritesArray, TrimsArray, WriteAdds};
+ghost use Rattle.device_core.specs.Certifying.{AreDataPages};
+ghost use Rattle.sdbt_base.specs.declared.lists.Unkept.{Unkept};
 
 use crate::leaves::{mapped_with, place_of, put_entry};
 use crate::refusals::{TrimRefusal, WriteRefusal};
@@ -49,6 +51,9 @@ impl Session {
         ensures keeps { KeepsKeys P.tells (T.drawn tape.old) (T.drawn tape.new) (P.history platform.old) (P.history platform.new)
             (HoldsListed self.old (P.history platform.old).present) (HoldsListed self.new (P.history platform.new).present) }
         ensures adds { WriteAdds P.Platform T.Tape platform.old platform.new tape.old tape.new self.new.entries block result }
+        // The page that was written is the session's, until a certificate told of it.
+        ensures pages { (pages : List Unkept) → AreDataPages self.old pages → OnErr result (AreDataPages self.new pages)
+            × OnOk result (AreDataPages self.new (pages ++ record { block = block; addr = P.head platform.old } ∷ [])) }
         // On any pages: what is named is a place of the root's tree that doesn't fit, or the root node, where
         // the block has no entry and as many blocks are mapped as there are.
         ensures follows { P.tells → Follows self.old (P.history platform.old).present → Follows self.new (P.history platform.new).present }
@@ -124,6 +129,7 @@ impl Session {
         // Where the image keeps the keys, those of the session's data records are listed still.
         ensures listed { P.tells → (keys : List (List ℕ)) → Kept keys (P.history platform.old).present
             → HoldsListed self.old (P.history platform.old).present keys → HoldsListed self.new (P.history platform.new).present keys }
+        ensures pages { (pages : List Unkept) → AreDataPages self.old pages → AreDataPages self.new pages }
         // On any pages: what is named is a place of the root's tree that doesn't fit, or the root node, where
         // the block has an entry and no block is mapped.
         ensures follows { P.tells → Follows self.old (P.history platform.old).present → Follows self.new (P.history platform.new).present }

@@ -1,6 +1,6 @@
-use Rattle.std.proofs.Common.{◌≡◌, ◌∙◌, ℕ, List, [], false, ap, sym, subst, Err}
+use Rattle.std.proofs.Common.{◌≡◌, ◌∙◌, ◌<◌, ℕ, List, [], All, false, ap, sym, subst, Err, arith}
 use Rattle.std.proofs.lemmas.Result.{err_from_is_err_and}
-use Rattle.std.proofs.lemmas.List.Elements.{All-nil}
+use Rattle.std.proofs.lemmas.List.Elements.{All-nil, All-weaker}
 use Rattle.std.specs.Prelude.{◌⊎◌, ◌≤◌, Contains}
 use Rattle.platform.specs.Image.{Image}
 use Rattle.node_codec.specs.declared.body.Entry.{Entry}
@@ -18,6 +18,7 @@ use Rattle.device_core.specs.Knowing.{HoldsListed}
 use Rattle.device_core.specs.Sessions.{Session}
 use Rattle.device_core.proofs.HoldLaws.{holds_same, loaded, leaf_fits}
 use Rattle.device_core.proofs.FollowLaws.{follows_read}
+use Rattle.device_core.proofs.DataPageLaws.{pages_unread, pages_read}
 use Rattle.device_core.proofs.KeyLaws.{listed_same, listed_loaded}
 use Rattle.device_core.specs.contracts.session.Session.{the_view}
 use Rattle.device_core.proofs.session.Session.load.Goals as goal
@@ -97,3 +98,15 @@ returns-clause-follows g c =
     rw (← c.self.view_is) (λ told follows.
     let leaf = leaf_fetched c.of_root-want.result c.self.inside.root _ _ c.of_root-want.ensures is.served.leaf.level (c.in_ok-fetch_node.ensures.fits told) in
     follows_read (the_view c.self.inside) _ c.fetch_node.new.buf _ _ (c.fetch_node.ensures.reads_page.image told) (follows.uncounted c.if-self.false) leaf)
+
+pub returns-in_err-fetch_node-clause-pages : goal.returns-in_err-fetch_node-clause-pages
+returns-in_err-fetch_node-clause-pages g c = rw (← c.self.view_is) (λ pages are. pages_unread _ _ _ pages c.if-self.false are)
+
+pub returns-clause-pages : goal.returns-clause-pages
+returns-clause-pages g c =
+    let is = rw (← c.self.view_is) at c.requires in
+    let root = c.self.inside.root in
+    let below = subst (λ (w : Want). All (λ (e : Entry). e.addr < w.addr) c.fetch_node.new.entries.items) c.of_root-want.ensures c.in_ok-fetch_node.ensures.wanted.in_range.0.below in
+    rw (← c.self.view_is) (λ pages are.
+    pages_read _ _ c.fetch_node.new.buf pages c.if-self.false
+    (All-weaker (λ (e : Entry). e.addr < root.addr) (λ (e : Entry). e.addr < root.head) (λ e less. omega (arith, less, is.served.fits.addr)) c.fetch_node.new.entries.items below) are)

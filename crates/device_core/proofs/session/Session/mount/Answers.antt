@@ -4,6 +4,7 @@ use Rattle.root_codec.specs.RootRecord.{root_bytes}
 use Rattle.page_store.specs.Stands.{Stands}
 use Rattle.device_core.proofs.HoldLaws.{refused_bad, refused_levels, opened, mounted}
 use Rattle.device_core.proofs.FollowLaws.{follows_none}
+use Rattle.device_core.proofs.DataPageLaws.{pages_none}
 use Rattle.device_core.proofs.KeyLaws.{listed_mounted}
 use Rattle.device_core.proofs.session.Session.mount.Goals as goal
 
@@ -37,3 +38,6 @@ returns-clause-follows g c = λ told. follows_none _ _ refl refl
 
 pub returns-clause-listed : goal.returns-clause-listed
 returns-clause-listed g c = λ told device stands keys. listed_mounted _ _ device _ keys c.new-2.ensures (returns-clause-holds g c told device stands)
+
+pub returns-clause-pages : goal.returns-clause-pages
+returns-clause-pages g c = pages_none _ refl (λ i. record { gone = c.new-3.ensures.gone i; never = c.new-3.ensures.never i })

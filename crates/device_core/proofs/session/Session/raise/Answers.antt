@@ -6,6 +6,10 @@ use Rattle.device_core.specs.Leaf.{AreEntries}
 use Rattle.device_core.proofs.MomentLaws.{one_call, stays_then}
 use Rattle.device_core.proofs.EntryLaws.{AreEntries-later}
 use Rattle.device_core.proofs.HoldLaws.{during_stands, entries_fit, held_stands, commit_fits, commit_served}
+use Rattle.std.specs.Prelude.{◌<◌, ◌+◌}
+use Rattle.std.proofs.lemmas.List.Elements.{All-weaker}
+use Rattle.node_codec.specs.declared.body.Entry.{Entry}
+use Rattle.device_core.proofs.DataPageLaws.{pages_committed}
 use Rattle.device_core.proofs.CommitLaws.{IsCommitting, next_root, is_commit, committing, commit_turns, commit_held, commit_follows, commit_listed, commit_knows, commit_certifies, append_discloses, commit_discloses}
 use Rattle.device_core.specs.contracts.session.Session.{the_view}
 use Rattle.device_core.proofs.session.Session.raise.Given.{Over}
@@ -126,6 +130,8 @@ returns-clause-raised g c = rw (← c.self.view_is) (
       replied = refl;
       number = refl;
       untouched = refl;
+      pages = pages_committed _ (λ i. record { gone = c.clear.ensures.gone i; never = c.clear.ensures.never i })
+          (All-weaker (λ (e : Entry). e.addr < g.P.Platform.head c.args.platform.now) (λ (e : Entry). e.addr < c.in-Ok.placed.addr + 1) (λ e less. omega (arith, less, c.in-Ok.ensures.address)) c.self.inside.entries.items all.commit.is_open.entries.below);
       wiped = c.wipe.ensures;
       head = omega (arith, c.in-Ok.ensures.head_ok, c.publish.ensures.head);
       names = record {

@@ -1,6 +1,7 @@
 use Rattle.std.proofs.Common.{◌≡◌, ◌∙◌, ◌<◌, ℕ, List, Option, get_or, inl, ap, sym, subst, arith}
 use Rattle.node_codec.specs.declared.body.Entry.{Entry}
 use Rattle.std.specs.Prelude.{unwrap_or, replicate}
+use Rattle.device_core.proofs.DataPageLaws.{pages_same}
 use Rattle.device_core.proofs.HoldLaws.{holds_same, content_none, content_read, block_fits}
 use Rattle.root_codec.specs.declared.root.Root.{Root}
 use Rattle.platform.specs.Image.{Image}
@@ -161,3 +162,18 @@ returns-in-Err-BadRecord-read_block-clause-misfit g c = λ told addr is.
       named,
       subst (λ (i : Image). NothingFits i.readable (block_want entry.addr c.args.block) entry.key) (c.load.ensures.looks.image told) nothing,
     )
+
+pub returns-in-Err-BadRecord-read_block-clause-pages : goal.returns-in-Err-BadRecord-read_block-clause-pages
+returns-in-Err-BadRecord-read_block-clause-pages g c = λ pages are.
+    let loaded = rw (← c.self-2.view_is) at (c.load.ensures.pages pages are) in
+    pages_same (the_view c.self-2.inside) _ pages loaded
+
+pub returns-in-Err-PlatformFault-read_block-clause-pages : goal.returns-in-Err-PlatformFault-read_block-clause-pages
+returns-in-Err-PlatformFault-read_block-clause-pages g c = λ pages are.
+    let loaded = rw (← c.self-2.view_is) at (c.load.ensures.pages pages are) in
+    pages_same (the_view c.self-2.inside) _ pages loaded
+
+pub returns-clause-pages : goal.returns-clause-pages
+returns-clause-pages g c = λ pages are.
+    let loaded = rw (← c.self-2.view_is) at (c.load.ensures.pages pages are) in
+    pages_same (the_view c.self-2.inside) _ pages loaded

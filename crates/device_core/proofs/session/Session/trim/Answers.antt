@@ -9,6 +9,7 @@ use Rattle.device_core.proofs.FollowLaws.{follows_removed, miscounted_none, unma
 use Rattle.platform.specs.Image.{Image}
 use Rattle.page_store.specs.Tree.{Wrong}
 use Rattle.device_core.specs.Damage.{IsMiscounted}
+use Rattle.device_core.proofs.DataPageLaws.{pages_trimmed}
 use Rattle.device_core.proofs.KeyLaws.{listed_trimmed}
 use Rattle.std.proofs.Common.{ℕ, length, get_or}
 use Rattle.platform.proofs.Moments.{whole-now}
@@ -118,3 +119,14 @@ returns-clause-listed g c = λ told keys kept h.
     let place = rw c.as_slice.ensures.value at c.in-Ok-place_of.ensures in
     let l = rw (← c.self-2.view_is) at (c.load.ensures.listed told keys kept h) in
     rw c.remove.ensures.items (listed_trimmed (the_view c.self-2.inside) _ _ _ _ l.device _ keys l (trimmed (the_view c.self-2.inside) _ _ _ _ l.device l.contents c.args.block _ ready l.holds place (omega arith) (whole-now (g.P.Platform.history c.load.new.platform)) (small g (goal.at.returns-clause-listed g c).After-let_go told) (goes g (goal.at.returns-clause-listed g c).After-let_go)))
+
+pub returns-in_default-reserve-clause-pages : goal.returns-in_default-reserve-clause-pages
+returns-in_default-reserve-clause-pages g c = λ pages are.
+    rw (c.reserve.ensures.gone, c.reserve.ensures.never, c.self-2.view_is) (c.load.ensures.pages pages are)
+
+pub returns-clause-pages : goal.returns-clause-pages
+returns-clause-pages g c = λ pages are.
+    let ready = rw (← c.self-2.view_is) at c.in-Ok.ensures.leaf.0 in
+    let place = rw c.as_slice.ensures.value at c.in-Ok-place_of.ensures in
+    let loaded = rw (← c.self-2.view_is) at (c.load.ensures.pages pages are) in
+    rw c.remove.ensures.items (pages_trimmed (the_view c.self-2.inside) _ _ _ _ pages ready place.0 (goes g (goal.at.returns-clause-pages g c).After-let_go) loaded)

@@ -22,6 +22,8 @@ use Rattle.std.proofs.Common.{refl}
 use Rattle.platform.proofs.Moments.{During-start}
 use Rattle.page_store.proofs.KeepingLaws.{keeps_idle}
 use Rattle.device_core.specs.Knowing.{HoldsListed}
+use Rattle.device_core.specs.Certifying.{AreDataPages}
+use Rattle.device_core.proofs.DataPageLaws.{pages_same, pages_written}
 use Rattle.device_core.proofs.KeyLaws.{load_keeps, write_keeps, listed_later, listed_written}
 use Rattle.std.specs.Prelude.{◌≢◌, All}
 use Rattle.device_core.proofs.ReadingLaws.{one_leaf}
@@ -31,7 +33,7 @@ use Rattle.std.specs.FinMap as maps
 use Rattle.device_core.specs.Holds.{Holds}
 use Rattle.device_core.specs.Reading.{IsLeafOf}
 use Rattle.page_store.specs.Keeping.{KeepsKeys}
-use Rattle.std.proofs.Common.{◌++◌}
+use Rattle.std.proofs.Common.{[], ◌∷◌, ◌++◌}
 use Rattle.device_core.proofs.HoldLaws.{with_entry}
 use Rattle.device_core.proofs.KeyLaws.{Appends}
 use Rattle.device_core.proofs.session.Session.write.Given.{Over}
@@ -330,4 +332,44 @@ returns-clause-adds g c =
         entry = rw c.put_entry.ensures (subst (λ (n : ℕ). Contains (placed c.self-2.inside.entries.items c.place_of-place.result entry) (record { low = c.args.block; addr = n; key = c.in-Ok-append.placed.key })) here
             (placed_there c.self-2.inside.entries.items c.args.block c.place_of-place.result entry place));
       },
+    )
+
+pub returns-in-Err-BadRecord-clause-pages : goal.returns-in-Err-BadRecord-clause-pages
+returns-in-Err-BadRecord-clause-pages g c = λ pages are. (c.load.ensures.pages pages are, tt)
+
+pub returns-in-Err-PlatformFault-clause-pages : goal.returns-in-Err-PlatformFault-clause-pages
+returns-in-Err-PlatformFault-clause-pages g c = λ pages are. (c.load.ensures.pages pages are, tt)
+
+pub returns-in_default-clause-pages : goal.returns-in_default-clause-pages
+returns-in_default-clause-pages g c = λ pages are. (c.load.ensures.pages pages are, tt)
+
+pub returns-in_default-reserve-clause-pages : goal.returns-in_default-reserve-clause-pages
+returns-in_default-reserve-clause-pages g c = λ pages are.
+    let loaded = rw (← c.self-2.view_is) at (c.load.ensures.pages pages are) in
+    rw (c.reserve.ensures.gone, c.reserve.ensures.never) (pages_same (the_view c.self-2.inside) _ pages loaded, tt)
+
+pub returns-in-Err-TapeFault-clause-pages : goal.returns-in-Err-TapeFault-clause-pages
+returns-in-Err-TapeFault-clause-pages g c = λ pages are.
+    let loaded = rw (← c.self-2.view_is) at (c.load.ensures.pages pages are) in
+    rw (c.reserve.ensures.gone, c.reserve.ensures.never) (pages_same (the_view c.self-2.inside) _ pages loaded, tt)
+
+pub returns-in-Err-PlatformFault-append-clause-pages : goal.returns-in-Err-PlatformFault-append-clause-pages
+returns-in-Err-PlatformFault-append-clause-pages g c = λ pages are.
+    let loaded = rw (← c.self-2.view_is) at (c.load.ensures.pages pages are) in
+    rw (c.reserve.ensures.gone, c.reserve.ensures.never) (pages_same (the_view c.self-2.inside) _ pages loaded, tt)
+
+pub returns-clause-pages : goal.returns-clause-pages
+returns-clause-pages g c = λ pages are.
+    let at = goal.at.returns-clause-pages g c in
+    let ready = rw (← c.self-2.view_is) at c.in-Ok.ensures.leaf.0 in
+    let opened = rw (← c.self-2.view_is) at c.load.ensures.open in
+    let place = rw c.as_slice.ensures.value at c.place_of-place.ensures in
+    let loaded = rw (← c.self-2.view_is) at (c.load.ensures.pages pages are) in
+    let address : c.in-Ok-append.placed.addr ≡ g.P.Platform.head c.load.new.platform = c.in-Ok-append.ensures.address in
+    let here : c.in-Ok-append.placed.addr ≡ g.P.Platform.head c.args.platform.now = address ∙ c.load.ensures.looks.head in
+    rw c.put_entry.ensures (
+      tt,
+      subst (λ (n : ℕ). AreDataPages (with_entry (the_view c.self-2.inside) c.place_of-place.result (entry_of g at.In-Ok-append) c.in-Some.mapped (released_with c.let_go_at.new.self.gone.items c.let_go_at.new.self.never.items) c.append.new.self)
+          (pages ++ record { block = c.args.block; addr = n } ∷ [])) here
+          (pages_written (the_view c.self-2.inside) c.place_of-place.result (entry_of g at.In-Ok-append) c.in-Some.mapped _ c.append.new.self pages ready place (omega (arith, opened.served.within, address)) (goes g at.After-let_go_at) loaded),
     )
