@@ -2,7 +2,6 @@
 ghost use Rattle.std.specs.Prelude.{◌≡◌, ◌↔◌, ℕ, List, [], ◌++◌, None, Some, IsTrue, option_copied};
 ghost use Rattle.device_cli.specs.Kept.{IsKept};
 
-use arrayvec::ArrayVec;
 use std::marker::Model;
 
 /// The greatest length of a line that is kept. No longer line is in the grammar.
@@ -11,19 +10,19 @@ pub(crate) const MAX_LINE: usize = 8300;
 /// What has come of a line: its bytes, or only that there are more than `MAX_LINE` of them.
 #[derive(Drop)]
 pub(crate) struct Pending {
-    bytes: ArrayVec<u8, MAX_LINE>,
+    bytes: [u8; MAX_LINE],
+    len: usize,
     is_overlong: bool,
 }
 
 impl Model for Pending {
-    ghost use Rattle.std.specs.Prelude.{◌≡◌, ◌≤◌, ℕ, List, [], None, Some, Option, IsTrue, if◌then◌else◌};
-    ghost use Rattle.arrayvec.specs.ArrayVec.{array_vec_len};
+    ghost use Rattle.std.specs.Prelude.{◌≡◌, ◌≤◌, ℕ, List, [], None, Some, Option, IsTrue, take, if◌then◌else◌};
 
     ghost Value = { Option (List ℕ) };
 
-    ghost view = { λ p. if p.is_overlong then None else Some p.bytes.items };
+    ghost view = { λ p. if p.is_overlong then None else Some (take p.len p.bytes) };
 
-    ghost invariant = { λ p. array_vec_len p.bytes ≤ 8300 };
+    ghost invariant = { λ p. p.len ≤ 8300 };
 }
 
 impl Pending {
@@ -32,7 +31,8 @@ impl Pending {
         ensures { IsKept result [] }
     {
         Pending {
-            bytes: ArrayVec::new(),
+            bytes: [0; MAX_LINE],
+            len: 0,
             is_overlong: false,
         }
     }
@@ -41,16 +41,20 @@ impl Pending {
     pub(crate) fn is_empty(&self) -> bool
         ensures { (line : List ℕ) → IsKept self.now line → IsTrue result ↔ (line ≡ []) }
     {
-        self.bytes.is_empty() && !self.is_overlong
+        self.len == 0 && !self.is_overlong
     }
 
     /// More bytes of the line. Those of a line that grows past `MAX_LINE` are let go.
     pub(crate) fn push(&mut self, piece: &[u8])
         ensures { (line : List ℕ) → IsKept self.old line → IsKept self.new (line ++ piece.now) }
     {
-        if self.is_overlong || self.bytes.try_extend_from_slice(piece).is_err() {
+        if self.is_overlong || piece.len() > MAX_LINE - self.len {
             self.is_overlong = true;
+            return;
         }
+        let end = self.len + piece.len();
+        self.bytes[self.len..end].copy_from_slice(piece);
+        self.len = end;
     }
 
     /// The bytes of the line, or None where there are more than `MAX_LINE`.
@@ -60,7 +64,7 @@ impl Pending {
         if self.is_overlong {
             None
         } else {
-            Some(&self.bytes)
+            Some(&self.bytes[..self.len])
         }
     }
 
@@ -80,7 +84,7 @@ impl Pending {
     pub(crate) fn clear(&mut self)
         ensures { IsKept self.new [] }
     {
-        self.bytes.clear();
+        self.len = 0;
         self.is_overlong = false;
     }
 }
