@@ -1,6 +1,6 @@
 -- What a commit does, whether its last step was taken or failed.
 use Rattle.std.proofs.Common.{◌≡◌, ◌∙◌, ◌+◌, ◌<◌, ◌≤◌, ◌^◌, inl, inr, ℕ, List, Some, true, refl, ap, sym, subst, arith, length}
-use Rattle.std.specs.Prelude.{◌⊎◌, ◌≢◌, All, AllPairs, Option, Contains}
+use Rattle.std.specs.Prelude.{◌⊎◌, ◌≢◌, AllPairs, Option, Contains}
 use Rattle.sdbt_base.specs.Bytes.{IsBytes}
 use Rattle.sdbt_base.specs.Arrays.{Device, Blocks, committed_with}
 use Rattle.platform.specs.Image.{Image, LeavesOnly, with_page, with_cell, all_synced}

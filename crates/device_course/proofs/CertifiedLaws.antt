@@ -5,10 +5,10 @@ use Rattle.std.specs.List.{AllZip}
 use Rattle.std.proofs.lemmas.Grind.{flat_map-append, common_steps}
 use Rattle.std.proofs.lemmas.Bool.{cases_lt}
 use Rattle.std.proofs.lemmas.Option.{same_Some}
-use Rattle.sdbt_base.specs.Told.{Got, GotPart}
+use Rattle.sdbt_base.specs.Told.{Got}
 use Rattle.sdbt_base.proofs.ToldLaws.{Got-nothing, Got-then}
 use Rattle.platform.specs.Image.{Image}
-use Rattle.platform.specs.History.{History, Extends, During, Turns, CellStays, CellTurns, image_at, moment}
+use Rattle.platform.specs.History.{History, Extends, Turns, CellStays, CellTurns, image_at, moment}
 use Rattle.platform.proofs.Moments.{image_at-now}
 use Rattle.root_codec.specs.declared.root.Root.{Root}
 use Rattle.root_codec.specs.RootRecord.{FitsRoot, root_bytes}
@@ -17,7 +17,7 @@ use Rattle.cert_maker.specs.Cert.{Cert}
 use Rattle.cert_codec.specs.Text.{entry}
 use Rattle.device_core.specs.Sessions.{Session}
 use Rattle.device_core.specs.Certifying.{Certifies, PutsEntry, SpeaksOf}
-use Rattle.device_course.specs.Certified.{Came, CameBetween, Certificate, AreOfRecords, Certified}
+use Rattle.device_course.specs.Certified.{Came, CameBetween, Certificate, Certified}
 
 -- ---- what came into the cell
 

@@ -1,4 +1,3 @@
-use Rattle.std.proofs.Common.{◌≡◌}
 use Rattle.std.specs.Prelude.{IfSome}
 use Rattle.device_cli.specs.Desk.{IsReady, IsMounted}
 use Rattle.device_cli.specs.Run.{counts, NoneFell}

@@ -1,4 +1,4 @@
-use Rattle.std.proofs.Common.{ℕ, List, ◌++◌, refl, ◌∙◌}
+use Rattle.std.proofs.Common.{ℕ, List, ◌++◌, refl}
 use Rattle.std.proofs.lemmas.Grind.{common_steps}
 use Rattle.std.proofs.Common.{arith}
 use Rattle.device_cli.specs.World.{World, world_of}

@@ -1,5 +1,4 @@
-use Rattle.std.proofs.Common.{◌+◌, List, ◌∙◌, sym, subst, take, arith}
-use Rattle.sdbt_base.specs.Traces.{Traced}
+use Rattle.std.proofs.Common.{◌+◌, ◌∙◌, sym, subst, take, arith}
 use Rattle.device_core.specs.Certifying.{AddsOwn}
 use Rattle.device_core.proofs.CertifyingLaws.{own_more, own_less}
 use Rattle.device_core.proofs.certifying.added_records.Goals.{then-entry-base+in_ok-push, else-entry-base}
