@@ -4,3 +4,4 @@ mod RoundTrip
 mod InRange
 mod Lacks
 mod Torn
+pub mod LedgerLaws

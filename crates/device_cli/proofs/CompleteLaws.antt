@@ -6,7 +6,7 @@ use Rattle.std.proofs.lemmas.Bool.Decides.{eqb_tells}
 use Rattle.std.proofs.lemmas.List.{append-nil}
 use Rattle.std.proofs.lemmas.List.Elements.{All-nil, All-cons}
 use Rattle.sdbt_base.specs.Told.{Gave, Got, IsAtEnd}
-use Rattle.script_lang.specs.Lines.{lines_of}
+use Rattle.text_lines.specs.Lines.{lines_of}
 use Rattle.script_lang.specs.Replies.{line_of}
 use Rattle.script_lang.specs.Arrays.{in_limits, needs_room, step}
 use Rattle.sdbt_base.specs.Arrays.{State, closed}

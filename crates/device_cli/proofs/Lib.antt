@@ -4,7 +4,6 @@ pub mod RunLaws
 pub mod PageLaws
 pub mod PassLaws
 pub mod RepliedLaws
-pub mod PieceLaws
 pub mod Serving
 pub mod Reading
 pub mod RanLaws

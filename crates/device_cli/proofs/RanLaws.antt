@@ -3,7 +3,7 @@ use Rattle.std.proofs.Common.{◌≡◌, ℕ, List, [], ◌++◌, Option, Ok, Er
 use Rattle.std.proofs.lemmas.Grind.{common_steps}
 use Rattle.sdbt_base.specs.Told.{Got, GotPart}
 use Rattle.sdbt_base.proofs.ToldLaws.{Gave-nothing, Got-nothing, Got-then}
-use Rattle.script_lang.specs.Lines.{whole_lines_of}
+use Rattle.text_lines.specs.Lines.{whole_lines_of}
 use Rattle.sdbt_base.specs.Arrays.{State}
 use Rattle.script_lang.specs.Replies.{Full}
 use Rattle.std.proofs.lemmas.List.Elements.{All-nil}

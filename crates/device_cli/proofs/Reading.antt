@@ -3,9 +3,9 @@ use Rattle.std.proofs.Common.{◌≡◌, ℕ, ◌+◌, ◌<◌, ◌≤◌, ◌^�
 use Rattle.std.specs.Prelude.{IfErr}
 use Rattle.sdbt_base.specs.Told.{Gave, IsAtEnd}
 use Rattle.sdbt_base.proofs.ToldLaws.{Gave-nothing, Gave-then}
-use Rattle.script_lang.specs.Lines.{whole_lines_of, rest_of, lines_of, last_line as line_at_end}
+use Rattle.text_lines.specs.Lines.{whole_lines_of, rest_of, lines_of, last_line as line_at_end}
 use Rattle.device_cli.specs.World.{World}
-use Rattle.script_lang.proofs.LineLaws.{whole_lines_of-append, rest_of-append, lines_of-whole}
+use Rattle.text_lines.proofs.LineLaws.{whole_lines_of-append, rest_of-append, lines_of-whole}
 use Rattle.device_cli.specs.Run.{IsOfLine, TookUntil}
 use Rattle.device_cli.specs.Kept.{IsKept, IsPending}
 use Rattle.device_cli.specs.Replied.{Ending, Handled, no_line}

@@ -2,15 +2,14 @@
 use Rattle.std.proofs.Common.{◌≡◌, ℕ, ◌≤◌, List, [], ◌∷◌, ◌++◌, Option, Ok, Err, refl, sym, ap, ◌∙◌, subst, append_assoc}
 use Rattle.std.proofs.lemmas.Grind.{common_steps}
 use Rattle.std.proofs.Common.{arith}
-use Rattle.script_lang.specs.Grammar.{HasNone}
-use Rattle.script_lang.specs.Lines.{whole_lines_of, rest_of}
+use Rattle.text_lines.specs.Lines.{HasNone, whole_lines_of, rest_of}
 use Rattle.device_cli.specs.World.{World}
 use Rattle.device_cli.specs.Run.{IsOfLine}
 use Rattle.device_cli.specs.Kept.{IsKept, IsPending}
 use Rattle.device_cli.specs.Replied.{Handled, no_line}
 use Rattle.device_cli.specs.declared.stop.Stop.{Stop}
 use Rattle.device_cli.proofs.RepliedLaws.{Handled-nothing, Handled-then, Handled-longer}
-use Rattle.device_cli.proofs.PieceLaws.{whole_lines_of-line, rest_of-line, whole_lines_of-none, rest_of-none, HasNone-append}
+use Rattle.text_lines.proofs.LineLaws.{whole_lines_of-line, rest_of-line, whole_lines_of-none, rest_of-none, HasNone-append}
 
 -- of a text, some lines are handled; the next has begun, and this is still behind it
 pub record IsServing (tells : Type 0) (old new : World) (written written_now : Option (List ℕ)) (text : List ℕ) (kept : Option (List ℕ)) (behind : List ℕ) : Type 0 where

@@ -1,6 +1,6 @@
 -- What is kept of a line that has not ended.
 use Rattle.std.specs.Prelude.{◌≡◌, ℕ, ◌<◌, Option, None, Some, List, length}
-use Rattle.script_lang.specs.Grammar.{HasNone}
+use Rattle.text_lines.specs.Lines.{HasNone}
 
 -- the line's bytes, or only that there are more than a line of the grammar has
 abbrev pub IsKept : Option (List ℕ) → List ℕ → Type 0

@@ -3,8 +3,8 @@ ghost use Rattle.std.specs.Prelude.{◌≡◌, ◌≤◌, ◌⊎◌, ◌∷◌, 
 ghost use Rattle.arrayvec.specs.ArrayVec.{array_vec_len};
 ghost use Rattle.sdbt_base.specs.Faults.{Rose};
 ghost use Rattle.sdbt_base.specs.Told.{Got, GotPart};
-ghost use Rattle.script_lang.specs.Grammar.{Spells, IsBad, HasNone};
-ghost use Rattle.script_lang.specs.Lines.{whole_lines_of, rest_of, last_line as line_at_end};
+ghost use Rattle.script_lang.specs.Grammar.{Spells, IsBad};
+ghost use Rattle.text_lines.specs.Lines.{HasNone, whole_lines_of, rest_of, last_line as line_at_end};
 ghost use Rattle.script_lang.specs.Commands.{FitsBlock as FitsCommand, asked};
 ghost use Rattle.script_lang.specs.Replies.{CanWrite, FitsBlock, line_of, said};
 ghost use Rattle.platform.specs.History.{During};
@@ -25,11 +25,11 @@ use crate::entry::check_cell;
 use crate::pending::Pending;
 use crate::stop::{DeviceStop, Stop};
 use arrayvec::ArrayVec;
-use memchr::memchr;
 use platform::Platform;
 use script_lang::{Command, Reply, ReplyWriter, parse};
 use sdbt_base::{BLOCK, MAX_INPUT, Sink, Source, Tape};
 use std::alloc::Global;
+use text_lines::split_line;
 
 /// The most that one take asks for.
 const PIECE: usize = 4096;
@@ -153,16 +153,6 @@ fn serve_piece<P: Platform, T: Tape, O: Sink, L: Sink>(
     }
     pending.push(rest);
     Ok(())
-}
-
-/// What stands before the first line feed of a text, and what stands behind it; None where there is none.
-fn split_line(text: &[u8]) -> Option<(&[u8], &[u8])>
-    ensures found { IfSome result (λ parts. HasNone 10 parts.0.now × (text.now ≡ parts.0.now ++ 10 ∷ parts.1.now)) }
-    ensures none { IfNone result (HasNone 10 text.now) }
-{
-    let feed = memchr(b'\n', text)?;
-    let (line, behind) = text.split_at(feed);
-    Some((line, &behind[1..]))
 }
 
 /// Serves a last line that lacks its line feed.

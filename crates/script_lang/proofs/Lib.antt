@@ -3,7 +3,6 @@ pub mod Outcomes
 pub mod Spaces
 pub mod LongLines
 pub mod Fronts
-pub mod LineLaws
 pub mod Blocks
 pub mod Trims
 pub mod ReplyLaws

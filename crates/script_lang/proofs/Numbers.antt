@@ -5,7 +5,8 @@ use Rattle.std.specs.Str.Parse.{AllDigits, IsNumeral, ParsesUnsigned, digits_val
 use Rattle.std.proofs.lemmas.Fmt.{decimal_is_IsNumeral, IsAscii-decimal, parse-decimal}
 use Rattle.std.proofs.lemmas.Str.{IsUtf8-from_ascii}
 use Rattle.std.proofs.lemmas.Str.Parse.{digit_from_value}
-use Rattle.script_lang.specs.Grammar.{IsNumber, HasNone}
+use Rattle.script_lang.specs.Grammar.{IsNumber}
+use Rattle.text_lines.specs.Lines.{HasNone}
 
 pub number_is_numeral : (text : List ℕ) (n : ℕ) → IsNumber text n → IsNumeral 10 text × (digits_value 10 text ≡ n)
 number_is_numeral text n h = let P : List ℕ → Type 0 = λ t. IsNumeral 10 t × (digits_value 10 t ≡ n) in

@@ -8,7 +8,7 @@ use Rattle.std.specs.Str.Parse.{digits_value}
 use Rattle.std.proofs.lemmas.Fmt.{decimal_is_IsNumeral}
 use Rattle.hex.specs.Hex.{decode_of, encode_lower, encode_with, lower_digits}
 use Rattle.hex.proofs.HexLemmas.{decode_of-encode_lower}
-use Rattle.script_lang.specs.Grammar.{HasNone}
+use Rattle.text_lines.specs.Lines.{HasNone}
 use Rattle.script_lang.specs.Replies.{text_of, line_of, hex_or_dash, IsReply, IsFront}
 use Rattle.script_lang.specs.Replies.{Reply}
 use Rattle.script_lang.specs.Replies.{Formatted, Mounted, Content, Done, Committed, Dropped, Erased, Stat, Seized, Bad, Unmounted, AlreadyMounted, NotEmpty, NoDevice, Range, Full, Unbuilt}

@@ -1,6 +1,7 @@
 -- A text falls into a word and a rest at its first space in one way.
 use Rattle.std.proofs.Common.{◌≡◌, ℕ, inl, List, [], ◌∷◌, ◌++◌, refl, arith}
-use Rattle.script_lang.specs.Grammar.{HasNone, IsNumber}
+use Rattle.script_lang.specs.Grammar.{IsNumber}
+use Rattle.text_lines.specs.Lines.{HasNone}
 use Rattle.script_lang.proofs.Numbers.{number_has_none}
 
 -- where the byte stands, the text doesn't lack it

@@ -1,6 +1,5 @@
 -- The grammar of the lines of a script, by cases on the command that a line spells.
-use Rattle.std.specs.Prelude.{◌≡◌, ◌≢◌, ℕ, ◌<◌, ◌≤◌, ◌^◌, List, ◌∷◌, ◌++◌, length, codes, Ok}
-use Rattle.std.specs.List.{AllByRecursion}
+use Rattle.std.specs.Prelude.{◌≡◌, ℕ, ◌<◌, ◌≤◌, ◌^◌, List, ◌∷◌, ◌++◌, length, codes, Ok}
 use Rattle.std.specs.Fmt.{decimal}
 use Rattle.hex.specs.Hex.{decode_of}
 use Rattle.script_lang.specs.Commands.{Command}
@@ -13,10 +12,6 @@ IsNumber text n = (n < 2 ^ 64) × (text ≡ decimal n)
 -- hex digits of either case, two for each byte of a block's front
 abbrev pub IsHex : List ℕ → List ℕ → Type 0
 IsHex text content = (decode_of text ≡ Ok content) × (0 < length content) × (length content ≤ 4096)
-
--- no byte of the text is this one
-abbrev pub HasNone : ℕ → List ℕ → Type 0
-HasNone byte text = AllByRecursion (λ b. b ≢ byte) text
 
 -- the line spells the command
 abbrev pub Spells : List ℕ → Command → Type 0

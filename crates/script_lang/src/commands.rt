@@ -3,8 +3,7 @@
 ghost use Rattle.std.specs.Prelude.{◌≡◌, ◌<◌, ℕ, List, ◌++◌, length, IfSome, IfNone};
 ghost use Rattle.script_lang.specs.Commands as commands;
 ghost use Rattle.script_lang.specs.Commands.{Command as Asked, FitsBlock, asked};
-ghost use Rattle.script_lang.specs.Grammar.{Spells, IsBad, HasNone};
-ghost use Rattle.script_lang.specs.Lines.{whole_lines_of, rest_of, lines_of, last_line};
+ghost use Rattle.script_lang.specs.Grammar.{Spells, IsBad};
 
 use crate::words::{number_before, parse_hex, parse_number};
 use sdbt_base::BLOCK;
@@ -124,15 +123,6 @@ fn parse_trim(line: &[u8]) -> Option<Command>
 /// keeping it.
 pub fn long_lines_are_bad()
     ensures { (line : List ℕ) → 8300 < length line → IsBad line }
-{}
-
-/// The lines of a text may be found in pieces: of a text that grows, the lines that were whole stay, and the
-/// others are those of the rest with what is new; at its end the rest, if there is one, is the last line.
-pub fn lines_come_in_pieces()
-    ensures whole { (text more : List ℕ) → whole_lines_of (text ++ more) ≡ whole_lines_of text ++ whole_lines_of (rest_of text ++ more) }
-    ensures rest { (text more : List ℕ) → rest_of (text ++ more) ≡ rest_of (rest_of text ++ more) }
-    ensures all { (text : List ℕ) → lines_of text ≡ whole_lines_of text ++ last_line (rest_of text) }
-    ensures feed { (text : List ℕ) → HasNone 10 (rest_of text) }
 {}
 
 /// A line spells one command at most.

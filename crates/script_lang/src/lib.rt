@@ -12,7 +12,7 @@ mod words;
 mod writing;
 
 pub use commands::{
-    Command, lines_come_in_pieces, lines_spell_one_command, long_lines_are_bad, parse,
+    Command, lines_spell_one_command, long_lines_are_bad, parse,
 };
 pub use devices::{Contents, Device, Session};
 pub use machine::{Machine, reply_with_content};

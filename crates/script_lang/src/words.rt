@@ -2,7 +2,8 @@
 
 ghost use Rattle.std.specs.Prelude.{◌≡◌, ◌≢◌, ℕ, List, [], ◌∷◌, ◌++◌, IfSome, IfNone, IsSomeAnd, ◌<◌, ◌≤◌, ◌^◌, take};
 ghost use Rattle.std.specs.Fmt.{decimal};
-ghost use Rattle.script_lang.specs.Grammar.{IsNumber, IsHex, HasNone};
+ghost use Rattle.script_lang.specs.Grammar.{IsNumber, IsHex};
+ghost use Rattle.text_lines.specs.Lines.{HasNone};
 
 use sdbt_base::BLOCK;
 

@@ -1,5 +1,5 @@
 use Rattle.std.proofs.Common.{◌≡◌, ℕ, List, [], Ok, sym, subst, rules}
-use Rattle.script_lang.specs.Lines.{last_line as line_at_end}
+use Rattle.text_lines.specs.Lines.{last_line as line_at_end}
 use Rattle.device_cli.specs.Replied.{Handled, no_line}
 use Rattle.device_cli.specs.World.{World, world_of}
 use Rattle.device_cli.proofs.RepliedLaws.{Handled-nothing}

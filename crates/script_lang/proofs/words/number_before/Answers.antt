@@ -1,7 +1,7 @@
 use Rattle.std.proofs.Common.{refl, sym, ◌∙◌, subst}
 use Rattle.std.specs.Fmt.{decimal}
 use Rattle.std.proofs.lemmas.Fmt.{decimal_injective}
-use Rattle.script_lang.specs.Grammar.{HasNone}
+use Rattle.text_lines.specs.Lines.{HasNone}
 use Rattle.script_lang.proofs.Spaces.{has_byte, split_once, no_space}
 use Rattle.script_lang.proofs.words.number_before.Goals as goal
 

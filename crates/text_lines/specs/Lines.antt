@@ -1,5 +1,10 @@
 -- The lines of a text. A line ends with a line feed, byte 10; the last line may lack it.
-use Rattle.std.specs.Prelude.{ℕ, Bool, false, ◌==◌, ◌||◌, if◌then◌else◌, List, [], ◌∷◌}
+use Rattle.std.specs.Prelude.{◌≢◌, ℕ, Bool, false, ◌==◌, ◌||◌, if◌then◌else◌, List, [], ◌∷◌}
+use Rattle.std.specs.List.{AllByRecursion}
+
+-- no byte of the text is this one
+abbrev pub HasNone : ℕ → List ℕ → Type 0
+HasNone byte text = AllByRecursion (λ b. b ≢ byte) text
 
 -- the byte in front of the first line, if there is one
 abbrev pub in_front : ℕ → List (List ℕ) → List (List ℕ)
