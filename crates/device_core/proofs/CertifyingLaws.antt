@@ -1,6 +1,6 @@
 -- The certificate of a leaf.
 use Rattle.std.proofs.Common.{◌≡◌, ◌≢◌, ◌⊎◌, inl, inr, ℕ, zero, suc, ◌+◌, ◌<◌, ◌≤◌, List, [], ◌∷◌, ◌++◌, All, map, take, length, get_or, refl, sym, subst, ap, ◌∙◌, arith}
-use Rattle.std.specs.Prelude.{AllPairs, Contains, None, Some}
+use Rattle.std.specs.Prelude.{AllPairs, Contains, None, Some, Result, Ok, Err, OnOk, IfOk}
 use Rattle.std.proofs.lemmas.Bool.{cases_eq, cases_lt, eq-eqb, ne_eqb}
 use Rattle.std.proofs.lemmas.Option.{none-some, same_Some}
 use Rattle.std.proofs.lemmas.List.{take_more, get_or_default}
@@ -289,3 +289,8 @@ pub first_cert : (commit base addr : ℕ) (key : List ℕ) (line : List ℕ) →
 first_cert commit base addr key line e =
     let cert = e.of (entry_in []) (entry_in (says addr [])) [] (λ one other has there same. absurd (omega (arith, has.1))) (first_differ base addr e.added e.adds) in
     subst (λ (ts : List Traced). CertOf (entry_in []) (entry_in ts) commit addr base (addr + 1) [] e.cert) (sym (places_say addr key [] [])) cert
+
+-- a line that is what it should be, with a fact that holds where there is one
+pub with_range : {X Y : Type 0} (result : Result X Y) (Fits : Type 0) (Is Has : X → Type 0) → ((line : X) → Fits → Is line → Has line) → OnOk result Fits → IfOk result Is → IfOk result Has
+with_range (Ok line) Fits Is Has has fits is = has line fits is
+with_range (Err fault) Fits Is Has has fits is = tt

@@ -237,6 +237,7 @@ commit_certifies tells written written_now old mid new session pages addr key li
         let next = next_root session pages key in
         record {
           cert = e.cert;
+          in_text = e.in_text;
           root = next;
           in_range = commit_fits session next pages same.commit;
           number = refl;

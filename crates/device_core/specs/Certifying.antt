@@ -1,5 +1,5 @@
 -- What a format and a commit put to the ledger.
-use Rattle.std.specs.Prelude.{◌≡◌, ◌≤◌, ◌+◌, ◌⊎◌, true, ◌∷◌, ℕ, List, All, Contains, Option, Some, map}
+use Rattle.std.specs.Prelude.{◌≡◌, ◌≤◌, ◌+◌, ◌⊎◌, true, [], ◌∷◌, ℕ, List, All, Contains, Option, None, Some, map}
 use Rattle.sdbt_base.specs.Told.{Got, GotPart}
 use Rattle.sdbt_base.specs.Traces.{Traced, DataOf, NodeOver}
 use Rattle.sdbt_base.specs.Arrays.{Device, Blocks}
@@ -16,7 +16,7 @@ use Rattle.cert_maker.specs.CertOf.{CertOf}
 use Rattle.cert_maker.specs.Differ.{Differ}
 use Rattle.cert_maker.specs.Ordered.{AreOneEach}
 use Rattle.cert_maker.specs.Trace.{entries_of}
-use Rattle.cert_codec.specs.Text.{entry}
+use Rattle.cert_codec.specs.Text.{entry, Fits as FitsText}
 use Rattle.device_core.specs.Holds.{Holds}
 use Rattle.device_core.specs.Sessions.{Session}
 
@@ -50,10 +50,15 @@ IsOfCommit session old new root cert =
     (device : Device) (contents : Blocks) → Holds session old device contents → (pages : List Unkept) → AreDataPages session pages
     → (before : Parts) → Tree old.readable session.root before → IsOfTrees before.places session.root.head new.readable root pages cert
 
+-- a format's certificate, over an empty cell and so many pages: that of no tree before it, of the tree after it, and of no data page
+abbrev pub IsOfFormat : Image → ℕ → Image → Root → Cert → Type 0
+IsOfFormat old pages new root cert = (old.cell ≡ None) × IsOfTrees [] pages new.readable root [] cert
+
 -- an entry was put, whose certificate speaks of the root record that is to follow: all of it where the call was done or that root record came into the
 -- cell; and else, with the cell as it was at each moment, all or a first part
 pub record PutsEntry (tells : Type 0) (written written_now : Option (List ℕ)) (old new : History) (base commit : ℕ) (Is : Root → Cert → Type 0) (Done : Type 0) : Type 0 where
   pub cert : Cert
+  pub in_text : FitsText cert
   pub root : Root
   pub in_range : FitsRoot root
   pub number : root.commit ≡ commit
@@ -90,6 +95,7 @@ pub record AddsLeaf (base addr : ℕ) (entries : List Entry) (added : List Trace
 -- it is the certificate of these
 pub record IsEntryOf (commit base addr : ℕ) (entries : List Entry) (gone : List ℕ) (never : List Unkept) (line : List ℕ) : Type 0 where
   pub cert : Cert
+  pub in_text : FitsText cert
   pub is : line ≡ entry cert
   pub commit_is : cert.commit ≡ commit
   pub base_is : cert.base ≡ base

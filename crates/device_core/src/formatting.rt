@@ -9,7 +9,7 @@ ghost use Rattle.device_core.specs.Leaf.{IsServedImage};
 ghost use Rattle.root_codec.specs.declared.root.Root.{Root};
 ghost use Rattle.root_codec.specs.RootRecord.{root_bytes};
 ghost use Rattle.device_core.specs.Drawing.{NamesLast};
-ghost use Rattle.device_core.specs.Certifying.{Certifies, IsOfTrees};
+ghost use Rattle.device_core.specs.Certifying.{Certifies, IsOfFormat};
 ghost use Rattle.device_core.specs.Publishing.{Discloses, IsFormatCause};
 
 use crate::certifying::entry_of;
@@ -59,7 +59,7 @@ pub fn format<P: Platform, T: Tape, L: Sink>(
     ensures discloses { Discloses P.tells (T.drawn tape.old) (T.drawn tape.new) (P.history platform.old) (P.history platform.new)
         (λ keys. IsSound (P.history platform.old).present) (λ keys. ⊤) }
     ensures certifies { Certifies P.tells (L.written ledger.old) (L.written ledger.new) (P.history platform.old) (P.history platform.new)
-        (P.head platform.old) 0 (λ root. IsOfTrees [] (P.head platform.old) (P.history platform.new).present.readable root []) (IsOk result) }
+        (P.head platform.old) 0 (IsOfFormat (P.history platform.old).present (P.head platform.old) (P.history platform.new).present) (IsOk result) }
     ensures grows { Grows P.Platform platform.old platform.new × (T.faults tape.old ≤ T.faults tape.new)
         × (L.faults ledger.old ≤ L.faults ledger.new) }
 {

@@ -1,9 +1,10 @@
-use Rattle.std.proofs.lemmas.Result.{IfOk-weaker}
+use Rattle.device_core.proofs.CertifyingLaws.{with_range}
 use Rattle.device_core.proofs.certifying.entry_of.Goals as goal
 
 pub returns : goal.returns
-returns c = IfOk-weaker c.line.result _ _ (λ line is. record {
+returns c = with_range c.line.result _ _ _ (λ line fits is. record {
   cert = c.in_ok-cert.cert;
+  in_text = fits;
   is = is;
   commit_is = c.in_ok-cert.ensures.commit;
   base_is = c.in_ok-cert.ensures.base;
@@ -12,4 +13,4 @@ returns c = IfOk-weaker c.line.result _ _ (λ line is. record {
   added = c.in_ok-added.added;
   adds = c.in_ok-added.ensures;
   of = c.in_ok-cert.ensures.trees;
-}) c.line.ensures.entry
+}) c.line.ensures.in_range c.line.ensures.entry
