@@ -10,11 +10,12 @@ use Rattle.std.proofs.lemmas.List.Elements.{All-nil, All-cons, All-contains, All
 use Rattle.std.proofs.lemmas.List.Kept.{AllPairs-cons}
 use Rattle.sdbt_base.specs.Told.{Got, GotPart}
 use Rattle.sdbt_base.proofs.ToldLaws.{Got-nothing, Got-then}
-use Rattle.sdbt_base.specs.Arrays.{Device, Blocks, State}
-use Rattle.sdbt_base.specs.Traces.{Traced, TraceEntry}
+use Rattle.sdbt_base.specs.Arrays.{Device, Blocks, State, Session as OpenSession}
+use Rattle.sdbt_base.specs.Traces.{Traced, TraceEntry, NodeOver}
 use Rattle.sdbt_base.specs.declared.lists.Unkept.{Unkept}
 use Rattle.platform.specs.Image.{Image, IsEarlier, MayLeave, LeavesOnly}
-use Rattle.platform.specs.History.{History, Extends, CellStays}
+use Rattle.platform.specs.History.{History, Turns, CellStays}
+use Rattle.platform.proofs.RunLaws.{Turns-cases}
 use Rattle.platform.specs.Logged.{AllPairs-first, AllPairs-rest}
 use Rattle.platform.proofs.Moments.{During-now, Extends-earlier, whole-now, synced-stays}
 use Rattle.node_codec.specs.declared.body.Entry.{Entry}
@@ -26,7 +27,7 @@ use Rattle.key_graph.specs.Trace.{Entries, Has, IsTraceTree, entry_in}
 use Rattle.key_graph.proofs.ChainLaws.{contains_map, map_contains}
 use Rattle.page_store.specs.Places.{IsRecordAt}
 use Rattle.page_store.specs.Tree.{Place, Parts, Tree}
-use Rattle.page_store.specs.Leaf.{leaf_parts}
+use Rattle.page_store.specs.Leaf.{leaf_parts, data_places}
 use Rattle.page_store.specs.Kept.{IsRootOf}
 use Rattle.page_store.specs.Stands.{Stands, StandsBy, IsSound}
 use Rattle.page_store.specs.Floors.{Forgets, HasPlace, IsInTree, IsNewRoot, head_in, low_of}
@@ -49,7 +50,10 @@ use Rattle.device_core.specs.Holds.{Holds}
 use Rattle.device_core.specs.Sessions.{Session}
 use Rattle.device_core.specs.Certifying.{AreDataPages, Certifies, PutsEntry, IsOfCommit, IsOfFormat, page_of}
 use Rattle.device_core.proofs.CertifyingLaws.{entry_has, has_entry, nothing_said}
-use Rattle.device_course.specs.Fitting.{FitsCell, FitsImage, KeepsFitting}
+use Rattle.device_core.specs.Drawing.{data_place}
+use Rattle.device_core.specs.Knowing.{HoldsListed}
+use Rattle.device_course.specs.States.{IsAt, IsSessionOf}
+use Rattle.device_course.specs.Fitting.{FitsCell, FitsImage, KeepsFitting, LeavesFitting}
 
 -- ---- without a new root record
 
@@ -88,8 +92,23 @@ pub fitting_still : (written written_now : Option (List ℕ)) (old new : Image) 
 fitting_still written written_now old new unput earlier same =
     subst (λ (w : Option (List ℕ)). KeepsFitting written w old new) (sym unput) (fitting_none written old new (λ text f. fits_later text old new earlier same f))
 
+-- the image is as it was
+pub fitting_same : (written : Option (List ℕ)) (old new : Image) → new ≡ old → KeepsFitting written written old new
+fitting_same written old new same = subst (λ (i : Image). KeepsFitting written written old i) (sym same) (fitting_start written old)
+
 pub fitting_emptied : (written : Option (List ℕ)) (old new : Image) → new.cell ≡ None → KeepsFitting written written old new
 fitting_emptied written old new none = fitting_none written old new (λ text f. fits_emptied text old new none f)
+
+-- the cell stays at each moment
+pub fitting_while : (written : Option (List ℕ)) (old new : History) → CellStays old new → KeepsFitting written written old.present new.present
+fitting_while written old new stays = fitting_still written written old.present new.present refl (Extends-earlier old new stays.extends) (During-now old new (λ image. image.cell ≡ old.present.cell) stays)
+
+-- the cell stays until it is empty
+pub fitting_erased : (written : Option (List ℕ)) (old new : History) → Turns old new (λ image. image.cell ≡ old.present.cell) (λ image. image.cell ≡ None) → KeepsFitting written written old.present new.present
+fitting_erased written old new turns = elim (Turns-cases old new (λ image. image.cell ≡ old.present.cell) (λ image. image.cell ≡ None) turns) [
+  | inl stays ↦ fitting_still written written old.present new.present refl (Extends-earlier old new turns.extends) (During-now old new (λ image. image.cell ≡ old.present.cell) stays)
+  | inr empty ↦ fitting_emptied written old.present new.present empty
+]
 
 -- one part after another
 pub fitting_then : (written mid written_now : Option (List ℕ)) (first second third : Image) → KeepsFitting written mid first second → KeepsFitting mid written_now second third → KeepsFitting written written_now first third
@@ -430,6 +449,56 @@ fitting_format tells written written_now old new base Done told forgets certifie
           });
         }
 
+-- ---- from a state of the session
+
+-- a session that read its leaf and has an array over an image has a list of its keys
+listed : (session : Session) (image : Image) (device : Device) (contents : Blocks) → Holds session image device contents → session.is_loaded ≡ true → HoldsListed session image (map (λ e. e.key) session.entries)
+listed session image device contents h read =
+    let parts : Parts = leaf_parts session.root.addr session.root.key h.leaf h.leaf_texts in
+    let stands : StandsBy image device session.root parts = stands_by_leaf image device session.root h.leaf h.leaf_texts h.stands in
+    let in_leaf : (e : Entry) → Contains h.leaf e → HasPlace image (data_place e) = λ e has. record {
+      root = session.root;
+      parts = parts;
+      is = root_of_stands image device session.root parts stands;
+      tree = stands.tree;
+      has = behind (record { addr = session.root.addr; key = session.root.key; trace = NodeOver (map (λ (e : Entry). e.addr) h.leaf) }) (data_place e) (data_places h.leaf) (map_contains data_place h.leaf e has);
+    } in
+    record {
+      device = device;
+      contents = contents;
+      holds = h;
+      listed = λ k d within. map_contains (λ (e : Entry). e.key) session.entries (get_or session.entries k d) (Contains-get_or session.entries k d within);
+      newer = subst (λ (es : List Entry). All (λ e. HasPlace image (data_place e) ⊎ (session.root.head ≤ e.addr)) es) (sym (h.read read))
+          (All-weaker (λ (e : Entry). Contains h.leaf e ⊎ (session.root.head ≤ e.addr)) (λ (e : Entry). HasPlace image (data_place e) ⊎ (session.root.head ≤ e.addr))
+          (λ e is. elim is [ inl old ↦ inl (in_leaf e old) | inr new ↦ inr new ]) h.entries h.accounts.kept);
+    }
+
+session_holds : (session : Session) (image : Image) (device : Option Device) (there : Option OpenSession) → IsSessionOf (Some session) image device there → (d : Device) × (contents : Blocks) × Holds session image d contents
+session_holds session image None None is = absurd is
+session_holds session image None (Some there) is = absurd is
+session_holds session image (Some device) None is = absurd is
+session_holds session image (Some device) (Some there) is = (device, there.contents, is.0)
+
+-- a commit, by its public clauses
+pub fitting_committed : (tells : Type 0) (written written_now : Option (List ℕ)) (old new : History) (held : Option Session) (session : Session) (Done : Type 0) → held ≡ Some session → (session.is_touched ≡ true → session.is_loaded ≡ true)
+    → (session.is_touched ≡ false → (new ≡ old) × (written_now ≡ written)) → (tells → (keys : List (List ℕ)) → HoldsListed session old.present keys → Forgets old new)
+    → Certifies tells written written_now old new session.root.head (session.root.commit + 1) (IsOfCommit session old.present new.present) Done
+    → tells → (entry : State) → IsAt old.present held entry → KeepsFitting written written_now old.present new.present
+fitting_committed tells written written_now old new held session Done is loaded idle forgets certifies told entry at =
+    let there : IsSessionOf (Some session) old.present entry.device entry.session = subst (λ (s : Option Session). IsSessionOf s old.present entry.device entry.session) is at.there.session in
+    let h = session_holds session old.present entry.device entry.session there in
+    elim (cases_Bool session.is_touched) [
+      | inl touched ↦ fitting_commit tells written written_now old new session h.0 h.1 Done told h.2 (forgets told (map (λ (e : Entry). e.key) session.entries) (listed session old.present h.0 h.1 h.2 (loaded touched))) certifies
+      | inr untouched ↦ subst (λ (w : Option (List ℕ)). KeepsFitting written w old.present new.present) (sym (idle untouched).1) (fitting_same written old.present new.present (ap (λ (hs : History). hs.present) (idle untouched).0))
+    ]
+
+-- a format, by its public clauses
+pub fitting_formatted : (tells : Type 0) (written written_now : Option (List ℕ)) (old new : History) (held : Option Session) (base : ℕ) (Done : Type 0) → (tells → IsSound old.present → Forgets old new)
+    → Certifies tells written written_now old new base 0 (IsOfFormat old.present new.present) Done
+    → tells → (entry : State) → IsAt old.present held entry → KeepsFitting written written_now old.present new.present
+fitting_formatted tells written written_now old new held base Done forgets certifies told entry at =
+    fitting_format tells written written_now old new base Done told (forgets told (entry.device, at.there.device)) certifies
+
 -- ---- a loss of power
 
 -- what it leaves of an image that stands is fitted by the same ledgers
@@ -452,3 +521,11 @@ fits_left text image (Some device) (root, parts, stands) f left leaves =
         })
       ];
     }
+
+-- and so is what it leaves at the end of a part
+pub leaves_fitting : (written written_now : Option (List ℕ)) (old new : Image) (device : Option Device) → Stands new device → KeepsFitting written written_now old new → LeavesFitting written written_now old new
+leaves_fitting written written_now old new device stands k = record {
+  put = k.put;
+  got = k.got;
+  fits = λ text f. fits_left (text ++ k.put) new device stands (k.fits text f);
+}

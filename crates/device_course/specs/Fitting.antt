@@ -1,7 +1,7 @@
 -- That a ledger fits an image: the checker accepts it there.
 use Rattle.std.specs.Prelude.{◌≡◌, ◌⊎◌, ◌++◌, ℕ, List, Option, None}
 use Rattle.sdbt_base.specs.Told.{Got}
-use Rattle.platform.specs.Image.{Image}
+use Rattle.platform.specs.Image.{Image, LeavesOnly}
 use Rattle.root_codec.specs.declared.root.Root.{Root}
 use Rattle.page_store.specs.Tree.{Parts, Tree}
 use Rattle.page_store.specs.Kept.{IsRootOf}
@@ -28,3 +28,9 @@ pub record KeepsFitting (written written_now : Option (List ℕ)) (old new : Ima
   pub put : List ℕ
   pub got : Got written put written_now
   pub fits : (text : List ℕ) → FitsImage text old → FitsImage (text ++ put) new
+
+-- and whatever a loss of power leaves of that
+pub record LeavesFitting (written written_now : Option (List ℕ)) (old new : Image) : Type 0 where
+  pub put : List ℕ
+  pub got : Got written put written_now
+  pub fits : (text : List ℕ) → FitsImage text old → LeavesOnly (FitsImage (text ++ put)) new
