@@ -169,8 +169,8 @@ own head [] = record { pages = []; named = All-nil _; only = All-nil _ }
 own head (e ∷ entries) =
     let rest = own head entries in
     let later : All (λ page. (x : Entry) × Contains (e ∷ entries) x × (head ≤ x.addr) × (page ≡ page_of x)) rest.pages =
-        All-weaker (λ (page : Unkept). (x : Entry) × Contains entries x × (head ≤ x.addr) × (page ≡ page_of x)) (λ (page : Unkept). (x : Entry) × Contains (e ∷ entries) x × (head ≤ x.addr) × (page ≡ page_of x))
-        (λ page of. (of.0, behind e of.0 entries of.1, of.2, of.3)) rest.pages rest.only in
+    All-weaker (λ (page : Unkept). (x : Entry) × Contains entries x × (head ≤ x.addr) × (page ≡ page_of x)) (λ (page : Unkept). (x : Entry) × Contains (e ∷ entries) x × (head ≤ x.addr) × (page ≡ page_of x))
+    (λ page of. (of.0, behind e of.0 entries of.1, of.2, of.3)) rest.pages rest.only in
     elim (cases_lt e.addr head) [
       | inl less ↦ record {
         pages = rest.pages;
@@ -210,10 +210,10 @@ wrote history session device contents h = elim (cases_Bool session.is_loaded) [
   | inl read ↦
       let mine = own session.root.head session.entries in
       let only : All (λ page. Contains session.released.never page ⊎ ((session.is_loaded ≡ true) × ((e : Entry) × Contains session.entries e × (session.root.head ≤ e.addr) × (page ≡ page_of e)))) (session.released.never ++ mine.pages) =
-          All-append (λ (page : Unkept). Contains session.released.never page ⊎ ((session.is_loaded ≡ true) × ((e : Entry) × Contains session.entries e × (session.root.head ≤ e.addr) × (page ≡ page_of e)))) session.released.never mine.pages
-          (λ k d within. inl (Contains-get_or session.released.never k d within))
-          (All-weaker (λ (page : Unkept). (e : Entry) × Contains session.entries e × (session.root.head ≤ e.addr) × (page ≡ page_of e)) (λ (page : Unkept). Contains session.released.never page ⊎ ((session.is_loaded ≡ true) × ((e : Entry) × Contains session.entries e × (session.root.head ≤ e.addr) × (page ≡ page_of e))))
-          (λ page of. inr (read, of)) mine.pages mine.only) in
+      All-append (λ (page : Unkept). Contains session.released.never page ⊎ ((session.is_loaded ≡ true) × ((e : Entry) × Contains session.entries e × (session.root.head ≤ e.addr) × (page ≡ page_of e)))) session.released.never mine.pages
+      (λ k d within. inl (Contains-get_or session.released.never k d within))
+      (All-weaker (λ (page : Unkept). (e : Entry) × Contains session.entries e × (session.root.head ≤ e.addr) × (page ≡ page_of e)) (λ (page : Unkept). Contains session.released.never page ⊎ ((session.is_loaded ≡ true) × ((e : Entry) × Contains session.entries e × (session.root.head ≤ e.addr) × (page ≡ page_of e))))
+      (λ page of. inr (read, of)) mine.pages mine.only) in
       record {
         list = session.released.never ++ mine.pages;
         are = record {
@@ -341,10 +341,10 @@ fitting_commit tells written written_now old new session device contents Done to
       | inl none ↦ fitting_still written written_now old.present new.present none.0 earlier (During-now old new (λ image. image.cell ≡ old.present.cell) (none.1 told))
       | inr p ↦
           let numbered : (root : Root) → IsRootOf old.present root → p.cert.commit ≡ root.commit + 1 = λ root is.
-              let same : session.root ≡ root = one_root_in old.present old.present session.root root refl there is in
-              p.speaks.commit ∙ p.number ∙ ap (λ (r : Root). r.commit + 1) same in
+          let same : session.root ≡ root = one_root_in old.present old.present session.root root refl there is in
+          p.speaks.commit ∙ p.number ∙ ap (λ (r : Root). r.commit + 1) same in
           let waits : CellStays old new → Got written (entry p.cert) written_now ⊎ GotPart written (entry p.cert) written_now → KeepsFitting written written_now old.present new.present = λ stays put.
-              fitting_waits written written_now p.cert old.present new.present p.in_text earlier (During-now old new (λ image. image.cell ≡ old.present.cell) stays) numbered put in
+          fitting_waits written written_now p.cert old.present new.present p.in_text earlier (During-now old new (λ image. image.cell ≡ old.present.cell) stays) numbered put in
           elim p.put [
             | inl whole ↦ elim (whole.1 told) [
               | inl came ↦ record { put = entry p.cert; got = whole.0; fits = λ text f. next_fits p.cert p.root p.in_text p.in_range p.number came (p.is told) before was text f }
@@ -363,7 +363,7 @@ fitting_commit tells written written_now old new session device contents Done to
         let of = is device contents h pages.list pages.are before was.tree in
         let same : of.after ≡ now.1 = one_tree new.present.readable next of.after now.1 in_range of.tree stands.tree in
         let cert_of : CertOf (entries_of before.places) (entries_of now.1.places) next.commit next.addr session.root.head next.head pages.list cert =
-            subst (λ (parts : Parts). CertOf (entries_of before.places) (entries_of parts.places) next.commit next.addr session.root.head next.head pages.list cert) same of.is in
+        subst (λ (parts : Parts). CertOf (entries_of before.places) (entries_of parts.places) next.commit next.addr session.root.head next.head pages.list cert) same of.is in
         record {
           certs = f.certs ++ cert ∷ [];
           ledger = entry_adds text f.certs cert in_text f.ledger;
@@ -416,8 +416,8 @@ fitting_format tells written written_now old new base Done told forgets certifie
       | inr p ↦
           let of = p.is told in
           let waits : CellStays old new → Got written (entry p.cert) written_now ⊎ GotPart written (entry p.cert) written_now → KeepsFitting written written_now old.present new.present = λ stays put.
-              fitting_waits written written_now p.cert old.present new.present p.in_text earlier (During-now old new (λ image. image.cell ≡ old.present.cell) stays)
-              (λ root is. absurd (none-some (root_bytes root) (sym of.0 ∙ is.cell))) put in
+          fitting_waits written written_now p.cert old.present new.present p.in_text earlier (During-now old new (λ image. image.cell ≡ old.present.cell) stays)
+          (λ root is. absurd (none-some (root_bytes root) (sym of.0 ∙ is.cell))) put in
           elim p.put [
             | inl whole ↦ elim (whole.1 told) [
               | inl came ↦ record { put = entry p.cert; got = whole.0; fits = λ text f. next_fits p.cert p.root p.in_text p.in_range p.number came of text f }
@@ -435,8 +435,8 @@ fitting_format tells written written_now old new base Done told forgets certifie
         let of = is.1 in
         let same : of.after ≡ now.1 = one_tree new.present.readable next of.after now.1 in_range of.tree stands.tree in
         let cert_of : CertOf (entries_of []) (entries_of now.1.places) 0 next.addr (length old.present.recorded) next.head [] cert =
-            subst (λ (n : ℕ). CertOf (entries_of []) (entries_of now.1.places) n next.addr (length old.present.recorded) next.head [] cert) number
-            (subst (λ (parts : Parts). CertOf (entries_of []) (entries_of parts.places) next.commit next.addr (length old.present.recorded) next.head [] cert) same of.is) in
+        subst (λ (n : ℕ). CertOf (entries_of []) (entries_of now.1.places) n next.addr (length old.present.recorded) next.head [] cert) number
+        (subst (λ (parts : Parts). CertOf (entries_of []) (entries_of parts.places) next.commit next.addr (length old.present.recorded) next.head [] cert) same of.is) in
         record {
           certs = f.certs ++ cert ∷ [];
           ledger = entry_adds text f.certs cert in_text f.ledger;

@@ -11,7 +11,7 @@ use Rattle.device_cli.specs.declared.stop.DeviceStop.TheVariants as device
 use Rattle.device_cli.proofs.CompleteLaws.{complete_ending}
 use Rattle.device_course.proofs.CertifiedLaws.{certified_start, certified_going}
 use Rattle.device_course.proofs.KeysLaws.{on_start}
-use Rattle.device_cli.proofs.ReachingLaws.{discloses}
+use Rattle.device_cli.proofs.ReachingLaws.{discloses, fits}
 use Rattle.device_course.specs.States.{around}
 use Rattle.device_course.proofs.MadeLaws.{shut, made_start}
 use Rattle.device_cli.proofs.run_main.Goals as goal
@@ -123,3 +123,30 @@ returns-in-Ok-clause-certified g c = certified_going _ _ _ _ _ _ _ (λ ok. refl)
 
 pub returns-in-Err-clause-certified : goal.returns-in-Err-clause-certified
 returns-in-Err-clause-certified g c = certified_going _ _ _ _ _ _ _ (λ zero. absurd (never_zero c.in-Err.stop (sym c.status.ensures ∙ zero))) c.in-Err.ensures.keeps.certified
+
+pub returns-then-not-are_run_words-clause-fits : goal.returns-then-not-are_run_words-clause-fits
+returns-then-not-are_run_words-clause-fits g c told there stands served =
+    let P = g.P.Platform in
+    let here = around P g.T.Tape g.L.Sink c.args.platform.now c.args.tape.now c.args.ledger.now in
+    fits P.tells here here _ _ (on_start _ _ _ None here.history (Unit {0}))
+    (λ told device stands served. ([], made_start here.history None (closed device) (shut here.history.present device stands served))) told there stands served
+
+pub returns-in-Ok-clause-fits : goal.returns-in-Ok-clause-fits
+returns-in-Ok-clause-fits g c told there stands served =
+    let P = g.P.Platform in
+    let old = around P g.T.Tape g.L.Sink c.args.platform.now c.args.tape.now c.args.ledger.now in
+    let new = around P g.T.Tape g.L.Sink c.run.new.platform c.run.new.tape c.run.new.ledger in
+    let ran = c.in-Ok.ensures.ran in
+    fits P.tells old new _ _ c.run.ensures.keeps
+    (made_by P.tells (world None old.history old.head old.capacity) ran.0 new.history new.head new.capacity (Ok tt) (g.I.Source.left c.args.input.now) (g.I.Source.left c.run.new.input)
+    (g.O.Sink.written c.args.output.now) (g.O.Sink.written c.run.new.output) refl ran.1) told there stands served
+
+pub returns-in-Err-clause-fits : goal.returns-in-Err-clause-fits
+returns-in-Err-clause-fits g c told there stands served =
+    let P = g.P.Platform in
+    let old = around P g.T.Tape g.L.Sink c.args.platform.now c.args.tape.now c.args.ledger.now in
+    let new = around P g.T.Tape g.L.Sink c.run.new.platform c.run.new.tape c.run.new.ledger in
+    let ran = c.in-Err.ensures.ran in
+    fits P.tells old new _ _ c.run.ensures.keeps
+    (made_by P.tells (world None old.history old.head old.capacity) ran.0 new.history new.head new.capacity (Err c.in-Err.stop) (g.I.Source.left c.args.input.now) (g.I.Source.left c.run.new.input)
+    (g.O.Sink.written c.args.output.now) (g.O.Sink.written c.run.new.output) refl ran.1) told there stands served
