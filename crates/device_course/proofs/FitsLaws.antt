@@ -529,3 +529,11 @@ leaves_fitting written written_now old new device stands k = record {
   got = k.got;
   fits = λ text f. fits_left (text ++ k.put) new device stands (k.fits text f);
 }
+
+-- one run after another, over what a loss of power left
+pub leaves_then : (written mid written_now : Option (List ℕ)) (first second left third : Image) → LeavesFitting written mid first second → MayLeave second left → LeavesFitting mid written_now left third → LeavesFitting written written_now first third
+leaves_then written mid written_now first second left third a leaves b = record {
+  put = a.put ++ b.put;
+  got = Got-then written a.put mid b.put written_now a.got b.got;
+  fits = λ text f. subst (λ (t : List ℕ). LeavesOnly (FitsImage t) third) (append_assoc text a.put b.put) (b.fits (text ++ a.put) (a.fits text f left leaves));
+}
