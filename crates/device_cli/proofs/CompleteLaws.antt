@@ -152,9 +152,9 @@ pub complete : (tells : Type 0) (old new : World) (status : ℕ) (left left_now 
     → tells → StandsFor old.history.present there → IsServedImage old.history.present
     → (script : AnswersScript tells old new status left left_now written written_now)
     → ((taken : List ℕ) × Gave left taken left_now × Took status taken left_now) → IsStatus status
-    → (status ≡ 2 → ⊥) → (status ≡ 3 → ⊥) → (status ≡ 4 → ⊥) → (status ≡ 5 → ⊥) → (status ≡ 6 → ⊥) → (status ≡ 7 → ⊥)
+    → (status ≡ 2 → ⊥) → (status ≡ 3 → ⊥) → (status ≡ 4 → ⊥) → (status ≡ 5 → ⊥) → (status ≡ 6 → ⊥) → (status ≡ 7 → ⊥) → (status ≡ 10 → ⊥)
     → IsAmple left text old.head old.capacity → (status ≡ 11) ⊎ ((status ≡ 0) × IsComplete (closed there) text written written_now)
-complete tells old new status left left_now written written_now text there told stands served script (taken, gave, took) is no2 no3 no4 no5 no6 no7 ample =
+complete tells old new status left left_now written written_now text there told stands served script (taken, gave, took) is no2 no3 no4 no5 no6 no7 no10 ample =
     let from = script.answered told there stands served in
     which is from.sound.0 from.sound.1
     (λ e. let limit = took.limit e in omega (arith, limit, some_taken text taken left left_now ample.text_is gave, ample.short))
@@ -173,8 +173,9 @@ complete tells old new status left left_now written written_now text there told 
     which (inr (inr (inr (inr (inr (inr (inl e))))))) p q r k = absurd (no7 e)
     which (inr (inr (inr (inr (inr (inr (inr (inl e)))))))) p q r k = absurd (p e)
     which (inr (inr (inr (inr (inr (inr (inr (inr (inl e))))))))) p q r k = absurd (q e)
-    which (inr (inr (inr (inr (inr (inr (inr (inr (inr (inl e)))))))))) p q r k = inl e
-    which (inr (inr (inr (inr (inr (inr (inr (inr (inr (inr e)))))))))) p q r k = absurd (r e)
+    which (inr (inr (inr (inr (inr (inr (inr (inr (inr (inl e)))))))))) p q r k = absurd (no10 e)
+    which (inr (inr (inr (inr (inr (inr (inr (inr (inr (inr (inl e))))))))))) p q r k = inl e
+    which (inr (inr (inr (inr (inr (inr (inr (inr (inr (inr (inr e))))))))))) p q r k = absurd (r e)
 
 -- where no count rose, no status says so
 quiet_exit : (ending : Ending) (before now : Counts) → IfErr ending (HasCause before now) → NoneRose before now
@@ -199,8 +200,21 @@ is_exit (Err (stops.Device device.Tape)) = inr (inr (inr (inr (inr (inl refl))))
 is_exit (Err (stops.Device device.Ledger)) = inr (inr (inr (inr (inr (inr (inl refl))))))
 is_exit (Err (stops.Device device.BadRoot)) = inr (inr (inr (inr (inr (inr (inr (inl refl)))))))
 is_exit (Err (stops.Device (device.BadRecord addr))) = inr (inr (inr (inr (inr (inr (inr (inr (inl refl))))))))
-is_exit (Err (stops.Device device.Memory)) = inr (inr (inr (inr (inr (inr (inr (inr (inr (inl refl)))))))))
-is_exit (Err stops.Limit) = inr (inr (inr (inr (inr (inr (inr (inr (inr (inr (refl))))))))))
+is_exit (Err (stops.Device device.Memory)) = inr (inr (inr (inr (inr (inr (inr (inr (inr (inr (inl refl))))))))))
+is_exit (Err stops.Limit) = inr (inr (inr (inr (inr (inr (inr (inr (inr (inr (inr refl))))))))))
+
+-- a run never ends as a check that refuses
+never_ten : (ending : Ending) → exit_of ending ≡ 10 → ⊥
+never_ten (Ok done) is = omega (arith, is)
+never_ten (Err stops.Source) is = omega (arith, is)
+never_ten (Err stops.Sink) is = omega (arith, is)
+never_ten (Err stops.Limit) is = omega (arith, is)
+never_ten (Err (stops.Device device.Platform)) is = omega (arith, is)
+never_ten (Err (stops.Device device.Tape)) is = omega (arith, is)
+never_ten (Err (stops.Device device.Ledger)) is = omega (arith, is)
+never_ten (Err (stops.Device device.BadRoot)) is = omega (arith, is)
+never_ten (Err (stops.Device (device.BadRecord addr))) is = omega (arith, is)
+never_ten (Err (stops.Device device.Memory)) is = omega (arith, is)
 
 -- the same of a run that ends so
 pub complete_ending : (tells : Type 0) (old new : World) (ending : Ending) (before now : Counts) (left left_now written written_now : Option (List ℕ)) (text : List ℕ) (there : Option Device)
@@ -211,4 +225,4 @@ pub complete_ending : (tells : Type 0) (old new : World) (ending : Ending) (befo
 complete_ending tells old new ending before now left left_now written written_now text there told stands served script taken gave took cause quiet ample =
     let q = quiet_exit ending before now cause quiet in
     complete tells old new (exit_of ending) left left_now written written_now text there told stands served script
-    (taken, gave, Took-of ending taken left_now took) (is_exit ending) q.0 q.1 q.2 q.3 q.4 q.5 ample
+    (taken, gave, Took-of ending taken left_now took) (is_exit ending) q.0 q.1 q.2 q.3 q.4 q.5 (never_ten ending) ample

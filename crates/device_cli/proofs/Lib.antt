@@ -13,3 +13,4 @@ pub mod CompleteLaws
 pub mod ServedLaws
 pub mod ServingLaws
 pub mod ReachingLaws
+pub mod CheckLaws

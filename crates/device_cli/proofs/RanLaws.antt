@@ -201,16 +201,16 @@ exit_of (Ok done) = 0
 exit_of (Err stop) = status_of stop
 
 pub Took-of : (ending : Ending) (taken : List ℕ) (left : Option (List ℕ)) → TookUntil ending taken left → Took (exit_of ending) taken left
-Took-of (Ok done) taken left t = record { most = t.most; whole = λ e. t.whole; failed = λ e. absurd (omega (arith, e)); limit = λ e. absurd (omega (arith, e)); nothing = λ e. absurd (omega (arith, e)) }
-Took-of (Err stops.Source) taken left t = record { most = t.most; whole = λ e. absurd (omega (arith, e)); failed = λ e. t.failed refl; limit = λ e. absurd (omega (arith, e)); nothing = λ e. absurd (omega (arith, e)) }
-Took-of (Err stops.Limit) taken left t = record { most = t.most; whole = λ e. absurd (omega (arith, e)); failed = λ e. absurd (omega (arith, e)); limit = λ e. t.limit refl; nothing = λ e. absurd (omega (arith, e)) }
-Took-of (Err stops.Sink) taken left t = record { most = t.most; whole = λ e. absurd (omega (arith, e)); failed = λ e. absurd (omega (arith, e)); limit = λ e. absurd (omega (arith, e)); nothing = λ e. absurd (omega (arith, e)) }
-Took-of (Err (stops.Device device.Platform)) taken left t = record { most = t.most; whole = λ e. absurd (omega (arith, e)); failed = λ e. absurd (omega (arith, e)); limit = λ e. absurd (omega (arith, e)); nothing = λ e. absurd (omega (arith, e)) }
-Took-of (Err (stops.Device device.Tape)) taken left t = record { most = t.most; whole = λ e. absurd (omega (arith, e)); failed = λ e. absurd (omega (arith, e)); limit = λ e. absurd (omega (arith, e)); nothing = λ e. absurd (omega (arith, e)) }
-Took-of (Err (stops.Device device.Ledger)) taken left t = record { most = t.most; whole = λ e. absurd (omega (arith, e)); failed = λ e. absurd (omega (arith, e)); limit = λ e. absurd (omega (arith, e)); nothing = λ e. absurd (omega (arith, e)) }
-Took-of (Err (stops.Device device.Memory)) taken left t = record { most = t.most; whole = λ e. absurd (omega (arith, e)); failed = λ e. absurd (omega (arith, e)); limit = λ e. absurd (omega (arith, e)); nothing = λ e. absurd (omega (arith, e)) }
-Took-of (Err (stops.Device device.BadRoot)) taken left t = record { most = t.most; whole = λ e. absurd (omega (arith, e)); failed = λ e. absurd (omega (arith, e)); limit = λ e. absurd (omega (arith, e)); nothing = λ e. absurd (omega (arith, e)) }
-Took-of (Err (stops.Device (device.BadRecord addr))) taken left t = record { most = t.most; whole = λ e. absurd (omega (arith, e)); failed = λ e. absurd (omega (arith, e)); limit = λ e. absurd (omega (arith, e)); nothing = λ e. absurd (omega (arith, e)) }
+Took-of (Ok done) taken left t = record { most = t.most; whole = λ e. t.whole; failed = λ e. absurd (omega (arith, e)); refused = λ e. absurd (omega (arith, e)); limit = λ e. absurd (omega (arith, e)); nothing = λ e. absurd (omega (arith, e)) }
+Took-of (Err stops.Source) taken left t = record { most = t.most; whole = λ e. absurd (omega (arith, e)); failed = λ e. t.failed refl; refused = λ e. absurd (omega (arith, e)); limit = λ e. absurd (omega (arith, e)); nothing = λ e. absurd (omega (arith, e)) }
+Took-of (Err stops.Limit) taken left t = record { most = t.most; whole = λ e. absurd (omega (arith, e)); failed = λ e. absurd (omega (arith, e)); refused = λ e. absurd (omega (arith, e)); limit = λ e. t.limit refl; nothing = λ e. absurd (omega (arith, e)) }
+Took-of (Err stops.Sink) taken left t = record { most = t.most; whole = λ e. absurd (omega (arith, e)); failed = λ e. absurd (omega (arith, e)); refused = λ e. absurd (omega (arith, e)); limit = λ e. absurd (omega (arith, e)); nothing = λ e. absurd (omega (arith, e)) }
+Took-of (Err (stops.Device device.Platform)) taken left t = record { most = t.most; whole = λ e. absurd (omega (arith, e)); failed = λ e. absurd (omega (arith, e)); refused = λ e. absurd (omega (arith, e)); limit = λ e. absurd (omega (arith, e)); nothing = λ e. absurd (omega (arith, e)) }
+Took-of (Err (stops.Device device.Tape)) taken left t = record { most = t.most; whole = λ e. absurd (omega (arith, e)); failed = λ e. absurd (omega (arith, e)); refused = λ e. absurd (omega (arith, e)); limit = λ e. absurd (omega (arith, e)); nothing = λ e. absurd (omega (arith, e)) }
+Took-of (Err (stops.Device device.Ledger)) taken left t = record { most = t.most; whole = λ e. absurd (omega (arith, e)); failed = λ e. absurd (omega (arith, e)); refused = λ e. absurd (omega (arith, e)); limit = λ e. absurd (omega (arith, e)); nothing = λ e. absurd (omega (arith, e)) }
+Took-of (Err (stops.Device device.Memory)) taken left t = record { most = t.most; whole = λ e. absurd (omega (arith, e)); failed = λ e. absurd (omega (arith, e)); refused = λ e. absurd (omega (arith, e)); limit = λ e. absurd (omega (arith, e)); nothing = λ e. absurd (omega (arith, e)) }
+Took-of (Err (stops.Device device.BadRoot)) taken left t = record { most = t.most; whole = λ e. absurd (omega (arith, e)); failed = λ e. absurd (omega (arith, e)); refused = λ e. absurd (omega (arith, e)); limit = λ e. absurd (omega (arith, e)); nothing = λ e. absurd (omega (arith, e)) }
+Took-of (Err (stops.Device (device.BadRecord addr))) taken left t = record { most = t.most; whole = λ e. absurd (omega (arith, e)); failed = λ e. absurd (omega (arith, e)); refused = λ e. absurd (omega (arith, e)); limit = λ e. absurd (omega (arith, e)); nothing = λ e. absurd (omega (arith, e)) }
 
 -- a stop of the device, and what the putting of its last line ended with
 pub Ran-ended : (tells : Type 0) (old new : World) (Risen : Type 0) (stop : DeviceStop) (ended : Stop) (left left_now a b c : Option (List ℕ))

@@ -1,4 +1,5 @@
 pub mod Words
+pub mod Checks
 pub mod Desk
 pub mod Kept
 pub mod Run

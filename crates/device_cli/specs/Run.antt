@@ -81,13 +81,14 @@ pub record Took (status : ℕ) (taken : List ℕ) (left : Option (List ℕ)) : T
   pub most : length taken ≤ 2 ^ 32
   pub whole : status ≡ 0 → (length taken < 2 ^ 32) × IsAtEnd left
   pub failed : status ≡ 3 → length taken < 2 ^ 32
+  pub refused : status ≡ 10 → length taken < 2 ^ 32
   pub limit : status ≡ 12 → length taken ≡ 2 ^ 32
   pub nothing : status ≡ 2 → taken ≡ []
 
 -- the statuses that there are
 abbrev pub IsStatus : ℕ → Type 0
 IsStatus status =
-    (status ≡ 0) ⊎ (status ≡ 2) ⊎ (status ≡ 3) ⊎ (status ≡ 4) ⊎ (status ≡ 5) ⊎ (status ≡ 6) ⊎ (status ≡ 7) ⊎ (status ≡ 8) ⊎ (status ≡ 9) ⊎ (status ≡ 11) ⊎ (status ≡ 12)
+    (status ≡ 0) ⊎ (status ≡ 2) ⊎ (status ≡ 3) ⊎ (status ≡ 4) ⊎ (status ≡ 5) ⊎ (status ≡ 6) ⊎ (status ≡ 7) ⊎ (status ≡ 8) ⊎ (status ≡ 9) ⊎ (status ≡ 10) ⊎ (status ≡ 11) ⊎ (status ≡ 12)
 
 -- a stop that a line may lead to: neither the input nor the start
 abbrev pub IsOfLine : Stop → Type 0

@@ -1,8 +1,26 @@
 -- The words of a command line.
-use Rattle.std.specs.Prelude.{◌≡◌, ℕ, List, [], ◌∷◌, codes}
+use Rattle.std.specs.Prelude.{◌≡◌, ◌⊎◌, ℕ, List, [], ◌∷◌, codes, Option, None, Some}
+use Rattle.device_cli.specs.declared.words.Order.{Order}
+use Rattle.device_cli.specs.declared.words.Order.TheVariants as orders
 
 -- no words, or the one word `run`
 abbrev pub AreRunWords : List (List ℕ) → Type 0
 AreRunWords [] = Unit {0}
 AreRunWords (word ∷ []) = word ≡ codes "run"
 AreRunWords (word ∷ next ∷ words) = ⊥
+
+-- the one word `check`
+abbrev pub AreCheckWords : List (List ℕ) → Type 0
+AreCheckWords [] = ⊥
+AreCheckWords (word ∷ []) = word ≡ codes "check"
+AreCheckWords (word ∷ next ∷ words) = ⊥
+
+-- one of the forms
+abbrev pub AreWords : List (List ℕ) → Type 0
+AreWords words = AreRunWords words ⊎ AreCheckWords words
+
+-- the words ask for this, or for nothing
+abbrev pub Asks : List (List ℕ) → Option Order → Type 0
+Asks words (Some orders.Run) = AreRunWords words
+Asks words (Some orders.Check) = AreCheckWords words
+Asks words None = AreWords words → ⊥

@@ -1,10 +1,11 @@
 //! What is looked at before the first line.
-ghost use Rattle.std.specs.Prelude.{◌≡◌, ◌≤◌, ◌⊎◌, IfErr, OnOk, IsErrOf, IfSome, IfNone, length};
+ghost use Rattle.std.specs.Prelude.{◌≡◌, ◌≤◌, ◌⊎◌, IfErr, IfOk, OnOk, IsErrOf, IfSome, IfNone, length};
 ghost use Rattle.sdbt_base.specs.Faults.{Rose};
 ghost use Rattle.platform.specs.History.{Steps};
 ghost use Rattle.root_codec.specs.declared.root.Root.{Root};
 ghost use Rattle.root_codec.specs.RootRecord.{root_bytes};
 ghost use Rattle.device_core.specs.Leaf.{IsServed, IsServedImage};
+ghost use Rattle.device_cli.specs.Checks.{IsInCell};
 
 use crate::stop::DeviceStop;
 use platform::Platform;
@@ -14,8 +15,9 @@ use sdbt_base::{MAX_ORDER, ROOT};
 /// The greatest number of blocks of a device that is served.
 pub(crate) const MOST_BLOCKS: u64 = 64;
 
-/// Whether the root cell is empty, or holds a root record that can be served.
-pub(crate) fn check_cell<P: Platform>(platform: &mut P) -> Result<(), DeviceStop>
+/// The root record in the cell, if there is one. Refused by `BadRoot` where the cell is full, and not with one that can be served.
+pub(crate) fn check_cell<P: Platform>(platform: &mut P) -> Result<Option<Root>, DeviceStop>
+    ensures found { P.tells → IfOk result (IsInCell (P.history platform.old).present) }
     ensures served { P.tells → OnOk result (IsServedImage (P.history platform.old).present) }
     ensures bad_root { P.tells → IsErrOf result DeviceStop.BadRoot → IsServedImage (P.history platform.old).present → ⊥ }
     ensures stops { IfErr result (λ stop. (stop ≡ DeviceStop.BadRoot)
@@ -29,11 +31,11 @@ pub(crate) fn check_cell<P: Platform>(platform: &mut P) -> Result<(), DeviceStop
     let mut cell = [0; ROOT];
     match platform.load_root(&mut cell) {
         Ok(true) => {}
-        Ok(false) => return Ok(()),
+        Ok(false) => return Ok(None),
         Err(_) => return Err(DeviceStop::Platform),
     }
     match served_root(&cell, platform.head()) {
-        Some(_) => Ok(()),
+        Some(root) => Ok(Some(root)),
         None => Err(DeviceStop::BadRoot),
     }
 }

@@ -1,4 +1,4 @@
-//! The top call: serves a script of block commands over a platform.
+//! The top call: serves a script of block commands over a platform, or judges its ledger.
 //!
 //! [`run_main`] takes the words of a command line and the objects of the outside, and answers an exit status.
 #![tactic(auto)]
@@ -6,7 +6,8 @@
 ghost use Rattle.std.specs.Prelude.{◌≡◌, ◌≤◌, ℕ, List, Option, None, ◌↔◌, ◌⊎◌, map, string_bytes};
 ghost use Rattle.sdbt_base.specs.Faults.{Rose};
 ghost use Rattle.sdbt_base.specs.Told.{Gave};
-ghost use Rattle.device_cli.specs.Words.{AreRunWords};
+ghost use Rattle.device_cli.specs.Words.{AreRunWords, AreCheckWords, AreWords};
+ghost use Rattle.device_cli.specs.Checks.{Checked};
 ghost use Rattle.platform.specs.History.{During};
 ghost use Rattle.device_core.specs.Leaf.{IsServedImage};
 ghost use Rattle.sdbt_base.specs.Arrays.{Device, closed};
@@ -19,27 +20,31 @@ ghost use Rattle.device_cli.specs.Reaching.{DisclosesTree};
 ghost use Rattle.device_cli.specs.Unserved.{IsUnserved};
 ghost use Rattle.device_cli.specs.Run.{IsStatus, Took, NoneFell, NoneRose, counts};
 
+mod checking;
 mod desk;
 mod entry;
 mod pending;
 mod run;
 mod stop;
+mod texts;
 mod words;
 
+use checking::check;
 use platform::Platform;
 use run::run;
 use sdbt_base::{Sink, Source, Tape};
 use std::alloc::Global;
-use words::are_run_words;
+use words::{Order, order_of};
 
 /// Serves what the words ask for, and answers the exit status.
 ///
 /// With no words, or `run`, it serves the script that `input` gives: each whole line before more input is
-/// taken, and one reply put to `output` for each line. Statuses: 0, the input was served to its end;
-/// 2, other words; 3 to 7, `input`, `output`, the platform, the tape or `ledger` failed; 8, the root cell is full and
-/// its root record can't be served; 9, a record was not what the tree wants there; 11, no memory;
-/// 12, the limit of 2^32 bytes of input was reached. `ledger` gets an entry before each format and each commit of changes is done:
-/// a certificate, which says what it adds and what it deletes.
+/// taken, and one reply put to `output` for each line. `ledger` gets an entry before each format and each commit of changes is done:
+/// a certificate, which says what it adds and what it deletes. With `check` it judges the ledger that `input` gives for the root record
+/// in the cell, and puts one line. Statuses: 0, the input was served to its end, or the ledger is accepted; 2, other words; 3 to 7, `input`,
+/// `output`, the platform, the tape or `ledger` failed; 8, the root cell is full and its root record can't be served; 9, a record was
+/// not what the tree wants there; 10, the ledger is refused, or there is no device to check it for; 11, no memory; 12, the limit of 2^32
+/// bytes of input was reached.
 pub fn run_main<P: Platform, T: Tape, I: Source, O: Sink, L: Sink>(
     alloc: Global,
     words: &[String],
@@ -51,7 +56,7 @@ pub fn run_main<P: Platform, T: Tape, I: Source, O: Sink, L: Sink>(
 ) -> u8
     ensures status { IsStatus result }
     // 2 exactly where the words are none of the forms.
-    ensures words { (result ≡ 2) ↔ ¬ (AreRunWords (map string_bytes words.now)) }
+    ensures words { (result ≡ 2) ↔ ¬ (AreWords (map string_bytes words.now)) }
 
     // A fault only where the count of that object rose.
     ensures input_fault { result ≡ 3 → Rose (I.faults input.old) (I.faults input.new) }
@@ -65,7 +70,7 @@ pub fn run_main<P: Platform, T: Tape, I: Source, O: Sink, L: Sink>(
 
     // 8 exactly where the cell at the start is full and can't be served, unless that could not be told or not be said.
     ensures bad_root_only { P.tells → result ≡ 8 → IsServedImage (P.history platform.old).present → ⊥ }
-    ensures bad_root { P.tells → (IsServedImage (P.history platform.old).present → ⊥) → AreRunWords (map string_bytes words.now)
+    ensures bad_root { P.tells → (IsServedImage (P.history platform.old).present → ⊥) → AreWords (map string_bytes words.now)
         → (result ≡ 8) ⊎ (result ≡ 4) ⊎ (result ≡ 5) }
     // At 8 all is as it was but for the line that says so, and at 2 all is.
     ensures unserved { P.tells → result ≡ 8
@@ -76,7 +81,7 @@ pub fn run_main<P: Platform, T: Tape, I: Source, O: Sink, L: Sink>(
 
     // The bytes put are the lines of replies, one for each line in turn, and perhaps a part behind them; on a device that
     // stands they are the replies of an array of blocks, and at each moment a loss of power leaves a device that they passed.
-    ensures answers { AnswersScript P.tells (world_of P.Platform None platform.old) (world_of P.Platform None platform.new)
+    ensures answers { AreRunWords (map string_bytes words.now) → AnswersScript P.tells (world_of P.Platform None platform.old) (world_of P.Platform None platform.new)
         result (I.left input.old) (I.left input.new) (O.written output.old) (O.written output.new) }
 
     // Chains of opening from the root key reach at each moment exactly the device's records, and what was deleted never.
@@ -106,13 +111,24 @@ pub fn run_main<P: Platform, T: Tape, I: Source, O: Sink, L: Sink>(
 
     // 0 and 3 before the limit of input, and 12 at it.
     ensures taken { (taken : List ℕ) × Gave (I.left input.old) taken (I.left input.new) × Took result taken (I.left input.new) }
-    ensures nothing_put { result ≡ 2 → O.written output.new ≡ O.written output.old }
+
+    // With the word `check`, 0 exactly where the cell holds a root record and the chain of the whole input is accepted for it; the live addresses are those
+    // that its trace reaches, and none that it says is deleted. 10 exactly where the cell is empty or a rule is broken, this one first.
+    ensures checks { AreCheckWords (map string_bytes words.now) → Checked P.tells tape.old tape.new ledger.old ledger.new (P.head platform.old) (P.head platform.new)
+        (P.history platform.old) (P.history platform.new)
+        (counts (P.faults platform.old) (T.faults tape.old) (I.faults input.old) (O.faults output.old) (L.faults ledger.old))
+        (counts (P.faults platform.new) (T.faults tape.new) (I.faults input.new) (O.faults output.new) (L.faults ledger.new))
+        result (I.left input.old) (I.left input.new) (O.written output.old) (O.written output.new) }
 {
-    if !are_run_words(words) {
-        return 2;
-    }
-    match run(alloc, platform, tape, input, output, ledger) {
-        Ok(()) => 0,
-        Err(stop) => stop.status(),
+    match order_of(words) {
+        Some(Order::Run) => match run(alloc, platform, tape, input, output, ledger) {
+            Ok(()) => 0,
+            Err(stop) => stop.status(),
+        },
+        Some(Order::Check) => match check(alloc, platform, input, output) {
+            Ok(finding) => finding.status(),
+            Err(stop) => stop.status(),
+        },
+        None => 2,
     }
 }

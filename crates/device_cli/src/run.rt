@@ -1,6 +1,5 @@
 //! Serves a script line by line.
 ghost use Rattle.std.specs.Prelude.{◌≡◌, ◌≤◌, ◌⊎◌, ◌∷◌, [], ◌++◌, ℕ, List, IfErr, OnOk, IsOk, IsErrOf, ◌+◌, length, IfSome, IfNone, Option, None, ⊤, option_copied};
-ghost use Rattle.arrayvec.specs.ArrayVec.{array_vec_len};
 ghost use Rattle.sdbt_base.specs.Faults.{Rose};
 ghost use Rattle.sdbt_base.specs.Told.{Got, GotPart};
 ghost use Rattle.script_lang.specs.Grammar.{Spells, IsBad};
@@ -24,6 +23,7 @@ use crate::desk::Desk;
 use crate::entry::check_cell;
 use crate::pending::Pending;
 use crate::stop::{DeviceStop, Stop};
+use crate::texts::push_text;
 use arrayvec::ArrayVec;
 use platform::Platform;
 use script_lang::{Command, Reply, ReplyWriter, parse};
@@ -59,7 +59,7 @@ pub(crate) fn run<P: Platform, T: Tape, I: Source, O: Sink, L: Sink>(
         damage_line result (I.left input.old) (I.left input.new) (O.written output.old) (O.written output.new) }
 {
     match check_cell(platform) {
-        Ok(()) => {}
+        Ok(_) => {}
         Err(stop) => return Err(last_line(stop, output)),
     }
     let mut desk = Desk::new(alloc);
@@ -274,12 +274,4 @@ fn damage_text(stop: DeviceStop) -> ArrayVec<u8, 40>
         DeviceStop::Platform | DeviceStop::Tape | DeviceStop::Ledger | DeviceStop::Memory => {}
     }
     line
-}
-
-/// Puts a text at the end of a line that has room for it.
-fn push_text(line: &mut ArrayVec<u8, 40>, text: &[u8])
-    requires { array_vec_len line.old + length text.now ≤ 40 }
-    ensures { line.new.items ≡ line.old.items ++ text.now }
-{
-    let _ = line.try_extend_from_slice(text);
 }

@@ -1,20 +1,37 @@
 //! The words of the command line.
-ghost use Rattle.std.specs.Prelude.{◌≡◌, ◌↔◌, IsTrue, map, string_bytes, codes};
-ghost use Rattle.device_cli.specs.Words.{AreRunWords};
+ghost use Rattle.std.specs.Prelude.{◌∷◌, [], map, string_bytes};
+ghost use Rattle.device_cli.specs.Words.{Asks};
 
-/// Whether the words ask for a run: there are none, or the one word `run`.
-pub(crate) fn are_run_words(words: &[String]) -> bool
-    ensures { IsTrue result ↔ AreRunWords (map string_bytes words.now) }
+/// What the words of a command line ask for.
+#[derive(Clone, Copy, Debug, PartialEq, Eq)]
+pub(crate) enum Order {
+    /// To serve the script that the input gives.
+    Run,
+    /// To judge the ledger that the input gives.
+    Check,
+}
+
+/// What the words ask for. None where they are none of the forms.
+pub(crate) fn order_of(words: &[String]) -> Option<Order>
+    ensures { Asks (map string_bytes words.now) result }
 {
     match words {
-        [] => true,
-        [word] => is_run(word),
-        _ => false,
+        [] => Some(Order::Run),
+        [word] => order_named(word),
+        _ => None,
     }
 }
 
-fn is_run(word: &String) -> bool
-    ensures { IsTrue result ↔ (string_bytes word.now ≡ codes "run") }
+/// What one word asks for.
+fn order_named(word: &String) -> Option<Order>
+    ensures { Asks (string_bytes word.now ∷ []) result }
 {
-    word.as_bytes() == b"run".as_slice()
+    let word = word.as_bytes();
+    if word == b"run".as_slice() {
+        return Some(Order::Run);
+    }
+    if word == b"check".as_slice() {
+        return Some(Order::Check);
+    }
+    None
 }

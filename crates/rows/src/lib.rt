@@ -4,11 +4,15 @@
 #[cfg(test)]
 mod certificates;
 #[cfg(test)]
+mod checks;
+#[cfg(test)]
 mod fault_table;
 #[cfg(test)]
 mod first_path;
 #[cfg(test)]
 mod forged;
+#[cfg(test)]
+mod ledgers;
 #[cfg(test)]
 mod reached_pages;
 #[cfg(test)]

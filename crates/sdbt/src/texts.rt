@@ -1,7 +1,7 @@
 //! The texts that the program prints beside the replies of a script. The manual page is made from the help.
 
 /// How the program is called, in one line.
-pub const USAGE: &str = "usage: sdbt [(- | [--root CELL] FOLDER) [run]]\n";
+pub const USAGE: &str = "usage: sdbt [(- | [--root CELL] FOLDER) [run | check]]\n";
 
 /// The help behind the usage. Headings stand alone in capitals, and a line of a list has its term, two spaces or
 /// more, and what is said of it.
@@ -9,13 +9,16 @@ pub const HELP: &str = "
 Serves a script of block commands: reads one command a line from standard input, and writes one
 reply a line to standard output. What a committed write or trim deleted stays on the medium, under
 keys to which the root record leads no more. So it is gone for whoever has the medium, where the
-store of the root record keeps nothing of what it replaced.
+store of the root record keeps nothing of what it replaced. A ledger says what each commit deleted,
+and can be checked against the root record.
 
 WORDS
   FOLDER       a device in this folder, which has to exist; its files are media, root and ledger
   --root CELL  keeps root in the folder CELL, which has to exist, and media and ledger in FOLDER
   -            a device in memory, which is gone when the program ends; so is it without a word
   run          serves the script, as is done without this word
+  check        judges the ledger on standard input by the root record, and writes one line:
+               accepted commit C live L deleted D, or refused rule N value V, or refused no device
   -h, --help   prints this text
   --version    prints the version
 
@@ -34,7 +37,7 @@ LINES
   stat         counts the mapped blocks, and the commits so far
 
 STATUS
-  0   the script was served to its end
+  0   the script was served to its end, or the ledger is accepted
   1   a folder, a file in it or the source of keys could not be made ready, or is in use
   2   the words are not as above
   3   the input failed
@@ -44,6 +47,7 @@ STATUS
   7   the ledger failed
   8   the root record is none that can be served
   9   a page does not hold the record that is wanted there
+  10  the ledger is refused, or there is no device
   11  no memory was given
   12  2^32 bytes of input were taken before its end
 
@@ -53,6 +57,7 @@ EXAMPLE
   mkdir device
   printf 'format 8 64\\nmount\\nwrite 3 6869\\ncommit\\n' | sdbt device
   printf 'mount\\nread 3\\n' | sdbt device
+  sdbt device check <device/ledger
 ";
 
 /// The version of the program.
@@ -69,6 +74,7 @@ pub fn failure_of(status: u8) -> Option<&'static str> {
         7 => Some("sdbt: the ledger failed\n"),
         8 => Some("sdbt: the root record is none that can be served\n"),
         9 => Some("sdbt: a page does not hold the record that is wanted there\n"),
+        10 => Some("sdbt: the ledger is refused, or there is no device\n"),
         11 => Some("sdbt: no memory was given\n"),
         12 => Some("sdbt: 2^32 bytes of input were taken before its end\n"),
         _ => None,

@@ -1,16 +1,19 @@
-use Rattle.std.proofs.Common.{◌≡◌, ◌⊎◌, [], Ok, Err, None, ℕ, refl, sym, subst, arith, ◌∙◌}
+use Rattle.std.proofs.Common.{◌≡◌, ◌⊎◌, [], Result, Ok, Err, None, ℕ, refl, sym, subst, arith, ◌∙◌}
 use Rattle.sdbt_base.specs.Arrays.{closed}
 use Rattle.device_cli.specs.World.{World, world, world_of}
 use Rattle.device_cli.specs.Ran.{AnswersScript}
-use Rattle.device_cli.proofs.ScriptLaws.{answers_script, answers_nothing, made_by}
+use Rattle.device_cli.proofs.ScriptLaws.{answers_script, made_by}
 use Rattle.device_cli.specs.Ran.{IsComplete}
 use Rattle.device_cli.specs.Run.{counts, status_of}
 use Rattle.device_cli.specs.declared.stop.Stop.{Stop}
 use Rattle.device_cli.specs.declared.stop.Stop.TheVariants as stops
 use Rattle.device_cli.specs.declared.stop.DeviceStop.TheVariants as device
 use Rattle.device_cli.proofs.CompleteLaws.{complete_ending}
-use Rattle.device_course.proofs.CertifiedLaws.{certified_start, certified_going}
-use Rattle.device_course.proofs.KeysLaws.{on_start}
+use Rattle.device_course.proofs.CertifiedLaws.{certified_start, certified_going, certified_stays}
+use Rattle.device_course.proofs.KeysLaws.{on_start, on_look}
+use Rattle.device_core.proofs.MomentLaws.{one_look}
+use Rattle.device_cli.proofs.CheckLaws.{made_look, blame_wide, complete_check, so_bad, bad_line, image_stays}
+use Rattle.device_cli.specs.declared.checking.Finding.{Finding}
 use Rattle.device_cli.proofs.ReachingLaws.{discloses, fits}
 use Rattle.device_course.specs.States.{around}
 use Rattle.device_course.proofs.MadeLaws.{shut, made_start}
@@ -28,13 +31,8 @@ never_zero (stops.Device device.BadRoot) is = omega (arith, is)
 never_zero (stops.Device (device.BadRecord addr)) is = omega (arith, is)
 never_zero (stops.Device device.Memory) is = omega (arith, is)
 
-pub returns-then-not-are_run_words-clause-answers : goal.returns-then-not-are_run_words-clause-answers
-returns-then-not-are_run_words-clause-answers g c =
-    let P = g.P.Platform in
-    answers_nothing P.tells (world_of P None c.args.platform.now) (g.I.Source.left c.args.input.now) (g.O.Sink.written c.args.output.now)
-
 pub returns-in-Ok-clause-answers : goal.returns-in-Ok-clause-answers
-returns-in-Ok-clause-answers g c =
+returns-in-Ok-clause-answers g c words =
     let P = g.P.Platform in
     let left = g.I.Source.left in
     let written = g.O.Sink.written in
@@ -44,7 +42,7 @@ returns-in-Ok-clause-answers g c =
     (written c.args.output.now) (written c.run.new.output) refl ran.1
 
 pub returns-in-Err-clause-answers : goal.returns-in-Err-clause-answers
-returns-in-Err-clause-answers g c =
+returns-in-Err-clause-answers g c words =
     let P = g.P.Platform in
     let left = g.I.Source.left in
     let written = g.O.Sink.written in
@@ -67,7 +65,7 @@ returns-in-Ok-clause-complete g c told there stands served words text ample quie
     complete_ending P.tells old new (Ok tt) (counts (P.faults c.args.platform.now) (g.T.Tape.faults c.args.tape.now) (g.I.Source.faults c.args.input.now) (g.O.Sink.faults c.args.output.now) (g.L.Sink.faults c.args.ledger.now))
     (counts (P.faults c.run.new.platform) (g.T.Tape.faults c.run.new.tape) (g.I.Source.faults c.run.new.input) (g.O.Sink.faults c.run.new.output) (g.L.Sink.faults c.run.new.ledger))
     (left c.args.input.now) (left c.run.new.input) (written c.args.output.now) (written c.run.new.output) text there told stands served
-    (returns-in-Ok-clause-answers g c) ran.taken ran.gave ran.took tt quiet ample
+    (returns-in-Ok-clause-answers g c words) ran.taken ran.gave ran.took tt quiet ample
 
 pub returns-in-Err-clause-complete : goal.returns-in-Err-clause-complete
 returns-in-Err-clause-complete g c told there stands served words text ample quiet =
@@ -83,11 +81,11 @@ returns-in-Err-clause-complete g c told there stands served words text ample qui
     (counts (P.faults c.run.new.platform) (g.T.Tape.faults c.run.new.tape) (g.I.Source.faults c.run.new.input) (g.O.Sink.faults c.run.new.output) (g.L.Sink.faults c.run.new.ledger))
     (left c.args.input.now) (left c.run.new.input) (written c.args.output.now) (written c.run.new.output) text there told stands served
     (subst (λ (status : ℕ). AnswersScript P.tells old new status (left c.args.input.now) (left c.run.new.input) (written c.args.output.now) (written c.run.new.output))
-    c.status.ensures (returns-in-Err-clause-answers g c))
+    c.status.ensures (returns-in-Err-clause-answers g c words))
     ran.taken ran.gave ran.took c.in-Err.ensures.blame.cause quiet ample)
 
-pub returns-then-not-are_run_words-clause-discloses : goal.returns-then-not-are_run_words-clause-discloses
-returns-then-not-are_run_words-clause-discloses g c =
+pub returns-in-None-clause-discloses : goal.returns-in-None-clause-discloses
+returns-in-None-clause-discloses g c =
     let P = g.P.Platform in
     let here = around P g.T.Tape g.L.Sink c.args.platform.now c.args.tape.now c.args.ledger.now in
     discloses P.tells here here _ _ (record { capacity = refl; rises = omega arith; within = g.met.P.Platform.has_room c.args.platform.now }) (on_start _ _ _ None here.history (Unit {0}))
@@ -115,8 +113,8 @@ returns-in-Err-clause-discloses g c =
     (made_by P.tells (world None old.history old.head old.capacity) ran.0 new.history new.head new.capacity (Err c.in-Err.stop) (g.I.Source.left c.args.input.now) (g.I.Source.left c.run.new.input)
     (g.O.Sink.written c.args.output.now) (g.O.Sink.written c.run.new.output) refl ran.1)
 
-pub returns-then-not-are_run_words-clause-certified : goal.returns-then-not-are_run_words-clause-certified
-returns-then-not-are_run_words-clause-certified g c = certified_start _ _ _ _
+pub returns-in-None-clause-certified : goal.returns-in-None-clause-certified
+returns-in-None-clause-certified g c = certified_start _ _ _ _
 
 pub returns-in-Ok-clause-certified : goal.returns-in-Ok-clause-certified
 returns-in-Ok-clause-certified g c = certified_going _ _ _ _ _ _ _ (λ ok. refl) c.in-Ok.ensures.keeps.certified
@@ -124,8 +122,8 @@ returns-in-Ok-clause-certified g c = certified_going _ _ _ _ _ _ _ (λ ok. refl)
 pub returns-in-Err-clause-certified : goal.returns-in-Err-clause-certified
 returns-in-Err-clause-certified g c = certified_going _ _ _ _ _ _ _ (λ zero. absurd (never_zero c.in-Err.stop (sym c.status.ensures ∙ zero))) c.in-Err.ensures.keeps.certified
 
-pub returns-then-not-are_run_words-clause-fits : goal.returns-then-not-are_run_words-clause-fits
-returns-then-not-are_run_words-clause-fits g c told there stands served =
+pub returns-in-None-clause-fits : goal.returns-in-None-clause-fits
+returns-in-None-clause-fits g c told there stands served =
     let P = g.P.Platform in
     let here = around P g.T.Tape g.L.Sink c.args.platform.now c.args.tape.now c.args.ledger.now in
     fits P.tells here here _ _ (on_start _ _ _ None here.history (Unit {0}))
@@ -150,3 +148,111 @@ returns-in-Err-clause-fits g c told there stands served =
     fits P.tells old new _ _ c.run.ensures.keeps
     (made_by P.tells (world None old.history old.head old.capacity) ran.0 new.history new.head new.capacity (Err c.in-Err.stop) (g.I.Source.left c.args.input.now) (g.I.Source.left c.run.new.input)
     (g.O.Sink.written c.args.output.now) (g.O.Sink.written c.run.new.output) refl ran.1) told there stands served
+
+-- ---- a check
+
+pub returns-in-Ok-check-clause-certified : goal.returns-in-Ok-check-clause-certified
+returns-in-Ok-check-clause-certified g c = certified_stays _ _ _ _ _ (λ told. one_look _ _ (c.check.ensures.time told) (c.check.ensures.image told))
+
+pub returns-in-Err-check-clause-certified : goal.returns-in-Err-check-clause-certified
+returns-in-Err-check-clause-certified g c = certified_stays _ _ _ _ _ (λ told. one_look _ _ (c.check.ensures.time told) (c.check.ensures.image told))
+
+pub returns-in-Ok-check-clause-discloses : goal.returns-in-Ok-check-clause-discloses
+returns-in-Ok-check-clause-discloses g c =
+    let P = g.P.Platform in
+    let old = around P g.T.Tape g.L.Sink c.args.platform.now c.args.tape.now c.args.ledger.now in
+    let new = around P g.T.Tape g.L.Sink c.check.new.platform c.args.tape.now c.args.ledger.now in
+    discloses P.tells old new (Unit {0}) (λ keys. Unit {0}) (record { capacity = c.check.ensures.capacity; rises = omega (arith, c.check.ensures.head); within = g.met.P.Platform.has_room c.check.new.platform })
+    (on_look _ _ _ None _ _ _ _ c.check.ensures.image (λ told. one_look _ _ (c.check.ensures.time told) (c.check.ensures.image told)) (λ told keys kept h. tt))
+    (λ told device stands served. made_look old.history new.history device stands served (c.check.ensures.time told) (c.check.ensures.image told))
+
+pub returns-in-Err-check-clause-discloses : goal.returns-in-Err-check-clause-discloses
+returns-in-Err-check-clause-discloses g c =
+    let P = g.P.Platform in
+    let old = around P g.T.Tape g.L.Sink c.args.platform.now c.args.tape.now c.args.ledger.now in
+    let new = around P g.T.Tape g.L.Sink c.check.new.platform c.args.tape.now c.args.ledger.now in
+    discloses P.tells old new (Unit {0}) (λ keys. Unit {0}) (record { capacity = c.check.ensures.capacity; rises = omega (arith, c.check.ensures.head); within = g.met.P.Platform.has_room c.check.new.platform })
+    (on_look _ _ _ None _ _ _ _ c.check.ensures.image (λ told. one_look _ _ (c.check.ensures.time told) (c.check.ensures.image told)) (λ told keys kept h. tt))
+    (λ told device stands served. made_look old.history new.history device stands served (c.check.ensures.time told) (c.check.ensures.image told))
+
+pub returns-in-Ok-check-clause-unserved : goal.returns-in-Ok-check-clause-unserved
+returns-in-Ok-check-clause-unserved g c told e =
+    let P = g.P.Platform in
+    let checks = c.in-Ok-check.ensures.checks in
+    let bad = so_bad P.tells (P.history c.args.platform.now).present checks.taken (g.I.Source.left c.check.new.input) c.in-Ok-check.finding checks.is.0 (sym c.status-in-Ok-check.ensures ∙ e) in
+    record {
+      undrawn = refl;
+      untaken = c.in-Ok-check.ensures.untaken bad.0;
+      unput = refl;
+      pages = c.check.ensures.head;
+      line = bad_line (g.O.Sink.written c.args.output.now) (g.O.Sink.written c.check.new.output) c.in-Ok-check.finding bad.0 checks.is.1;
+      image = image_stays _ _ (c.check.ensures.time told) (c.check.ensures.image told);
+    }
+
+pub returns-in-Ok-check-clause-checks : goal.returns-in-Ok-check-clause-checks
+returns-in-Ok-check-clause-checks g c words =
+    let P = g.P.Platform in
+    let T = g.T.Tape in
+    let I = g.I.Source in
+    let O = g.O.Sink in
+    let L = g.L.Sink in
+    let ending : Result Finding Stop = Ok c.in-Ok-check.finding in
+    let blame = blame_wide (P.faults c.args.platform.now) (P.faults c.check.new.platform) (I.faults c.args.input.now) (I.faults c.check.new.input) (O.faults c.args.output.now) (O.faults c.check.new.output)
+        (T.faults c.args.tape.now) (L.faults c.args.ledger.now) ending c.in-Ok-check.ensures.blame in
+    record {
+      undrawn = refl;
+      unput = refl;
+      pages = c.check.ensures.head;
+      image = λ told. image_stays _ _ (c.check.ensures.time told) (c.check.ensures.image told);
+      ending = ending;
+      status_is = c.status-in-Ok-check.ensures;
+      checks = c.in-Ok-check.ensures.checks;
+      complete = λ told root text certs able quiet. subst (λ (status : ℕ). (status ≡ 0) ⊎ (status ≡ 11)) (sym c.status-in-Ok-check.ensures)
+          (complete_check P.tells (P.history c.args.platform.now).present
+          (counts (P.faults c.args.platform.now) (T.faults c.args.tape.now) (I.faults c.args.input.now) (O.faults c.args.output.now) (L.faults c.args.ledger.now))
+          (counts (P.faults c.check.new.platform) (T.faults c.args.tape.now) (I.faults c.check.new.input) (O.faults c.check.new.output) (L.faults c.args.ledger.now))
+          (I.left c.args.input.now) (I.left c.check.new.input) (O.written c.args.output.now) (O.written c.check.new.output) ending c.in-Ok-check.ensures.checks blame.cause told root text certs able quiet);
+    }
+
+pub returns-in-Err-check-clause-checks : goal.returns-in-Err-check-clause-checks
+returns-in-Err-check-clause-checks g c words =
+    let P = g.P.Platform in
+    let T = g.T.Tape in
+    let I = g.I.Source in
+    let O = g.O.Sink in
+    let L = g.L.Sink in
+    let ending : Result Finding Stop = Err c.in-Err-check.stop in
+    let blame = blame_wide (P.faults c.args.platform.now) (P.faults c.check.new.platform) (I.faults c.args.input.now) (I.faults c.check.new.input) (O.faults c.args.output.now) (O.faults c.check.new.output)
+        (T.faults c.args.tape.now) (L.faults c.args.ledger.now) ending c.in-Err-check.ensures.blame in
+    record {
+      undrawn = refl;
+      unput = refl;
+      pages = c.check.ensures.head;
+      image = λ told. image_stays _ _ (c.check.ensures.time told) (c.check.ensures.image told);
+      ending = ending;
+      status_is = c.status-in-Err-check.ensures;
+      checks = c.in-Err-check.ensures.checks;
+      complete = λ told root text certs able quiet. subst (λ (status : ℕ). (status ≡ 0) ⊎ (status ≡ 11)) (sym c.status-in-Err-check.ensures)
+          (complete_check P.tells (P.history c.args.platform.now).present
+          (counts (P.faults c.args.platform.now) (T.faults c.args.tape.now) (I.faults c.args.input.now) (O.faults c.args.output.now) (L.faults c.args.ledger.now))
+          (counts (P.faults c.check.new.platform) (T.faults c.args.tape.now) (I.faults c.check.new.input) (O.faults c.check.new.output) (L.faults c.args.ledger.now))
+          (I.left c.args.input.now) (I.left c.check.new.input) (O.written c.args.output.now) (O.written c.check.new.output) ending c.in-Err-check.ensures.checks blame.cause told root text certs able quiet);
+    }
+
+pub returns-in-Ok-check-clause-fits : goal.returns-in-Ok-check-clause-fits
+returns-in-Ok-check-clause-fits g c told there stands served =
+    let P = g.P.Platform in
+    let old = around P g.T.Tape g.L.Sink c.args.platform.now c.args.tape.now c.args.ledger.now in
+    let new = around P g.T.Tape g.L.Sink c.check.new.platform c.args.tape.now c.args.ledger.now in
+    fits P.tells old new (Unit {0}) (λ keys. Unit {0})
+    (on_look _ _ _ None _ _ _ _ c.check.ensures.image (λ told. one_look _ _ (c.check.ensures.time told) (c.check.ensures.image told)) (λ told keys kept h. tt))
+    (λ told device stands served. made_look old.history new.history device stands served (c.check.ensures.time told) (c.check.ensures.image told)) told there stands served
+
+pub returns-in-Err-check-clause-fits : goal.returns-in-Err-check-clause-fits
+returns-in-Err-check-clause-fits g c told there stands served =
+    let P = g.P.Platform in
+    let old = around P g.T.Tape g.L.Sink c.args.platform.now c.args.tape.now c.args.ledger.now in
+    let new = around P g.T.Tape g.L.Sink c.check.new.platform c.args.tape.now c.args.ledger.now in
+    fits P.tells old new (Unit {0}) (λ keys. Unit {0})
+    (on_look _ _ _ None _ _ _ _ c.check.ensures.image (λ told. one_look _ _ (c.check.ensures.time told) (c.check.ensures.image told)) (λ told keys kept h. tt))
+    (λ told device stands served. made_look old.history new.history device stands served (c.check.ensures.time told) (c.check.ensures.image told)) told there stands served

@@ -17,17 +17,17 @@ returns-clause-runs g c =
       mid = mid;
       cut = cut;
       written_then = g.O.Sink.written c.run_main-status.new.output;
-      one = c.run_main-status.ensures.answers;
+      one = (c.run_main-status.ensures.answers tt);
       lost = c.lose_power.ensures.left;
-      two = c.run_main-other.ensures.answers;
-      goes_on = λ there stands served. goes_on old mid cut new _ _ _ _ _ _ _ _ _ c.run_main-status.ensures.answers c.lose_power.ensures.left.may c.run_main-other.ensures.answers there stands served
+      two = (c.run_main-other.ensures.answers tt);
+      goes_on = λ there stands served. goes_on old mid cut new _ _ _ _ _ _ _ _ _ (c.run_main-status.ensures.answers tt) c.lose_power.ensures.left.may (c.run_main-other.ensures.answers tt) there stands served
           (served_left (image_of_now c.run_main-status.new.platform) (image_of_now c.lose_power.new.platform) c.lose_power.ensures.left.may
           (During-now (mem_history c.args.platform.now) (mem_history c.run_main-status.new.platform) IsServedImage (c.run_main-status.ensures.served tt served)));
       discloses = discloses_twice (g.T.Tape.drawn c.args.tape.now) (g.T.Tape.drawn c.run_main-status.new.tape) (g.T.Tape.drawn c.run_main-other.new.tape) old mid cut new _ _ _ _ _
-          c.run_main-status.ensures.discloses c.run_main-other.ensures.discloses c.run_main-status.ensures.answers c.lose_power.ensures.left.may
+          c.run_main-status.ensures.discloses c.run_main-other.ensures.discloses (c.run_main-status.ensures.answers tt) c.lose_power.ensures.left.may
           (λ served. served_left (image_of_now c.run_main-status.new.platform) (image_of_now c.lose_power.new.platform) c.lose_power.ensures.left.may
           (During-now (mem_history c.args.platform.now) (mem_history c.run_main-status.new.platform) IsServedImage (c.run_main-status.ensures.served tt served)));
-      anywhere = λ there stands served. anywhere old mid _ _ _ _ _ c.run_main-status.ensures.answers there stands served (c.run_main-status.ensures.served tt served);
+      anywhere = λ there stands served. anywhere old mid _ _ _ _ _ (c.run_main-status.ensures.answers tt) there stands served (c.run_main-status.ensures.served tt served);
     }
 
 pub returns-clause-fits : goal.returns-clause-fits

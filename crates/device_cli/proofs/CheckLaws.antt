@@ -1,0 +1,156 @@
+-- What follows of a check, by its exit status.
+use Rattle.std.proofs.Common.{◌≡◌, ◌≢◌, ℕ, ◌+◌, ◌<◌, ◌≤◌, ◌^◌, List, [], ◌∷◌, ◌++◌, Option, None, Some, Result, Ok, Err, length, ◌⊎◌, inl, inr, refl, sym, ◌∙◌, subst, ap, arith, length-append}
+use Rattle.std.specs.Prelude.{IfErr, ◌-◌}
+use Rattle.std.proofs.lemmas.List.{append-nil}
+use Rattle.sdbt_base.specs.Told.{Gave, Got, IsAtEnd}
+use Rattle.platform.specs.Image.{Image}
+use Rattle.platform.specs.History.{History, Steps, During}
+use Rattle.platform.proofs.Moments.{During-step}
+use Rattle.root_codec.specs.declared.root.Root.{Root}
+use Rattle.root_codec.specs.RootRecord.{root_bytes}
+use Rattle.root_codec.specs.Laws.{one_root}
+use Rattle.cert_maker.specs.Cert.{Cert}
+use Rattle.cert_codec.specs.Ledger.{IsLedger}
+use Rattle.cert_codec.proofs.LedgerLaws.{one_ledger}
+use Rattle.cert_checker.specs.Chain.{Accepted, chain_of}
+use Rattle.cert_checker.specs.First.{First}
+use Rattle.cert_checker.proofs.FirstLaws.{none_first}
+use Rattle.ledger_check.specs.Judging.{IsWhole}
+use Rattle.sdbt_base.specs.Arrays.{Device, closed}
+use Rattle.page_store.specs.Stands.{Stands}
+use Rattle.page_store.proofs.StandsLaws.{stands_during}
+use Rattle.device_core.proofs.MomentLaws.{one_look}
+use Rattle.device_course.specs.Marks.{last_mark}
+use Rattle.device_course.specs.Course.{Made}
+use Rattle.device_course.proofs.MadeLaws.{made_none, shut}
+use Rattle.device_core.specs.Leaf.{IsServed, IsServedCell, IsServedImage}
+use Rattle.device_cli.specs.Run.{Counts, counts, NoneFell, NoneRose, HasCause, IsBlamedOn, IsStatus, Took, status_of}
+use Rattle.device_cli.specs.Words.{AreRunWords, AreCheckWords}
+use Rattle.device_cli.specs.Replied.{damage_line}
+use Rattle.device_cli.specs.Checks.{Checks, IsAcceptable, IsInCell, IsJudgedAs, IsLookedAt, IsSaid, IsSo, finding_line, status_at, status_of_finding}
+use Rattle.device_cli.specs.declared.checking.Finding.{Finding}
+use Rattle.device_cli.specs.declared.checking.Finding.TheVariants as findings
+use Rattle.device_cli.specs.declared.stop.DeviceStop.TheVariants as device
+use Rattle.device_cli.specs.declared.stop.Stop.{Stop}
+use Rattle.device_cli.specs.declared.stop.Stop.TheVariants as stops
+
+-- ---- faults
+
+-- neither the tape nor the ledger plays a part
+pub blame_wide : (p p_now i i_now o o_now t l : ℕ) (ending : Result Finding Stop) → IsBlamedOn (counts p 0 i o 0) (counts p_now 0 i_now o_now 0) ending
+    → IsBlamedOn (counts p t i o l) (counts p_now t i_now o_now l) ending
+blame_wide p p_now i i_now o o_now t l ending blame = record {
+  fell = record { platform = blame.fell.platform; tape = omega arith; input = blame.fell.input; output = blame.fell.output; ledger = omega arith };
+  cause = go ending blame.cause;
+}
+  where
+    go : (e : Result Finding Stop) → IfErr e (HasCause (counts p 0 i o 0) (counts p_now 0 i_now o_now 0)) → IfErr e (HasCause (counts p t i o l) (counts p_now t i_now o_now l))
+    go (Ok finding) h = tt
+    go (Err stops.Source) h = h
+    go (Err stops.Sink) h = h
+    go (Err stops.Limit) h = tt
+    go (Err (stops.Device device.Platform)) h = h
+    go (Err (stops.Device device.Tape)) h = absurd (never h)
+      where
+        never : (0 < 0) ⊎ (0 ≡ 2 ^ 64 - 1) → ⊥
+        never (inl e) = omega (arith, e)
+        never (inr e) = omega (arith, e)
+    go (Err (stops.Device device.Ledger)) h = absurd (never h)
+      where
+        never : (0 < 0) ⊎ (0 ≡ 2 ^ 64 - 1) → ⊥
+        never (inl e) = omega (arith, e)
+        never (inr e) = omega (arith, e)
+    go (Err (stops.Device device.BadRoot)) h = tt
+    go (Err (stops.Device (device.BadRecord addr))) h = tt
+    go (Err (stops.Device device.Memory)) h = tt
+
+-- ---- the cell
+
+pub served_some : (image : Image) (root : Root) → IsInCell image (Some root) → IsServedImage image
+served_some image root (served, e) = subst (λ (c : Option (List ℕ)). IsServedCell c (length image.recorded)) (sym e) (root, served, refl)
+
+-- a finding that there is no root record that can be served is true
+pub so_bad : (tells : Type 0) (image : Image) (taken : List ℕ) (left : Option (List ℕ)) (finding : Finding) → IsSo tells image taken left finding → status_of_finding finding ≡ 8
+    → (finding ≡ findings.BadRoot) × (tells → IsServedImage image → ⊥)
+so_bad tells image taken left findings.NoDevice so e = absurd (omega (arith, e))
+so_bad tells image taken left findings.BadRoot so e = (refl, so.1)
+so_bad tells image taken left (findings.Broken number value) so e = absurd (omega (arith, e))
+so_bad tells image taken left (findings.Accepted commit live deleted) so e = absurd (omega (arith, e))
+
+-- at 8 the line says so
+pub bad_line : (written written_now : Option (List ℕ)) (finding : Finding) → finding ≡ findings.BadRoot → Got written (finding_line finding) written_now → Got written (damage_line device.BadRoot) written_now
+unfolding finding_line
+bad_line written now finding e got = subst (λ (f : Finding). Got written (finding_line f) now) e got
+
+-- ---- completeness
+
+-- what was taken to the end of a text is the text
+all_taken : (text taken : List ℕ) (left left_now : Option (List ℕ)) → left ≡ Some text → Gave left taken left_now → IsAtEnd left_now → taken ≡ text
+all_taken text taken left None is gave end = absurd (cc (gave, is))
+all_taken text taken left (Some rest) is gave end =
+    let both : Some (taken ++ rest) ≡ Some text = sym gave ∙ is in
+    let all : taken ++ rest ≡ text = cc in
+    sym (append-nil taken) ∙ ap (λ (r : List ℕ). taken ++ r) (sym end) ∙ all
+
+-- and no more than that is taken
+some_taken : (text taken : List ℕ) (left left_now : Option (List ℕ)) → left ≡ Some text → Gave left taken left_now → length taken ≤ length text
+some_taken text taken left None is gave = absurd (cc (gave, is))
+some_taken text taken left (Some rest) is gave =
+    let both : Some (taken ++ rest) ≡ Some text = sym gave ∙ is in
+    let all : taken ++ rest ≡ text = cc in
+    let long : length (taken ++ rest) ≡ length text = ap (λ (t : List ℕ). length t) all in
+    omega (arith, length-append taken rest, long)
+
+-- the cell holds one root record
+one_in_cell : (image : Image) (a b : Root) → IsInCell image (Some a) → IsInCell image (Some b) → a ≡ b
+one_in_cell image a b (served, is) (other, too) =
+    let both : Some (root_bytes a) ≡ Some (root_bytes b) = sym is ∙ too in
+    one_root a b served.fits other.fits served.key.0 (same (root_bytes a) (root_bytes b) both)
+  where
+    same : (x y : List ℕ) → Some x ≡ Some y → x ≡ y
+    same x y e = cc
+
+pub complete_check : (tells : Type 0) (image : Image) (before now : Counts) (left left_now written written_now : Option (List ℕ)) (ending : Result Finding Stop)
+    → Checks tells image left left_now written written_now ending → IfErr ending (HasCause before now) → tells → (root : Root) (text : List ℕ) (certs : List Cert)
+    → IsAcceptable image left root text certs → NoneRose before now → (status_at ending ≡ 0) ⊎ (status_at ending ≡ 11)
+complete_check tells image before now left left_now written written_now ending checks cause told root text certs able quiet = go ending checks.is cause
+  where
+    broken : (other : Root) (all : List Cert) (number value : ℕ) → IsInCell image (Some other) → IsWhole checks.taken left_now all → First (chain_of all other.commit) other number value → ⊥
+    broken other all number value cell whole first =
+        let root_is : other ≡ root = one_in_cell image other root cell able.cell in
+        let text_is : checks.taken ≡ text = all_taken text checks.taken left left_now able.text_is checks.gave whole.end in
+        let certs_is : all ≡ certs = one_ledger text all certs (subst (λ (t : List ℕ). IsLedger t all) text_is whole.ledger) able.ledger in
+        none_first (chain_of certs root.commit) root number value able.accepted
+        (subst (λ (cs : List Cert). First (chain_of cs root.commit) root number value) certs_is
+        (subst (λ (r : Root). First (chain_of all r.commit) r number value) root_is first))
+
+    go : (e : Result Finding Stop) → IsSaid tells image written written_now checks.taken left_now e → IfErr e (HasCause before now) → (status_at e ≡ 0) ⊎ (status_at e ≡ 11)
+    go (Ok findings.NoDevice) said h = absurd (cc (said.0.1 told, able.cell.1))
+    go (Ok findings.BadRoot) said h = absurd (said.0.1 told (served_some image root able.cell))
+    go (Ok (findings.Broken number value)) said h = absurd (broken said.0.0 said.0.2.0 number value (said.0.1 told) said.0.2.1 said.0.2.2)
+    go (Ok (findings.Accepted commit live deleted)) said h = inl refl
+    go (Err stops.Source) said h = absurd (quiet.input h)
+    go (Err stops.Sink) said h = absurd (quiet.output h)
+    go (Err stops.Limit) said h =
+        let few = some_taken text checks.taken left left_now able.text_is checks.gave in
+        absurd (omega (arith, few, able.short, said.0.0))
+    go (Err (stops.Device device.Platform)) said h = absurd (quiet.platform h)
+    go (Err (stops.Device device.Memory)) said h = inr refl
+    go (Err (stops.Device device.Tape)) said h = absurd said.0
+    go (Err (stops.Device device.Ledger)) said h = absurd said.0
+    go (Err (stops.Device device.BadRoot)) said h = absurd said.0
+    go (Err (stops.Device (device.BadRecord addr))) said h = absurd said.0
+
+-- ---- the image
+
+pub image_stays : (old new : History) → Steps old new → new.present ≡ old.present → During old new (λ image. image ≡ old.present)
+image_stays old new steps same = During-step old new (λ image. image ≡ old.present) steps refl same
+
+-- no device is made
+pub made_look : (old new : History) (device : Option Device) → Stands old.present device → IsServedImage old.present → Steps old new → new.present ≡ old.present
+    → (marks : List (Option Device)) × Made old new None (closed device) marks (closed (last_mark device marks))
+made_look old new device stands served steps same = (
+  [],
+  made_none old new None (closed device) (closed device) stands (stands_during old new device stands (one_look old new steps same)) refl
+      (shut new.present device (subst (λ (i : Image). Stands i device) (sym same) stands) (subst IsServedImage (sym same) served)),
+)

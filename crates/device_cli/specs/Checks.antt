@@ -1,0 +1,117 @@
+-- What the word `check` finds, says and leaves.
+use Rattle.std.specs.Prelude.{◌≡◌, ◌⊎◌, ℕ, ◌<◌, ◌≤◌, ◌^◌, List, [], ◌∷◌, ◌++◌, Option, None, Some, Result, Ok, Err, length, codes}
+use Rattle.std.specs.Fmt.{decimal}
+use Rattle.sdbt_base.specs.Told.{Got, GotPart}
+use Rattle.platform.specs.Image.{Image}
+use Rattle.platform.specs.History.{History, During}
+use Rattle.root_codec.specs.declared.root.Root.{Root}
+use Rattle.root_codec.specs.RootRecord.{root_bytes}
+use Rattle.cert_maker.specs.Cert.{Cert}
+use Rattle.cert_codec.specs.Ledger.{IsLedger}
+use Rattle.cert_checker.specs.Chain.{Accepted, chain_of}
+use Rattle.cert_checker.specs.First.{First}
+use Rattle.cert_checker.specs.Sound.{IsVerdict}
+use Rattle.ledger_check.specs.Judging.{FromInput, IsWhole}
+use Rattle.device_core.specs.Leaf.{IsServed, IsServedImage}
+use Rattle.device_cli.specs.Replied.{damage_line}
+use Rattle.device_cli.specs.Run.{Counts, NoneRose, status_of}
+use Rattle.device_cli.specs.declared.checking.Finding.{Finding}
+use Rattle.device_cli.specs.declared.checking.Finding.TheVariants as findings
+use Rattle.device_cli.specs.declared.stop.DeviceStop.TheVariants as device
+use Rattle.device_cli.specs.declared.stop.Stop.{Stop}
+use Rattle.device_cli.specs.declared.stop.Stop.TheVariants as stops
+
+-- the line that says what was found
+unfoldable pub finding_line : Finding → List ℕ
+finding_line findings.NoDevice = codes "refused no device" ++ 10 ∷ []
+finding_line findings.BadRoot = damage_line device.BadRoot
+finding_line (findings.Broken number value) = codes "refused rule " ++ (decimal number ++ (codes " value " ++ (decimal value ++ 10 ∷ [])))
+finding_line (findings.Accepted commit live deleted) =
+    codes "accepted commit " ++ (decimal commit ++ (codes " live " ++ (decimal live ++ (codes " deleted " ++ (decimal deleted ++ 10 ∷ [])))))
+
+-- its exit status
+abbrev pub status_of_finding : Finding → ℕ
+status_of_finding findings.NoDevice = 10
+status_of_finding findings.BadRoot = 8
+status_of_finding (findings.Broken number value) = 10
+status_of_finding (findings.Accepted commit live deleted) = 0
+
+-- the cell is empty, or holds this root record, which can be served
+abbrev pub IsInCell : Image → Option Root → Type 0
+IsInCell image None = image.cell ≡ None
+IsInCell image (Some root) = IsServed root (length image.recorded) × (image.cell ≡ Some (root_bytes root))
+
+-- the ledger that was taken whole breaks this rule first; or it is accepted, with so many live addresses and so many deleted ones
+abbrev pub IsJudgedAs : Root → List ℕ → Option (List ℕ) → Finding → Type 0
+IsJudgedAs root taken left (findings.Broken number value) =
+    (certs : List Cert) × IsWhole taken left certs × First (chain_of certs root.commit) root number value
+IsJudgedAs root taken left (findings.Accepted commit live deleted) =
+    (certs : List Cert) × IsWhole taken left certs × Accepted (chain_of certs root.commit) root
+    × (addrs : List ℕ) × IsVerdict (chain_of certs root.commit) root commit addrs deleted × (length addrs ≡ live)
+IsJudgedAs root taken left findings.NoDevice = ⊥
+IsJudgedAs root taken left findings.BadRoot = ⊥
+
+-- what was found is so: there is no device, or no root record that can be served, and nothing was taken; or the ledger was judged
+-- for the root record in the cell
+abbrev pub IsSo : Type 0 → Image → List ℕ → Option (List ℕ) → Finding → Type 0
+IsSo tells image taken left findings.NoDevice = (taken ≡ []) × (tells → image.cell ≡ None)
+IsSo tells image taken left findings.BadRoot = (taken ≡ []) × (tells → IsServedImage image → ⊥)
+IsSo tells image taken left finding = (root : Root) × (tells → IsInCell image (Some root)) × IsJudgedAs root taken left finding
+
+-- the judging of what was taken ended so
+abbrev pub IsJudgedBy : Root → List ℕ → Option (List ℕ) → Result Finding Stop → Type 0
+IsJudgedBy root taken left (Ok finding) = IsJudgedAs root taken left finding
+IsJudgedBy root taken left (Err stops.Source) = length taken < 2 ^ 32
+IsJudgedBy root taken left (Err stops.Limit) = length taken ≡ 2 ^ 32
+IsJudgedBy root taken left (Err (stops.Device device.Memory)) = Unit {0}
+IsJudgedBy root taken left (Err _) = ⊥
+
+abbrev pub IsJudged : Root → Option (List ℕ) → Option (List ℕ) → Result Finding Stop → Type 0
+IsJudged root = FromInput (IsJudgedBy root)
+
+-- what was found is so; or the looking stopped, and after the look at the cell only where that can be served
+abbrev pub IsLookedAt : Type 0 → Image → List ℕ → Option (List ℕ) → Result Finding Stop → Type 0
+IsLookedAt tells image taken left (Ok finding) = IsSo tells image taken left finding
+IsLookedAt tells image taken left (Err stops.Source) = (length taken < 2 ^ 32) × (tells → IsServedImage image)
+IsLookedAt tells image taken left (Err stops.Limit) = (length taken ≡ 2 ^ 32) × (tells → IsServedImage image)
+IsLookedAt tells image taken left (Err (stops.Device device.Memory)) = tells → IsServedImage image
+IsLookedAt tells image taken left (Err (stops.Device device.Platform)) = taken ≡ []
+IsLookedAt tells image taken left (Err _) = ⊥
+
+abbrev pub Looked : Type 0 → Image → Option (List ℕ) → Option (List ℕ) → Result Finding Stop → Type 0
+Looked tells image = FromInput (IsLookedAt tells image)
+
+-- the line that says what was found was put; or, where the output failed, a first part of it; or nothing
+abbrev pub IsSaid : Type 0 → Image → Option (List ℕ) → Option (List ℕ) → List ℕ → Option (List ℕ) → Result Finding Stop → Type 0
+IsSaid tells image written written_now taken left (Ok finding) = IsSo tells image taken left finding × Got written (finding_line finding) written_now
+IsSaid tells image written written_now taken left (Err stops.Sink) =
+    (finding : Finding) × IsSo tells image taken left finding × GotPart written (finding_line finding) written_now
+IsSaid tells image written written_now taken left (Err stop) = IsLookedAt tells image taken left (Err stop) × (written_now ≡ written)
+
+abbrev pub Checks : Type 0 → Image → Option (List ℕ) → Option (List ℕ) → Option (List ℕ) → Option (List ℕ) → Result Finding Stop → Type 0
+Checks tells image left left_now written written_now = FromInput (IsSaid tells image written written_now) left left_now
+
+-- its exit status
+abbrev pub status_at : Result Finding Stop → ℕ
+status_at (Ok finding) = status_of_finding finding
+status_at (Err stop) = status_of stop
+
+-- the input is a text of less than 2^32 bytes, whose certificates are accepted for the root record in the cell
+pub record IsAcceptable (image : Image) (left : Option (List ℕ)) (root : Root) (text : List ℕ) (certs : List Cert) : Type 0 where
+  pub cell : IsInCell image (Some root)
+  pub text_is : left ≡ Some text
+  pub short : length text < 2 ^ 32
+  pub ledger : IsLedger text certs
+  pub accepted : Accepted (chain_of certs root.commit) root
+
+-- a check: no key is drawn, no entry put, no page added, and the image is as it was at each moment; it ends so, with this status;
+-- and an acceptable ledger is accepted, unless something failed or no memory was given
+pub record Checked {T L : Type 0} (tells : Type 0) (tape tape_now : T) (ledger ledger_now : L) (head head_now : ℕ) (old new : History) (before now : Counts) (status : ℕ) (left left_now written written_now : Option (List ℕ)) : Type 0 where
+  pub undrawn : tape_now ≡ tape
+  pub unput : ledger_now ≡ ledger
+  pub pages : head_now ≡ head
+  pub image : tells → During old new (λ image. image ≡ old.present)
+  pub ending : Result Finding Stop
+  pub status_is : status ≡ status_at ending
+  pub checks : Checks tells old.present left left_now written written_now ending
+  pub complete : tells → (root : Root) (text : List ℕ) (certs : List Cert) → IsAcceptable old.present left root text certs → NoneRose before now → (status ≡ 0) ⊎ (status ≡ 11)
