@@ -38,7 +38,7 @@ returns-clause-fits g c there stands served =
     let new : World = world None (mem_history c.run_main-other.new.platform) (length (image_of_now c.run_main-other.new.platform).recorded) (capacity_of c.run_main-other.new.platform) in
     let left = served_left (image_of_now c.run_main-status.new.platform) (image_of_now c.lose_power.new.platform) c.lose_power.ensures.left.may
     (During-now (mem_history c.args.platform.now) (mem_history c.run_main-status.new.platform) IsServedImage (c.run_main-status.ensures.served tt served)) in
-    let next = goes_on old mid cut new _ _ _ _ _ _ _ _ _ c.run_main-status.ensures.answers c.lose_power.ensures.left.may c.run_main-other.ensures.answers there stands served left in
+    let next = goes_on old mid cut new _ _ _ _ _ _ _ _ _ (c.run_main-status.ensures.answers tt) c.lose_power.ensures.left.may (c.run_main-other.ensures.answers tt) there stands served left in
     leaves_then (g.L.Sink.written c.args.ledger.now) (g.L.Sink.written c.run_main-status.new.ledger) (g.L.Sink.written c.run_main-other.new.ledger)
     old.history.present mid.history.present cut.history.present new.history.present
     (c.run_main-status.ensures.fits tt there stands served) c.lose_power.ensures.left.may
