@@ -102,6 +102,11 @@ pub rises_same : (order block top : ℕ) (old new old' new' : ℕ → List Node)
 rises_same order block top old new old' new' was now n j low out le h =
     rises_lift order block top old new old' new' (λ k. []) (λ k. []) (λ k le. was k le ∙ sym (append-nil (old k))) (λ k le. now k le ∙ sym (append-nil (new k))) (λ k le. tt) (λ k le. tt) n j low out le h
 
+-- levels that are the same have the same reshape
+pub reshape_from : (order block level new_level : ℕ) (old new old' : ℕ → List Node) → ((k : ℕ) → old' k ≡ old k) → Reshape order block level new_level old new → Reshape order block level new_level old' new
+reshape_from order block level new_level old new old' was (inl h) = inl (h.0, rises_same order block level old new old' new (λ k le. was k) (λ k le. refl) level 1 block None (omega arith) h.1)
+reshape_from order block level new_level old new old' was (inr h) = inr (h.0, (h.1.0, rises_same order block level old new old' new (λ k le. was k) (λ k le. refl) level 1 block (Some h.1.0) (omega arith) h.1.1, h.1.2))
+
 -- what happens at the level above the last
 abbrev Ends : ℕ → ℕ → List Node → List Node → Option ℕ → Option ℕ → Type 0
 Ends order block old new None out = (new ≡ old) × (out ≡ None)

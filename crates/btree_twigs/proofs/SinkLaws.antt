@@ -582,3 +582,17 @@ gone_rows medium order block level high low old left x zero_is is one only r =
       now = inr (refl, one, lows_long (children_of left) ∙ ap length only);
     } in
     subst (λ k. ReshapeDown order block (suc level) k (rows_at medium (suc level) high (made.Grown low old)) (rows_at medium k high x)) (sym is) h
+
+-- levels that are the same have the same reshape
+pub down_from : (order block level new_level : ℕ) (old new old' : ℕ → List Node) → ((k : ℕ) → old' k ≡ old k) → ReshapeDown order block level new_level old new → ReshapeDown order block level new_level old' new
+down_from order block level new_level old new old' was h = record {
+  below = h.below;
+  level_is = h.level_is;
+  lows = h.lows;
+  left = h.left;
+  out = h.out;
+  was = was level ∙ h.was;
+  sinks = sinks_same order block h.below old new old' new (λ k le. was k) (λ k le. refl) h.below 1 (Drops block) h.out (omega arith) h.sinks;
+  changes = h.changes;
+  now = h.now;
+}

@@ -37,13 +37,6 @@ no_place block ss s at h one from to =
     let back = open_back block at.front (s ∷ at.back) (subst (IsOpen block) at.all h) in
     omega (arith, back.0 from to, one)
 
-top_level_by : (order level high : ℕ) (x : Child-F Child Twig) → IsTopBy order level high x → level_in x ≡ suc level
-top_level_by order level high (Kept low addr key) h = absurd h
-top_level_by order level high (Grown low twig) h = h.1.level_is
-
-pub top_level : (order level high : ℕ) (c : Child) → IsTop order level high c → child_level c ≡ suc level
-top_level order level high c h = top_level_by order level high (out-Child c) h
-
 top_root_by : (order level high : ℕ) (x : Child-F Child Twig) → IsTopBy order level high x → IsRootBy order level high x
 top_root_by order level high (Kept low addr key) h = absurd h
 top_root_by order level high (Grown low twig) h = h

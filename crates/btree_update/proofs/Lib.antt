@@ -1,7 +1,9 @@
 pub mod Places
+pub mod Readings
 pub mod OpenLaws
 pub mod OpenMaps
-pub mod Readings
+pub mod RowLaws
+pub mod GivesLaws
 pub mod RootLaws
 pub mod GroveLaws
 pub mod CacheLaws
