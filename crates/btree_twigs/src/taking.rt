@@ -185,7 +185,8 @@ pub fn take_top(top: &mut Child, order: usize, block: u64)
         if twig.level == 1 {
             return;
         }
-        if twig.children.len() < 2 {
+        let is_single = twig.children.len() < 2;
+        if is_single {
             give_way(top);
         }
     }

@@ -64,7 +64,7 @@ give_way-requires c =
     let e = rw (c.in-Grown.is, made.outs-Grown c.in-Grown.low c.in-Grown.twig) at c.take.ensures.taken in
     let t = taken_of c.args.order c.args.block c.in-Grown.low c.args.top.now c.in-Grown.twig c.take.new.twig c.in-Grown.is at e in
     let one = above_leaf at.level (out-Twig c.take.new.twig).level t.1.shaped.level_is c.if-twig-eq1.false in
-    let only : length (children_of c.take.new.twig) ≡ 1 = one_left (length (children_of c.take.new.twig)) (top_least at.level) at.level refl one t.1.shaped.node.enough (omega (arith, c.len.ensures, c.if-len-lt2.true)) in
+    let only : length (children_of c.take.new.twig) ≡ 1 = one_left (length (children_of c.take.new.twig)) (top_least at.level) at.level refl one t.1.shaped.node.enough (omega (arith, c.len-is_single.ensures, c.if-is_single.true)) in
     rw (c.in-Grown.is, made.outs-Grown c.in-Grown.low c.in-Grown.twig) (subst HasOnlyBy (sym (made.outs-Grown c.in-Grown.low c.take.new.twig)) only)
 
 pub returns-then-twig-eq1-clause-taken : goal.returns-then-twig-eq1-clause-taken
@@ -74,8 +74,8 @@ returns-then-twig-eq1-clause-taken c at =
     rw (c.in-Grown.is, made.outs-Grown c.in-Grown.low c.in-Grown.twig)
     (top_taken c.args.order at.level at.high c.args.block at.loses c.in-Grown.twig c.take.new.twig c.in-Grown.low t.0 t.1 (λ one. absurd (omega (arith, one, t.1.shaped.level_is, c.if-twig-eq1.true))))
 
-pub returns-then-len-lt2-clause-taken : goal.returns-then-len-lt2-clause-taken
-returns-then-len-lt2-clause-taken c at =
+pub returns-then-is_single-clause-taken : goal.returns-then-is_single-clause-taken
+returns-then-is_single-clause-taken c at =
     let e = rw (c.in-Grown.is, made.outs-Grown c.in-Grown.low c.in-Grown.twig) at c.take.ensures.taken in
     let t = taken_of c.args.order c.args.block c.in-Grown.low c.args.top.now c.in-Grown.twig c.take.new.twig c.in-Grown.is at e in
     let one = above_leaf at.level (out-Twig c.take.new.twig).level t.1.shaped.level_is c.if-twig-eq1.false in
@@ -83,12 +83,12 @@ returns-then-len-lt2-clause-taken c at =
     let only : children_of c.take.new.twig ≡ c.give_way.new.top ∷ [] = sym (ap below_in (made.outs-Grown c.in-Grown.low c.take.new.twig)) ∙ g in
     rw c.in-Grown.is (gone_at c.args.order at.level at.high c.args.block at.loses c.in-Grown.twig c.take.new.twig c.in-Grown.low c.give_way.new.top c.requires.four t.0 at.to t.2 t.1 one only)
 
-pub returns-else-len-lt2-clause-taken : goal.returns-else-len-lt2-clause-taken
-returns-else-len-lt2-clause-taken c at =
+pub returns-else-is_single-clause-taken : goal.returns-else-is_single-clause-taken
+returns-else-is_single-clause-taken c at =
     let e = rw (c.in-Grown.is, made.outs-Grown c.in-Grown.low c.in-Grown.twig) at c.take.ensures.taken in
     let t = taken_of c.args.order c.args.block c.in-Grown.low c.args.top.now c.in-Grown.twig c.take.new.twig c.in-Grown.is at e in
     rw (c.in-Grown.is, made.outs-Grown c.in-Grown.low c.in-Grown.twig)
-    (top_taken c.args.order at.level at.high c.args.block at.loses c.in-Grown.twig c.take.new.twig c.in-Grown.low t.0 t.1 (λ one. omega (arith, c.len.ensures, c.if-len-lt2.false)))
+    (top_taken c.args.order at.level at.high c.args.block at.loses c.in-Grown.twig c.take.new.twig c.in-Grown.low t.0 t.1 (λ one. omega (arith, c.len-is_single.ensures, c.if-is_single.false)))
 
 -- an only child stands one level down
 only_level : (order level high block loses : ℕ) (old new : Twig) (x : Child) → 4 ≤ order → block < high → IsOpen block (stubs_below level high old) → IsTwigTaken order level (top_least level) 0 high block loses old new → 1 ≤ level →
@@ -104,8 +104,8 @@ returns-then-twig-eq1-clause-levels c medium m at =
     rw (c.in-Grown.is, made.outs-Grown c.in-Grown.low c.in-Grown.twig)
     (sunk_rows medium c.args.order c.args.block at.level at.high c.in-Grown.low c.in-Grown.twig c.take.new.twig t.0 t.1.shaped.level_is (λ one. absurd (omega (arith, one, t.1.shaped.level_is, c.if-twig-eq1.true))) (e.levels medium m can))
 
-pub returns-then-len-lt2-clause-levels : goal.returns-then-len-lt2-clause-levels
-returns-then-len-lt2-clause-levels c medium m at =
+pub returns-then-is_single-clause-levels : goal.returns-then-is_single-clause-levels
+returns-then-is_single-clause-levels c medium m at =
     let e = rw (c.in-Grown.is, made.outs-Grown c.in-Grown.low c.in-Grown.twig) at c.take.ensures in
     let can = open_top c.args.order c.args.block c.in-Grown.low c.in-Grown.twig (subst (CanTakeTop c.args.order c.args.block) c.in-Grown.is at) in
     let t = taken_of c.args.order c.args.block c.in-Grown.low c.args.top.now c.in-Grown.twig c.take.new.twig c.in-Grown.is at e.taken in
@@ -116,10 +116,10 @@ returns-then-len-lt2-clause-levels c medium m at =
     (gone_rows medium c.args.order c.args.block at.level at.high c.in-Grown.low c.in-Grown.twig c.take.new.twig c.give_way.new.top t.0
     (only_level c.args.order at.level at.high c.args.block at.loses c.in-Grown.twig c.take.new.twig c.give_way.new.top c.requires.four at.to t.2 t.1 one only) one only (e.levels medium m can))
 
-pub returns-else-len-lt2-clause-levels : goal.returns-else-len-lt2-clause-levels
-returns-else-len-lt2-clause-levels c medium m at =
+pub returns-else-is_single-clause-levels : goal.returns-else-is_single-clause-levels
+returns-else-is_single-clause-levels c medium m at =
     let e = rw (c.in-Grown.is, made.outs-Grown c.in-Grown.low c.in-Grown.twig) at c.take.ensures in
     let can = open_top c.args.order c.args.block c.in-Grown.low c.in-Grown.twig (subst (CanTakeTop c.args.order c.args.block) c.in-Grown.is at) in
     let t = taken_of c.args.order c.args.block c.in-Grown.low c.args.top.now c.in-Grown.twig c.take.new.twig c.in-Grown.is at e.taken in
     rw (c.in-Grown.is, made.outs-Grown c.in-Grown.low c.in-Grown.twig)
-    (sunk_rows medium c.args.order c.args.block at.level at.high c.in-Grown.low c.in-Grown.twig c.take.new.twig t.0 t.1.shaped.level_is (λ one. omega (arith, c.len.ensures, c.if-len-lt2.false)) (e.levels medium m can))
+    (sunk_rows medium c.args.order c.args.block at.level at.high c.in-Grown.low c.in-Grown.twig c.take.new.twig t.0 t.1.shaped.level_is (λ one. omega (arith, c.len-is_single.ensures, c.if-is_single.false)) (e.levels medium m can))
