@@ -3,6 +3,7 @@ pub mod Readings
 pub mod OpenLaws
 pub mod OpenMaps
 pub mod RowLaws
+pub mod MediumLaws
 pub mod GivesLaws
 pub mod RootLaws
 pub mod GroveLaws

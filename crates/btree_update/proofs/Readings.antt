@@ -21,14 +21,14 @@ use Rattle.btree_update.specs.GroveTree.{stubs_at}
 use Rattle.btree_update.specs.Reading.{kept_of, all_kept}
 use Rattle.btree_update.specs.Held.{IsReadAs}
 
-tail_ascends : (x : ℕ) (xs : List ℕ) → IsStrictlyIncreasing (x ∷ xs) → IsStrictlyIncreasing xs
+pub tail_ascends : (x : ℕ) (xs : List ℕ) → IsStrictlyIncreasing (x ∷ xs) → IsStrictlyIncreasing xs
 tail_ascends x xs h k lt = let i = h (suc k) (omega (arith, lt)) in let e : suc k + 1 ≡ suc (k + 1) = omega arith in subst (λ n. slice_index xs k < slice_index (x ∷ xs) n) e i
 
-start_is : (es : List Entry) (high : ℕ) → start_by low_of (all_kept es) high ≡ bound_of es high
+pub start_is : (es : List Entry) (high : ℕ) → start_by low_of (all_kept es) high ≡ bound_of es high
 start_is [] high = refl
 start_is (e ∷ es) high = low_of_kept e.low e.addr e.key
 
-bound_above : (e : Entry) (es : List Entry) (high : ℕ) → e.low < high → IsStrictlyIncreasing (map (λ (e : Entry). e.low) (e ∷ es)) → e.low < bound_of es high
+pub bound_above : (e : Entry) (es : List Entry) (high : ℕ) → e.low < high → IsStrictlyIncreasing (map (λ (e : Entry). e.low) (e ∷ es)) → e.low < bound_of es high
 bound_above e [] high lt h = lt
 bound_above e (f ∷ es) high lt h = h 0 (omega arith)
 
@@ -37,7 +37,7 @@ unfolding IsChild
 kept_is_child order zero high e = kept_is_datum order high e.low e.addr e.key
 kept_is_child order (suc level) high e = subst (IsChildBy (IsChild order level) order level high) (sym (made.outs-Kept e.low e.addr e.key)) tt
 
-each_kept : (order level high : ℕ) (es : List Entry) → AllByRecursion (λ e. e.low < high) es → IsStrictlyIncreasing (map (λ (e : Entry). e.low) es) → EachBy low_of (IsChild order level) high (all_kept es)
+pub each_kept : (order level high : ℕ) (es : List Entry) → AllByRecursion (λ e. e.low < high) es → IsStrictlyIncreasing (map (λ (e : Entry). e.low) es) → EachBy low_of (IsChild order level) high (all_kept es)
 each_kept order level high [] below h = tt
 each_kept order level high (e ∷ es) below h =
     (omega (arith, low_of_kept e.low e.addr e.key, start_is es high, bound_above e es high below.0 h), kept_is_child order level _ e, each_kept order level high es below.1 (tail_ascends e.low (map (λ (e : Entry). e.low) es) h))

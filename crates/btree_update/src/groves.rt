@@ -2,7 +2,7 @@ ghost use Rattle.std.specs.Prelude.{◌≡◌, ◌⊎◌, ◌<◌, ◌≤◌, �
 ghost use Rattle.root_codec.specs.RootRecord.{FitsRoot};
 ghost use Rattle.node_codec.specs.Record.{DataRecord};
 ghost use Rattle.page_store.specs.Places.{IsRecordAt};
-ghost use Rattle.page_store.specs.Tree.{Mapped};
+ghost use Rattle.page_store.specs.Tree.{Parts, Mapped, Tree};
 ghost use Rattle.btree_twigs.specs.declared.twigs.Child.TheVariants.{Kept};
 ghost use Rattle.btree_twigs.specs.Stubs.{Stub, stubs};
 ghost use Rattle.btree_twigs.specs.Levels.{Node, Reshape, ReshapeDown};
@@ -63,6 +63,7 @@ impl Grove {
         ensures size { (result.order ≡ root.now.order) × (result.blocks ≡ root.now.blocks) × (result.head ≡ root.now.head) × (result.level ≡ root.now.level) }
         ensures top { result.top ≡ Kept 0 root.now.addr root.now.key }
         ensures lists { (result.gone.items ≡ []) × (result.never.items ≡ []) }
+        ensures levels { (pages : List (List ℕ)) (parts : Parts) → Tree pages root.now parts → (levels : ℕ → List Node) × HasLevels pages result levels }
         ensures below { (head : ℕ) → root.now.addr < head → AreBelow head (places_of result) }
     {
         Grove {
