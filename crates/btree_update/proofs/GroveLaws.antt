@@ -13,7 +13,7 @@ use Rattle.btree_twigs.specs.Stubs.{Stub, Puts, Takes, datum, stubs, stubs_in, s
 use Rattle.btree_twigs.specs.Shape.{IsTwig}
 use Rattle.btree_twigs.specs.Updates.{IsOpen, HasSpares}
 use Rattle.btree_twigs.specs.Search.{IsAt, IsSpot}
-use Rattle.btree_twigs.specs.Top.{IsTop, IsTopBy, top_least, level_in, child_level}
+use Rattle.btree_twigs.specs.Top.{IsTop, IsTopBy, top_least}
 use Rattle.btree_twigs.proofs.Nodes.{stubs_of_grown}
 use Rattle.btree_twigs.proofs.Ways.{open_back}
 use Rattle.btree_update.specs.GroveTree.{Maps}

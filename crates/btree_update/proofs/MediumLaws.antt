@@ -1,18 +1,18 @@
 -- Each tree over pages has levels: what the medium has below each of its places.
-use Rattle.std.proofs.Common.{◌≡◌, ◌≢◌, ◌⊎◌, ◌==◌, if◌then◌else◌, Bool, true, false, inl, inr, ℕ, zero, suc, ◌<◌, ◌≤◌, List, [], ◌∷◌, ◌++◌, map, refl, sym, ap, subst, ◌∙◌, arith}
+use Rattle.std.proofs.Common.{◌≡◌, ◌⊎◌, ◌==◌, if◌then◌else◌, Bool, true, false, inl, inr, ℕ, zero, suc, ◌<◌, ◌≤◌, List, [], ◌∷◌, ◌++◌, map, refl, sym, ap, subst, ◌∙◌, arith}
 use Rattle.std.specs.List.{AllByRecursion}
 use Rattle.std.specs.List.Sorted.{IsStrictlyIncreasing}
 use Rattle.std.proofs.Math.Dec.{eqb, leb}
 use Rattle.std.proofs.lemmas.Bool.{eq-eqb, ne_eqb}
-use Rattle.std.proofs.lemmas.Bool.Decides.{eqb_tells, leb_tells}
+use Rattle.std.proofs.lemmas.Bool.Decides.{leb_tells}
 use Rattle.std.proofs.lemmas.List.Elements.{recursion_from_All}
 use Rattle.node_codec.specs.declared.body.Entry.{Entry}
 use Rattle.page_store.specs.declared.wants.Want.{Want}
 use Rattle.page_store.specs.Places.{child_want}
 use Rattle.page_store.specs.Tree.{Parts, Subtree, EachChild, bound_of}
-use Rattle.btree_twigs.specs.declared.twigs.Child.{Child, out-Child}
+use Rattle.btree_twigs.specs.declared.twigs.Child.{Child}
 use Rattle.btree_twigs.specs.declared.twigs.Child.TheVariants as made
-use Rattle.btree_twigs.specs.Stubs.{Stub, datum, start_by, low_of, stubs, stubs_in}
+use Rattle.btree_twigs.specs.Stubs.{Stub, start_by, low_of, stubs, stubs_in}
 use Rattle.btree_twigs.specs.Shape.{IsChild}
 use Rattle.btree_twigs.specs.Levels.{Node, IsMedium, rows_by, row_in, row}
 use Rattle.btree_twigs.proofs.LevelLaws.{all_weaker, rows_within, row_within}

@@ -1,5 +1,5 @@
 -- How the way to a block is opened.
-use Rattle.std.proofs.Common.{◌≡◌, ℕ, zero, suc, ◌-◌, ◌/◌, ◌<◌, ◌≤◌, List, [], ◌∷◌, ◌++◌, length, take, drop, get_or, refl, sym, ap, subst, ◌∙◌, arith, append_assoc, append-nil, length-append, vec_capacity, Some}
+use Rattle.std.proofs.Common.{◌≡◌, ℕ, zero, suc, ◌-◌, ◌/◌, ◌<◌, ◌≤◌, List, [], ◌∷◌, ◌++◌, length, take, drop, get_or, refl, sym, ap, subst, ◌∙◌, arith, length-append, vec_capacity, Some}
 use Rattle.std.specs.List.{AllByRecursion}
 use Rattle.std.proofs.lemmas.List.{same_from_push}
 use Rattle.std.proofs.lemmas.Option.{none-some}
@@ -14,7 +14,7 @@ use Rattle.btree_twigs.specs.Shape.{EachBy, IsChildBy, IsChild, IsTwig}
 use Rattle.btree_twigs.specs.Updates.{IsNode, IsOpen, stubs_under}
 use Rattle.btree_twigs.proofs.ListLaws.{stubs_append, each_front, each_back, tiles_by, tiles_le, split_here, at_end, node_with}
 use Rattle.btree_twigs.proofs.Children.{tiles_child}
-use Rattle.btree_update.specs.Held.{stub_at, AreBelow, IsReadAs, OnWay, HeldIn, HeldFor, AnyRead, IsOpened, IsTakenUp, IsNoted, IsAtHand, IsOpenedBelow}
+use Rattle.btree_update.specs.Held.{AreBelow, OnWay, HeldIn, HeldFor, AnyRead, IsOpened, IsTakenUp, IsAtHand, IsOpenedBelow}
 use Rattle.btree_update.specs.Opens.{Opens, Within}
 
 -- places before the block or behind it are no hindrance

@@ -1,12 +1,11 @@
 -- What the pages tell of the levels of a tree stays so where nodes are opened.
-use Rattle.std.proofs.Common.{◌≡◌, ◌==◌, if◌then◌else◌, ℕ, zero, suc, List, [], ◌∷◌, ◌++◌, map, refl, sym, ap, subst, ◌∙◌}
+use Rattle.std.proofs.Common.{◌≡◌, ◌==◌, if◌then◌else◌, ℕ, zero, suc, List, [], ◌∷◌, ◌++◌, map, sym, ap, subst, ◌∙◌}
 use Rattle.std.specs.List.{AllByRecursion}
 use Rattle.std.proofs.lemmas.List.{map-append}
 use Rattle.node_codec.specs.declared.body.Entry.{Entry}
 use Rattle.node_codec.specs.Record.{NodeRecord}
 use Rattle.page_store.proofs.RecordLaws.{one_record}
-use Rattle.page_store.specs.Tree.{bound_of}
-use Rattle.btree_twigs.specs.declared.twigs.Child.{Child, out-Child}
+use Rattle.btree_twigs.specs.declared.twigs.Child.{Child}
 use Rattle.btree_twigs.specs.declared.twigs.Child.TheVariants as made
 use Rattle.btree_twigs.specs.declared.twigs.Twig.{Twig}
 use Rattle.btree_twigs.specs.Stubs.{Stub, Puts, Takes, datum, start_by, low_of, children_of, stubs, stubs_below}
@@ -71,7 +70,7 @@ module _ (pages : List (List ℕ)) (medium : Stub → ℕ → List Node) where
   tells_opened order places old new (Within {places = some} {old = xs} {new = ys} fs bs o) h =
       let rest = all_back told_here fs (xs ++ bs) h in
       all_append told_here fs (ys ++ bs) (all_front told_here fs (xs ++ bs) h)
-          (all_append told_here ys bs (tells_opened order some xs ys o (all_front told_here xs bs rest)) (all_back told_here xs bs rest))
+      (all_append told_here ys bs (tells_opened order some xs ys o (all_front told_here xs bs rest)) (all_back told_here xs bs rest))
   tells_opened order places old new (Then {first = first} {second = second} {old = xs} {mid = mid} {new = ys} o p) h = tells_opened order second mid ys p (tells_opened order first xs mid o h)
 
   pub tells_child : (level high : ℕ) (fs : List Child) (c : Child) (bs : List Child) → Tells pages medium (stubs_under level high (fs ++ c ∷ bs)) → Tells pages medium (stubs level (start_by low_of bs high) c)

@@ -275,6 +275,9 @@ fn random_updates(rt: HostRuntime) {
     // An order, blocks, updates at a time, and trees.
     let cases: [(u16, u64, u64, u64); 3] = [(4, 40, 40, 34), (6, 40, 40, 34), (64, 200, 128, 10)];
     for (order, blocks, count, trees) in cases {
-        assert!(rt; agrees(rt.alloc(), order, blocks, count, trees).is_some(), "order {order}");
+        assert!(rt;
+            agrees(rt.alloc(), order, blocks, count, trees).is_some(),
+            "order {order}"
+        );
     }
 }

@@ -1,4 +1,4 @@
-use Rattle.std.proofs.Common.{ℕ, ◌<◌, arith, refl}
+use Rattle.std.proofs.Common.{arith, refl}
 use Rattle.btree_twigs.specs.Levels.{rows_at}
 use Rattle.btree_twigs.specs.declared.twigs.Child.TheVariants as made
 use Rattle.page_store.specs.Places.{root_want}
