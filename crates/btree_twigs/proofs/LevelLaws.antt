@@ -11,11 +11,11 @@ use Rattle.btree_twigs.specs.declared.twigs.Child.{Child, Child-F, out-Child}
 use Rattle.btree_twigs.specs.declared.twigs.Child.TheOpen.{Kept, Grown}
 use Rattle.btree_twigs.specs.declared.twigs.Child.TheVariants as made
 use Rattle.btree_twigs.specs.declared.twigs.Twig.{Twig, Twig-F, roll-Twig}
-use Rattle.btree_twigs.specs.Stubs.{Stub, start_by, low_in, low_of, children_of}
+use Rattle.btree_twigs.specs.Stubs.{Stub, start_by, low_in, low_of, level_of, children_of}
 use Rattle.btree_twigs.specs.Shape.{EachBy, IsChildBy, IsChild}
 use Rattle.btree_twigs.specs.Updates.{IsNode}
-use Rattle.btree_twigs.specs.Levels.{Node, IsMedium, rows_by, row_in, row, row_below, lows_of, Replaces, TakesLow, FitsAt, CutAt, Rises, TakesOut, IsRowPut, IsRowPutBelow, IsCut, IsReshaped}
-use Rattle.btree_twigs.specs.Top.{IsRaised}
+use Rattle.btree_twigs.specs.Levels.{Node, IsMedium, rows_by, row_in, row, row_below, lows_of, Replaces, TakesLow, FitsAt, CutAt, Rises, TakesOut, IsRowPut, IsRowPutBelow, IsCut, rows_at, Reshape}
+use Rattle.btree_twigs.specs.Top.{level_in, child_level, IsRaised}
 use Rattle.btree_twigs.proofs.ListLaws.{start_append, each_front, each_back, each_le, split_here}
 use Rattle.btree_twigs.proofs.Children.{begins_le}
 use Rattle.btree_twigs.proofs.Nodes.{low_of_grown, children_of_roll, start_first}
@@ -101,6 +101,11 @@ pub rises_same : (order block top : ℕ) (old new old' new' : ℕ → List Node)
     Rises order block old new n j low out → Rises order block old' new' n j low out
 rises_same order block top old new old' new' was now n j low out le h =
     rises_lift order block top old new old' new' (λ k. []) (λ k. []) (λ k le. was k le ∙ sym (append-nil (old k))) (λ k le. now k le ∙ sym (append-nil (new k))) (λ k le. tt) (λ k le. tt) n j low out le h
+
+-- levels that are the same have the same reshape
+pub reshape_from : (order block level new_level : ℕ) (old new old' : ℕ → List Node) → ((k : ℕ) → old' k ≡ old k) → Reshape order block level new_level old new → Reshape order block level new_level old' new
+reshape_from order block level new_level old new old' was (inl h) = inl (h.0, rises_same order block level old new old' new (λ k le. was k) (λ k le. refl) level 1 block None (omega arith) h.1)
+reshape_from order block level new_level old new old' was (inr h) = inr (h.0, (h.1.0, rises_same order block level old new old' new (λ k le. was k) (λ k le. refl) level 1 block (Some h.1.0) (omega arith) h.1.1, h.1.2))
 
 -- what happens at the level above the last
 abbrev Ends : ℕ → ℕ → List Node → List Node → Option ℕ → Option ℕ → Type 0
@@ -369,13 +374,26 @@ lower_when medium j level high low new twig is le =
 
 -- a root that was cut in two, under a new one
 pub raised_rows : (medium : Stub → ℕ → List Node) (order block level high low : ℕ) (old put left : Twig) (part new : Child) → low ≡ 0 → length (children_of old) ≤ order → length (children_of put) ≡ order + 1 →
-    IsRowPut medium order block level high old put → IsCut order put left part → IsRaised order level (made.Grown low left) part new → IsReshaped medium order block level high (made.Grown low old) new
-raised_rows medium order block level high low old put left part new zero_is few long p c r =
+    IsRowPut medium order block level high old put → IsCut order put left part → IsRaised order level (made.Grown low left) part new →
+    Reshape order block (suc level) (child_level new) (rows_at medium (suc level) high (made.Grown low old)) (rows_at medium (child_level new) high new)
+raised_rows medium order block level high low old put left part new zero_is few long p c raised =
     let both : (k : ℕ) → k ≤ suc level → row medium k (suc (suc level)) high new ≡ row medium k (suc level) (low_of part) (made.Grown low left) ++ row medium k (suc level) high part
-    = λ k le. lower_when medium k (suc level) high 0 new r.twig r.is le ∙ ap (rows_by (row medium k (suc level)) high) r.children ∙ ap (λ xs. row medium k (suc level) (low_of part) (made.Grown low left) ++ xs) (append-nil (row medium k (suc level) high part)) in
-    inr (
-      low_of part,
-      rises_same order block (suc level) _ _ _ _ (λ k le. refl) both (suc level) 1 block (Some (low_of part)) (omega arith)
-          (cut_child medium order block level high low old put left part (omega (arith, zero_is)) few long p c),
-      own_when medium (suc level) high 0 new r.twig r.is ∙ ap (λ cs. record { low = 0; lows = map low_of cs } ∷ []) r.children ∙ ap (λ l. record { low = 0; lows = l ∷ low_of part ∷ [] } ∷ []) (low_of_grown low left ∙ zero_is),
-    )
+    = λ k le. lower_when medium k (suc level) high 0 new raised.twig raised.is le ∙ ap (rows_by (row medium k (suc level)) high) raised.children ∙ ap (λ xs. row medium k (suc level) (low_of part) (made.Grown low left) ++ xs) (append-nil (row medium k (suc level) high part)) in
+    let r : Reshape order block (suc level) (suc (suc level)) (rows_at medium (suc level) high (made.Grown low old)) (rows_at medium (suc (suc level)) high new) = inr (
+      refl,
+      (
+        low_of part,
+        rises_same order block (suc level) _ _ _ _ (λ k le. refl) both (suc level) 1 block (Some (low_of part)) (omega arith)
+            (cut_child medium order block level high low old put left part (omega (arith, zero_is)) few long p c),
+        own_when medium (suc level) high 0 new raised.twig raised.is ∙ ap (λ cs. record { low = 0; lows = map low_of cs } ∷ []) raised.children ∙ ap (λ l. record { low = 0; lows = l ∷ low_of part ∷ [] } ∷ []) (low_of_grown low left ∙ zero_is),
+      ),
+    ) in
+    subst (λ k. Reshape order block (suc level) k (rows_at medium (suc level) high (made.Grown low old)) (rows_at medium k high new)) (sym (ap level_in raised.is ∙ raised.level_is)) r
+
+-- a root that has room for all its children
+pub kept_rows : (medium : Stub → ℕ → List Node) (order block level high low : ℕ) (old new : Twig) → low ≡ 0 → level_of new ≡ suc level → length (children_of new) ≤ order → IsRowPut medium order block level high old new →
+    Reshape order block (suc level) (child_level (made.Grown low new)) (rows_at medium (suc level) high (made.Grown low old)) (rows_at medium (child_level (made.Grown low new)) high (made.Grown low new))
+kept_rows medium order block level high low old new zero_is is few p =
+    let r : Reshape order block (suc level) (suc level) (rows_at medium (suc level) high (made.Grown low old)) (rows_at medium (suc level) high (made.Grown low new))
+    = inl (refl, fits_child medium order block level high low old new (omega (arith, zero_is)) few p) in
+    subst (λ k. Reshape order block (suc level) k (rows_at medium (suc level) high (made.Grown low old)) (rows_at medium k high (made.Grown low new))) (sym (ap level_in (made.outs-Grown low new) ∙ is)) r

@@ -10,11 +10,12 @@ use Rattle.btree_twigs.specs.declared.twigs.Child.TheVariants as made
 use Rattle.btree_twigs.specs.declared.twigs.Twig.{Twig, roll-Twig}
 use Rattle.std.specs.declared.vec.Vec.{Vec}
 use Rattle.std.specs.declared.alloc.Global.{Global}
-use Rattle.btree_twigs.specs.Stubs.{Stub, start_by, low_in, low_of, children_of}
+use Rattle.btree_twigs.specs.Stubs.{Stub, start_by, low_in, low_of, level_of, children_of}
 use Rattle.btree_twigs.specs.Shape.{EachBy, Begins, IsChildBy, IsChild, IsTwig}
 use Rattle.btree_twigs.specs.Updates.{IsNode, IsGrownBy, OneShort, width_in, width_of}
+use Rattle.btree_twigs.specs.Top.{level_in, child_level}
 use Rattle.btree_twigs.specs.Removal.{IsHeldIn, IsHelped, MendsAt, AreMended, IsChildTaken}
-use Rattle.btree_twigs.specs.Levels.{Node, IsMedium, rows_by, row, row_below, lows_of, Change, Stays, Drops, Loses, Moves, LosesLast, MovesLast, Changes, KeepsAt, EvensNext, EvensLast, MendedAt, Sinks, IsRowTaken, IsRowTakenBy, IsEvened, IsEvenedBy}
+use Rattle.btree_twigs.specs.Levels.{Node, IsMedium, rows_by, row, row_below, lows_of, Change, Stays, Drops, Loses, Moves, LosesLast, MovesLast, Changes, KeepsAt, EvensNext, EvensLast, MendedAt, Sinks, IsRowTaken, IsRowTakenBy, rows_at, ReshapeDown, IsEvened, IsEvenedBy}
 use Rattle.btree_twigs.proofs.ListLaws.{each_front, each_back}
 use Rattle.btree_twigs.proofs.Nodes.{low_of_grown, start_first, children_of_roll}
 use Rattle.btree_twigs.proofs.Removals.{snoc, last_at, next_at}
@@ -541,3 +542,57 @@ node_sinks medium order block level l high lev t new is olds news was now r =
     let n = children_of_roll (record { level = lev; children = new }) ∙ now in
     let q = subst (λ xs. RowsTaken medium order block (suc l) high xs (children_of (roll-Twig (record { level = lev; children = new })))) (sym was) (subst (RowsTaken medium order block (suc l) high olds) (sym n) r) in
     subst (λ k. IsRowTaken medium order block k high t (roll-Twig (record { level = lev; children = new }))) (sym is) (record { out = q.out; sinks = q.sinks; changes = q.changes })
+
+-- the same levels sink the same way
+pub sinks_same : (order block top : ℕ) (old new old' new' : ℕ → List Node) → ((k : ℕ) → k ≤ top → old' k ≡ old k) → ((k : ℕ) → k ≤ top → new' k ≡ new k) → (n j : ℕ) (change out : Change) → j + n ≤ suc top →
+    Sinks order block old new n j change out → Sinks order block old' new' n j change out
+sinks_same order block top old new old' new' was now n j change out le h =
+    sinks_lift order block top old new old' new' (λ k. []) (λ k. []) (λ k le. was k le ∙ sym (append-nil (old k))) (λ k le. now k le ∙ sym (append-nil (new k))) (λ k le. tt) (λ k le. tt) n j change out le h
+
+-- the root keeps children enough
+pub sunk_rows : (medium : Stub → ℕ → List Node) (order block level high low : ℕ) (old left : Twig) → low ≡ 0 → level_of left ≡ suc level → (1 ≤ level → 2 ≤ length (children_of left)) → IsRowTaken medium order block level high old left →
+    ReshapeDown order block (suc level) (child_level (made.Grown low left)) (rows_at medium (suc level) high (made.Grown low old)) (rows_at medium (child_level (made.Grown low left)) high (made.Grown low left))
+sunk_rows medium order block level high low old left zero_is is two r =
+    let h : ReshapeDown order block (suc level) (suc level) (rows_at medium (suc level) high (made.Grown low old)) (rows_at medium (suc level) high (made.Grown low left)) = record {
+      below = level;
+      level_is = refl;
+      lows = lows_of old;
+      left = lows_of left;
+      out = r.out;
+      was = row_own medium level high low old ∙ ap (λ m. record { low = m; lows = lows_of old } ∷ []) zero_is;
+      sinks = sinks_same order block level _ _ _ _ (λ k le. row_lower medium k level high low old le) (λ k le. row_lower medium k level high low left le) level 1 (Drops block) r.out (omega arith) r.sinks;
+      changes = r.changes;
+      now = inl (refl, row_own medium level high low left ∙ ap (λ m. record { low = m; lows = lows_of left } ∷ []) zero_is, (λ one. omega (arith, two one, lows_long (children_of left))));
+    } in
+    subst (λ k. ReshapeDown order block (suc level) k (rows_at medium (suc level) high (made.Grown low old)) (rows_at medium k high (made.Grown low left))) (sym (ap level_in (made.outs-Grown low left) ∙ is)) h
+
+-- the root gives way to its only child
+pub gone_rows : (medium : Stub → ℕ → List Node) (order block level high low : ℕ) (old left : Twig) (x : Child) → low ≡ 0 → child_level x ≡ level → 1 ≤ level → children_of left ≡ x ∷ [] → IsRowTaken medium order block level high old left →
+    ReshapeDown order block (suc level) (child_level x) (rows_at medium (suc level) high (made.Grown low old)) (rows_at medium (child_level x) high x)
+gone_rows medium order block level high low old left x zero_is is one only r =
+    let h : ReshapeDown order block (suc level) level (rows_at medium (suc level) high (made.Grown low old)) (rows_at medium level high x) = record {
+      below = level;
+      level_is = refl;
+      lows = lows_of old;
+      left = lows_of left;
+      out = r.out;
+      was = row_own medium level high low old ∙ ap (λ m. record { low = m; lows = lows_of old } ∷ []) zero_is;
+      sinks = sinks_same order block level _ _ _ _ (λ k le. row_lower medium k level high low old le) (λ k le. sym (ap (rows_by (row medium k level) high) only ∙ append-nil (row medium k level high x))) level 1 (Drops block) r.out (omega arith) r.sinks;
+      changes = r.changes;
+      now = inr (refl, one, lows_long (children_of left) ∙ ap length only);
+    } in
+    subst (λ k. ReshapeDown order block (suc level) k (rows_at medium (suc level) high (made.Grown low old)) (rows_at medium k high x)) (sym is) h
+
+-- levels that are the same have the same reshape
+pub down_from : (order block level new_level : ℕ) (old new old' : ℕ → List Node) → ((k : ℕ) → old' k ≡ old k) → ReshapeDown order block level new_level old new → ReshapeDown order block level new_level old' new
+down_from order block level new_level old new old' was h = record {
+  below = h.below;
+  level_is = h.level_is;
+  lows = h.lows;
+  left = h.left;
+  out = h.out;
+  was = was level ∙ h.was;
+  sinks = sinks_same order block h.below old new old' new (λ k le. was k) (λ k le. refl) h.below 1 (Drops block) h.out (omega arith) h.sinks;
+  changes = h.changes;
+  now = h.now;
+}

@@ -7,7 +7,7 @@ use Rattle.btree_twigs.specs.declared.twigs.Twig.{Twig}
 use Rattle.btree_twigs.specs.Stubs.{Stub, Puts, Takes, nodes, nodes_in, nodes_below, sum_by, start_by, low_in, low_of, children_of, stubs, stubs_in, stubs_below}
 use Rattle.btree_twigs.specs.Shape.{EachBy, IsChildBy, IsChild, IsTwig}
 use Rattle.btree_twigs.specs.Updates.{IsNode, IsOpen, IsSplit, IsTwigPut, stubs_under}
-use Rattle.btree_twigs.specs.Top.{IsTop, IsTopBy, top_least, IsRaised, IsTopPut, IsTopTaken}
+use Rattle.btree_twigs.specs.Top.{level_in, child_level, IsTop, IsTopBy, top_least, IsRaised, IsTopPut, IsTopTaken}
 use Rattle.btree_twigs.specs.Removal.{IsTwigTaken}
 use Rattle.btree_twigs.proofs.Ways.{open_front, open_back}
 use Rattle.btree_twigs.proofs.Counts.{nodes_grown}
@@ -121,18 +121,36 @@ open_after block low high old new t h =
     go [] h k = k
     go (x ∷ xs) h k = (h.0, go xs h.1 k)
 
--- the root gives way to its only child
-pub top_gone : (order level high block loses : ℕ) (old new : Twig) (low : ℕ) (x : Child) → 4 ≤ order → low ≡ 0 → block < high → IsOpen block (stubs_below (suc level) high old) →
-    IsTwigTaken order (suc level) (top_least (suc level)) 0 high block loses old new → children_of new ≡ x ∷ [] → IsTopTaken order (suc level) high block (made.Grown low old) x
-top_gone order level high block loses old new low x four zero_is lt is_open p e =
+top_level_by : (order level high : ℕ) (x : Child-F Child Twig) → IsTopBy order level high x → level_in x ≡ suc level
+top_level_by order level high (Kept low addr key) h = absurd h
+top_level_by order level high (Grown low twig) h = h.1.level_is
+
+pub top_level : (order level high : ℕ) (c : Child) → IsTop order level high c → child_level c ≡ suc level
+top_level order level high c h = top_level_by order level high (out-Child c) h
+
+-- the only child of a root
+pub record IsOnly (order level high block : ℕ) (new : Twig) (x : Child) : Type 0 where
+  pub same : stubs_below (suc level) high new ≡ stubs (suc level) high x
+  pub shaped : IsTop order level high x
+
+pub only_of : (order level high block loses : ℕ) (old new : Twig) (x : Child) → 4 ≤ order → block < high → IsOpen block (stubs_below (suc level) high old) →
+    IsTwigTaken order (suc level) (top_least (suc level)) 0 high block loses old new → children_of new ≡ x ∷ [] → IsOnly order level high block new x
+only_of order level high block loses old new x four lt is_open p e =
     let each = subst (EachBy low_of (IsChild order (suc level)) high) e p.shaped.node.each in
     let begins : low_of x ≡ 0 = subst (λ xs. start_by low_of xs high ≡ 0) e p.shaped.node.begins in
     let stubs_are : stubs_below (suc level) high new ≡ stubs (suc level) high x = ap (stubs_under (suc level) high) e ∙ append-nil (stubs (suc level) high x) in
     let opened = subst (IsOpen block) stubs_are (open_after block 0 high _ _ p.takes is_open) in
+    record { same = stubs_are; shaped = only_is_top order level high block x four each.1 begins opened lt }
+
+-- the root gives way to its only child
+pub top_gone : (order level high block loses : ℕ) (old new : Twig) (low : ℕ) (x : Child) → 4 ≤ order → low ≡ 0 → block < high → IsOpen block (stubs_below (suc level) high old) →
+    IsTwigTaken order (suc level) (top_least (suc level)) 0 high block loses old new → children_of new ≡ x ∷ [] → IsTopTaken order (suc level) high block (made.Grown low old) x
+top_gone order level high block loses old new low x four zero_is lt is_open p e =
+    let only = only_of order level high block loses old new x four lt is_open p e in
     record {
       new_level = level;
       level_is = inr refl;
-      shaped = only_is_top order level high block x four each.1 begins opened lt;
-      takes = subst (λ xs. Takes 0 high block xs (stubs (suc level) high x)) (sym (stubs_of_grown (suc level) high low old)) (subst (Takes 0 high block (stubs_below (suc level) high old)) stubs_are p.takes);
+      shaped = only.shaped;
+      takes = subst (λ xs. Takes 0 high block xs (stubs (suc level) high x)) (sym (stubs_of_grown (suc level) high low old)) (subst (Takes 0 high block (stubs_below (suc level) high old)) only.same p.takes);
       few = omega (arith, nodes_grown (suc level) low old, p.few, ap (sum_by (nodes (suc level))) e);
     }

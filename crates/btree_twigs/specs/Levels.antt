@@ -110,13 +110,16 @@ IsRowPutBelow medium order block level high old new None = Rises order block (λ
 IsRowPutBelow medium order block level high old new (Some part) =
     Rises order block (λ j. row medium j level high old) (λ j. row medium j level (low_of part) new ++ row medium j level high part) level 1 block (Some (low_of part))
 
--- the levels of a tree after an insertion are a reshape of those before: they rise up to the root;
--- where the root is cut there is a new one over the two parts
-abbrev pub IsReshaped : (Stub → ℕ → List Node) → ℕ → ℕ → ℕ → ℕ → Child → Child → Type 0
-IsReshaped medium order block level high old new =
-    Rises order block (λ j. row medium j (suc level) high old) (λ j. row medium j (suc level) high new) (suc level) 1 block None
-    ⊎ ((part : ℕ) × Rises order block (λ j. row medium j (suc level) high old) (λ j. row medium j (suc (suc level)) high new) (suc level) 1 block (Some part)
-    × (row medium (suc (suc level)) (suc (suc level)) high new ≡ record { low = 0; lows = 0 ∷ part ∷ [] } ∷ []))
+-- the nodes at each level of a child of a level
+abbrev pub rows_at : (Stub → ℕ → List Node) → ℕ → ℕ → Child → ℕ → List Node
+rows_at medium level high child j = row medium j level high child
+
+-- the levels of a tree after an insertion are a reshape of those before: they rise up to the root, at its level;
+-- where the root is cut there is a new one over the two parts, one level up
+abbrev pub Reshape : ℕ → ℕ → ℕ → ℕ → (ℕ → List Node) → (ℕ → List Node) → Type 0
+Reshape order block level new_level old new =
+    ((new_level ≡ level) × Rises order block old new level 1 block None)
+    ⊎ ((new_level ≡ suc level) × ((part : ℕ) × Rises order block old new level 1 block (Some part) × (new (suc level) ≡ record { low = 0; lows = 0 ∷ part ∷ [] } ∷ [])))
 
 -- what a removal makes of the lows of a node: nothing; one is taken out, if it is there; one is lost, or becomes another; so the last one
 pub data Change : Type 0 where
@@ -197,12 +200,16 @@ IsRowTakenBy medium order block level high (Kept low addr key) new = ⊥
 
 -- the levels of a tree after a removal are a reshape of those before: they sink up to the root, whose lows change;
 -- an inner root that is left with one child gives way to it
-pub record IsReshapedDown (medium : Stub → ℕ → List Node) (order block level high : ℕ) (old new : Child) : Type 0 where
-  pub twig : Twig
-  pub left : Twig
-  pub was : out-Child old ≡ Grown 0 twig
-  pub rows : IsRowTaken medium order block level high twig left
-  pub now : ((out-Child new ≡ Grown 0 left) × (1 ≤ level → 2 ≤ length (children_of left))) ⊎ ((1 ≤ level) × (children_of left ≡ new ∷ []))
+pub record ReshapeDown (order block level new_level : ℕ) (old new : ℕ → List Node) : Type 0 where
+  pub below : ℕ
+  pub level_is : level ≡ suc below
+  pub lows : List ℕ
+  pub left : List ℕ
+  pub out : Change
+  pub was : old level ≡ record { low = 0; lows = lows } ∷ []
+  pub sinks : Sinks order block old new below 1 (Drops block) out
+  pub changes : Changes out lows left
+  pub now : ((new_level ≡ level) × (new level ≡ record { low = 0; lows = left } ∷ []) × (1 ≤ below → 2 ≤ length left)) ⊎ ((new_level ≡ below) × (1 ≤ below) × (length left ≡ 1))
 
 -- of two neighbours the right one lends its first child
 pub record LendsFirst (order low : ℕ) (xs ys news : List Child) : Type 0 where

@@ -1,10 +1,10 @@
 ghost use Rattle.std.specs.Prelude.{◌-◌, suc, ◌≡◌, ℕ, ◌<◌, ◌≤◌, ◌+◌, ◌/◌, List, length, map, vec_capacity, vec_len};
 ghost use Rattle.btree_twigs.specs.Stubs.{Stub, Puts, datum, children_of, low_of as low_in, nodes, nodes_below, sum_by};
-ghost use Rattle.btree_twigs.specs.Levels.{Node, IsMedium, TakesLow, IsCut, IsRowPut, IsRowPutBelow, IsReshaped};
+ghost use Rattle.btree_twigs.specs.Levels.{Node, IsMedium, TakesLow, IsCut, IsRowPut, IsRowPutBelow, rows_at, Reshape};
 ghost use Rattle.btree_twigs.specs.Shape.{IsTwig};
 ghost use Rattle.btree_twigs.specs.Updates.{IsNode, IsPut, HasSpares, IsSplit, IsTwigPut, IsChildPut, CanPut, CanPutBelow};
 ghost use Rattle.std.specs.Option.{option_to_list};
-ghost use Rattle.btree_twigs.specs.Top.{CanPutTop, IsTopPut, CanRaise, IsRaised};
+ghost use Rattle.btree_twigs.specs.Top.{child_level, CanPutTop, IsTopPut, CanRaise, IsRaised};
 
 use crate::lists::{insert, move_tail, push, take_spare};
 use crate::twigs::{Child, Twig, addr_of, level_of, low_of, place};
@@ -143,7 +143,7 @@ pub fn put_top(
         → IsTopPut order at.level at.high (datum block addr key) top.old top.new }
     ensures spares { HasSpares order 0 spares.new.items }
     ensures levels { (medium : Stub → ℕ → List Node) → IsMedium medium → (at : CanPutTop order block spares.old.items top.old)
-        → IsReshaped medium order block at.level at.high top.old top.new }
+        → Reshape order block (suc at.level) (child_level top.new) (rows_at medium (suc at.level) at.high top.old) (rows_at medium (child_level top.new) at.high top.new) }
 {
     if let Child::Grown { twig, .. } = top {
         put(twig, order, block, addr, key, spares);

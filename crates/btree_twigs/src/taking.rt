@@ -1,10 +1,10 @@
 ghost use Rattle.std.specs.Prelude.{List, map, ◌⊎◌, IsTrue, IsSome, ◌↔◌, ◌-◌, suc, ◌∷◌, [], ◌++◌, ◌≡◌, ℕ, ◌<◌, ◌≤◌, ◌+◌, ◌/◌, length, take, vec_capacity, vec_len};
 ghost use Rattle.btree_twigs.specs.Stubs.{Stub, children_of, low_of as low_in, nodes, level_of as level_in};
-ghost use Rattle.btree_twigs.specs.Levels.{Node, IsMedium, Drops, Changes, IsEvenedBy, IsRowTaken, IsRowTakenBy, IsReshapedDown};
+ghost use Rattle.btree_twigs.specs.Levels.{Node, IsMedium, Drops, Changes, IsEvenedBy, IsRowTaken, IsRowTakenBy, rows_at, ReshapeDown};
 ghost use Rattle.btree_twigs.specs.Updates.{IsNode, OneShort, HasRoom, width_of, CanMend, IsMended};
 ghost use Rattle.std.specs.Option.{option_to_list};
 ghost use Rattle.btree_twigs.specs.Removal.{below_in, IsTaken, MendsAt, AreMended, CanTake, CanTakeBelow, IsTwigTaken, IsChildTaken, CanMendBeside};
-ghost use Rattle.btree_twigs.specs.Top.{CanTakeTop, IsTopTaken, HasOnly};
+ghost use Rattle.btree_twigs.specs.Top.{child_level, CanTakeTop, IsTopTaken, HasOnly};
 ghost use Rattle.btree_twigs.specs.declared.twigs.Child.{out-Child};
 ghost use Rattle.std.specs.Bool.{OnTrue, OnFalse};
 
@@ -177,14 +177,16 @@ pub fn take_top(top: &mut Child, order: usize, block: u64)
     requires four { 4 ≤ order }
     requires can { CanTakeTop order block top.old }
     ensures taken { (at : CanTakeTop order block top.old) → IsTopTaken order at.level at.high block top.old top.new }
-    ensures levels { (medium : Stub → ℕ → List Node) → IsMedium medium → (at : CanTakeTop order block top.old) → IsReshapedDown medium order block at.level at.high top.old top.new }
+    ensures levels { (medium : Stub → ℕ → List Node) → IsMedium medium → (at : CanTakeTop order block top.old)
+        → ReshapeDown order block (suc at.level) (child_level top.new) (rows_at medium (suc at.level) at.high top.old) (rows_at medium (child_level top.new) at.high top.new) }
 {
     if let Child::Grown { twig, .. } = top {
         take(twig, order, block);
         if twig.level == 1 {
             return;
         }
-        if twig.children.len() < 2 {
+        let is_single = twig.children.len() < 2;
+        if is_single {
             give_way(top);
         }
     }

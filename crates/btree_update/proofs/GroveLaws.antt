@@ -13,7 +13,7 @@ use Rattle.btree_twigs.specs.Stubs.{Stub, Puts, Takes, datum, stubs, stubs_in, s
 use Rattle.btree_twigs.specs.Shape.{IsTwig}
 use Rattle.btree_twigs.specs.Updates.{IsOpen, HasSpares}
 use Rattle.btree_twigs.specs.Search.{IsAt, IsSpot}
-use Rattle.btree_twigs.specs.Top.{IsTop, IsTopBy, top_least, level_in, child_level}
+use Rattle.btree_twigs.specs.Top.{IsTop, IsTopBy, top_least}
 use Rattle.btree_twigs.proofs.Nodes.{stubs_of_grown}
 use Rattle.btree_twigs.proofs.Ways.{open_back}
 use Rattle.btree_update.specs.GroveTree.{Maps}
@@ -36,13 +36,6 @@ pub no_place : (block : ℕ) (ss : List Stub) (s : Stub) → IsAt block ss (s �
 no_place block ss s at h one from to =
     let back = open_back block at.front (s ∷ at.back) (subst (IsOpen block) at.all h) in
     omega (arith, back.0 from to, one)
-
-top_level_by : (order level high : ℕ) (x : Child-F Child Twig) → IsTopBy order level high x → level_in x ≡ suc level
-top_level_by order level high (Kept low addr key) h = absurd h
-top_level_by order level high (Grown low twig) h = h.1.level_is
-
-pub top_level : (order level high : ℕ) (c : Child) → IsTop order level high c → child_level c ≡ suc level
-top_level order level high c h = top_level_by order level high (out-Child c) h
 
 top_root_by : (order level high : ℕ) (x : Child-F Child Twig) → IsTopBy order level high x → IsRootBy order level high x
 top_root_by order level high (Kept low addr key) h = absurd h

@@ -1,5 +1,5 @@
 -- How what is held beside the way comes into the tree.
-use Rattle.std.proofs.Common.{◌≡◌, ◌⊎◌, ℕ, zero, suc, ◌+◌, ◌-◌, ◌/◌, ◌<◌, ◌≤◌, List, [], ◌∷◌, ◌++◌, Option, None, Some, length, take, drop, get_or, set, vec_capacity, inl, inr, refl, sym, ap, subst, ◌∙◌, arith, length-append, append_assoc}
+use Rattle.std.proofs.Common.{◌≡◌, ◌⊎◌, ℕ, zero, suc, ◌+◌, ◌-◌, ◌/◌, ◌<◌, ◌≤◌, List, [], ◌∷◌, ◌++◌, Option, None, Some, Bool, IsTrue, length, take, drop, get_or, set, vec_capacity, inl, inr, refl, sym, ap, subst, ◌∙◌, arith, length-append, append_assoc}
 use Rattle.std.proofs.lemmas.List.{same_from_push, length-take-le, get_or_at}
 use Rattle.btree_twigs.specs.declared.twigs.Child.{Child, Child-F, out-Child}
 use Rattle.btree_twigs.specs.declared.twigs.Child.TheOpen.{Kept, Grown}
@@ -8,17 +8,19 @@ use Rattle.btree_twigs.specs.declared.twigs.Twig.{Twig, out-Twig}
 use Rattle.btree_twigs.specs.Stubs.{Stub, start_by, low_in, low_of, level_of, children_of, stubs, stubs_in, stubs_below, nodes, nodes_in, sum_by}
 use Rattle.btree_twigs.specs.Shape.{EachBy, IsChildBy, IsChild, IsTwig}
 use Rattle.btree_twigs.specs.Updates.{IsNode, IsOpen, stubs_under, width_in, width_of}
+use Rattle.btree_twigs.specs.Levels.{row_in, row}
 use Rattle.btree_twigs.specs.Removal.{IsHeldIn, below_in, Lends, IsHelped, HelpsOne, Helps}
 use Rattle.btree_twigs.proofs.ListLaws.{start_append, stubs_append, each_front, each_le, node_with}
 use Rattle.btree_twigs.proofs.Counts.{sum_append, nodes_grown}
 use Rattle.btree_twigs.proofs.Nodes.{low_of_grown, stubs_of_grown, grown_is_child}
 use Rattle.btree_twigs.specs.Top.{IsTopBy, top_least}
 use Rattle.btree_twigs.proofs.Ways.{open_front, open_back, child_is_twig}
-use Rattle.btree_update.specs.Held.{stub_at, AreBelow, AnyRead, IsReadAs}
-use Rattle.btree_update.specs.Opens.{Opens, Here, GivesWay}
-use Rattle.btree_update.specs.Beside.{Spares, LendsFrom, HasHelp, KeepsOrHasHelp, IsNodeHeld, HelpsOnWay, HelpsBelow, HelpsFrom}
+use Rattle.btree_update.specs.Held.{AreBelow, AnyRead}
+use Rattle.btree_update.specs.Opens.{GivesWay, GivesChild, GivesBelow}
+use Rattle.btree_update.specs.Beside.{IsReadWhere, Spares, LendsFrom, HasHelp, KeepsOrHasHelp, IsNodeHeld, HelpsBeside, HelpsOnWay, HelpsBelow, HelpsFrom}
 use Rattle.btree_update.specs.Helping.{IsPutBy, TakesHelp, IsHelpTaken, CanHelp, CanHelpWay, HelpedOut, HelpedWay, HelpedRoot}
-use Rattle.btree_update.proofs.OpenLaws.{child_is, opened, still_opens, still_below, lower, gives_none, gives_then}
+use Rattle.btree_update.proofs.OpenLaws.{child_is, opened, still_below, lower}
+use Rattle.btree_update.proofs.GivesLaws.{TakesUp, kept_takes, below_none, below_then, child_gives, node_gives}
 use Rattle.btree_update.proofs.BesideLaws.{same_split}
 
 -- a neighbour that took its node
@@ -44,14 +46,21 @@ up order l loses end (Kept low addr key) new node gone more h p = record {
   few = omega (arith, ap (nodes_in (nodes l)) p.0, h.0.bare);
 }
 
-up_gives : (pages : List (List ℕ)) (order l loses end : ℕ) (x : Child-F Child Twig) (new : Child) (node : Twig) (gone more : List ℕ) → LendsFrom (IsReadAs pages order) order l loses end x (Some node) → IsPutBy x new node gone more →
-    GivesWay pages order (stubs_in (stubs l) (suc l) end x) (stubs_in (stubs l) (suc l) end (out-Child new)) gone more
-up_gives pages order l loses end (Grown low twig) new node gone more h p = absurd h
-up_gives pages order l loses end (Kept low addr key) new node gone more h p = record {
-  addrs = addr ∷ [];
-  opens = subst (λ y. Opens pages order (addr ∷ []) (stub_at (suc l) low end addr key ∷ []) (stubs_in (stubs l) (suc l) end y)) (sym p.0) (Here h.0.reads);
-  more_is = p.1;
-}
+help_by : (pages : List (List ℕ)) (may : Stub → Bool) (order l loses end : ℕ) (x : Child-F Child Twig) (new : Child) (node : Twig) (gone more : List ℕ) → LendsFrom (IsReadWhere pages may order) order l loses end x (Some node) → IsPutBy x new node gone more →
+    (low : ℕ) × (out-Child new ≡ Grown low node) × TakesUp pages order (λ s. IsTrue (may s)) l end x low node gone more
+help_by pages may order l loses end (Grown low twig) new node gone more h p = absurd h
+help_by pages may order l loses end (Kept low addr key) new node gone more h p =
+    (low, p.0, kept_takes pages order (λ s. IsTrue (may s)) l end low addr low key node gone more refl h.0.reads.0 h.0.reads.1 p.1)
+
+help_gives : (pages : List (List ℕ)) (may : Stub → Bool) (order l loses end : ℕ) (c new : Child) (node : Twig) (gone more : List ℕ) → LendsFrom (IsReadWhere pages may order) order l loses end (out-Child c) (Some node) → IsPutBy (out-Child c) new node gone more →
+    GivesChild pages order (λ s. IsTrue (may s)) (suc l) end c new gone more
+unfolding stubs row
+help_gives pages may order l loses end c new node gone more h p =
+    let u = help_by pages may order l loses end (out-Child c) new node gone more h p in
+    record {
+      places = subst (λ y. GivesWay pages order (λ s. IsTrue (may s)) (stubs_in (stubs l) (suc l) end (out-Child c)) (stubs_in (stubs l) (suc l) end y) gone more) (sym u.1) u.2.places;
+      rows = λ medium t j. ap (row_in medium j (row medium j l) l end) u.1 ∙ u.2.rows medium t j;
+    }
 
 -- in memory it lends as it stands
 lends_none : (Reads : ℕ → Stub → Twig → Type 0) (order l loses end : ℕ) (x : Child-F Child Twig) → LendsFrom Reads order l loses end x None → IsHeldIn x × ((order / 2 < width_in x) ⊎ (1 ≤ loses))
@@ -159,34 +168,29 @@ placed order l least low high at loses fewer width old mid gone more fs c bs (So
     some_none x e = absurd cc
 placed order l least low high at loses fewer width old mid gone more fs c bs (Some node) h is n wide t (inr k) = placed_some order l least low high at loses fewer old mid gone more fs c bs node h is n t k.1
 
-gives_some : (pages : List (List ℕ)) (order l least low high at loses : ℕ) (old mid : Twig) (gone more : List ℕ) (fs : List Child) (c : Child) (bs : List Child) (node : Twig) → IsNode order (suc l) least order low high (children_of old) → children_of old ≡ fs ++ c ∷ bs → length fs + 1 ≡ at →
-    TakesHelp at node old mid gone more → HasHelp AnyRead order l loses high fs c bs (Some node) → (loses' : ℕ) → HasHelp (IsReadAs pages order) order l loses' high fs c bs (Some node) →
-    GivesWay pages order (stubs_below (suc l) high old) (stubs_below (suc l) high mid) gone more
-unfolding stubs
-gives_some pages order l least low high at loses old mid gone more fs c bs node h is n th help loses' reads =
+gives_some : (pages : List (List ℕ)) (may : Stub → Bool) (order l least low high at loses : ℕ) (old mid : Twig) (gone more : List ℕ) (fs : List Child) (c : Child) (bs : List Child) (node : Twig) → IsNode order (suc l) least order low high (children_of old) → children_of old ≡ fs ++ c ∷ bs → length fs + 1 ≡ at →
+    TakesHelp at node old mid gone more → HasHelp AnyRead order l loses high fs c bs (Some node) → (loses' : ℕ) → HasHelp (IsReadWhere pages may order) order l loses' high fs c bs (Some node) →
+    GivesBelow pages order (λ s. IsTrue (may s)) (suc l) high old mid gone more
+gives_some pages may order l least low high at loses old mid gone more fs c bs node h is n th help loses' reads =
     let cs = children_of old in
     let fi = take th.i cs in
     let bi = drop (suc th.i) cs in
     let u = up order l loses (start_by low_of bi high) (out-Child th.child) th.other node gone more (neighbour_at AnyRead order l loses high at th.i cs fs c bs th.child (Some node) is n th.was th.within th.next th.last help) th.put in
-    let g = up_gives pages order l loses' (start_by low_of bi high) (out-Child th.child) th.other node gone more (neighbour_at (IsReadAs pages order) order l loses' high at th.i cs fs c bs th.child (Some node) is n th.was th.within th.next th.last reads) th.put in
-    let o = still_opens order (suc l) least low high 0 fi th.child bi (subst (IsNode order (suc l) least order low high) th.was h) pages th.other g.addrs u.low_is g.opens in
-    record {
-      addrs = g.addrs;
-      opens = subst (λ xs. Opens pages order g.addrs (stubs_under (suc l) high cs) (stubs_under (suc l) high xs)) (sym th.now) (subst (λ xs. Opens pages order g.addrs (stubs_under (suc l) high xs) (stubs_under (suc l) high (fi ++ th.other ∷ bi))) (sym th.was) o);
-      more_is = g.more_is;
-    }
+    let g = help_gives pages may order l loses' (start_by low_of bi high) th.child th.other node gone more (neighbour_at (IsReadWhere pages may order) order l loses' high at th.i cs fs c bs th.child (Some node) is n th.was th.within th.next th.last reads) th.put in
+    node_gives pages order (λ s. IsTrue (may s)) (suc l) least low high old mid fi th.child th.other bi gone more (subst (IsNode order (suc l) least order low high) th.was h) th.was th.now u.low_is g
 
-pub placed_gives : (pages : List (List ℕ)) (order l least low high at loses fewer width loses' fewer' width' : ℕ) (old mid : Twig) (gone more : List ℕ) (fs : List Child) (c : Child) (bs : List Child) (one : Option Twig) → IsNode order (suc l) least order low high (children_of old) → children_of old ≡ fs ++ c ∷ bs → length fs + 1 ≡ at →
+pub placed_gives : (pages : List (List ℕ)) (may : Stub → Bool) (order l least low high at loses fewer width loses' fewer' width' : ℕ) (old mid : Twig) (gone more : List ℕ) (fs : List Child) (c : Child) (bs : List Child) (one : Option Twig) → IsNode order (suc l) least order low high (children_of old) → children_of old ≡ fs ++ c ∷ bs → length fs + 1 ≡ at →
     IsHelpTaken at one old mid gone more → KeepsOrHasHelp AnyRead order l fewer width loses high fs c bs one →
-    KeepsOrHasHelp (IsReadAs pages order) order l fewer' width' loses' high fs c bs one → GivesWay pages order (stubs_below (suc l) high old) (stubs_below (suc l) high mid) gone more
-placed_gives pages order l least low high at loses fewer width loses' fewer' width' old mid gone more fs c bs None h is n t e k =
-    subst (GivesWay pages order (stubs_below (suc l) high old) (stubs_below (suc l) high mid) gone) (sym t.1) (subst (λ w. GivesWay pages order (stubs_below (suc l) high old) (stubs_below (suc l) high w) gone gone) (sym t.0) (gives_none pages order (stubs_below (suc l) high old) gone))
-placed_gives pages order l least low high at loses fewer width loses' fewer' width' old mid gone more fs c bs (Some node) h is n t (inr e) (inr k) = gives_some pages order l least low high at loses old mid gone more fs c bs node h is n t e.1 loses' k.1
-placed_gives pages order l least low high at loses fewer width loses' fewer' width' old mid gone more fs c bs (Some node) h is n t (inl e) k = absurd (some_none e.0)
+    KeepsOrHasHelp (IsReadWhere pages may order) order l fewer' width' loses' high fs c bs one → GivesBelow pages order (λ s. IsTrue (may s)) (suc l) high old mid gone more
+placed_gives pages may order l least low high at loses fewer width loses' fewer' width' old mid gone more fs c bs None h is n t e k =
+    subst (GivesBelow pages order (λ s. IsTrue (may s)) (suc l) high old mid gone) (sym t.1)
+    (subst (λ w. GivesBelow pages order (λ s. IsTrue (may s)) (suc l) high old w gone gone) (sym t.0) (below_none pages order (λ s. IsTrue (may s)) (suc l) high old gone))
+placed_gives pages may order l least low high at loses fewer width loses' fewer' width' old mid gone more fs c bs (Some node) h is n t (inr e) (inr k) = gives_some pages may order l least low high at loses old mid gone more fs c bs node h is n t e.1 loses' k.1
+placed_gives pages may order l least low high at loses fewer width loses' fewer' width' old mid gone more fs c bs (Some node) h is n t (inl e) k = absurd (some_none e.0)
   where
     some_none : Some node ≡ None → ⊥
     some_none e = absurd cc
-placed_gives pages order l least low high at loses fewer width loses' fewer' width' old mid gone more fs c bs (Some node) h is n t (inr e) (inl k) = absurd (some_none k.0)
+placed_gives pages may order l least low high at loses fewer width loses' fewer' width' old mid gone more fs c bs (Some node) h is n t (inr e) (inl k) = absurd (some_none k.0)
   where
     some_none : Some node ≡ None → ⊥
     some_none e = absurd cc
@@ -340,20 +344,60 @@ module _ (order l least low high block n loses : ℕ) (old mid : Twig) (beside :
             below = λ head k. subst (λ xs. AreBelow head (stubs_under (suc l) high xs)) (sym now)
                 (still_below order (suc l) least low high block f y b node_y head d h.low_is (h.below_it head) (subst (λ xs. AreBelow head (stubs_under (suc l) high xs)) q.comes.now (q.below head k)));
             few = omega (arith, nodes_new, nodes_mid, h.few, q.few);
-            gives = λ pages held' loses' asks.
-                (let o' = way_asks (IsReadAs pages order) order block (suc l) l high loses' old held' beside fs x bs refl asks split from to in
+            gives = λ pages may held' loses' asks.
+                (let o' = way_asks (IsReadWhere pages may order) order block (suc l) l high loses' old held' beside fs x bs refl asks split from to in
                 let popped = same_from_push o.helps.rest o'.helps.rest o.helps.one o'.helps.one (sym o.helps.is ∙ o'.helps.is) in
-                let first = placed_gives pages order l least low high n loses o.helps.fewer (length (children_of o.node)) loses' o'.helps.fewer (length (children_of o'.node)) old mid gone gone' fs x bs o.helps.one shaped.node split n_is t o.helps.helped
-                (subst (KeepsOrHasHelp (IsReadAs pages order) order l o'.helps.fewer (length (children_of o'.node)) loses' high fs x bs) (sym popped.1) o'.helps.helped) in
-                let g = h.gives pages held' o'.helps.fewer (asks_y (IsReadAs pages order) held' loses' o' rest (rest_is ∙ popped.0)) in
-                let opens = still_opens order (suc l) least low high block f y b node_y pages d g.addrs h.low_is g.opens in
-                let second : GivesWay pages order (stubs_under (suc l) high (children_of mid)) (stubs_under (suc l) high (children_of new)) gone' more = record {
-                  addrs = g.addrs;
-                  opens = subst (λ xs. Opens pages order g.addrs (stubs_under (suc l) high (children_of mid)) (stubs_under (suc l) high xs)) (sym now) (subst (λ xs. Opens pages order g.addrs (stubs_under (suc l) high xs) (stubs_under (suc l) high (f ++ d ∷ b))) (sym q.comes.now) opens);
-                  more_is = g.more_is;
-                } in
-                gives_then pages order _ _ _ _ _ _ first second);
+                let first = placed_gives pages may order l least low high n loses o.helps.fewer (length (children_of o.node)) loses' o'.helps.fewer (length (children_of o'.node)) old mid gone gone' fs x bs o.helps.one shaped.node split n_is t o.helps.helped
+                (subst (KeepsOrHasHelp (IsReadWhere pages may order) order l o'.helps.fewer (length (children_of o'.node)) loses' high fs x bs) (sym popped.1) o'.helps.helped) in
+                let g = h.gives pages may held' o'.helps.fewer (asks_y (IsReadWhere pages may order) held' loses' o' rest (rest_is ∙ popped.0)) in
+                below_then pages order (λ s. IsTrue (may s)) (suc l) high old mid new gone gone' more first
+                (node_gives pages order (λ s. IsTrue (may s)) (suc l) least low high mid new f y d b gone' more node_y q.comes.now now h.low_is g));
           }
+
+-- what gives way below a child that stands in memory
+grown_out : (order below high block low : ℕ) (twig : Twig) (beside : List (Option Twig)) (held : List Twig) (loses : ℕ) (pages : List (List ℕ)) (may : Stub → Bool) (new : Twig) (gone more : List ℕ) → HelpsFrom (IsReadWhere pages may order) order block below high (made.Grown low twig) held beside loses →
+    ((pages : List (List ℕ)) (may : Stub → Bool) (held : List Twig) (loses : ℕ) → HelpsBelow (IsReadWhere pages may order) order block below high twig held beside loses → GivesBelow pages order (λ s. IsTrue (may s)) below high twig new gone more) →
+    GivesChild pages order (λ s. IsTrue (may s)) (suc below) high (made.Grown low twig) (made.Grown low new) gone more
+grown_out order below high block low twig beside held loses pages may new gone more asks gives =
+    let n = subst (λ y. IsNodeHeld y asks.node held asks.left) (made.outs-Grown low twig) asks.is_node in
+    let helps = subst (λ w. HelpsBelow (IsReadWhere pages may order) order block below high w asks.left beside loses) n.0 asks.helps in
+    child_gives pages order (λ s. IsTrue (may s)) below high low twig new gone more (gives pages may asks.left loses helps)
+
+-- what is asked of the nodes that are held holds of what it implies
+lends_weaker : (R Q : ℕ → Stub → Twig → Type 0) → ((l : ℕ) (s : Stub) (t : Twig) → R l s t → Q l s t) → (order l loses end : ℕ) (x : Child-F Child Twig) (one : Option Twig) → LendsFrom R order l loses end x one → LendsFrom Q order l loses end x one
+lends_weaker R Q f order l loses end (Kept low addr key) None h = absurd h
+lends_weaker R Q f order l loses end (Kept low addr key) (Some node) h = (record { reads = f l _ node h.0.reads; shaped = h.0.shaped; bare = h.0.bare; lower = h.0.lower }, h.1)
+lends_weaker R Q f order l loses end (Grown low twig) None h = h
+lends_weaker R Q f order l loses end (Grown low twig) (Some node) h = absurd h
+
+help_weaker : (R Q : ℕ → Stub → Twig → Type 0) → ((l : ℕ) (s : Stub) (t : Twig) → R l s t → Q l s t) → (order l loses high : ℕ) (fs : List Child) (c : Child) (bs : List Child) (one : Option Twig) → HasHelp R order l loses high fs c bs one → HasHelp Q order l loses high fs c bs one
+help_weaker R Q f order l loses high fs c (next ∷ back) one h = lends_weaker R Q f order l loses _ (out-Child next) one h
+help_weaker R Q f order l loses high fs c [] one h = λ others last is. lends_weaker R Q f order l loses _ (out-Child last) one (h others last is)
+
+helps_weaker : (R Q : ℕ → Stub → Twig → Type 0) → ((l : ℕ) (s : Stub) (t : Twig) → R l s t → Q l s t) → (order block level high : ℕ) (twig : Twig) (held : List Twig) (beside : List (Option Twig)) (loses : ℕ) → HelpsBelow R order block level high twig held beside loses →
+    HelpsBelow Q order block level high twig held beside loses
+unfolding HelpsBelow
+helps_weaker R Q f order block zero high twig held beside loses h = h
+helps_weaker R Q f order block (suc level) high twig held beside loses h = λ front back c is from to.
+    (let k = h front back c is from to in
+    let helps : HelpsBeside Q order level (length (children_of k.node)) high front c back (HelpsBelow Q order block level (start_by low_of back high) k.node k.left) beside loses = record {
+      rest = k.helps.rest;
+      one = k.helps.one;
+      is = k.helps.is;
+      fewer = k.helps.fewer;
+      lower = helps_weaker R Q f order block level (start_by low_of back high) k.node k.left k.helps.rest k.helps.fewer k.helps.lower;
+      helped = by front c back (length (children_of k.node)) k.helps.fewer k.helps.one k.helps.helped;
+    } in
+    record { node = k.node; left = k.left; is_node = k.is_node; helps = helps })
+  where
+    by : (front : List Child) (c : Child) (back : List Child) (width fewer : ℕ) (one : Option Twig) → KeepsOrHasHelp R order level fewer width loses high front c back one → KeepsOrHasHelp Q order level fewer width loses high front c back one
+    by front c back width fewer one (inl k) = inl k
+    by front c back width fewer one (inr k) = inr (k.0, help_weaker R Q f order level loses high front c back one k.1)
+
+pub from_weaker : (R Q : ℕ → Stub → Twig → Type 0) → ((l : ℕ) (s : Stub) (t : Twig) → R l s t → Q l s t) → (order block below high : ℕ) (c : Child) (held : List Twig) (beside : List (Option Twig)) (loses : ℕ) → HelpsFrom R order block below high c held beside loses →
+    HelpsFrom Q order block below high c held beside loses
+from_weaker R Q f order block below high c held beside loses h =
+    record { node = h.node; left = h.left; is_node = h.is_node; helps = helps_weaker R Q f order block below high h.node h.left beside loses h.helps }
 
 -- below a child
 pub way_out : (order below high block loses low : ℕ) (twig new : Twig) (beside : List (Option Twig)) (gone more : List ℕ) → HelpedOut order below (order / 2) low high block loses twig new beside gone more →
@@ -366,11 +410,7 @@ way_out order below high block loses low twig new beside gone more h = record {
   wide = ap width_in (made.outs-Grown low new) ∙ h.wide ∙ sym (ap width_in (made.outs-Grown low twig));
   below_it = λ head k. subst (AreBelow head) (sym (stubs_of_grown below high low new)) (h.below head (subst (AreBelow head) (stubs_of_grown below high low twig) k));
   few = omega (arith, nodes_grown below low new, nodes_grown below low twig, h.few);
-  gives = λ pages held loses asks.
-      (let n = subst (λ y. IsNodeHeld y asks.node held asks.left) (made.outs-Grown low twig) asks.is_node in
-      let helps = subst (λ w. HelpsBelow (IsReadAs pages order) order block below high w asks.left beside loses) n.0 asks.helps in
-      subst (λ ss. GivesWay pages order ss (stubs (suc below) high (made.Grown low new)) gone more) (sym (stubs_of_grown below high low twig))
-      (subst (λ ss. GivesWay pages order (stubs_below below high twig) ss gone more) (sym (stubs_of_grown below high low new)) (h.gives pages asks.left loses helps)));
+  gives = λ pages may held loses asks. grown_out order below high block low twig beside held loses pages may new gone more asks h.gives;
 }
 
 -- a leaf stays as it is
@@ -384,7 +424,7 @@ leaf_out order zero least low high block loses twig held beside gone is shaped i
   wide = refl;
   below = λ head k. k;
   few = omega arith;
-  gives = λ pages held loses asks. gives_none pages order _ gone;
+  gives = λ pages may held loses asks. below_none pages order (λ s. IsTrue (may s)) 0 high twig gone;
 }
 leaf_out order (suc level) least low high block loses twig held beside gone is shaped is_open h = absurd (omega (arith, is))
 
@@ -418,9 +458,5 @@ root_out order below high block loses low twig new beside gone more zero_is h = 
   helps = subst (λ y. Helps order block below (below_in y) loses) (sym (made.outs-Grown low new)) h.helps;
   below_it = λ head k. subst (AreBelow head) (sym (stubs_of_grown below high low new)) (h.below head (subst (AreBelow head) (stubs_of_grown below high low twig) k));
   few = omega (arith, nodes_grown below low new, nodes_grown below low twig, h.few);
-  gives = λ pages held loses asks.
-      (let n = subst (λ y. IsNodeHeld y asks.node held asks.left) (made.outs-Grown low twig) asks.is_node in
-      let helps = subst (λ w. HelpsBelow (IsReadAs pages order) order block below high w asks.left beside loses) n.0 asks.helps in
-      subst (λ ss. GivesWay pages order ss (stubs (suc below) high (made.Grown low new)) gone more) (sym (stubs_of_grown below high low twig))
-      (subst (λ ss. GivesWay pages order (stubs_below below high twig) ss gone more) (sym (stubs_of_grown below high low new)) (h.gives pages asks.left loses helps)));
+  gives = λ pages may held loses asks. grown_out order below high block low twig beside held loses pages may new gone more asks h.gives;
 }

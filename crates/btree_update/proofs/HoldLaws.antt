@@ -111,7 +111,7 @@ read_as pages order level low high addr least key twig small h = record {
   small = small;
   entries = h.entries;
   here = h.here;
-  same = ap (stubs_under level high) h.children ∙ kept_stubs level high h.entries;
+  children = h.children;
 }
 
 -- a child on the medium whose node is held

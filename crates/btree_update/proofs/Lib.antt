@@ -1,7 +1,10 @@
 pub mod Places
+pub mod Readings
 pub mod OpenLaws
 pub mod OpenMaps
-pub mod Readings
+pub mod RowLaws
+pub mod MediumLaws
+pub mod GivesLaws
 pub mod RootLaws
 pub mod GroveLaws
 pub mod CacheLaws

@@ -23,6 +23,7 @@ use Rattle.btree_update.specs.Roots.{RootMaps, RootMapsBy}
 use Rattle.btree_update.specs.Beside.{HoldsBeside, IsMappedBy, IsAfter}
 use Rattle.btree_update.proofs.OpenLaws.{IsOnWay}
 use Rattle.btree_update.proofs.OpenMaps.{opened_maps}
+use Rattle.btree_update.proofs.Readings.{read_same}
 use Rattle.btree_update.proofs.Places.{maps_split, in_maps, weaker, IsIn, read_maps}
 
 lacks_append : (block : ℕ) (xs ys : List Mapped) → LacksBlock block xs → LacksBlock block ys → LacksBlock block (xs ++ ys)
@@ -101,14 +102,14 @@ pub kept_mapped : (pages : List (List ℕ)) (order l high low addr : ℕ) (key :
     Maps pages order (stubs_below l high twig) mapped
 unfolding stubs
 kept_mapped pages order l high low addr key twig r mapped m =
-    opened_maps pages order (addr ∷ []) (stub_at (suc l) low high addr key ∷ []) (stubs_below l high twig) mapped (Here r)
+    opened_maps pages order (stub_at (suc l) low high addr key ∷ []) (stub_at (suc l) low high addr key ∷ []) (stubs_below l high twig) mapped (Here r)
     (subst (λ x. Maps pages order (stubs_in (stubs l) (suc l) high x) mapped) (made.outs-Kept low addr key) m)
 
 pub root_kept_mapped : (pages : List (List ℕ)) (order below high low addr : ℕ) (key : List ℕ) (twig : Twig) → IsReadAs pages order below (stub_at (suc below) 0 high addr key) twig → (mapped : List Mapped) → RootMaps pages order below high (made.Kept low addr key) mapped →
     Maps pages order (stubs_below below high twig) mapped
 root_kept_mapped pages order below high low addr key twig r mapped m =
     let k = subst (λ x. RootMapsBy pages order below high x mapped) (made.outs-Kept low addr key) m in
-    subst (λ ss. Maps pages order ss mapped) (sym r.same) (subst (Maps pages order _) (sym k.2) (read_maps pages order below (top_want order high (suc below) addr) key k.0 r.entries r.small k.1 r.here))
+    subst (λ ss. Maps pages order ss mapped) (sym (read_same pages order below (stub_at (suc below) 0 high addr key) twig r)) (subst (Maps pages order _) (sym k.2) (read_maps pages order below (top_want order high (suc below) addr) key k.0 r.entries r.small k.1 r.here))
 
 pub root_grown_mapped : (pages : List (List ℕ)) (order below high low : ℕ) (twig : Twig) (mapped : List Mapped) → RootMaps pages order below high (made.Grown low twig) mapped → Maps pages order (stubs_below below high twig) mapped
 root_grown_mapped pages order below high low twig mapped m = subst (λ x. RootMapsBy pages order below high x mapped) (made.outs-Grown low twig) m

@@ -1,5 +1,5 @@
 -- How the way to a block is opened.
-use Rattle.std.proofs.Common.{◌≡◌, ℕ, zero, suc, ◌-◌, ◌/◌, ◌<◌, ◌≤◌, List, [], ◌∷◌, ◌++◌, length, take, drop, get_or, refl, sym, ap, subst, ◌∙◌, arith, append_assoc, append-nil, length-append, vec_capacity, Some}
+use Rattle.std.proofs.Common.{◌≡◌, ℕ, zero, suc, ◌-◌, ◌/◌, ◌<◌, ◌≤◌, List, [], ◌∷◌, ◌++◌, length, take, drop, get_or, refl, sym, ap, subst, ◌∙◌, arith, length-append, vec_capacity, Some}
 use Rattle.std.specs.List.{AllByRecursion}
 use Rattle.std.proofs.lemmas.List.{same_from_push}
 use Rattle.std.proofs.lemmas.Option.{none-some}
@@ -14,8 +14,8 @@ use Rattle.btree_twigs.specs.Shape.{EachBy, IsChildBy, IsChild, IsTwig}
 use Rattle.btree_twigs.specs.Updates.{IsNode, IsOpen, stubs_under}
 use Rattle.btree_twigs.proofs.ListLaws.{stubs_append, each_front, each_back, tiles_by, tiles_le, split_here, at_end, node_with}
 use Rattle.btree_twigs.proofs.Children.{tiles_child}
-use Rattle.btree_update.specs.Held.{stub_at, AreBelow, IsReadAs, OnWay, HeldIn, HeldFor, AnyRead, IsOpened, IsTakenUp, IsNoted, IsAtHand, IsOpenedBelow}
-use Rattle.btree_update.specs.Opens.{Opens, Same, Here, Within, Then, GivesWay}
+use Rattle.btree_update.specs.Held.{AreBelow, OnWay, HeldIn, HeldFor, AnyRead, IsOpened, IsTakenUp, IsAtHand, IsOpenedBelow}
+use Rattle.btree_update.specs.Opens.{Opens, Within}
 
 -- places before the block or behind it are no hindrance
 open_before : (low high block : ℕ) (ss : List Stub) → Tiles low high ss → high ≤ block → IsOpen block ss
@@ -74,12 +74,12 @@ module _ (order level least low high block : ℕ) (fs : List Child) (c : Child) 
       )
 
   -- what is opened below the child is opened below the node
-  pub still_opens : (pages : List (List ℕ)) (d : Child) (addrs : List ℕ) → low_of d ≡ low_of c → Opens pages order addrs (stubs level (start_by low_of bs high) c) (stubs level (start_by low_of bs high) d) →
-      Opens pages order addrs (stubs_under level high (fs ++ c ∷ bs)) (stubs_under level high (fs ++ d ∷ bs))
-  still_opens pages d addrs low_is o =
+  pub still_opens : (pages : List (List ℕ)) (d : Child) (places : List Stub) → low_of d ≡ low_of c → Opens pages order places (stubs level (start_by low_of bs high) c) (stubs level (start_by low_of bs high) d) →
+      Opens pages order places (stubs_under level high (fs ++ c ∷ bs)) (stubs_under level high (fs ++ d ∷ bs))
+  still_opens pages d places low_is o =
       let all = Within (stubs_under level (low_of c) fs) (stubs_under level high bs) o in
-      subst (λ ss. Opens pages order addrs ss (stubs_under level high (fs ++ d ∷ bs))) (sym (stubs_append low_of (stubs level) high fs (c ∷ bs)))
-      (subst (Opens pages order addrs (stubs_under level (low_of c) fs ++ (stubs level (start_by low_of bs high) c ++ stubs_under level high bs)))
+      subst (λ ss. Opens pages order places ss (stubs_under level high (fs ++ d ∷ bs))) (sym (stubs_append low_of (stubs level) high fs (c ∷ bs)))
+      (subst (Opens pages order places (stubs_under level (low_of c) fs ++ (stubs level (start_by low_of bs high) c ++ stubs_under level high bs)))
       (ap (λ m. stubs_under level m fs ++ (stubs level (start_by low_of bs high) d ++ stubs_under level high bs)) (sym low_is) ∙ sym (stubs_append low_of (stubs level) high fs (d ∷ bs))) all)
 
   -- where the child's places have lower addresses, so have the node's
@@ -169,42 +169,6 @@ pub up : (Reads : ℕ → Stub → Twig → Type 0) (order block l high : ℕ) (
 unfolding IsChild HeldFor
 up Reads order block l high c new held rest low twig h k t is = up_by Reads order block l high (HeldFor Reads order block l) (out-Child c) new held rest low twig h k t is
 
--- nothing gives way
-pub gives_none : (pages : List (List ℕ)) (order : ℕ) (old : List Stub) (gone : List ℕ) → GivesWay pages order old old gone gone
-gives_none pages order old gone = record { addrs = []; opens = Same; more_is = sym (append-nil gone) }
-
--- one after the other
-pub gives_then : (pages : List (List ℕ)) (order : ℕ) (old mid new : List Stub) (gone more most : List ℕ) → GivesWay pages order old mid gone more → GivesWay pages order mid new more most → GivesWay pages order old new gone most
-gives_then pages order old mid new gone more most h k = record {
-  addrs = h.addrs ++ k.addrs;
-  opens = Then h.opens k.opens;
-  more_is = k.more_is ∙ ap (λ g. g ++ k.addrs) h.more_is ∙ append_assoc gone h.addrs k.addrs;
-}
-
-up_gives_by : (pages : List (List ℕ)) (order block l high : ℕ) (Rest : ℕ → Child → List Twig → Type 0) (x : Child-F Child Twig) (new : Child) (held rest : List Twig) (low : ℕ) (twig : Twig) (gone more : List ℕ) →
-    HeldIn (IsReadAs pages order) order block Rest l high x held → IsTakenUp x new held rest → IsNoted x gone more → out-Child new ≡ Grown low twig →
-    GivesWay pages order (stubs_in (stubs l) (suc l) high x) (stubs_below l high twig) gone more
-up_gives_by pages order block l high Rest (Kept low' addr key) new held rest low twig gone more h t n is =
-    let same = same_from_push h.rest rest h.twig t.0 (sym h.is ∙ t.1) in
-    let grown : grown_of low' t.0 ≡ grown_of low twig = sym t.2 ∙ is in
-    let twigs : t.0 ≡ twig = cc in
-    record {
-      addrs = addr ∷ [];
-      opens = subst (λ w. Opens pages order (addr ∷ []) (stub_at (suc l) low' high addr key ∷ []) (stubs_below l high w)) (same.1 ∙ twigs) (Here h.reads);
-      more_is = n;
-    }
-up_gives_by pages order block l high Rest (Grown low' twig') new held rest low twig gone more h t n is =
-    let grown : grown_of low' twig' ≡ grown_of low twig = sym t.0 ∙ is in
-    let twigs : twig' ≡ twig = cc in
-    subst (GivesWay pages order (stubs_below l high twig') (stubs_below l high twig) gone) (sym n)
-    (subst (λ w. GivesWay pages order (stubs_below l high twig') (stubs_below l high w) gone gone) twigs (gives_none pages order (stubs_below l high twig') gone))
-
-pub up_gives : (pages : List (List ℕ)) (order block l high : ℕ) (c new : Child) (held rest : List Twig) (low : ℕ) (twig : Twig) (gone more : List ℕ) →
-    HeldFor (IsReadAs pages order) order block (suc l) high c held → IsTakenUp (out-Child c) new held rest → IsNoted (out-Child c) gone more → out-Child new ≡ Grown low twig →
-    GivesWay pages order (stubs (suc l) high c) (stubs_below l high twig) gone more
-unfolding HeldFor stubs
-up_gives pages order block l high c new held rest low twig gone more h t n is = up_gives_by pages order block l high (HeldFor (IsReadAs pages order) order block l) (out-Child c) new held rest low twig gone more h t n is
-
 up_below_by : (order block l high head : ℕ) (Rest : ℕ → Child → List Twig → Type 0) (x : Child-F Child Twig) (new : Child) (held rest : List Twig) (low : ℕ) (twig : Twig) →
     HeldIn AnyRead order block Rest l high x held → IsTakenUp x new held rest → out-Child new ≡ Grown low twig → AreBelow head (stubs_in (stubs l) (suc l) high x) → AreBelow head (stubs_below l high twig)
 up_below_by order block l high head Rest (Kept low' addr key) new held rest low twig h t is below =
@@ -242,10 +206,6 @@ twig_opened order level least low high block lev t new is room h o = record {
   shaped = twig_of order level least order low high (record { level = lev; children = new }) (record { level_is = is; room = room; node = h });
   is_open = subst (λ xs. IsOpen block (stubs_under level high xs)) (sym (children_of_roll (record { level = lev; children = new }))) o;
 }
-
-pub twig_gives : (pages : List (List ℕ)) (order level high lev : ℕ) (old : List Stub) (new : Vec Child Global) (gone more : List ℕ) → GivesWay pages order old (stubs_under level high new.items) gone more →
-    GivesWay pages order old (stubs_below level high (roll-Twig (record { level = lev; children = new }))) gone more
-twig_gives pages order level high lev old new gone more h = subst (λ xs. GivesWay pages order old (stubs_under level high xs) gone more) (sym (children_of_roll (record { level = lev; children = new }))) h
 
 -- a child on the medium that took a node
 pub taken_up : (x : Child-F Child Twig) (new : Child) (old rest : List Twig) (low addr : ℕ) → addr_in x ≡ Some addr → low ≡ low_in x → (twig : Twig) × (old ≡ rest ++ twig ∷ []) × (out-Child new ≡ Grown low twig) → IsTakenUp x new old rest

@@ -6,6 +6,7 @@ use Rattle.btree_twigs.specs.Stubs.{Stub}
 use Rattle.btree_update.specs.GroveTree.{want_of, HasEach, Maps, stubs_at}
 use Rattle.btree_update.specs.Held.{stub_at, IsReadAs}
 use Rattle.btree_update.specs.Opens.{Opens, Same, Here, Within, Then}
+use Rattle.btree_update.proofs.Readings.{read_same}
 use Rattle.btree_update.proofs.Places.{maps_append, maps_split, read_maps}
 
 of_one : (pages : List (List ℕ)) (order l : ℕ) (s : Stub) (twig : Twig) (mapped : List Mapped) (r : IsReadAs pages order l s twig) (ps : List Parts) → HasEach pages order (record s { level = suc l } ∷ []) ps → mapped ≡ (joined ps).mapped →
@@ -24,9 +25,9 @@ within_maps pages order fs bs old new mapped one h =
     subst (Maps pages order (fs ++ (new ++ bs))) (sym (a.is ∙ ap (λ m. a.left ++ m) b.is))
     (maps_append pages order fs (new ++ bs) a.left (b.left ++ b.right) a.on_left (maps_append pages order new bs b.left b.right (one b.left b.on_left) b.on_right))
 
-pub opened_maps : (pages : List (List ℕ)) (order : ℕ) (addrs : List ℕ) (old new : List Stub) (mapped : List Mapped) → Opens pages order addrs old new → Maps pages order old mapped → Maps pages order new mapped
-opened_maps pages order addrs old new mapped Same h = h
-opened_maps pages order addrs old new mapped (Here {below = below} {low = low} {high = high} {addr = addr} {key = key} {twig = twig} r) h =
-    subst (λ ss. Maps pages order ss mapped) (sym r.same) (of_one pages order below (stub_at (suc below) low high addr key) twig mapped r h.each h.has h.is)
-opened_maps pages order addrs old new mapped (Within {addrs = first} {old = xs} {new = ys} fs bs o) h = within_maps pages order fs bs xs ys mapped (λ m k. opened_maps pages order first xs ys m o k) h
-opened_maps pages order addrs old new mapped (Then {first = first} {second = second} {old = xs} {mid = mid} {new = ys} o p) h = opened_maps pages order second mid ys mapped p (opened_maps pages order first xs mid mapped o h)
+pub opened_maps : (pages : List (List ℕ)) (order : ℕ) (places old new : List Stub) (mapped : List Mapped) → Opens pages order places old new → Maps pages order old mapped → Maps pages order new mapped
+opened_maps pages order places old new mapped Same h = h
+opened_maps pages order places old new mapped (Here {below = below} {low = low} {high = high} {addr = addr} {key = key} {twig = twig} r) h =
+    subst (λ ss. Maps pages order ss mapped) (sym (read_same pages order below (stub_at (suc below) low high addr key) twig r)) (of_one pages order below (stub_at (suc below) low high addr key) twig mapped r h.each h.has h.is)
+opened_maps pages order places old new mapped (Within {places = first} {old = xs} {new = ys} fs bs o) h = within_maps pages order fs bs xs ys mapped (λ m k. opened_maps pages order first xs ys m o k) h
+opened_maps pages order places old new mapped (Then {first = first} {second = second} {old = xs} {mid = mid} {new = ys} o p) h = opened_maps pages order second mid ys mapped p (opened_maps pages order first xs mid mapped o h)

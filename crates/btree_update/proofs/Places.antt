@@ -118,7 +118,7 @@ in_wider : (low high low' high' : ℕ) (xs : List Mapped) → low' ≤ low → h
 in_wider low high low' high' [] le le' h = tt
 in_wider low high low' high' (x ∷ xs) le le' h = ((omega (arith, le, h.0.0), omega (arith, le', h.0.1)), in_wider low high low' high' xs le le' h.1)
 
-bound_le : (high : ℕ) (es : List Entry) → AllByRecursion (λ e. e.low < high) es → bound_of es high ≤ high
+pub bound_le : (high : ℕ) (es : List Entry) → AllByRecursion (λ e. e.low < high) es → bound_of es high ≤ high
 bound_le high [] h = omega arith
 bound_le high (e ∷ es) h = omega (arith, h.0)
 

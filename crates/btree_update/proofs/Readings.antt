@@ -12,22 +12,23 @@ use Rattle.page_store.specs.Places.{IsNodeWanted}
 use Rattle.page_store.specs.Tree.{bound_of}
 use Rattle.btree_twigs.specs.declared.twigs.Child.TheVariants as made
 use Rattle.btree_twigs.specs.declared.twigs.Twig.{Twig, out-Twig}
-use Rattle.btree_twigs.specs.Stubs.{datum, start_by, low_of, level_of, children_of}
+use Rattle.btree_twigs.specs.Stubs.{Stub, datum, start_by, low_of, level_of, children_of, stubs_below}
 use Rattle.btree_twigs.specs.Shape.{EachBy, Begins, IsChildBy, IsChild, IsTwig}
 use Rattle.btree_twigs.specs.Updates.{IsNode, stubs_under}
 use Rattle.btree_twigs.proofs.Children.{low_of_kept, stubs_of_kept, kept_is_datum}
 use Rattle.btree_twigs.proofs.Finds.{kept_stub}
 use Rattle.btree_update.specs.GroveTree.{stubs_at}
 use Rattle.btree_update.specs.Reading.{kept_of, all_kept}
+use Rattle.btree_update.specs.Held.{IsReadAs}
 
-tail_ascends : (x : ℕ) (xs : List ℕ) → IsStrictlyIncreasing (x ∷ xs) → IsStrictlyIncreasing xs
+pub tail_ascends : (x : ℕ) (xs : List ℕ) → IsStrictlyIncreasing (x ∷ xs) → IsStrictlyIncreasing xs
 tail_ascends x xs h k lt = let i = h (suc k) (omega (arith, lt)) in let e : suc k + 1 ≡ suc (k + 1) = omega arith in subst (λ n. slice_index xs k < slice_index (x ∷ xs) n) e i
 
-start_is : (es : List Entry) (high : ℕ) → start_by low_of (all_kept es) high ≡ bound_of es high
+pub start_is : (es : List Entry) (high : ℕ) → start_by low_of (all_kept es) high ≡ bound_of es high
 start_is [] high = refl
 start_is (e ∷ es) high = low_of_kept e.low e.addr e.key
 
-bound_above : (e : Entry) (es : List Entry) (high : ℕ) → e.low < high → IsStrictlyIncreasing (map (λ (e : Entry). e.low) (e ∷ es)) → e.low < bound_of es high
+pub bound_above : (e : Entry) (es : List Entry) (high : ℕ) → e.low < high → IsStrictlyIncreasing (map (λ (e : Entry). e.low) (e ∷ es)) → e.low < bound_of es high
 bound_above e [] high lt h = lt
 bound_above e (f ∷ es) high lt h = h 0 (omega arith)
 
@@ -36,7 +37,7 @@ unfolding IsChild
 kept_is_child order zero high e = kept_is_datum order high e.low e.addr e.key
 kept_is_child order (suc level) high e = subst (IsChildBy (IsChild order level) order level high) (sym (made.outs-Kept e.low e.addr e.key)) tt
 
-each_kept : (order level high : ℕ) (es : List Entry) → AllByRecursion (λ e. e.low < high) es → IsStrictlyIncreasing (map (λ (e : Entry). e.low) es) → EachBy low_of (IsChild order level) high (all_kept es)
+pub each_kept : (order level high : ℕ) (es : List Entry) → AllByRecursion (λ e. e.low < high) es → IsStrictlyIncreasing (map (λ (e : Entry). e.low) es) → EachBy low_of (IsChild order level) high (all_kept es)
 each_kept order level high [] below h = tt
 each_kept order level high (e ∷ es) below h =
     (omega (arith, low_of_kept e.low e.addr e.key, start_is es high, bound_above e es high below.0 h), kept_is_child order level _ e, each_kept order level high es below.1 (tail_ascends e.low (map (λ (e : Entry). e.low) es) h))
@@ -50,6 +51,10 @@ kept_stubs (suc level) high (e ∷ es) =
     ap (λ s. s ++ stubs_under (suc level) high (all_kept es)) (kept_stub level (start_by low_of (all_kept es) high) e.low e.addr e.key)
     ∙ ap (λ m. record { level = suc level; low = e.low; high = m; addr = e.addr; key = e.key } ∷ stubs_under (suc level) high (all_kept es)) (start_is es high)
     ∙ ap (λ s. record { level = suc level; low = e.low; high = bound_of es high; addr = e.addr; key = e.key } ∷ s) (kept_stubs (suc level) high es)
+
+-- the places below a node that was read are those of its page
+pub read_same : (pages : List (List ℕ)) (order below : ℕ) (stub : Stub) (twig : Twig) (r : IsReadAs pages order below stub twig) → stubs_below below stub.high twig ≡ stubs_at below stub.high r.entries
+read_same pages order below stub twig r = ap (stubs_under below stub.high) r.children ∙ kept_stubs below stub.high r.entries
 
 first_is : (low high : ℕ) (es : List Entry) → 0 < length es → IfSome (slice_get es 0) (λ (e : Entry). e.low ≡ low) → start_by low_of (all_kept es) high ≡ low
 first_is low high [] lt h = absurd (omega (arith, lt))

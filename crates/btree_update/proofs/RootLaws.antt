@@ -9,11 +9,11 @@ use Rattle.btree_twigs.specs.Stubs.{Stub, stubs, stubs_in, stubs_below, nodes, n
 use Rattle.btree_twigs.specs.Shape.{IsTwig}
 use Rattle.btree_twigs.specs.Top.{top_least}
 use Rattle.btree_update.specs.GroveTree.{Maps, top_want}
-use Rattle.btree_update.specs.Held.{stub_at, AreBelow, IsReadAs, OnWay, HeldFor, AnyRead, IsTakenUp, IsNoted, IsAtHand, CanOpenBelow}
-use Rattle.btree_update.specs.Opens.{Opens, Here, GivesWay}
+use Rattle.btree_update.specs.Held.{stub_at, AreBelow, IsReadAs, OnWay, HeldFor, AnyRead, IsTakenUp, IsAtHand, CanOpenBelow}
 use Rattle.btree_update.specs.Roots.{IsRootBy, HeldRootBy, RootMapsBy}
 use Rattle.btree_update.proofs.Places.{read_maps}
-use Rattle.btree_update.proofs.OpenLaws.{gives_none, lower}
+use Rattle.btree_update.proofs.OpenLaws.{lower}
+use Rattle.btree_update.proofs.Readings.{read_same}
 
 pub root_at_hand : (Reads : ℕ → Stub → Twig → Type 0) (order block below high : ℕ) (x : Child-F Child Twig) (held : List Twig) → HeldRootBy Reads order block below high x held → IsAtHand x held
 root_at_hand Reads order block below high (Kept low addr key) held h = omega (arith, ap length h.is, length-append h.rest (h.twig ∷ []))
@@ -53,31 +53,6 @@ root_up Reads order block below high (Grown low' twig') new held rest low twig c
       on_way = subst (λ r. OnWay block (λ high c. HeldFor Reads order block below high c r) high twig) (sym t.1) (subst (OnWay block (λ high c. HeldFor Reads order block below high c held) high) twigs h);
     }
 
-root_gives_by : (pages : List (List ℕ)) (order block below high : ℕ) (x : Child-F Child Twig) (new : Child) (held rest : List Twig) (low : ℕ) (twig : Twig) (gone more : List ℕ) →
-    IsRootBy order below high x → HeldRootBy (IsReadAs pages order) order block below high x held → IsTakenUp x new held rest → IsNoted x gone more → out-Child new ≡ Grown low twig →
-    GivesWay pages order (stubs_in (stubs below) (suc below) high x) (stubs_below below high twig) gone more
-root_gives_by pages order block below high (Kept low' addr key) new held rest low twig gone more c h t n is =
-    let same = same_from_push h.rest rest h.twig t.0 (sym h.is ∙ t.1) in
-    let grown : grown_of low' t.0 ≡ grown_of low twig = sym t.2 ∙ is in
-    let twigs : t.0 ≡ twig = cc in
-    record {
-      addrs = addr ∷ [];
-      opens = subst (λ l. Opens pages order (addr ∷ []) (stub_at (suc below) l high addr key ∷ []) (stubs_below below high twig)) (sym c)
-          (subst (λ w. Opens pages order (addr ∷ []) (stub_at (suc below) 0 high addr key ∷ []) (stubs_below below high w)) (same.1 ∙ twigs) (Here h.reads));
-      more_is = n;
-    }
-root_gives_by pages order block below high (Grown low' twig') new held rest low twig gone more c h t n is =
-    let grown : grown_of low' twig' ≡ grown_of low twig = sym t.0 ∙ is in
-    let twigs : twig' ≡ twig = cc in
-    subst (GivesWay pages order (stubs_below below high twig') (stubs_below below high twig) gone) (sym n)
-    (subst (λ w. GivesWay pages order (stubs_below below high twig') (stubs_below below high w) gone gone) twigs (gives_none pages order (stubs_below below high twig') gone))
-
-pub root_gives : (pages : List (List ℕ)) (order block below high : ℕ) (top new : Child) (held rest : List Twig) (low : ℕ) (twig : Twig) (gone more : List ℕ) →
-    IsRootBy order below high (out-Child top) → HeldRootBy (IsReadAs pages order) order block below high (out-Child top) held → IsTakenUp (out-Child top) new held rest → IsNoted (out-Child top) gone more → out-Child new ≡ Grown low twig →
-    GivesWay pages order (stubs (suc below) high top) (stubs_below below high twig) gone more
-unfolding stubs
-root_gives pages order block below high top new held rest low twig gone more c h t n is = root_gives_by pages order block below high (out-Child top) new held rest low twig gone more c h t n is
-
 pub root_maps : (pages : List (List ℕ)) (order block below high : ℕ) (x : Child-F Child Twig) (new : Child) (held rest : List Twig) (low : ℕ) (twig : Twig) (mapped : List Mapped) →
     HeldRootBy (IsReadAs pages order) order block below high x held → IsTakenUp x new held rest → out-Child new ≡ Grown low twig → RootMapsBy pages order below high x mapped → Maps pages order (stubs_below below high twig) mapped
 root_maps pages order block below high (Kept low' addr key) new held rest low twig mapped h t is m =
@@ -86,7 +61,7 @@ root_maps pages order block below high (Kept low' addr key) new held rest low tw
     let twigs : t.0 ≡ twig = cc in
     let r = read_maps pages order below (top_want order high (suc below) addr) key m.0 h.reads.entries h.reads.small m.1 h.reads.here in
     subst (λ w. Maps pages order (stubs_below below high w) mapped) (same.1 ∙ twigs)
-    (subst (λ ss. Maps pages order ss mapped) (sym h.reads.same) (subst (Maps pages order _) (sym m.2) r))
+    (subst (λ ss. Maps pages order ss mapped) (sym (read_same pages order below (stub_at (suc below) 0 high addr key) h.twig h.reads)) (subst (Maps pages order _) (sym m.2) r))
 root_maps pages order block below high (Grown low' twig') new held rest low twig mapped h t is m =
     let grown : grown_of low' twig' ≡ grown_of low twig = sym t.0 ∙ is in
     let twigs : twig' ≡ twig = cc in

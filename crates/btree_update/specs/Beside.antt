@@ -1,5 +1,5 @@
 -- What a removal may need beside the way to its block: the nodes of neighbours that are to lend a child or to merge.
-use Rattle.std.specs.Prelude.{◌≡◌, ◌⊎◌, ℕ, zero, suc, ◌+◌, ◌/◌, ◌<◌, ◌≤◌, List, [], ◌∷◌, ◌++◌, Option, None, Some, Bool, true, false, length}
+use Rattle.std.specs.Prelude.{◌≡◌, ◌⊎◌, ℕ, zero, suc, ◌+◌, ◌/◌, ◌<◌, ◌≤◌, List, [], ◌∷◌, ◌++◌, Option, None, Some, Bool, true, false, IsTrue, length}
 use Rattle.btree_twigs.specs.declared.twigs.Child.{Child, Child-F, out-Child}
 use Rattle.btree_twigs.specs.declared.twigs.Child.TheOpen.{Kept, Grown}
 use Rattle.btree_twigs.specs.declared.twigs.Twig.{Twig}
@@ -83,10 +83,18 @@ pub record HelpsWide (Reads : ℕ → Stub → Twig → Type 0) (order block bel
   pub from : HelpsFrom Reads order block below high c held beside loses
   pub wide : length (children_of from.node) ≡ width
 
--- what these pages say, or without pages anything
-abbrev pub ReadOver : Option (List (List ℕ)) → ℕ → ℕ → Stub → Twig → Type 0
-ReadOver None order = AnyRead
-ReadOver (Some pages) order = IsReadAs pages order
+-- what these pages say, at such a place
+abbrev pub IsReadWhere : List (List ℕ) → (Stub → Bool) → ℕ → ℕ → Stub → Twig → Type 0
+IsReadWhere pages may order below stub twig = IsReadAs pages order below stub twig × IsTrue (may stub)
+
+-- where nodes are read from
+pub data Source : Type 0 where
+  Anywhere : Source
+  Over : (pages : List (List ℕ)) (may : Stub → Bool) → Source
+
+abbrev pub ReadOver : Source → ℕ → ℕ → Stub → Twig → Type 0
+ReadOver Anywhere order = AnyRead
+ReadOver (Over pages may) order = IsReadWhere pages may order
 
 -- what a removal leaves of a node with so many children: nothing is said where the block isn't mapped; else it keeps enough, or is short
 abbrev pub IsLeft : (ℕ → Type 0) → ℕ → ℕ → Left → Type 0

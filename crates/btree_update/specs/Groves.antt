@@ -1,16 +1,19 @@
 -- A device's tree while it is updated: when it is sound, when an update can't fail, and what an update lets go.
-use Rattle.std.specs.Prelude.{◌≡◌, ℕ, ◌+◌, ◌-◌, ◌<◌, ◌≤◌, List, [], ◌∷◌, ◌++◌, Option, None, Some, vec_len, vec_capacity}
+use Rattle.std.specs.Prelude.{◌≡◌, ℕ, ◌+◌, ◌-◌, ◌<◌, ◌≤◌, List, [], ◌∷◌, ◌++◌, Option, None, Some, Bool, map, vec_len, vec_capacity}
+use Rattle.std.specs.List.{AllByRecursion}
 use Rattle.sdbt_base.specs.declared.lists.Unkept.{Unkept}
 use Rattle.page_store.specs.Tree.{Mapped}
 use Rattle.btree_twigs.specs.Stubs.{Stub, datum, stubs, nodes}
-use Rattle.btree_twigs.specs.Updates.{HasSpares}
+use Rattle.btree_twigs.specs.Updates.{IsOpen, HasSpares}
+use Rattle.btree_twigs.specs.Levels.{Node, IsMedium, rows_at}
 use Rattle.btree_twigs.specs.Search.{IsAt}
 use Rattle.btree_update.specs.declared.groves.Grove.{Grove}
 use Rattle.btree_update.specs.Held.{AnyRead, IsReadAs}
+use Rattle.btree_update.specs.Tells.{Tells}
 use Rattle.btree_update.specs.Opens.{Opens}
 use Rattle.btree_update.specs.Roots.{IsRoot, HeldRoot, RootMaps}
 use Rattle.btree_update.specs.Wrong.{WrongFrom}
-use Rattle.btree_update.specs.Beside.{HelpsFrom}
+use Rattle.btree_update.specs.Beside.{IsReadWhere, HelpsFrom}
 
 -- the order and the root are as they may be, and the lists for new nodes have room for them
 pub record IsSound (grove : Grove) : Type 0 where
@@ -82,14 +85,31 @@ LetsGo head block None gone more never most = (more ≡ gone) × (most ≡ never
 LetsGo head block (Some addr) gone more never most =
     (addr < head → (more ≡ gone ++ addr ∷ []) × (most ≡ never)) × (head ≤ addr → (more ≡ gone) × (most ≡ never ++ record { block = block; addr = addr } ∷ []))
 
--- an update of a block opens places, whose nodes are gone, and lets go the block's data record
-pub record Goes (pages : List (List ℕ)) (order head block : ℕ) (old : List Stub) (gone more : List ℕ) (never most : List Unkept) : Type 0 where
+-- the same, at such places
+abbrev pub IsReadBesideAt : List (List ℕ) → (Stub → Bool) → ℕ → Grove → Type 0
+IsReadBesideAt pages may block grove = (loses : ℕ) × HelpsFrom (IsReadWhere pages may grove.order) grove.order block (grove.level - 1) grove.blocks grove.top grove.held.items grove.beside.items loses
+
+-- an update of a block opens such places until the way to it is open; their nodes are gone, and so is the block's data record
+pub record Goes (pages : List (List ℕ)) (order head block : ℕ) (May : Stub → Type 0) (old : List Stub) (gone more : List ℕ) (never most : List Unkept) : Type 0 where
   pub opened : List Stub
-  pub addrs : List ℕ
-  pub opens : Opens pages order addrs old opened
+  pub places : List Stub
+  pub opens : Opens pages order places old opened
+  pub may : AllByRecursion May places
+  pub is_open : IsOpen block opened
   pub replaced : Option ℕ
   pub was : IsAddressOf block opened replaced
-  pub goes : LetsGo head block replaced (gone ++ addrs) more never most
+  pub goes : LetsGo head block replaced (gone ++ map (λ s. s.addr) places) more never most
+
+-- the nodes at each level of the tree, of which the medium has these below a place
+abbrev pub levels_of : (Stub → ℕ → List Node) → Grove → ℕ → List Node
+levels_of medium grove = rows_at medium grove.level grove.blocks grove.top
+
+-- the levels of the tree over these pages
+pub record HasLevels (pages : List (List ℕ)) (grove : Grove) (levels : ℕ → List Node) : Type 0 where
+  pub medium : Stub → ℕ → List Node
+  pub bounds : IsMedium medium
+  pub told : Tells pages medium (places_of grove)
+  pub are : (j : ℕ) → levels j ≡ levels_of medium grove j
 
 -- the tree and what it let go are the same
 pub record KeepsTree (old new : Grove) : Type 0 where

@@ -10,7 +10,7 @@ use Rattle.btree_twigs.specs.declared.twigs.Twig.{Twig}
 use Rattle.btree_twigs.specs.Stubs.{Stub, start_by, low_of, children_of, stubs, stubs_below, nodes_below}
 use Rattle.btree_twigs.specs.Shape.{IsChild, IsTwig}
 use Rattle.btree_twigs.specs.Updates.{IsOpen}
-use Rattle.btree_update.specs.GroveTree.{stubs_at}
+use Rattle.btree_update.specs.Reading.{all_kept}
 
 -- a place at a level, and a node over children of the level below
 abbrev pub stub_at : ℕ → ℕ → ℕ → ℕ → List ℕ → Stub
@@ -20,12 +20,12 @@ stub_at level low high addr key = record { level = level; low = low; high = high
 abbrev pub AreBelow : ℕ → List Stub → Type 0
 AreBelow head = AllByRecursion (λ s. s.addr < head)
 
--- the node in memory is what the page at its place says
+-- the node in memory has the entries of the page at its place as children
 pub record IsReadAs (pages : List (List ℕ)) (order below : ℕ) (stub : Stub) (twig : Twig) : Type 0 where
   pub small : stub.addr < 2 ^ 64
   pub entries : List Entry
   pub here : IsRecordAt pages stub.addr stub.key (NodeRecord (suc below) entries)
-  pub same : stubs_below below stub.high twig ≡ stubs_at below stub.high entries
+  pub children : children_of twig ≡ all_kept entries
 
 -- below the child on the way to the block
 abbrev pub OnWay : ℕ → (ℕ → Child → Type 0) → ℕ → Twig → Type 0

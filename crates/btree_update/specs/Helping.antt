@@ -1,16 +1,16 @@
 -- How neighbours that are held for a removal come into the tree.
-use Rattle.std.specs.Prelude.{◌≡◌, ℕ, suc, ◌+◌, ◌<◌, ◌≤◌, List, [], ◌∷◌, ◌++◌, Option, None, Some, length, take, drop, vec_capacity}
+use Rattle.std.specs.Prelude.{◌≡◌, ℕ, suc, ◌+◌, ◌<◌, ◌≤◌, List, [], ◌∷◌, ◌++◌, Option, None, Some, Bool, IsTrue, length, take, drop, vec_capacity}
 use Rattle.btree_twigs.specs.declared.twigs.Child.{Child, Child-F, out-Child}
 use Rattle.btree_twigs.specs.declared.twigs.Child.TheOpen.{Kept, Grown}
 use Rattle.btree_twigs.specs.declared.twigs.Twig.{Twig, out-Twig}
-use Rattle.btree_twigs.specs.Stubs.{low_of, level_of, children_of, stubs, stubs_below, nodes, nodes_below}
+use Rattle.btree_twigs.specs.Stubs.{Stub, low_of, level_of, children_of, stubs, stubs_below, nodes, nodes_below}
 use Rattle.btree_twigs.specs.Shape.{IsChild, IsTwig}
 use Rattle.btree_twigs.specs.Updates.{IsOpen, width_of}
 use Rattle.btree_twigs.specs.Removal.{below_in, Helps}
 use Rattle.btree_twigs.specs.Top.{IsTop}
-use Rattle.btree_update.specs.Held.{AreBelow, AnyRead, IsReadAs}
-use Rattle.btree_update.specs.Opens.{GivesWay}
-use Rattle.btree_update.specs.Beside.{HelpsBelow, HelpsFrom}
+use Rattle.btree_update.specs.Held.{AreBelow, AnyRead}
+use Rattle.btree_update.specs.Opens.{GivesChild, GivesBelow}
+use Rattle.btree_update.specs.Beside.{IsReadWhere, HelpsBelow, HelpsFrom}
 
 -- a node is put in the place of a child on the medium, whose address is gone then
 abbrev pub IsPutBy : Child-F Child Twig → Child → Twig → List ℕ → List ℕ → Type 0
@@ -75,8 +75,8 @@ pub record HelpedOut (order level least low high block loses : ℕ) (old new : T
   pub wide : length (children_of new) ≡ length (children_of old)
   pub below : (head : ℕ) → AreBelow head (stubs_below level high old) → AreBelow head (stubs_below level high new)
   pub few : nodes_below level new ≤ nodes_below level old + level
-  pub gives : (pages : List (List ℕ)) (held : List Twig) (loses : ℕ) → HelpsBelow (IsReadAs pages order) order block level high old held beside loses →
-      GivesWay pages order (stubs_below level high old) (stubs_below level high new) gone more
+  pub gives : (pages : List (List ℕ)) (may : Stub → Bool) (held : List Twig) (loses : ℕ) → HelpsBelow (IsReadWhere pages may order) order block level high old held beside loses →
+      GivesBelow pages order (λ s. IsTrue (may s)) level high old new gone more
 
 -- the same of a child that is such a node
 pub record HelpedWay (order below high block loses : ℕ) (old new : Child) (beside : List (Option Twig)) (gone more : List ℕ) : Type 0 where
@@ -87,8 +87,8 @@ pub record HelpedWay (order below high block loses : ℕ) (old new : Child) (bes
   pub wide : width_of new ≡ width_of old
   pub below_it : (head : ℕ) → AreBelow head (stubs (suc below) high old) → AreBelow head (stubs (suc below) high new)
   pub few : nodes (suc below) new ≤ nodes (suc below) old + below
-  pub gives : (pages : List (List ℕ)) (held : List Twig) (loses : ℕ) → HelpsFrom (IsReadAs pages order) order block below high old held beside loses →
-      GivesWay pages order (stubs (suc below) high old) (stubs (suc below) high new) gone more
+  pub gives : (pages : List (List ℕ)) (may : Stub → Bool) (held : List Twig) (loses : ℕ) → HelpsFrom (IsReadWhere pages may order) order block below high old held beside loses →
+      GivesChild pages order (λ s. IsTrue (may s)) (suc below) high old new gone more
 
 -- a root in memory whose way to a block is in memory, with what a removal may need beside it
 pub record CanHelpRoot (level block : ℕ) (beside : List (Option Twig)) (top : Child) : Type 0 where
@@ -111,5 +111,5 @@ pub record HelpedRoot (order below high block loses : ℕ) (old new : Child) (be
   pub helps : Helps order block below (below_in (out-Child new)) loses
   pub below_it : (head : ℕ) → AreBelow head (stubs (suc below) high old) → AreBelow head (stubs (suc below) high new)
   pub few : nodes (suc below) new ≤ nodes (suc below) old + below
-  pub gives : (pages : List (List ℕ)) (held : List Twig) (loses : ℕ) → HelpsFrom (IsReadAs pages order) order block below high old held beside loses →
-      GivesWay pages order (stubs (suc below) high old) (stubs (suc below) high new) gone more
+  pub gives : (pages : List (List ℕ)) (may : Stub → Bool) (held : List Twig) (loses : ℕ) → HelpsFrom (IsReadWhere pages may order) order block below high old held beside loses →
+      GivesChild pages order (λ s. IsTrue (may s)) (suc below) high old new gone more

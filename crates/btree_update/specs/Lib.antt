@@ -1,8 +1,9 @@
 pub mod GroveTree
 pub mod Maps
-pub mod Held
-pub mod Opens
 pub mod Reading
+pub mod Held
+pub mod Tells
+pub mod Opens
 pub mod Roots
 pub mod Wrong
 pub mod Beside

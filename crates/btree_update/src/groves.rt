@@ -1,10 +1,12 @@
-ghost use Rattle.std.specs.Prelude.{◌≡◌, ◌⊎◌, ◌<◌, ◌≤◌, ◌+◌, ◌-◌, ◌*◌, ℕ, List, [], suc, vec_len, vec_capacity, IfOk, IfSome, IsErrOf, IsTrue};
+ghost use Rattle.std.specs.Prelude.{◌≡◌, ◌⊎◌, ◌<◌, ◌≤◌, ◌+◌, ◌-◌, ◌*◌, ℕ, List, [], suc, vec_len, vec_capacity, IfOk, IfSome, IsErrOf, IsTrue, Bool};
 ghost use Rattle.root_codec.specs.RootRecord.{FitsRoot};
 ghost use Rattle.node_codec.specs.Record.{DataRecord};
 ghost use Rattle.page_store.specs.Places.{IsRecordAt};
-ghost use Rattle.page_store.specs.Tree.{Mapped};
+ghost use Rattle.page_store.specs.Tree.{Parts, Mapped, Tree};
 ghost use Rattle.btree_twigs.specs.declared.twigs.Child.TheVariants.{Kept};
-ghost use Rattle.btree_twigs.specs.Stubs.{stubs};
+ghost use Rattle.btree_twigs.specs.Stubs.{Stub, stubs};
+ghost use Rattle.btree_twigs.specs.Levels.{Node, Reshape, ReshapeDown};
+ghost use Rattle.btree_update.specs.Opens.{HasWay};
 ghost use Rattle.btree_twigs.specs.Updates.{IsOpen, HasSpares};
 ghost use Rattle.btree_twigs.specs.Top.{IsTop};
 ghost use Rattle.btree_update.specs.Maps.{MapPuts, MapTakes, HasBlock, LacksBlock};
@@ -19,7 +21,7 @@ ghost use Rattle.btree_twigs.specs.declared.twigs.Child.{Child};
 ghost use Rattle.btree_update.specs.declared.refusals.ReadyRefusal.{ReadyRefusal};
 ghost use Rattle.btree_update.specs.Held.{AreBelow};
 ghost use Rattle.btree_update.specs.Finding.{GroveFinds, GroveStops};
-ghost use Rattle.btree_update.specs.Groves.{KeepsTree, IsSound, IsReadFrom, IsReadBeside, IsWrongOnWay, CanInsert, CanRemove, GroveMaps, places_of, grown_in, IsAddressOf, LetsGo, Goes};
+ghost use Rattle.btree_update.specs.Groves.{KeepsTree, IsSound, IsReadFrom, IsReadBeside, IsReadBesideAt, HasLevels, IsWrongOnWay, CanInsert, CanRemove, GroveMaps, places_of, grown_in, IsAddressOf, LetsGo, Goes};
 
 use crate::counting::count;
 use crate::finding::find_root;
@@ -61,6 +63,7 @@ impl Grove {
         ensures size { (result.order ≡ root.now.order) × (result.blocks ≡ root.now.blocks) × (result.head ≡ root.now.head) × (result.level ≡ root.now.level) }
         ensures top { result.top ≡ Kept 0 root.now.addr root.now.key }
         ensures lists { (result.gone.items ≡ []) × (result.never.items ≡ []) }
+        ensures levels { (pages : List (List ℕ)) (parts : Parts) → Tree pages root.now parts → (levels : ℕ → List Node) × HasLevels pages result levels }
         ensures below { (head : ℕ) → root.now.addr < head → AreBelow head (places_of result) }
     {
         Grove {
@@ -219,7 +222,9 @@ impl Grove {
             → IsRecordAt pages addr key (DataRecord block content)
             → (after : List Mapped) × GroveMaps pages self.new after × MapPuts (record { block = block; addr = addr; key = key; content = content }) mapped after }
         ensures goes { (pages : List (List ℕ)) → IsReadFrom pages block self.old
-            → Goes pages self.old.order self.old.head block (places_of self.old) self.old.gone.items self.new.gone.items self.old.never.items self.new.never.items }
+            → Goes pages self.old.order self.old.head block (HasWay block) (places_of self.old) self.old.gone.items self.new.gone.items self.old.never.items self.new.never.items }
+        ensures levels { (pages : List (List ℕ)) (levels : ℕ → List Node) → IsReadFrom pages block self.old → HasLevels pages self.old levels
+            → (after : ℕ → List Node) × HasLevels pages self.new after × Reshape self.old.order block self.old.level self.new.level levels after }
         ensures below { (head : ℕ) → AreBelow head (places_of self.old) → addr < head → AreBelow head (places_of self.new) }
         ensures grown { grown_in self.new ≤ grown_in self.old + (2 * self.old.level + 1) }
     {
@@ -252,8 +257,11 @@ impl Grove {
         ensures level { (self.new.level ≡ self.old.level) ⊎ (self.new.level + 1 ≡ self.old.level) }
         ensures maps { (pages : List (List ℕ)) (mapped : List Mapped) → IsReadFrom pages block self.old → IsReadBeside pages block self.old → GroveMaps pages self.old mapped
             → (after : List Mapped) × GroveMaps pages self.new after × MapTakes block mapped after }
-        ensures goes { (pages : List (List ℕ)) → IsReadFrom pages block self.old → IsReadBeside pages block self.old
-            → Goes pages self.old.order self.old.head block (places_of self.old) self.old.gone.items self.new.gone.items self.old.never.items self.new.never.items }
+        // Beside the way no place is opened but those for which a neighbour's node is held.
+        ensures goes { (pages : List (List ℕ)) (may : Stub → Bool) → IsReadFrom pages block self.old → IsReadBesideAt pages may block self.old
+            → Goes pages self.old.order self.old.head block (λ s. HasWay block s ⊎ IsTrue (may s)) (places_of self.old) self.old.gone.items self.new.gone.items self.old.never.items self.new.never.items }
+        ensures levels { (pages : List (List ℕ)) (levels : ℕ → List Node) → IsReadFrom pages block self.old → IsReadBeside pages block self.old → HasLevels pages self.old levels
+            → (after : ℕ → List Node) × HasLevels pages self.new after × ReshapeDown self.old.order block self.old.level self.new.level levels after }
         ensures below { (head : ℕ) → AreBelow head (places_of self.old) → AreBelow head (places_of self.new) }
         ensures grown { grown_in self.new ≤ grown_in self.old + 2 * self.old.level }
     {

@@ -39,6 +39,6 @@ pub fn sealed_is()
 
 /// What is opened maps what it mapped.
 pub fn opened_maps()
-    ensures { (pages : List (List ℕ)) (order : ℕ) (addrs : List ℕ) (old new : List Stub) (mapped : List Mapped) →
-        Opens pages order addrs old new → Maps pages order old mapped → Maps pages order new mapped }
+    ensures { (pages : List (List ℕ)) (order : ℕ) (places old new : List Stub) (mapped : List Mapped) →
+        Opens pages order places old new → Maps pages order old mapped → Maps pages order new mapped }
 {}

@@ -27,4 +27,6 @@ mod test_pair;
 #[cfg(test)]
 mod test_shape;
 #[cfg(test)]
+mod test_steps;
+#[cfg(test)]
 mod tests;

@@ -4,8 +4,8 @@ ghost use Rattle.btree_twigs.specs.declared.twigs.Child.{out-Child};
 ghost use Rattle.btree_twigs.specs.declared.twigs.Child.TheOpen.{Grown};
 ghost use Rattle.btree_twigs.specs.declared.twigs.Twig.{Twig};
 ghost use Rattle.btree_update.specs.Held.{AreBelow, IsReadAs, HeldFor, OnWay, CanOpen, IsOpened, IsTakenUp, IsNoted, IsAtHand, CanOpenBelow, IsOpenedBelow};
-ghost use Rattle.btree_update.specs.Opens.{GivesWay};
-ghost use Rattle.btree_update.specs.Beside.{HelpsBelow, HelpsFrom, HelpsWide, ReadOver};
+ghost use Rattle.btree_update.specs.Opens.{HasWay, GivesChild, GivesBelow};
+ghost use Rattle.btree_update.specs.Beside.{HelpsBelow, HelpsFrom, HelpsWide, Source, ReadOver};
 ghost use Rattle.btree_update.specs.Roots.{CanOpenRoot, IsRootOpened, HeldRoot, RootMaps};
 ghost use Rattle.btree_update.specs.GroveTree.{Maps};
 ghost use Rattle.page_store.specs.Tree.{Mapped};
@@ -21,12 +21,12 @@ pub fn open_way(child: &mut Child, level: u8, block: u64, held: &mut Vec<Twig>, 
     ensures opened { (at : CanOpen level block held.old.items child.old) → IsOpened at.order level block at.high child.old child.new }
     ensures gives { (pages : List (List ℕ)) (at : CanOpen level block held.old.items child.old)
         → HeldFor (IsReadAs pages at.order) at.order block level at.high child.old held.old.items
-        → GivesWay pages at.order (stubs level at.high child.old) (stubs level at.high child.new) gone.old.items gone.new.items }
+        → GivesChild pages at.order (HasWay block) level at.high child.old child.new gone.old.items gone.new.items }
     ensures room { vec_len gone.new + vec_len held.new ≤ vec_capacity gone.new }
     ensures spare { vec_len gone.new + vec_len held.new + vec_capacity gone.old ≤ vec_len gone.old + vec_len held.old + vec_capacity gone.new }
     ensures below { (head : ℕ) (at : CanOpen level block held.old.items child.old) → AreBelow head (stubs level at.high child.old) → AreBelow head (stubs level at.high child.new) }
-    ensures helps { (at : CanOpen level block held.old.items child.old) (pages : Option (List (List ℕ))) (width : ℕ) (beside : List (Option Twig)) (loses : ℕ) → HelpsWide (ReadOver pages at.order) at.order block (level - 1) at.high width child.old held.old.items beside loses
-        → HelpsWide (ReadOver pages at.order) at.order block (level - 1) at.high width child.new held.new.items beside loses }
+    ensures helps { (at : CanOpen level block held.old.items child.old) (source : Source) (width : ℕ) (beside : List (Option Twig)) (loses : ℕ) → HelpsWide (ReadOver source at.order) at.order block (level - 1) at.high width child.old held.old.items beside loses
+        → HelpsWide (ReadOver source at.order) at.order block (level - 1) at.high width child.new held.new.items beside loses }
     ensures nodes { (at : CanOpen level block held.old.items child.old) → nodes level child.new ≤ nodes level child.old + level }
 {
     if level == 0 {
@@ -53,12 +53,12 @@ pub(crate) fn open_below(
     ensures opened { (at : CanOpenBelow level block held.old.items twig.old) → IsOpenedBelow at.order level at.least at.low at.high block twig.old twig.new }
     ensures gives { (pages : List (List ℕ)) (at : CanOpenBelow level block held.old.items twig.old)
         → OnWay block (λ high c. HeldFor (IsReadAs pages at.order) at.order block level high c held.old.items) at.high twig.old
-        → GivesWay pages at.order (stubs_below level at.high twig.old) (stubs_below level at.high twig.new) gone.old.items gone.new.items }
+        → GivesBelow pages at.order (HasWay block) level at.high twig.old twig.new gone.old.items gone.new.items }
     ensures room { vec_len gone.new + vec_len held.new ≤ vec_capacity gone.new }
     ensures spare { vec_len gone.new + vec_len held.new + vec_capacity gone.old ≤ vec_len gone.old + vec_len held.old + vec_capacity gone.new }
     ensures below { (head : ℕ) (at : CanOpenBelow level block held.old.items twig.old) → AreBelow head (stubs_below level at.high twig.old) → AreBelow head (stubs_below level at.high twig.new) }
-    ensures helps { (at : CanOpenBelow level block held.old.items twig.old) (pages : Option (List (List ℕ))) (beside : List (Option Twig)) (loses : ℕ) → HelpsBelow (ReadOver pages at.order) at.order block level at.high twig.old held.old.items beside loses
-        → HelpsBelow (ReadOver pages at.order) at.order block level at.high twig.new held.new.items beside loses }
+    ensures helps { (at : CanOpenBelow level block held.old.items twig.old) (source : Source) (beside : List (Option Twig)) (loses : ℕ) → HelpsBelow (ReadOver source at.order) at.order block level at.high twig.old held.old.items beside loses
+        → HelpsBelow (ReadOver source at.order) at.order block level at.high twig.new held.new.items beside loses }
     ensures wide { length (children_of twig.new) ≡ length (children_of twig.old) }
     ensures nodes { (at : CanOpenBelow level block held.old.items twig.old) → nodes_below level twig.new ≤ nodes_below level twig.old + level }
 {
@@ -82,15 +82,15 @@ pub(crate) fn open_root(
     ensures opened { (at : CanOpenRoot level block held.old.items top.old) → IsRootOpened at.order at.below block at.high top.new }
     ensures gives { (pages : List (List ℕ)) (at : CanOpenRoot level block held.old.items top.old)
         → HeldRoot (IsReadAs pages at.order) at.order block at.below at.high top.old held.old.items
-        → GivesWay pages at.order (stubs level at.high top.old) (stubs level at.high top.new) gone.old.items gone.new.items }
+        → GivesChild pages at.order (HasWay block) level at.high top.old top.new gone.old.items gone.new.items }
     ensures maps { (pages : List (List ℕ)) (at : CanOpenRoot level block held.old.items top.old)
         → HeldRoot (IsReadAs pages at.order) at.order block at.below at.high top.old held.old.items
         → (mapped : List Mapped) → RootMaps pages at.order at.below at.high top.old mapped → Maps pages at.order (stubs level at.high top.new) mapped }
     ensures room { vec_len gone.new + vec_len held.new ≤ vec_capacity gone.new }
     ensures spare { vec_len gone.new + vec_len held.new + vec_capacity gone.old ≤ vec_len gone.old + vec_len held.old + vec_capacity gone.new }
     ensures below { (head : ℕ) (at : CanOpenRoot level block held.old.items top.old) → AreBelow head (stubs level at.high top.old) → AreBelow head (stubs level at.high top.new) }
-    ensures helps { (at : CanOpenRoot level block held.old.items top.old) (pages : Option (List (List ℕ))) (beside : List (Option Twig)) (loses : ℕ) → HelpsFrom (ReadOver pages at.order) at.order block at.below at.high top.old held.old.items beside loses
-        → HelpsFrom (ReadOver pages at.order) at.order block at.below at.high top.new held.new.items beside loses }
+    ensures helps { (at : CanOpenRoot level block held.old.items top.old) (source : Source) (beside : List (Option Twig)) (loses : ℕ) → HelpsFrom (ReadOver source at.order) at.order block at.below at.high top.old held.old.items beside loses
+        → HelpsFrom (ReadOver source at.order) at.order block at.below at.high top.new held.new.items beside loses }
     ensures nodes { (at : CanOpenRoot level block held.old.items top.old) → nodes level top.new ≤ nodes level top.old + level }
 {
     take_held(top, held, gone);

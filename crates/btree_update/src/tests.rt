@@ -1,11 +1,12 @@
 //! Updates of trees in memory and on the medium, beside an ordered map too.
-use crate::refusals::ReadyRefusal;
 use crate::test_bed::Bed;
 use crate::test_device::{Device, key_of};
 use crate::test_pair::Pair;
+use crate::test_steps::Act::{Find, Put, Ready, Take};
+use crate::test_steps::Outcome::{At, Bad, Mapped};
+use crate::test_steps::{Step, first_unlike};
 use btree_twigs::addr_of;
 use node_codec::Entry;
-use page_store::FetchRefusal;
 use std::alloc::Global;
 use std::test::Fail;
 
@@ -28,31 +29,29 @@ fn split(alloc: Global) -> Option<Bed> {
 
 #[test]
 fn twig_updates(rt: HostRuntime) -> Result<(), Fail> {
-    let mut bed = Bed::new(rt.alloc(), 4, 8, 64).ok_or("no device")?;
-    // A block, and how many nodes are in memory and the level once it is inserted.
-    let cases: [(u64, u64, u8); 5] = [(0, 1, 1), (1, 1, 1), (2, 1, 1), (3, 1, 1), (4, 3, 2)];
-    for (block, grown, level) in cases {
-        add(&mut bed, rt.alloc(), block).ok_or("not put")?;
-        assert_eq!(rt; bed.grown(), grown, "block {block}");
-        assert_eq!(rt; bed.grove().level(), level, "block {block}");
-    }
+    let alloc = rt.alloc();
+    let mut bed = Bed::new(alloc, 4, 8, 64).ok_or("no device")?;
+    let steps: [Step; 5] = [
+        (Put(0), At(Some(1)), [1, 1, 1, 0]),
+        (Put(1), At(Some(2)), [1, 1, 1, 0]),
+        (Put(2), At(Some(3)), [1, 1, 1, 0]),
+        (Put(3), At(Some(4)), [1, 1, 1, 0]),
+        (Put(4), At(Some(5)), [2, 3, 1, 0]),
+    ];
+    assert_eq!(rt; first_unlike(&mut bed, alloc, &steps), None);
     assert_eq!(rt; bed.grove().gone(), [0].as_slice());
-
-    // On the medium there are now leaves 6 and 7 and the root 8: the right leaf lends.
-    let mut bed = bed.commit(rt.alloc()).ok_or("not sealed")?;
-    assert_eq!(rt; bed.take(rt.alloc(), 0), Some(true));
-    assert_eq!(rt; bed.grown(), 3);
-    assert_eq!(rt; bed.grove().level(), 2);
-    assert_eq!(rt; bed.grove().gone(), [8, 6, 7, 1].as_slice());
-
-    // Then leaves 9 and 10 and the root 11: the leaves merge, and the root gives way.
-    let mut bed = bed.commit(rt.alloc()).ok_or("not sealed")?;
-    assert_eq!(rt; bed.take(rt.alloc(), 1), Some(true));
-    assert_eq!(rt; bed.grown(), 1);
-    assert_eq!(rt; bed.grove().level(), 1);
-    assert_eq!(rt; bed.grove().gone(), [11, 9, 10, 2].as_slice());
-
-    let mut bed = bed.commit(rt.alloc()).ok_or("not sealed")?;
+    // Of leaves 6 and 7 below the root 8 the right one lends; then leaves 9 and 10 below the root 11 merge, and the root gives way.
+    let cases: [(u64, [u64; 4], [u64; 4]); 2] = [
+        (0, [2, 3, 4, 0], [8, 6, 7, 1]),
+        (1, [1, 1, 4, 0], [11, 9, 10, 2]),
+    ];
+    for (block, counts, gone) in cases {
+        bed = bed.commit(alloc).ok_or("not sealed")?;
+        let step: [Step; 1] = [(Take(block), Mapped(true), counts)];
+        assert_eq!(rt; first_unlike(&mut bed, alloc, &step), None, "block {block}");
+        assert_eq!(rt; bed.grove().gone(), gone.as_slice(), "block {block}");
+    }
+    let mut bed = bed.commit(alloc).ok_or("not sealed")?;
     assert_eq!(rt; addr_of(bed.grove().top()), Some(12));
     for block in 0..8 {
         let wanted = if (2..5).contains(&block) {
@@ -67,28 +66,27 @@ fn twig_updates(rt: HostRuntime) -> Result<(), Fail> {
 
 #[test]
 fn replaced_and_removed(rt: HostRuntime) -> Result<(), Fail> {
-    let mut bed = split(rt.alloc()).ok_or("no device")?;
-    for block in 0..5 {
-        assert_eq!(rt; bed.find(block), Ok(Some(block + 1)));
-    }
-    assert_eq!(rt; bed.take(rt.alloc(), 5), Some(false));
-    assert_eq!(rt; bed.find(5), Ok(None));
-    assert_eq!(rt; bed.grown(), 0);
-    // The root, a leaf and the data record that was replaced are gone, and then records that were never committed.
-    assert_eq!(rt; add(&mut bed, rt.alloc(), 4), Some(9));
-    assert_eq!(rt; bed.grown(), 2);
+    let alloc = rt.alloc();
+    let mut bed = split(alloc).ok_or("no device")?;
+    // The root, a leaf and the data record that is replaced are gone, and then records are never committed.
+    let steps: [Step; 14] = [
+        (Find(0), At(Some(1)), [2, 0, 0, 0]),
+        (Find(1), At(Some(2)), [2, 0, 0, 0]),
+        (Find(2), At(Some(3)), [2, 0, 0, 0]),
+        (Find(3), At(Some(4)), [2, 0, 0, 0]),
+        (Find(4), At(Some(5)), [2, 0, 0, 0]),
+        (Take(5), Mapped(false), [2, 0, 0, 0]),
+        (Find(5), At(None), [2, 0, 0, 0]),
+        (Put(4), At(Some(9)), [2, 2, 3, 0]),
+        (Put(4), At(Some(10)), [2, 2, 3, 1]),
+        (Find(4), At(Some(10)), [2, 2, 3, 1]),
+        (Take(4), Mapped(true), [2, 2, 3, 2]),
+        (Find(4), At(None), [2, 2, 3, 2]),
+        (Take(4), Mapped(false), [2, 2, 3, 2]),
+        (Find(0), At(Some(1)), [2, 2, 3, 2]),
+    ];
+    assert_eq!(rt; first_unlike(&mut bed, alloc, &steps), None);
     assert_eq!(rt; bed.grove().gone(), [8, 7, 5].as_slice());
-    assert!(rt; bed.grove().never().is_empty());
-    assert_eq!(rt; add(&mut bed, rt.alloc(), 4), Some(10));
-    assert_eq!(rt; bed.grove().never().len(), 1);
-    assert_eq!(rt; bed.find(4), Ok(Some(10)));
-    assert_eq!(rt; bed.take(rt.alloc(), 4), Some(true));
-    assert_eq!(rt; bed.grove().never().len(), 2);
-    assert_eq!(rt; bed.find(4), Ok(None));
-    assert_eq!(rt; bed.take(rt.alloc(), 4), Some(false));
-    assert_eq!(rt; bed.grown(), 2);
-    assert_eq!(rt; bed.grove().gone(), [8, 7, 5].as_slice());
-    assert_eq!(rt; bed.find(0), Ok(Some(1)));
     Ok(())
 }
 
@@ -116,24 +114,25 @@ fn forged(alloc: Global) -> Option<Bed> {
 
 #[test]
 fn forged_pages(rt: HostRuntime) -> Result<(), Fail> {
-    let mut bed = forged(rt.alloc()).ok_or("no device")?;
-    let refused = Some(Err(ReadyRefusal::BadRecord { addr: 4 }));
-    assert_eq!(rt; bed.ready(rt.alloc(), 3), refused);
-    assert_eq!(rt; bed.find(7), Err(FetchRefusal::BadRecord { addr: 4 }));
+    let alloc = rt.alloc();
+    let mut bed = forged(alloc).ok_or("no device")?;
+    let steps: [Step; 2] = [
+        (Ready(3), Bad(4), [2, 0, 0, 0]),
+        (Find(7), Bad(4), [2, 0, 0, 0]),
+    ];
+    assert_eq!(rt; first_unlike(&mut bed, alloc, &steps), None);
     assert_eq!(rt; addr_of(bed.grove().top()), Some(5));
-    assert_eq!(rt; bed.grown(), 0);
-    assert!(rt; bed.grove().gone().is_empty());
-
     // The way to block 0 is sound.
-    assert_eq!(rt; bed.find(0), Ok(Some(1)));
-    assert_eq!(rt; add(&mut bed, rt.alloc(), 0), Some(6));
-    assert_eq!(rt; bed.ready(rt.alloc(), 3), refused);
-    assert_eq!(rt; bed.find(3), Err(FetchRefusal::BadRecord { addr: 4 }));
-    assert_eq!(rt; bed.grown(), 2);
-    assert_eq!(rt; bed.shape(), Some(2));
+    let steps: [Step; 6] = [
+        (Find(0), At(Some(1)), [2, 0, 0, 0]),
+        (Put(0), At(Some(6)), [2, 2, 3, 0]),
+        (Ready(3), Bad(4), [2, 2, 3, 0]),
+        (Find(3), Bad(4), [2, 2, 3, 0]),
+        (Find(0), At(Some(6)), [2, 2, 3, 0]),
+        (Find(1), At(Some(2)), [2, 2, 3, 0]),
+    ];
+    assert_eq!(rt; first_unlike(&mut bed, alloc, &steps), None);
     assert_eq!(rt; bed.grove().gone(), [5, 4, 1].as_slice());
-    assert_eq!(rt; bed.find(0), Ok(Some(6)));
-    assert_eq!(rt; bed.find(1), Ok(Some(2)));
     Ok(())
 }
 
@@ -156,47 +155,42 @@ fn two_pages(alloc: Global, levels: (u8, u8), left: &[u64], right: &[u64]) -> Op
     Bed::over(alloc, device, 4, 8, 2, &top)
 }
 
-/// Whether making ready for a block is refused for the page at an address, and leaves a tree on the medium as it was.
-fn refuses(alloc: Global, bed: &mut Bed, block: u64, addr: u64) -> bool {
-    bed.ready(alloc, block) == Some(Err(ReadyRefusal::BadRecord { addr }))
-        && addr_of(bed.grove().top()) == Some(3)
-        && bed.grove().level() == 2
-        && bed.grove().gone().is_empty()
-        && bed.grove().never().is_empty()
-        && bed.find(block) == Ok(Some(0))
+/// Whether making ready for each of two blocks is refused for the page at an address, and for a third one is not, and all leave a tree
+/// on the medium as it was.
+fn refuses(alloc: Global, bed: &mut Bed, blocks: [u64; 3], addr: u64) -> bool {
+    let still = [2, 0, 0, 0];
+    let steps: [Step; 5] = [
+        (Ready(blocks[0]), Bad(addr), still),
+        (Find(blocks[0]), At(Some(0)), still),
+        (Ready(blocks[1]), Bad(addr), still),
+        (Find(blocks[1]), At(Some(0)), still),
+        (Ready(blocks[2]), Mapped(false), still),
+    ];
+    first_unlike(bed, alloc, &steps).is_none() && addr_of(bed.grove().top()) == Some(3)
 }
 
 #[test]
-fn forged_on_the_right(rt: HostRuntime) -> Result<(), Fail> {
+fn forged_neighbours(rt: HostRuntime) -> Result<(), Fail> {
     let alloc = rt.alloc();
-    // A block below the bound, one entry alone, one entry too many, and a node of another level.
-    let cases: [(u8, &[u64]); 4] = [(1, &[2, 3]), (1, &[3]), (1, &[3, 4, 5, 6, 7]), (2, &[3, 5])];
-    for (level, right) in cases {
+    // A block past the bound, one entry alone, one entry too many, and a node of another level. An insertion alone needs no neighbour.
+    let cases: [(u8, &[u64], &[u64]); 4] = [
+        (1, &[2, 3], &[0, 3]),
+        (1, &[3], &[1]),
+        (1, &[3, 4, 5, 6, 7], &[0, 1, 2, 3, 4]),
+        (2, &[3, 5], &[0, 2]),
+    ];
+    for (level, right, left) in cases {
         let mut bed = two_pages(alloc, (1, level), &[0, 1], right).ok_or("no device")?;
-        assert!(rt; refuses(alloc, &mut bed, 0, 2));
-        assert!(rt; refuses(alloc, &mut bed, 1, 2));
-        // An insertion alone needs no neighbour.
-        assert_eq!(rt; bed.ready(alloc, 2), Some(Ok(false)));
-    }
-    let mut bed = two_pages(alloc, (1, 1), &[0, 1], &[3, 4]).ok_or("no device")?;
-    assert_eq!(rt; bed.ready(alloc, 0), Some(Ok(true)));
-    Ok(())
-}
-
-#[test]
-fn forged_on_the_left(rt: HostRuntime) -> Result<(), Fail> {
-    let alloc = rt.alloc();
-    // A block at the bound, one entry alone, one entry too many, and a node of another level.
-    let cases: [(u8, &[u64]); 4] = [(1, &[0, 3]), (1, &[1]), (1, &[0, 1, 2, 3, 4]), (2, &[0, 2])];
-    for (level, left) in cases {
+        assert!(rt; refuses(alloc, &mut bed, [0, 1, 2], 2));
         let mut bed = two_pages(alloc, (level, 1), left, &[3, 4]).ok_or("no device")?;
-        assert!(rt; refuses(alloc, &mut bed, 3, 1));
-        assert!(rt; refuses(alloc, &mut bed, 4, 1));
-        // An insertion alone needs no neighbour.
-        assert_eq!(rt; bed.ready(alloc, 7), Some(Ok(false)));
+        assert!(rt; refuses(alloc, &mut bed, [3, 4, 7], 1));
     }
     let mut bed = two_pages(alloc, (1, 1), &[0, 1], &[3, 4]).ok_or("no device")?;
-    assert_eq!(rt; bed.ready(alloc, 4), Some(Ok(true)));
+    let steps: [Step; 2] = [
+        (Ready(0), Mapped(true), [2, 0, 0, 0]),
+        (Ready(4), Mapped(true), [2, 0, 0, 0]),
+    ];
+    assert_eq!(rt; first_unlike(&mut bed, alloc, &steps), None);
     Ok(())
 }
 
@@ -204,20 +198,18 @@ fn forged_on_the_left(rt: HostRuntime) -> Result<(), Fail> {
 fn forged_beside_nodes_in_memory(rt: HostRuntime) -> Result<(), Fail> {
     let alloc = rt.alloc();
     let mut bed = two_pages(alloc, (1, 1), &[0, 1], &[3]).ok_or("no device")?;
-    assert_eq!(rt; add(&mut bed, alloc, 2), Some(4));
-    assert_eq!(rt; bed.take(alloc, 0), Some(true));
-    // Now the leaf has blocks 1 and 2.
-    for block in 1..3 {
-        let refused = Some(Err(ReadyRefusal::BadRecord { addr: 2 }));
-        assert_eq!(rt; bed.ready(alloc, block), refused);
-        assert_eq!(rt; bed.grown(), 2);
-        assert_eq!(rt; bed.shape(), Some(2));
-        assert_eq!(rt; bed.grove().gone(), [3, 1, 0].as_slice());
-        assert!(rt; bed.grove().never().is_empty());
-    }
-    assert_eq!(rt; bed.find(0), Ok(None));
-    assert_eq!(rt; bed.find(1), Ok(Some(0)));
-    assert_eq!(rt; bed.find(2), Ok(Some(4)));
+    // After these two updates the leaf has blocks 1 and 2.
+    let steps: [Step; 7] = [
+        (Put(2), At(Some(4)), [2, 2, 2, 0]),
+        (Take(0), Mapped(true), [2, 2, 3, 0]),
+        (Ready(1), Bad(2), [2, 2, 3, 0]),
+        (Ready(2), Bad(2), [2, 2, 3, 0]),
+        (Find(0), At(None), [2, 2, 3, 0]),
+        (Find(1), At(Some(0)), [2, 2, 3, 0]),
+        (Find(2), At(Some(4)), [2, 2, 3, 0]),
+    ];
+    assert_eq!(rt; first_unlike(&mut bed, alloc, &steps), None);
+    assert_eq!(rt; bed.grove().gone(), [3, 1, 0].as_slice());
     Ok(())
 }
 
@@ -238,15 +230,12 @@ fn three_levels(alloc: Global) -> Option<Bed> {
 fn forged_beside_a_node_that_merges(rt: HostRuntime) -> Result<(), Fail> {
     let alloc = rt.alloc();
     let mut bed = three_levels(alloc).ok_or("no device")?;
-    // A leaf lends, and so the node above it needs no neighbour.
-    assert_eq!(rt; bed.take(alloc, 0), Some(true));
-    assert_eq!(rt; bed.grown(), 4);
-    assert_eq!(rt; bed.grove().gone(), [5, 3, 1, 2, 0].as_slice());
-    // Now none lends, and it does.
-    let refused = Some(Err(ReadyRefusal::BadRecord { addr: 4 }));
-    assert_eq!(rt; bed.ready(alloc, 1), refused);
-    assert_eq!(rt; bed.grown(), 4);
-    assert_eq!(rt; bed.shape(), Some(4));
+    // A leaf lends, and so the node above it needs no neighbour; then none lends, and it does.
+    let steps: [Step; 2] = [
+        (Take(0), Mapped(true), [3, 4, 5, 0]),
+        (Ready(1), Bad(4), [3, 4, 5, 0]),
+    ];
+    assert_eq!(rt; first_unlike(&mut bed, alloc, &steps), None);
     assert_eq!(rt; bed.grove().gone(), [5, 3, 1, 2, 0].as_slice());
     Ok(())
 }
@@ -282,16 +271,13 @@ fn agrees(alloc: Global, order: u16, blocks: u64, count: u64, trees: u64) -> Opt
 }
 
 #[test]
-fn random_updates_of_order_4(rt: HostRuntime) {
-    assert!(rt; agrees(rt.alloc(), 4, 40, 40, 34).is_some());
-}
-
-#[test]
-fn random_updates_of_order_6(rt: HostRuntime) {
-    assert!(rt; agrees(rt.alloc(), 6, 40, 40, 34).is_some());
-}
-
-#[test]
-fn random_updates_of_order_64(rt: HostRuntime) {
-    assert!(rt; agrees(rt.alloc(), 64, 200, 128, 10).is_some());
+fn random_updates(rt: HostRuntime) {
+    // An order, blocks, updates at a time, and trees.
+    let cases: [(u16, u64, u64, u64); 3] = [(4, 40, 40, 34), (6, 40, 40, 34), (64, 200, 128, 10)];
+    for (order, blocks, count, trees) in cases {
+        assert!(rt;
+            agrees(rt.alloc(), order, blocks, count, trees).is_some(),
+            "order {order}"
+        );
+    }
 }

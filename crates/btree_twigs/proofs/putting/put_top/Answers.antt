@@ -1,4 +1,4 @@
-use Rattle.std.proofs.Common.{◌≡◌, inl, ℕ, suc, ◌+◌, ◌/◌, ◌<◌, ◌≤◌, List, length, ap, subst, ◌∙◌, arith}
+use Rattle.std.proofs.Common.{◌≡◌, ℕ, suc, ◌+◌, ◌/◌, ◌<◌, ◌≤◌, List, length, ap, subst, ◌∙◌, arith}
 use Rattle.std.specs.declared.vec.Vec.{Vec}
 use Rattle.std.specs.declared.alloc.Global.{Global}
 use Rattle.btree_twigs.specs.declared.twigs.Child.{Child}
@@ -11,7 +11,7 @@ use Rattle.btree_twigs.specs.Top.{CanRaise, IsTopBy, top_least, level_in, CanPut
 use Rattle.btree_twigs.proofs.Ways.{fewer}
 use Rattle.btree_twigs.proofs.Nodes.{stubs_of_grown}
 use Rattle.btree_twigs.proofs.Tops.{top_kept, top_raised}
-use Rattle.btree_twigs.proofs.LevelLaws.{fits_child, raised_rows}
+use Rattle.btree_twigs.proofs.LevelLaws.{kept_rows, raised_rows}
 use Rattle.btree_twigs.proofs.putting.put_top.Goals as goal
 
 -- below the root
@@ -127,8 +127,9 @@ returns-else-len-order-clause-levels c medium m at =
     let grown = subst (CanPutTop c.args.order c.args.block c.args.spares.now.items) c.in-Grown.is at in
     let open_at = open_top c.args.order c.args.block c.in-Grown.low _ c.in-Grown.twig grown in
     let zero_is = (subst (IsTopBy c.args.order at.level at.high) (made.outs-Grown c.in-Grown.low c.in-Grown.twig) grown.shaped).0 in
-    let q = fits_child medium c.args.order c.args.block at.level at.high c.in-Grown.low c.in-Grown.twig c.put.new.twig (omega (arith, zero_is)) (omega arith) (e.levels medium m open_at) in
-    rw (c.in-Grown.is, made.outs-Grown c.in-Grown.low c.in-Grown.twig) (inl q)
+    let p = e.put open_at in
+    rw (c.in-Grown.is, made.outs-Grown c.in-Grown.low c.in-Grown.twig)
+    (kept_rows medium c.args.order c.args.block at.level at.high c.in-Grown.low c.in-Grown.twig c.put.new.twig zero_is p.shaped.level_is (omega arith) (e.levels medium m open_at))
 
 pub returns-then-len-order-clause-levels : goal.returns-then-len-order-clause-levels
 returns-then-len-order-clause-levels c medium m at =

@@ -1,14 +1,14 @@
-use Rattle.std.proofs.Common.{inl, inr, ◌≡◌, ℕ, zero, suc, ◌<◌, ◌≤◌, [], ◌∷◌, length, refl, ◌-◌, sym, ap, subst, ◌∙◌, arith}
+use Rattle.std.proofs.Common.{◌≡◌, ℕ, zero, suc, ◌<◌, ◌≤◌, [], ◌∷◌, length, refl, ◌-◌, sym, ap, subst, ◌∙◌, arith}
 use Rattle.btree_twigs.specs.declared.twigs.Child.{Child}
 use Rattle.btree_twigs.specs.declared.twigs.Child.TheVariants as made
 use Rattle.btree_twigs.specs.declared.twigs.Twig.{Twig, out-Twig}
 use Rattle.btree_twigs.specs.Stubs.{children_of, stubs_below}
 use Rattle.btree_twigs.specs.Updates.{IsOpen}
 use Rattle.btree_twigs.specs.Removal.{below_in, Helps, CanTake, IsTwigTaken}
-use Rattle.btree_twigs.specs.Top.{IsTopBy, top_least, CanTakeTop, IsTopTaken, HasOnlyBy}
+use Rattle.btree_twigs.specs.Top.{child_level, IsTopBy, top_least, CanTakeTop, IsTopTaken, HasOnlyBy}
 use Rattle.btree_twigs.proofs.Nodes.{stubs_of_grown}
-use Rattle.btree_twigs.proofs.Tops.{top_taken, top_gone}
-use Rattle.btree_twigs.proofs.SinkLaws.{grown_as}
+use Rattle.btree_twigs.proofs.Tops.{top_taken, top_gone, top_level, only_of}
+use Rattle.btree_twigs.proofs.SinkLaws.{sunk_rows, gone_rows}
 use Rattle.btree_twigs.proofs.taking.take_top.Goals as goal
 
 least_two : (level : ℕ) → 1 ≤ level → 2 ≤ top_least level
@@ -64,7 +64,7 @@ give_way-requires c =
     let e = rw (c.in-Grown.is, made.outs-Grown c.in-Grown.low c.in-Grown.twig) at c.take.ensures.taken in
     let t = taken_of c.args.order c.args.block c.in-Grown.low c.args.top.now c.in-Grown.twig c.take.new.twig c.in-Grown.is at e in
     let one = above_leaf at.level (out-Twig c.take.new.twig).level t.1.shaped.level_is c.if-twig-eq1.false in
-    let only : length (children_of c.take.new.twig) ≡ 1 = one_left (length (children_of c.take.new.twig)) (top_least at.level) at.level refl one t.1.shaped.node.enough (omega (arith, c.len.ensures, c.if-len-lt2.true)) in
+    let only : length (children_of c.take.new.twig) ≡ 1 = one_left (length (children_of c.take.new.twig)) (top_least at.level) at.level refl one t.1.shaped.node.enough (omega (arith, c.len-is_single.ensures, c.if-is_single.true)) in
     rw (c.in-Grown.is, made.outs-Grown c.in-Grown.low c.in-Grown.twig) (subst HasOnlyBy (sym (made.outs-Grown c.in-Grown.low c.take.new.twig)) only)
 
 pub returns-then-twig-eq1-clause-taken : goal.returns-then-twig-eq1-clause-taken
@@ -74,8 +74,8 @@ returns-then-twig-eq1-clause-taken c at =
     rw (c.in-Grown.is, made.outs-Grown c.in-Grown.low c.in-Grown.twig)
     (top_taken c.args.order at.level at.high c.args.block at.loses c.in-Grown.twig c.take.new.twig c.in-Grown.low t.0 t.1 (λ one. absurd (omega (arith, one, t.1.shaped.level_is, c.if-twig-eq1.true))))
 
-pub returns-then-len-lt2-clause-taken : goal.returns-then-len-lt2-clause-taken
-returns-then-len-lt2-clause-taken c at =
+pub returns-then-is_single-clause-taken : goal.returns-then-is_single-clause-taken
+returns-then-is_single-clause-taken c at =
     let e = rw (c.in-Grown.is, made.outs-Grown c.in-Grown.low c.in-Grown.twig) at c.take.ensures.taken in
     let t = taken_of c.args.order c.args.block c.in-Grown.low c.args.top.now c.in-Grown.twig c.take.new.twig c.in-Grown.is at e in
     let one = above_leaf at.level (out-Twig c.take.new.twig).level t.1.shaped.level_is c.if-twig-eq1.false in
@@ -83,57 +83,43 @@ returns-then-len-lt2-clause-taken c at =
     let only : children_of c.take.new.twig ≡ c.give_way.new.top ∷ [] = sym (ap below_in (made.outs-Grown c.in-Grown.low c.take.new.twig)) ∙ g in
     rw c.in-Grown.is (gone_at c.args.order at.level at.high c.args.block at.loses c.in-Grown.twig c.take.new.twig c.in-Grown.low c.give_way.new.top c.requires.four t.0 at.to t.2 t.1 one only)
 
-pub returns-else-len-lt2-clause-taken : goal.returns-else-len-lt2-clause-taken
-returns-else-len-lt2-clause-taken c at =
+pub returns-else-is_single-clause-taken : goal.returns-else-is_single-clause-taken
+returns-else-is_single-clause-taken c at =
     let e = rw (c.in-Grown.is, made.outs-Grown c.in-Grown.low c.in-Grown.twig) at c.take.ensures.taken in
     let t = taken_of c.args.order c.args.block c.in-Grown.low c.args.top.now c.in-Grown.twig c.take.new.twig c.in-Grown.is at e in
     rw (c.in-Grown.is, made.outs-Grown c.in-Grown.low c.in-Grown.twig)
-    (top_taken c.args.order at.level at.high c.args.block at.loses c.in-Grown.twig c.take.new.twig c.in-Grown.low t.0 t.1 (λ one. omega (arith, c.len.ensures, c.if-len-lt2.false)))
+    (top_taken c.args.order at.level at.high c.args.block at.loses c.in-Grown.twig c.take.new.twig c.in-Grown.low t.0 t.1 (λ one. omega (arith, c.len-is_single.ensures, c.if-is_single.false)))
+
+-- an only child stands one level down
+only_level : (order level high block loses : ℕ) (old new : Twig) (x : Child) → 4 ≤ order → block < high → IsOpen block (stubs_below level high old) → IsTwigTaken order level (top_least level) 0 high block loses old new → 1 ≤ level →
+    children_of new ≡ x ∷ [] → child_level x ≡ level
+only_level order zero high block loses old new x four lt is_open p one e = absurd (omega (arith, one))
+only_level order (suc level) high block loses old new x four lt is_open p one e = top_level order level high x (only_of order level high block loses old new x four lt is_open p e).shaped
 
 pub returns-then-twig-eq1-clause-levels : goal.returns-then-twig-eq1-clause-levels
 returns-then-twig-eq1-clause-levels c medium m at =
     let e = rw (c.in-Grown.is, made.outs-Grown c.in-Grown.low c.in-Grown.twig) at c.take.ensures in
-    let grown = subst (CanTakeTop c.args.order c.args.block) c.in-Grown.is at in
-    let can = open_top c.args.order c.args.block c.in-Grown.low c.in-Grown.twig grown in
+    let can = open_top c.args.order c.args.block c.in-Grown.low c.in-Grown.twig (subst (CanTakeTop c.args.order c.args.block) c.in-Grown.is at) in
     let t = taken_of c.args.order c.args.block c.in-Grown.low c.args.top.now c.in-Grown.twig c.take.new.twig c.in-Grown.is at e.taken in
-    let was = made.outs-Grown c.in-Grown.low c.in-Grown.twig ∙ ap (λ l. grown_as l c.in-Grown.twig) t.0 in
-    rw (c.in-Grown.is, made.outs-Grown c.in-Grown.low c.in-Grown.twig) (record {
-      twig = c.in-Grown.twig;
-      left = c.take.new.twig;
-      was = was;
-      rows = e.levels medium m can;
-      now = inl (made.outs-Grown c.in-Grown.low c.take.new.twig ∙ ap (λ l. grown_as l c.take.new.twig) t.0, λ one. absurd (omega (arith, one, t.1.shaped.level_is, c.if-twig-eq1.true)));
-    })
+    rw (c.in-Grown.is, made.outs-Grown c.in-Grown.low c.in-Grown.twig)
+    (sunk_rows medium c.args.order c.args.block at.level at.high c.in-Grown.low c.in-Grown.twig c.take.new.twig t.0 t.1.shaped.level_is (λ one. absurd (omega (arith, one, t.1.shaped.level_is, c.if-twig-eq1.true))) (e.levels medium m can))
 
-pub returns-then-len-lt2-clause-levels : goal.returns-then-len-lt2-clause-levels
-returns-then-len-lt2-clause-levels c medium m at =
+pub returns-then-is_single-clause-levels : goal.returns-then-is_single-clause-levels
+returns-then-is_single-clause-levels c medium m at =
     let e = rw (c.in-Grown.is, made.outs-Grown c.in-Grown.low c.in-Grown.twig) at c.take.ensures in
-    let grown = subst (CanTakeTop c.args.order c.args.block) c.in-Grown.is at in
-    let can = open_top c.args.order c.args.block c.in-Grown.low c.in-Grown.twig grown in
+    let can = open_top c.args.order c.args.block c.in-Grown.low c.in-Grown.twig (subst (CanTakeTop c.args.order c.args.block) c.in-Grown.is at) in
     let t = taken_of c.args.order c.args.block c.in-Grown.low c.args.top.now c.in-Grown.twig c.take.new.twig c.in-Grown.is at e.taken in
-    let was = made.outs-Grown c.in-Grown.low c.in-Grown.twig ∙ ap (λ l. grown_as l c.in-Grown.twig) t.0 in
     let one = above_leaf at.level (out-Twig c.take.new.twig).level t.1.shaped.level_is c.if-twig-eq1.false in
     let g = rw (c.in-Grown.is, made.outs-Grown c.in-Grown.low c.in-Grown.twig) at c.give_way.ensures in
     let only : children_of c.take.new.twig ≡ c.give_way.new.top ∷ [] = sym (ap below_in (made.outs-Grown c.in-Grown.low c.take.new.twig)) ∙ g in
-    rw c.in-Grown.is (record {
-      twig = c.in-Grown.twig;
-      left = c.take.new.twig;
-      was = was;
-      rows = e.levels medium m can;
-      now = inr (one, only);
-    })
+    rw c.in-Grown.is
+    (gone_rows medium c.args.order c.args.block at.level at.high c.in-Grown.low c.in-Grown.twig c.take.new.twig c.give_way.new.top t.0
+    (only_level c.args.order at.level at.high c.args.block at.loses c.in-Grown.twig c.take.new.twig c.give_way.new.top c.requires.four at.to t.2 t.1 one only) one only (e.levels medium m can))
 
-pub returns-else-len-lt2-clause-levels : goal.returns-else-len-lt2-clause-levels
-returns-else-len-lt2-clause-levels c medium m at =
+pub returns-else-is_single-clause-levels : goal.returns-else-is_single-clause-levels
+returns-else-is_single-clause-levels c medium m at =
     let e = rw (c.in-Grown.is, made.outs-Grown c.in-Grown.low c.in-Grown.twig) at c.take.ensures in
-    let grown = subst (CanTakeTop c.args.order c.args.block) c.in-Grown.is at in
-    let can = open_top c.args.order c.args.block c.in-Grown.low c.in-Grown.twig grown in
+    let can = open_top c.args.order c.args.block c.in-Grown.low c.in-Grown.twig (subst (CanTakeTop c.args.order c.args.block) c.in-Grown.is at) in
     let t = taken_of c.args.order c.args.block c.in-Grown.low c.args.top.now c.in-Grown.twig c.take.new.twig c.in-Grown.is at e.taken in
-    let was = made.outs-Grown c.in-Grown.low c.in-Grown.twig ∙ ap (λ l. grown_as l c.in-Grown.twig) t.0 in
-    rw (c.in-Grown.is, made.outs-Grown c.in-Grown.low c.in-Grown.twig) (record {
-      twig = c.in-Grown.twig;
-      left = c.take.new.twig;
-      was = was;
-      rows = e.levels medium m can;
-      now = inl (made.outs-Grown c.in-Grown.low c.take.new.twig ∙ ap (λ l. grown_as l c.take.new.twig) t.0, λ one. omega (arith, c.len.ensures, c.if-len-lt2.false));
-    })
+    rw (c.in-Grown.is, made.outs-Grown c.in-Grown.low c.in-Grown.twig)
+    (sunk_rows medium c.args.order c.args.block at.level at.high c.in-Grown.low c.in-Grown.twig c.take.new.twig t.0 t.1.shaped.level_is (λ one. omega (arith, c.len-is_single.ensures, c.if-is_single.false)) (e.levels medium m can))

@@ -8,10 +8,11 @@ use Rattle.btree_twigs.specs.Stubs.{start_by, low_of, children_of, stubs, nodes}
 use Rattle.btree_twigs.specs.Shape.{IsChild, IsTwig}
 use Rattle.btree_twigs.specs.Updates.{IsNode, IsOpen, stubs_under}
 use Rattle.btree_twigs.proofs.Nodes.{children_of_roll, low_of_grown, stubs_of_grown, grown_is_child}
-use Rattle.btree_update.specs.Opens.{Opens, GivesWay}
+use Rattle.btree_update.specs.Opens.{HasWay, GivesChild}
 use Rattle.btree_twigs.proofs.Counts.{one_nodes, nodes_grown}
 use Rattle.btree_update.specs.Held.{AreBelow, IsReadAs, OnWay, HeldFor, AnyRead, CanOpen, IsOpened, CanOpenBelow}
-use Rattle.btree_update.proofs.OpenLaws.{open_first, child_is, opened, still_opens, still_below, up_below, IsOnWay, on_way, at_hand, IsUp, up, up_gives, gives_none, gives_then, nodes_is, data_open, twig_opened, twig_gives}
+use Rattle.btree_update.proofs.OpenLaws.{open_first, child_is, opened, still_below, up_below, IsOnWay, on_way, at_hand, IsUp, up, nodes_is, data_open, twig_opened}
+use Rattle.btree_update.proofs.GivesLaws.{child_none, below_none, takes_up, grown_gives, node_gives}
 use Rattle.btree_update.specs.Beside.{ReadOver}
 use Rattle.btree_update.proofs.HelpLaws.{helps_up, wide_grown, opened_helps}
 use Rattle.btree_update.proofs.opening.+open.Goals as goal
@@ -77,7 +78,7 @@ open_below-returns-clause-opened t c at =
     (subst (λ xs. IsOpen c.args.block (stubs_under c.args.level at.high xs)) (sym same) o.1)
 
 pub open_below-returns-then-at-eq0-clause-gives : goal.open_below-returns-then-at-eq0-clause-gives
-open_below-returns-then-at-eq0-clause-gives t c pages at held = gives_none pages at.order _ _
+open_below-returns-then-at-eq0-clause-gives t c pages at held = below_none pages at.order (HasWay c.args.block) _ _ _ _
 
 pub open_below-returns-clause-gives : goal.open_below-returns-clause-gives
 open_below-returns-clause-gives t c pages at held =
@@ -87,11 +88,9 @@ open_below-returns-clause-gives t c pages at held =
     let can = below_at at.order c.args.level c.args.block c.place-at.result at.least at.low at.high c.args.held.now.items c.args.twig.now c.index_mut.result.now at.shaped at.at_hand w in
     let same = set_is c.place-at.result w.at cs c.open_way.new.child w.at_is w.within in
     let g = c.open_way.ensures.gives pages can (held (take w.at cs) (drop (suc w.at) cs) c.index_mut.result.now w.split w.from w.to) in
-    let o = still_opens at.order c.args.level at.least at.low at.high c.args.block (take w.at cs) c.index_mut.result.now (drop (suc w.at) cs) (subst (IsNode at.order c.args.level at.least at.order at.low at.high) w.split at.shaped.node)
-    pages c.open_way.new.child g.addrs (c.open_way.ensures.opened can).low_is g.opens in
-    let from_old = subst (λ xs. Opens pages at.order g.addrs (stubs_under c.args.level at.high xs) (stubs_under c.args.level at.high (take w.at cs ++ c.open_way.new.child ∷ drop (suc w.at) cs))) (sym w.split) o in
-    let to_new = subst (λ xs. Opens pages at.order g.addrs (stubs_under c.args.level at.high cs) (stubs_under c.args.level at.high xs)) (sym same) from_old in
-    twig_gives pages at.order c.args.level at.high (out-Twig c.args.twig.now).level _ (with_item (out-Twig c.args.twig.now).children (c.place-at.result - 1) c.open_way.new.child) _ _ (record { addrs = g.addrs; opens = to_new; more_is = g.more_is })
+    let new : Twig-F Child Twig = record { level = (out-Twig c.args.twig.now).level; children = with_item (out-Twig c.args.twig.now).children (c.place-at.result - 1) c.open_way.new.child } in
+    node_gives pages at.order (HasWay c.args.block) c.args.level at.least at.low at.high c.args.twig.now (roll-Twig new) (take w.at cs) c.index_mut.result.now c.open_way.new.child (drop (suc w.at) cs) _ _
+    (subst (IsNode at.order c.args.level at.least at.order at.low at.high) w.split at.shaped.node) w.split (children_of_roll new ∙ same) (c.open_way.ensures.opened can).low_is g
 
 pub open_below-returns-clause-below : goal.open_below-returns-clause-below
 open_below-returns-clause-below t c head at below =
@@ -163,7 +162,7 @@ open_way-returns-clause-opened t c at =
     rw (c.in-Grown.is, made.outs-Grown c.in-Grown.low c.in-Grown.twig) (subst (λ m. IsOpened at.order m c.args.block at.high c.args.child.now new) (sym level_is) r)
 
 pub open_way-returns-then-level-eq0-clause-gives : goal.open_way-returns-then-level-eq0-clause-gives
-open_way-returns-then-level-eq0-clause-gives t c pages at held = gives_none pages at.order _ _
+open_way-returns-then-level-eq0-clause-gives t c pages at held = child_none pages at.order (HasWay c.args.block) _ _ _ _
 
 pub open_way-returns-clause-gives : goal.open_way-returns-clause-gives
 open_way-returns-clause-gives t c pages at held =
@@ -177,13 +176,12 @@ open_way-returns-clause-gives t c pages at held =
     let open_at = below_up at.order c.args.block l at.high c.args.child.now c.in-Grown.low c.in-Grown.twig c.take_held.new.held.items at.from at.to u in
     let held_is = subst (λ m. HeldFor (IsReadAs pages at.order) at.order c.args.block m at.high c.args.child.now c.args.held.now.items) level_is held in
     let v = up (IsReadAs pages at.order) at.order c.args.block l at.high c.args.child.now c.take_held.new.child c.args.held.now.items c.take_held.new.held.items c.in-Grown.low c.in-Grown.twig shaped held_is c.take_held.ensures.taken is in
-    let first = up_gives pages at.order c.args.block l at.high c.args.child.now c.take_held.new.child c.args.held.now.items c.take_held.new.held.items c.in-Grown.low c.in-Grown.twig c.args.gone.now.items c.take_held.new.gone.items held_is c.take_held.ensures.taken c.take_held.ensures.noted is in
+    let first = takes_up pages at.order c.args.block l at.high c.args.child.now c.take_held.new.child c.args.held.now.items c.take_held.new.held.items c.in-Grown.low c.in-Grown.twig c.args.gone.now.items c.take_held.new.gone.items at.from at.to held_is c.take_held.ensures.taken c.take_held.ensures.noted is in
     let second = e.gives pages open_at v.on_way in
     let new = made.Grown c.in-Grown.low c.open_below.new.twig in
-    let both = gives_then pages at.order _ _ _ _ _ _ first second in
+    let both = grown_gives pages at.order (HasWay c.args.block) l at.high c.args.child.now c.in-Grown.low c.in-Grown.twig c.open_below.new.twig c.args.gone.now.items c.take_held.new.gone.items c.open_below.new.gone.items first second in
     rw (c.in-Grown.is, made.outs-Grown c.in-Grown.low c.in-Grown.twig)
-    (subst (λ k. GivesWay pages at.order (stubs k at.high c.args.child.now) (stubs k at.high new) c.args.gone.now.items c.open_below.new.gone.items) (sym level_is)
-    (subst (λ ss. GivesWay pages at.order (stubs (suc l) at.high c.args.child.now) ss c.args.gone.now.items c.open_below.new.gone.items) (sym (stubs_of_grown l at.high c.in-Grown.low c.open_below.new.twig)) both))
+    (subst (λ k. GivesChild pages at.order (HasWay c.args.block) k at.high c.args.child.now new c.args.gone.now.items c.open_below.new.gone.items) (sym level_is) both)
 
 pub open_way-returns-clause-nodes : goal.open_way-returns-clause-nodes
 open_way-returns-clause-nodes t c at =
@@ -216,7 +214,7 @@ open_way-returns-clause-below t c head at below =
     (subst (λ k. AreBelow head (stubs k at.high new)) (sym level_is) (subst (AreBelow head) (sym (stubs_of_grown l at.high c.in-Grown.low c.open_below.new.twig)) second))
 
 pub open_below-returns-clause-helps : goal.open_below-returns-clause-helps
-open_below-returns-clause-helps t c at pages beside loses h =
+open_below-returns-clause-helps t c at source beside loses h =
     let w = on_way at.order c.args.block c.args.level at.high c.place-at.result (children_of c.args.twig.now) c.deref.result.now c.index_mut.result.now c.deref.ensures.value c.if-at-eq0.false
     c.place-at.ensures.within c.place-at.ensures.before c.place-at.ensures.after at.to c.index_mut.ensures.value in
     let cs = children_of c.args.twig.now in
@@ -225,11 +223,11 @@ open_below-returns-clause-helps t c at pages beside loses h =
     c.open_way.new.child w.from w.to (c.open_way.ensures.opened can) in
     let same = set_is c.place-at.result w.at cs c.open_way.new.child w.at_is w.within in
     let new : Twig-F Child Twig = record { level = (out-Twig c.args.twig.now).level; children = with_item (out-Twig c.args.twig.now).children (c.place-at.result - 1) c.open_way.new.child } in
-    opened_helps (ReadOver pages at.order) at.order c.args.block c.args.level at.least at.low at.high c.place-at.result c.args.twig.now (roll-Twig new) c.index_mut.result.now c.open_way.new.child at.shaped w o.0.each (c.open_way.ensures.opened can).low_is
-    (children_of_roll new ∙ same) c.args.held.now.items c.open_way.new.held.items beside loses (c.open_way.ensures.helps can pages) h
+    opened_helps (ReadOver source at.order) at.order c.args.block c.args.level at.least at.low at.high c.place-at.result c.args.twig.now (roll-Twig new) c.index_mut.result.now c.open_way.new.child at.shaped w o.0.each (c.open_way.ensures.opened can).low_is
+    (children_of_roll new ∙ same) c.args.held.now.items c.open_way.new.held.items beside loses (c.open_way.ensures.helps can source) h
 
 pub open_way-returns-clause-helps : goal.open_way-returns-clause-helps
-open_way-returns-clause-helps t c at pages width beside loses h =
+open_way-returns-clause-helps t c at source width beside loses h =
     let is = ap out-Child c.in-Grown.is ∙ made.outs-Grown c.in-Grown.low c.in-Grown.twig in
     let l = c.args.level - 1 in
     let level_is : c.args.level ≡ suc l = above c.args.level c.if-level-eq0.false in
@@ -238,8 +236,8 @@ open_way-returns-clause-helps t c at pages width beside loses h =
     let u = up AnyRead at.order c.args.block l at.high c.args.child.now c.take_held.new.child c.args.held.now.items c.take_held.new.held.items c.in-Grown.low c.in-Grown.twig shaped at_hand_is c.take_held.ensures.taken is in
     let e = rw (c.in-Grown.is, made.outs-Grown c.in-Grown.low c.in-Grown.twig) at c.open_below.ensures in
     let open_at = below_up at.order c.args.block l at.high c.args.child.now c.in-Grown.low c.in-Grown.twig c.take_held.new.held.items at.from at.to u in
-    let up_is = helps_up (ReadOver pages at.order) at.order c.args.block l at.high c.args.child.now c.take_held.new.child c.args.held.now.items c.take_held.new.held.items c.in-Grown.low c.in-Grown.twig beside loses h.from c.take_held.ensures.taken is in
-    let k = e.helps open_at pages beside loses up_is.0 in
+    let up_is = helps_up (ReadOver source at.order) at.order c.args.block l at.high c.args.child.now c.take_held.new.child c.args.held.now.items c.take_held.new.held.items c.in-Grown.low c.in-Grown.twig beside loses h.from c.take_held.ensures.taken is in
+    let k = e.helps open_at source beside loses up_is.0 in
     let wide : length (children_of c.open_below.new.twig) ≡ width = e.wide ∙ ap (λ w. length (children_of w)) (sym up_is.1) ∙ h.wide in
     rw (c.in-Grown.is, made.outs-Grown c.in-Grown.low c.in-Grown.twig)
-    (wide_grown (ReadOver pages at.order) at.order c.args.block l at.high width c.in-Grown.low c.open_below.new.twig c.open_below.new.held.items beside loses k wide)
+    (wide_grown (ReadOver source at.order) at.order c.args.block l at.high width c.in-Grown.low c.open_below.new.twig c.open_below.new.held.items beside loses k wide)

@@ -9,10 +9,11 @@ use Rattle.btree_twigs.proofs.Nodes.{stubs_of_grown}
 use Rattle.btree_twigs.proofs.Counts.{nodes_grown}
 use Rattle.btree_update.specs.GroveTree.{Maps}
 use Rattle.btree_update.specs.Held.{AreBelow, IsReadAs, AnyRead, OnWay, HeldFor}
-use Rattle.btree_update.specs.Opens.{GivesWay}
-use Rattle.btree_update.proofs.OpenLaws.{gives_then, nodes_is}
+use Rattle.btree_update.specs.Opens.{HasWay, GivesChild, GivesBelow}
+use Rattle.btree_update.proofs.OpenLaws.{nodes_is}
+use Rattle.btree_update.proofs.GivesLaws.{root_takes_up, grown_gives}
 use Rattle.btree_update.proofs.OpenMaps.{opened_maps}
-use Rattle.btree_update.proofs.RootLaws.{root_at_hand, root_up, root_gives, root_maps, root_below, below_root}
+use Rattle.btree_update.proofs.RootLaws.{root_at_hand, root_up, root_maps, root_below, below_root}
 use Rattle.btree_update.specs.Beside.{HelpsBelow, ReadOver}
 use Rattle.btree_update.proofs.HelpLaws.{helps_up, from_grown}
 use Rattle.btree_update.proofs.opening.open_root.Goals as goal
@@ -56,13 +57,12 @@ returns-clause-gives c pages at held =
     let e = rw (c.in-Grown.is, made.outs-Grown c.in-Grown.low c.in-Grown.twig) at c.open_below.ensures in
     let can = below_root at.order c.args.block at.below (c.args.level - 1) at.high c.in-Grown.low (out-Child c.args.top.now) c.in-Grown.twig c.take_held.new.held.items l at.to u in
     let way = subst (λ m. OnWay c.args.block (λ high c'. HeldFor (IsReadAs pages at.order) at.order c.args.block m high c' c.take_held.new.held.items) at.high c.in-Grown.twig) (sym l) v.on_way in
-    let first = root_gives pages at.order c.args.block at.below at.high c.args.top.now c.take_held.new.child c.args.held.now.items c.take_held.new.held.items c.in-Grown.low c.in-Grown.twig c.args.gone.now.items c.take_held.new.gone.items at.shaped held c.take_held.ensures.taken c.take_held.ensures.noted is in
-    let second = subst (λ m. GivesWay pages at.order (stubs_below m at.high c.in-Grown.twig) (stubs_below m at.high c.open_below.new.twig) c.take_held.new.gone.items c.open_below.new.gone.items) l (e.gives pages can way) in
-    let both = gives_then pages at.order _ _ _ _ _ _ first second in
+    let first = root_takes_up pages at.order c.args.block at.below at.high (out-Child c.args.top.now) c.take_held.new.child c.args.held.now.items c.take_held.new.held.items c.in-Grown.low c.in-Grown.twig c.args.gone.now.items c.take_held.new.gone.items at.shaped at.to held c.take_held.ensures.taken c.take_held.ensures.noted is in
+    let second = subst (λ m. GivesBelow pages at.order (HasWay c.args.block) m at.high c.in-Grown.twig c.open_below.new.twig c.take_held.new.gone.items c.open_below.new.gone.items) l (e.gives pages can way) in
+    let both = grown_gives pages at.order (HasWay c.args.block) at.below at.high c.args.top.now c.in-Grown.low c.in-Grown.twig c.open_below.new.twig c.args.gone.now.items c.take_held.new.gone.items c.open_below.new.gone.items first second in
     let new = made.Grown c.in-Grown.low c.open_below.new.twig in
     rw (c.in-Grown.is, made.outs-Grown c.in-Grown.low c.in-Grown.twig)
-    (subst (λ k. GivesWay pages at.order (stubs k at.high c.args.top.now) (stubs k at.high new) c.args.gone.now.items c.open_below.new.gone.items) (sym at.level_is)
-    (subst (λ ss. GivesWay pages at.order (stubs (suc at.below) at.high c.args.top.now) ss c.args.gone.now.items c.open_below.new.gone.items) (sym (stubs_of_grown at.below at.high c.in-Grown.low c.open_below.new.twig)) both))
+    (subst (λ k. GivesChild pages at.order (HasWay c.args.block) k at.high c.args.top.now new c.args.gone.now.items c.open_below.new.gone.items) (sym at.level_is) both)
 
 pub returns-clause-maps : goal.returns-clause-maps
 returns-clause-maps c pages at held mapped m =
@@ -73,9 +73,9 @@ returns-clause-maps c pages at held mapped m =
     let e = rw (c.in-Grown.is, made.outs-Grown c.in-Grown.low c.in-Grown.twig) at c.open_below.ensures in
     let can = below_root at.order c.args.block at.below (c.args.level - 1) at.high c.in-Grown.low (out-Child c.args.top.now) c.in-Grown.twig c.take_held.new.held.items l at.to u in
     let way = subst (λ m. OnWay c.args.block (λ high c'. HeldFor (IsReadAs pages at.order) at.order c.args.block m high c' c.take_held.new.held.items) at.high c.in-Grown.twig) (sym l) v.on_way in
-    let second = subst (λ m. GivesWay pages at.order (stubs_below m at.high c.in-Grown.twig) (stubs_below m at.high c.open_below.new.twig) c.take_held.new.gone.items c.open_below.new.gone.items) l (e.gives pages can way) in
+    let second = subst (λ m. GivesBelow pages at.order (HasWay c.args.block) m at.high c.in-Grown.twig c.open_below.new.twig c.take_held.new.gone.items c.open_below.new.gone.items) l (e.gives pages can way) in
     let before = root_maps pages at.order c.args.block at.below at.high (out-Child c.args.top.now) c.take_held.new.child c.args.held.now.items c.take_held.new.held.items c.in-Grown.low c.in-Grown.twig mapped held c.take_held.ensures.taken is m in
-    let after = opened_maps pages at.order second.addrs _ _ mapped second.opens before in
+    let after = opened_maps pages at.order second.places.places _ _ mapped second.places.opens before in
     let new = made.Grown c.in-Grown.low c.open_below.new.twig in
     rw (c.in-Grown.is, made.outs-Grown c.in-Grown.low c.in-Grown.twig)
     (subst (λ k. Maps pages at.order (stubs k at.high new) mapped) (sym at.level_is) (subst (λ ss. Maps pages at.order ss mapped) (sym (stubs_of_grown at.below at.high c.in-Grown.low c.open_below.new.twig)) after))
@@ -108,14 +108,14 @@ returns-clause-below c head at below =
     (subst (λ k. AreBelow head (stubs k at.high new)) (sym at.level_is) (subst (AreBelow head) (sym (stubs_of_grown at.below at.high c.in-Grown.low c.open_below.new.twig)) second))
 
 pub returns-clause-helps : goal.returns-clause-helps
-returns-clause-helps c at pages beside loses h =
+returns-clause-helps c at source beside loses h =
     let is = ap out-Child c.in-Grown.is ∙ made.outs-Grown c.in-Grown.low c.in-Grown.twig in
     let l = below_is c.args.level at.below at.level_is in
     let u = root_up AnyRead at.order c.args.block at.below at.high (out-Child c.args.top.now) c.take_held.new.child c.args.held.now.items c.take_held.new.held.items c.in-Grown.low c.in-Grown.twig at.shaped at.at_hand c.take_held.ensures.taken is in
     let e = rw (c.in-Grown.is, made.outs-Grown c.in-Grown.low c.in-Grown.twig) at c.open_below.ensures in
     let can = below_root at.order c.args.block at.below (c.args.level - 1) at.high c.in-Grown.low (out-Child c.args.top.now) c.in-Grown.twig c.take_held.new.held.items l at.to u in
-    let up_is = helps_up (ReadOver pages at.order) at.order c.args.block at.below at.high c.args.top.now c.take_held.new.child c.args.held.now.items c.take_held.new.held.items c.in-Grown.low c.in-Grown.twig beside loses h c.take_held.ensures.taken is in
-    let k = subst (λ m. HelpsBelow (ReadOver pages at.order) at.order c.args.block m at.high c.open_below.new.twig c.open_below.new.held.items beside loses) l
-    (e.helps can pages beside loses (subst (λ m. HelpsBelow (ReadOver pages at.order) at.order c.args.block m at.high c.in-Grown.twig c.take_held.new.held.items beside loses) (sym l) up_is.0)) in
+    let up_is = helps_up (ReadOver source at.order) at.order c.args.block at.below at.high c.args.top.now c.take_held.new.child c.args.held.now.items c.take_held.new.held.items c.in-Grown.low c.in-Grown.twig beside loses h c.take_held.ensures.taken is in
+    let k = subst (λ m. HelpsBelow (ReadOver source at.order) at.order c.args.block m at.high c.open_below.new.twig c.open_below.new.held.items beside loses) l
+    (e.helps can source beside loses (subst (λ m. HelpsBelow (ReadOver source at.order) at.order c.args.block m at.high c.in-Grown.twig c.take_held.new.held.items beside loses) (sym l) up_is.0)) in
     rw (c.in-Grown.is, made.outs-Grown c.in-Grown.low c.in-Grown.twig)
-    (from_grown (ReadOver pages at.order) at.order c.args.block at.below at.high c.in-Grown.low c.open_below.new.twig c.open_below.new.held.items beside loses k)
+    (from_grown (ReadOver source at.order) at.order c.args.block at.below at.high c.in-Grown.low c.open_below.new.twig c.open_below.new.held.items beside loses k)

@@ -1,16 +1,22 @@
-use Rattle.std.proofs.Common.{◌≡◌, ◌⊎◌, ℕ, suc, ◌+◌, ◌-◌, ◌*◌, ◌<◌, ◌≤◌, inl, inr, sym, subst, ◌∙◌, arith}
+use Rattle.std.proofs.Common.{◌≡◌, ◌⊎◌, ℕ, suc, ◌+◌, ◌-◌, ◌*◌, ◌<◌, ◌≤◌, inl, inr, refl, sym, subst, ◌∙◌, arith}
 use Rattle.node_codec.specs.Record.{DataRecord}
 use Rattle.page_store.specs.Places.{IsRecordAt}
 use Rattle.btree_twigs.specs.declared.twigs.Child.{Child}
 use Rattle.btree_twigs.specs.Stubs.{stubs, nodes}
-use Rattle.btree_twigs.specs.Top.{CanPutTop}
+use Rattle.btree_twigs.specs.Updates.{IsOpen}
+use Rattle.btree_twigs.specs.Levels.{rows_at, Reshape}
+use Rattle.btree_twigs.specs.Top.{child_level, CanPutTop}
+use Rattle.btree_twigs.proofs.LevelLaws.{reshape_from}
+use Rattle.btree_twigs.proofs.Tops.{top_level}
+use Rattle.btree_update.specs.Tells.{Tells}
+use Rattle.btree_update.proofs.RowLaws.{tells_opened, tells_puts}
 use Rattle.btree_update.specs.declared.groves.Grove.{Grove}
 use Rattle.btree_update.specs.GroveTree.{Maps}
 use Rattle.btree_update.specs.Held.{AreBelow}
 use Rattle.btree_update.specs.Roots.{IsRoot, RootMaps, CanOpenRoot, IsRootOpened}
 use Rattle.btree_update.specs.Groves.{CanInsert, IsAddressOf, LetsGo}
 use Rattle.btree_update.proofs.Places.{puts_maps}
-use Rattle.btree_update.proofs.GroveLaws.{top_level, top_is_root, top_maps, above_it, puts_below}
+use Rattle.btree_update.proofs.GroveLaws.{top_is_root, top_maps, above_it, puts_below}
 use Rattle.btree_update.proofs.groves.Grove.insert.Goals as goal
 
 abbrev can_open : (block : ℕ) (grove : Grove) → CanInsert block grove → CanOpenRoot grove.level block grove.held.items grove.top
@@ -82,13 +88,40 @@ returns-clause-goes c pages held =
     let g = c.open_root.ensures.gives pages can held in
     record {
       opened = stubs c.args.self.now.level c.args.self.now.blocks c.open_root.new.top;
-      addrs = g.addrs;
-      opens = g.opens;
+      places = g.places.places;
+      opens = g.places.opens;
+      may = g.places.may;
+      is_open = subst (λ k. IsOpen c.args.block (stubs k c.args.self.now.blocks c.open_root.new.top)) (sym can.level_is) o.is_open;
       replaced = c.address_of-old.result;
       was = subst (λ k. IsAddressOf c.args.block (stubs k c.args.self.now.blocks c.open_root.new.top) c.address_of-old.result) (sym can.level_is)
           (c.address_of-old.ensures c.args.self.now.order (c.args.self.now.level - 1) o.shaped c.requires.can.to o.is_open);
-      goes = subst (λ g'. LetsGo c.args.self.now.head c.args.block c.address_of-old.result g' c.let_go.new.gone.items c.args.self.now.never.items c.let_go.new.never.items) g.more_is c.let_go.ensures;
+      goes = subst (λ g'. LetsGo c.args.self.now.head c.args.block c.address_of-old.result g' c.let_go.new.gone.items c.args.self.now.never.items c.let_go.new.never.items) g.places.more_is c.let_go.ensures;
     }
+
+pub returns-clause-levels : goal.returns-clause-levels
+returns-clause-levels c pages levels held has =
+    let can = can_open c.args.block c.args.self.now c.requires.can in
+    let blocks = c.args.self.now.blocks in
+    let mid = c.open_root.new.top in
+    let new = c.put_top.new.top in
+    let put_at = can_put c.args.block c.args.self.now mid c.requires.can c.requires.small (c.open_root.ensures.opened can) in
+    let p = c.put_top.ensures.put put_at in
+    let g = c.open_root.ensures.gives pages can held in
+    let tells = tells_opened pages has.medium c.args.self.now.order g.places.places _ _ g.places.opens has.told in
+    let told = tells_puts pages has.medium 0 blocks c.args.block c.args.addr c.bytes.result _ _ p.puts (subst (λ k. Tells pages has.medium (stubs k blocks mid)) can.level_is tells) in
+    let l = c.level_of-self.ensures ∙ top_level c.args.self.now.order p.new_level blocks new p.shaped in
+    let was : (j : ℕ) → levels j ≡ rows_at has.medium c.args.self.now.level blocks mid j = λ j. has.are j ∙ sym (g.rows has.medium has.told j) in
+    let r = subst (λ k. Reshape c.args.self.now.order c.args.block k (child_level new) (rows_at has.medium k blocks mid) (rows_at has.medium (child_level new) blocks new)) (sym can.level_is) (c.put_top.ensures.levels has.medium has.bounds put_at) in
+    let s = subst (λ k. Reshape c.args.self.now.order c.args.block c.args.self.now.level k (rows_at has.medium c.args.self.now.level blocks mid) (rows_at has.medium k blocks new)) (sym c.level_of-self.ensures) r in (
+      rows_at has.medium c.level_of-self.result blocks new,
+      record {
+        medium = has.medium;
+        bounds = has.bounds;
+        told = subst (λ k. Tells pages has.medium (stubs k blocks new)) (sym l) told;
+        are = λ j. refl;
+      },
+      reshape_from c.args.self.now.order c.args.block c.args.self.now.level c.level_of-self.result _ _ levels was s,
+    )
 
 pub returns-clause-grown : goal.returns-clause-grown
 returns-clause-grown c =

@@ -1,20 +1,27 @@
-use Rattle.std.proofs.Common.{◌≡◌, ◌⊎◌, ℕ, suc, ◌+◌, ◌-◌, ◌*◌, ◌≤◌, List, None, Some, inl, inr, sym, subst, ◌∙◌, arith}
+use Rattle.std.proofs.Common.{◌≡◌, ◌⊎◌, ℕ, suc, ◌+◌, ◌-◌, ◌*◌, ◌≤◌, List, Bool, true, IsTrue, inl, inr, refl, sym, subst, ◌∙◌, arith}
 use Rattle.btree_twigs.specs.declared.twigs.Child.{Child}
 use Rattle.btree_twigs.specs.declared.twigs.Twig.{Twig}
-use Rattle.btree_twigs.specs.Stubs.{stubs, nodes}
-use Rattle.btree_twigs.specs.Top.{CanTakeTop}
+use Rattle.btree_twigs.specs.Stubs.{Stub, stubs, nodes}
+use Rattle.btree_twigs.specs.Updates.{IsOpen}
+use Rattle.btree_twigs.specs.Levels.{rows_at, ReshapeDown}
+use Rattle.btree_twigs.specs.Top.{child_level, CanTakeTop}
+use Rattle.btree_twigs.proofs.SinkLaws.{down_from}
+use Rattle.btree_twigs.proofs.Tops.{top_level}
 use Rattle.btree_update.specs.declared.groves.Grove.{Grove}
 use Rattle.btree_update.specs.GroveTree.{Maps}
-use Rattle.btree_update.specs.Held.{AreBelow, AnyRead}
-use Rattle.btree_update.specs.Opens.{GivesWay}
+use Rattle.btree_update.specs.Held.{AreBelow, AnyRead, IsReadAs}
+use Rattle.btree_update.specs.Tells.{Tells}
+use Rattle.btree_update.specs.Opens.{HasWay, GivesChild}
 use Rattle.btree_update.specs.Roots.{IsRoot, RootMaps, CanOpenRoot, IsRootOpened}
-use Rattle.btree_update.specs.Beside.{HelpsFrom}
+use Rattle.btree_update.specs.Beside.{HelpsFrom, IsReadWhere, Anywhere, Over}
 use Rattle.btree_update.specs.Helping.{CanHelpRoot, HelpedRoot}
 use Rattle.btree_update.specs.Groves.{CanRemove, IsAddressOf, LetsGo}
 use Rattle.btree_update.proofs.Places.{takes_maps}
 use Rattle.btree_update.proofs.OpenMaps.{opened_maps}
-use Rattle.btree_update.proofs.OpenLaws.{gives_then}
-use Rattle.btree_update.proofs.GroveLaws.{top_level, top_is_root, top_maps, above_it, takes_below}
+use Rattle.btree_update.proofs.RowLaws.{tells_opened, tells_takes}
+use Rattle.btree_update.proofs.GivesLaws.{gives_then, gives_weaker}
+use Rattle.btree_update.proofs.HelpingLaws.{from_weaker}
+use Rattle.btree_update.proofs.GroveLaws.{top_is_root, top_maps, above_it, takes_below}
 use Rattle.btree_update.proofs.groves.Grove.remove.Goals as goal
 
 abbrev can_open : (block : ℕ) (grove : Grove) → CanRemove block grove → CanOpenRoot grove.level block grove.held.items grove.top
@@ -62,7 +69,7 @@ pub help_root-requires : goal.help_root-requires
 help_root-requires c =
     let can = can_open c.args.block c.args.self.now c.requires.can in
     record {
-      can = can_help c.args.block c.args.self.now c.open_root.new.top c.open_root.new.held.items c.requires.can (c.open_root.ensures.opened can) (c.open_root.ensures.helps can None c.args.self.now.beside.items c.requires.can.loses c.requires.can.beside);
+      can = can_help c.args.block c.args.self.now c.open_root.new.top c.open_root.new.held.items c.requires.can (c.open_root.ensures.opened can) (c.open_root.ensures.helps can Anywhere c.args.self.now.beside.items c.requires.can.loses c.requires.can.beside);
       room = omega (arith, c.requires.can.gone_room, c.open_root.ensures.spare);
     }
 
@@ -72,13 +79,13 @@ let_go-requires-clause-gone_room c = omega (arith, c.requires.can.gone_room, c.o
 pub take_top-requires-clause-can : goal.take_top-requires-clause-can
 take_top-requires-clause-can c =
     let can = can_open c.args.block c.args.self.now c.requires.can in
-    let h = c.help_root.ensures.helped (can_help c.args.block c.args.self.now c.open_root.new.top c.open_root.new.held.items c.requires.can (c.open_root.ensures.opened can) (c.open_root.ensures.helps can None c.args.self.now.beside.items c.requires.can.loses c.requires.can.beside)) in
+    let h = c.help_root.ensures.helped (can_help c.args.block c.args.self.now c.open_root.new.top c.open_root.new.held.items c.requires.can (c.open_root.ensures.opened can) (c.open_root.ensures.helps can Anywhere c.args.self.now.beside.items c.requires.can.loses c.requires.can.beside)) in
     can_take c.args.block c.args.self.now c.open_root.new.top c.help_root.new.top _ _ c.requires.can h
 
 pub returns-clause-sound : goal.returns-clause-sound
 returns-clause-sound c =
     let can = can_open c.args.block c.args.self.now c.requires.can in
-    let h = c.help_root.ensures.helped (can_help c.args.block c.args.self.now c.open_root.new.top c.open_root.new.held.items c.requires.can (c.open_root.ensures.opened can) (c.open_root.ensures.helps can None c.args.self.now.beside.items c.requires.can.loses c.requires.can.beside)) in
+    let h = c.help_root.ensures.helped (can_help c.args.block c.args.self.now c.open_root.new.top c.open_root.new.held.items c.requires.can (c.open_root.ensures.opened can) (c.open_root.ensures.helps can Anywhere c.args.self.now.beside.items c.requires.can.loses c.requires.can.beside)) in
     let p = c.take_top.ensures.taken (can_take c.args.block c.args.self.now c.open_root.new.top c.help_root.new.top _ _ c.requires.can h) in
     let l = c.level_of-self.ensures ∙ top_level c.args.self.now.order p.new_level c.args.self.now.blocks c.take_top.new.top p.shaped in
     record {
@@ -96,45 +103,87 @@ level_by level new_level new one (inr e) is = inr (omega (arith, one, e, is))
 pub returns-clause-level : goal.returns-clause-level
 returns-clause-level c =
     let can = can_open c.args.block c.args.self.now c.requires.can in
-    let h = c.help_root.ensures.helped (can_help c.args.block c.args.self.now c.open_root.new.top c.open_root.new.held.items c.requires.can (c.open_root.ensures.opened can) (c.open_root.ensures.helps can None c.args.self.now.beside.items c.requires.can.loses c.requires.can.beside)) in
+    let h = c.help_root.ensures.helped (can_help c.args.block c.args.self.now c.open_root.new.top c.open_root.new.held.items c.requires.can (c.open_root.ensures.opened can) (c.open_root.ensures.helps can Anywhere c.args.self.now.beside.items c.requires.can.loses c.requires.can.beside)) in
     let p = c.take_top.ensures.taken (can_take c.args.block c.args.self.now c.open_root.new.top c.help_root.new.top _ _ c.requires.can h) in
     level_by c.args.self.now.level p.new_level c.level_of-self.result c.requires.can.sound.one p.level_is (c.level_of-self.ensures ∙ top_level c.args.self.now.order p.new_level c.args.self.now.blocks c.take_top.new.top p.shaped)
+
+-- wherever a neighbour's node was read
+abbrev anywhere : Stub → Bool
+anywhere s = true
 
 pub returns-clause-maps : goal.returns-clause-maps
 returns-clause-maps c pages mapped held beside m =
     let can = can_open c.args.block c.args.self.now c.requires.can in
-    let h = c.help_root.ensures.helped (can_help c.args.block c.args.self.now c.open_root.new.top c.open_root.new.held.items c.requires.can (c.open_root.ensures.opened can) (c.open_root.ensures.helps can None c.args.self.now.beside.items c.requires.can.loses c.requires.can.beside)) in
+    let h = c.help_root.ensures.helped (can_help c.args.block c.args.self.now c.open_root.new.top c.open_root.new.held.items c.requires.can (c.open_root.ensures.opened can) (c.open_root.ensures.helps can Anywhere c.args.self.now.beside.items c.requires.can.loses c.requires.can.beside)) in
     let p = c.take_top.ensures.taken (can_take c.args.block c.args.self.now c.open_root.new.top c.help_root.new.top _ _ c.requires.can h) in
     let l = c.level_of-self.ensures ∙ top_level c.args.self.now.order p.new_level c.args.self.now.blocks c.take_top.new.top p.shaped in
     let opened = subst (λ k. Maps pages c.args.self.now.order (stubs k c.args.self.now.blocks c.open_root.new.top) mapped) can.level_is (c.open_root.ensures.maps pages can held mapped m) in
-    let g = h.gives pages c.open_root.new.held.items beside.0 (c.open_root.ensures.helps can (Some pages) c.args.self.now.beside.items beside.0 beside.1) in
-    let helped = opened_maps pages c.args.self.now.order g.addrs _ _ mapped g.opens opened in
+    let asks = from_weaker (IsReadAs pages c.args.self.now.order) (IsReadWhere pages anywhere c.args.self.now.order) (λ l s t r. (r, refl)) c.args.self.now.order c.args.block (c.args.self.now.level - 1) c.args.self.now.blocks c.args.self.now.top _ _ beside.0 beside.1 in
+    let g = h.gives pages anywhere c.open_root.new.held.items beside.0 (c.open_root.ensures.helps can (Over pages anywhere) c.args.self.now.beside.items beside.0 asks) in
+    let helped = opened_maps pages c.args.self.now.order g.places.places _ _ mapped g.places.opens opened in
     let r = takes_maps pages c.args.self.now.order 0 c.args.self.now.blocks c.args.block _ _ mapped p.takes helped in
     let root = top_maps pages c.args.self.now.order p.new_level c.args.self.now.blocks c.take_top.new.top r.0 p.shaped r.1 in
     (r.0, subst (λ k. RootMaps pages c.args.self.now.order k c.args.self.now.blocks c.take_top.new.top r.0) (sym (one_less c.level_of-self.result p.new_level l)) root, r.2)
 
 pub returns-clause-goes : goal.returns-clause-goes
-returns-clause-goes c pages held beside =
+returns-clause-goes c pages may held beside =
     let can = can_open c.args.block c.args.self.now c.requires.can in
-    let h = c.help_root.ensures.helped (can_help c.args.block c.args.self.now c.open_root.new.top c.open_root.new.held.items c.requires.can (c.open_root.ensures.opened can) (c.open_root.ensures.helps can None c.args.self.now.beside.items c.requires.can.loses c.requires.can.beside)) in
+    let h = c.help_root.ensures.helped (can_help c.args.block c.args.self.now c.open_root.new.top c.open_root.new.held.items c.requires.can (c.open_root.ensures.opened can) (c.open_root.ensures.helps can Anywhere c.args.self.now.beside.items c.requires.can.loses c.requires.can.beside)) in
     let first = c.open_root.ensures.gives pages can held in
-    let second = subst (λ k. GivesWay pages c.args.self.now.order (stubs k c.args.self.now.blocks c.open_root.new.top) (stubs k c.args.self.now.blocks c.help_root.new.top) c.open_root.new.gone.items c.help_root.new.gone.items) (sym can.level_is)
-    (h.gives pages c.open_root.new.held.items beside.0 (c.open_root.ensures.helps can (Some pages) c.args.self.now.beside.items beside.0 beside.1)) in
-    let g = gives_then pages c.args.self.now.order _ _ _ _ _ _ first second in
+    let second = subst (λ k. GivesChild pages c.args.self.now.order (λ s. IsTrue (may s)) k c.args.self.now.blocks c.open_root.new.top c.help_root.new.top c.open_root.new.gone.items c.help_root.new.gone.items) (sym can.level_is)
+    (h.gives pages may c.open_root.new.held.items beside.0 (c.open_root.ensures.helps can (Over pages may) c.args.self.now.beside.items beside.0 beside.1)) in
+    let Might : Stub → Type 0 = λ s. HasWay c.args.block s ⊎ IsTrue (may s) in
+    let g = gives_then pages c.args.self.now.order Might _ _ _ _ _ _
+    (gives_weaker pages c.args.self.now.order (HasWay c.args.block) Might (λ s k. inl k) _ _ _ _ first.places)
+    (gives_weaker pages c.args.self.now.order (λ s. IsTrue (may s)) Might (λ s k. inr k) _ _ _ _ second.places) in
     record {
       opened = stubs c.args.self.now.level c.args.self.now.blocks c.help_root.new.top;
-      addrs = g.addrs;
+      places = g.places;
       opens = g.opens;
+      may = g.may;
+      is_open = subst (λ k. IsOpen c.args.block (stubs k c.args.self.now.blocks c.help_root.new.top)) (sym can.level_is) h.is_open;
       replaced = c.address_of-addr.result;
       was = subst (λ k. IsAddressOf c.args.block (stubs k c.args.self.now.blocks c.help_root.new.top) c.address_of-addr.result) (sym can.level_is)
           (c.address_of-addr.ensures c.args.self.now.order (c.args.self.now.level - 1) h.shaped c.requires.can.to h.is_open);
       goes = subst (λ g'. LetsGo c.args.self.now.head c.args.block c.address_of-addr.result g' c.let_go.new.gone.items c.args.self.now.never.items c.let_go.new.never.items) g.more_is c.let_go.ensures;
     }
 
+pub returns-clause-levels : goal.returns-clause-levels
+returns-clause-levels c pages levels held beside has =
+    let can = can_open c.args.block c.args.self.now c.requires.can in
+    let order = c.args.self.now.order in
+    let level = c.args.self.now.level in
+    let blocks = c.args.self.now.blocks in
+    let mid = c.help_root.new.top in
+    let new = c.take_top.new.top in
+    let h = c.help_root.ensures.helped (can_help c.args.block c.args.self.now c.open_root.new.top c.open_root.new.held.items c.requires.can (c.open_root.ensures.opened can) (c.open_root.ensures.helps can Anywhere c.args.self.now.beside.items c.requires.can.loses c.requires.can.beside)) in
+    let take_at = can_take c.args.block c.args.self.now c.open_root.new.top mid _ _ c.requires.can h in
+    let p = c.take_top.ensures.taken take_at in
+    let l = c.level_of-self.ensures ∙ top_level order p.new_level blocks new p.shaped in
+    let asks = from_weaker (IsReadAs pages order) (IsReadWhere pages anywhere order) (λ l s t r. (r, refl)) order c.args.block (level - 1) blocks c.args.self.now.top _ _ beside.0 beside.1 in
+    let first = c.open_root.ensures.gives pages can held in
+    let second = subst (λ k. GivesChild pages order (λ s. IsTrue (anywhere s)) k blocks c.open_root.new.top mid c.open_root.new.gone.items c.help_root.new.gone.items) (sym can.level_is)
+    (h.gives pages anywhere c.open_root.new.held.items beside.0 (c.open_root.ensures.helps can (Over pages anywhere) c.args.self.now.beside.items beside.0 asks)) in
+    let tells = tells_opened pages has.medium order first.places.places _ _ first.places.opens has.told in
+    let helped = tells_opened pages has.medium order second.places.places _ _ second.places.opens tells in
+    let told = tells_takes pages has.medium 0 blocks c.args.block _ _ p.takes (subst (λ k. Tells pages has.medium (stubs k blocks mid)) can.level_is helped) in
+    let was : (j : ℕ) → levels j ≡ rows_at has.medium level blocks mid j = λ j. has.are j ∙ sym (first.rows has.medium has.told j) ∙ sym (second.rows has.medium tells j) in
+    let r = subst (λ k. ReshapeDown order c.args.block k (child_level new) (rows_at has.medium k blocks mid) (rows_at has.medium (child_level new) blocks new)) (sym can.level_is) (c.take_top.ensures.levels has.medium has.bounds take_at) in
+    let s = subst (λ k. ReshapeDown order c.args.block level k (rows_at has.medium level blocks mid) (rows_at has.medium k blocks new)) (sym c.level_of-self.ensures) r in (
+      rows_at has.medium c.level_of-self.result blocks new,
+      record {
+        medium = has.medium;
+        bounds = has.bounds;
+        told = subst (λ k. Tells pages has.medium (stubs k blocks new)) (sym l) told;
+        are = λ j. refl;
+      },
+      down_from order c.args.block level c.level_of-self.result _ _ levels was s,
+    )
+
 pub returns-clause-below : goal.returns-clause-below
 returns-clause-below c head below =
     let can = can_open c.args.block c.args.self.now c.requires.can in
-    let h = c.help_root.ensures.helped (can_help c.args.block c.args.self.now c.open_root.new.top c.open_root.new.held.items c.requires.can (c.open_root.ensures.opened can) (c.open_root.ensures.helps can None c.args.self.now.beside.items c.requires.can.loses c.requires.can.beside)) in
+    let h = c.help_root.ensures.helped (can_help c.args.block c.args.self.now c.open_root.new.top c.open_root.new.held.items c.requires.can (c.open_root.ensures.opened can) (c.open_root.ensures.helps can Anywhere c.args.self.now.beside.items c.requires.can.loses c.requires.can.beside)) in
     let p = c.take_top.ensures.taken (can_take c.args.block c.args.self.now c.open_root.new.top c.help_root.new.top _ _ c.requires.can h) in
     let l = c.level_of-self.ensures ∙ top_level c.args.self.now.order p.new_level c.args.self.now.blocks c.take_top.new.top p.shaped in
     let opened = subst (λ k. AreBelow head (stubs k c.args.self.now.blocks c.open_root.new.top)) can.level_is (c.open_root.ensures.below head can below) in
@@ -143,7 +192,7 @@ returns-clause-below c head below =
 pub returns-clause-grown : goal.returns-clause-grown
 returns-clause-grown c =
     let can = can_open c.args.block c.args.self.now c.requires.can in
-    let h = c.help_root.ensures.helped (can_help c.args.block c.args.self.now c.open_root.new.top c.open_root.new.held.items c.requires.can (c.open_root.ensures.opened can) (c.open_root.ensures.helps can None c.args.self.now.beside.items c.requires.can.loses c.requires.can.beside)) in
+    let h = c.help_root.ensures.helped (can_help c.args.block c.args.self.now c.open_root.new.top c.open_root.new.held.items c.requires.can (c.open_root.ensures.opened can) (c.open_root.ensures.helps can Anywhere c.args.self.now.beside.items c.requires.can.loses c.requires.can.beside)) in
     let p = c.take_top.ensures.taken (can_take c.args.block c.args.self.now c.open_root.new.top c.help_root.new.top _ _ c.requires.can h) in
     let l = c.level_of-self.ensures ∙ top_level c.args.self.now.order p.new_level c.args.self.now.blocks c.take_top.new.top p.shaped in
     let few = subst (λ k. nodes k c.open_root.new.top ≤ nodes c.args.self.now.level c.args.self.now.top + c.args.self.now.level) can.level_is (c.open_root.ensures.nodes can) in
