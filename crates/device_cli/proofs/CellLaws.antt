@@ -1,15 +1,21 @@
--- That the cell can be served at each moment.
+-- That the cell can be served at each moment, and what a call leaves that only looked.
 use Rattle.platform.specs.History.{History, Steps, During}
-use Rattle.std.proofs.Common.{◌≡◌, sym, subst, ap, ◌∙◌}
+use Rattle.std.proofs.Common.{◌≡◌, Ok, sym, subst, ap, ◌∙◌, arith}
 use Rattle.platform.proofs.Moments.{During-start, During-step, During-now, During-then}
 use Rattle.std.specs.Prelude.{Option, Some, IfSome}
 use Rattle.platform.specs.History.{CellStays}
+use Rattle.platform.specs.Calls.{Looks}
+use Rattle.platform.specs.declared.platforms.Platform.{Ghosts}
+use Rattle.script_lang.specs.Replies.{CanWrite, FitsBlock, said}
+use Rattle.script_lang.specs.declared.replies.Reply.{Reply as Given}
+use Rattle.script_lang.specs.declared.replies.Reply.TheVariants as given
 use Rattle.root_codec.specs.declared.root.Root.{Root}
 use Rattle.root_codec.specs.RootRecord.{root_bytes}
 use Rattle.device_core.specs.Holds.{Follows}
 use Rattle.device_core.specs.Leaf.{IsServedImage}
 use Rattle.device_core.specs.Sessions.{Session}
-use Rattle.device_cli.specs.Desk.{IsMounted}
+use Rattle.device_cli.specs.Desk.{After, IsMounted, IsReady}
+use Rattle.device_cli.specs.declared.desk.Desk.{Desk}
 
 -- no time has passed
 pub serves_now : (history : History) → IsServedImage history.present → During history history IsServedImage
@@ -36,3 +42,20 @@ mounted_still held session now old new is mounted same stays follows =
       cell = During-now old new (λ image. image.cell ≡ old.present.cell) stays ∙ (there.cell ∙ ap (λ (r : Root). Some (root_bytes r)) (sym same));
       follows = follows there.follows;
     }
+
+-- what a command leaves that was answered, and only looked
+pub after_looked : {S : Type 0} (P : Ghosts S) (desk : Desk) (old new : S) (reply : Given) → Looks P old new
+    → IsReady desk (P.head new) → (P.tells → IfSome desk.session (IsMounted (P.history new).present)) → CanWrite (said reply desk.buffer) → FitsBlock reply
+    → (reply ≡ given.Full → P.head new ≡ P.capacity new) → After P desk old new (Ok reply)
+after_looked P desk old new reply looks ready mounted can fits full = record {
+  ready = ready;
+  mounted = mounted;
+  reply = can;
+  short = fits;
+  bad_root = λ told e. absurd cc;
+  capacity = looks.capacity;
+  rises = omega (arith, looks.head);
+  by_one = omega (arith, looks.head);
+  added = tt;
+  full = full;
+}

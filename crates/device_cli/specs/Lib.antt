@@ -10,3 +10,4 @@ pub mod Pages
 pub mod Reaching
 pub mod Unserved
 pub mod Added
+pub mod Parts
