@@ -1,4 +1,4 @@
--- That the cell can be served at each moment, and which state a part of a run comes to.
+-- That the cell can be served at each moment, what a call leaves that only looked, and which state a part of a run comes to.
 use Rattle.platform.specs.History.{History, Steps, During}
 use Rattle.std.proofs.Common.{◌≡◌, ℕ, zero, List, [], ◌∷◌, None, Ok, refl, sym, subst, ap, ◌∙◌, arith}
 use Rattle.platform.proofs.Moments.{During-start, During-step, During-now, During-then}
@@ -6,15 +6,21 @@ use Rattle.std.specs.Prelude.{Option, Some, IfSome, ◌<◌, length}
 use Rattle.platform.specs.History.{CellStays}
 use Rattle.std.proofs.lemmas.List.{length-replicate}
 use Rattle.std.specs.Prelude.{replicate}
+use Rattle.platform.specs.Calls.{Looks}
+use Rattle.platform.specs.declared.platforms.Platform.{Ghosts}
+use Rattle.script_lang.specs.Replies.{CanWrite, FitsBlock, said}
+use Rattle.script_lang.specs.declared.replies.Reply.{Reply as Given}
+use Rattle.script_lang.specs.declared.replies.Reply.TheVariants as given
 use Rattle.root_codec.specs.declared.root.Root.{Root}
 use Rattle.root_codec.specs.RootRecord.{root_bytes}
 use Rattle.device_core.specs.Holds.{Follows}
 use Rattle.device_core.specs.Leaf.{IsServedImage}
 use Rattle.device_core.specs.Sessions.{Session}
+use Rattle.device_cli.specs.declared.desk.Desk.{Desk}
 use Rattle.sdbt_base.specs.Arrays.{State}
 use Rattle.platform.specs.Image.{Image}
 use Rattle.device_course.specs.States.{IsAt}
-use Rattle.device_cli.specs.Desk.{IsMounted}
+use Rattle.device_cli.specs.Desk.{After, IsMounted, IsReady}
 use Rattle.device_cli.specs.Kept.{IsKept}
 use Rattle.device_cli.specs.Replied.{Handled, no_line}
 use Rattle.device_cli.specs.Represents.{Stood}
@@ -46,6 +52,23 @@ mounted_still held session now old new is mounted same stays follows =
       cell = During-now old new (λ image. image.cell ≡ old.present.cell) stays ∙ (there.cell ∙ ap (λ (r : Root). Some (root_bytes r)) (sym same));
       follows = follows there.follows;
     }
+
+-- what a command leaves that was answered, and only looked
+pub after_looked : {S : Type 0} (P : Ghosts S) (desk : Desk) (old new : S) (reply : Given) → Looks P old new
+    → IsReady desk (P.head new) → (P.tells → IfSome desk.session (IsMounted (P.history new).present)) → CanWrite (said reply desk.buffer) → FitsBlock reply
+    → (reply ≡ given.Full → P.head new ≡ P.capacity new) → After P desk old new (Ok reply)
+after_looked P desk old new reply looks ready mounted can fits full = record {
+  ready = ready;
+  mounted = mounted;
+  reply = can;
+  short = fits;
+  bad_root = λ told e. absurd cc;
+  capacity = looks.capacity;
+  rises = omega (arith, looks.head);
+  by_one = omega (arith, looks.head);
+  added = tt;
+  full = full;
+}
 
 -- a look at the platform leaves a run without a session in its state
 pub at_looked : (old new : Image) (held : Option Session) (entry : State) → held ≡ None → new ≡ old → IsAt old None entry → IsAt new held entry

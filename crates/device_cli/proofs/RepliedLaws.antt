@@ -25,7 +25,7 @@ use Rattle.device_course.proofs.MadeLaws.{shut, made_none, made_one, made_stoppe
 use Rattle.device_cli.specs.Represents.{Stood, StandsFor}
 use Rattle.device_cli.specs.Added.{HasAdded}
 use Rattle.device_cli.specs.Pages.{pages_after, TurnIf, AnswersOn}
-use Rattle.device_cli.specs.Replied.{no_line, Ending, AreMany, IfNext, IsDamageAt, IsAhead, AreMarks, EndsIn, Answered, Replied, Handled, AsksForBlock, IsSound, IsOfBlock, IsWrongPage, Halts, Serves, HasPut}
+use Rattle.device_cli.specs.Replied.{no_line, Ending, AreMany, IsBehind, IfNext, IsDamageAt, IsAhead, AreMarks, EndsIn, Answered, Replied, Handled, AsksForBlock, IsSound, IsOfBlock, IsWrongPage, Halts, Serves, HasPut}
 use Rattle.device_cli.specs.declared.stop.Stop.{Stop}
 use Rattle.device_cli.specs.declared.stop.Stop.TheVariants as stops
 use Rattle.device_cli.specs.declared.stop.DeviceStop.{DeviceStop}
@@ -412,34 +412,31 @@ pub Handled-longer : (tells : Type 0) (old new : World) (last : DeviceStop → L
 Handled-longer tells old new last stop lines more a b line p =
     record { put = p.put; got = p.got; replied = Replied-longer tells old new last stop lines more p.put line p.replied }
 
+-- lines that have their replies, and then a stop
+stopped : (tells : Type 0) (old new : World) (last : DeviceStop → List ℕ) (stop : Stop) (lines : List (List ℕ)) (put : List ℕ) (p : Replied tells old new last (Ok tt) lines put)
+    → IsBehind last p.part (Err stop) → AreMany (length p.replies) (length lines) (Err stop) → IsDamageAt tells new.history.present p.replies lines (Err stop)
+    → ((entry : State) → Answered old new (Ok tt) entry lines p.replies p.part → Answered old new (Err stop) entry lines p.replies p.part)
+    → Replied tells old new last (Err stop) lines put
+stopped tells old new last stop lines put p behind many damage answered = record {
+  replies = p.replies;
+  part = p.part;
+  put_is = p.put_is;
+  behind = behind;
+  many = many;
+  damage = damage;
+  later = p.later;
+  full = p.full;
+  answered = λ told entry rep. answered entry (p.answered told entry rep);
+}
+
 -- the input ended or failed before a next line: no line is left without its reply
 Replied-cut : (tells : Type 0) (old new : World) (last : DeviceStop → List ℕ) (lines : List (List ℕ)) (put : List ℕ)
     → Replied tells old new last (Ok tt) lines put → Replied tells old new last (Err stops.Source) lines put × Replied tells old new last (Err stops.Limit) lines put
 Replied-cut tells old new last lines put p = (
-  record {
-    replies = p.replies;
-    part = p.part;
-    put_is = p.put_is;
-    behind = p.behind;
-    many = p.many;
-    damage = tt;
-    later = p.later;
-    full = p.full;
-    answered = λ told entry rep. let f = p.answered told entry rep in
-        record { now = f.now; pages = f.pages; answers = f.answers; ends = f.ends; near = f.near; ahead = f.ahead; is_ahead = f.is_ahead; marks = f.marks; are = f.are; made = f.made };
-  },
-  record {
-    replies = p.replies;
-    part = p.part;
-    put_is = p.put_is;
-    behind = p.behind;
-    many = p.many;
-    damage = tt;
-    later = p.later;
-    full = p.full;
-    answered = λ told entry rep. let f = p.answered told entry rep in
-        record { now = f.now; pages = f.pages; answers = f.answers; ends = f.ends; near = f.near; ahead = f.ahead; is_ahead = f.is_ahead; marks = f.marks; are = f.are; made = f.made };
-  },
+  stopped tells old new last stops.Source lines put p p.behind p.many tt
+      (λ entry f. record { now = f.now; pages = f.pages; answers = f.answers; ends = f.ends; near = f.near; ahead = f.ahead; is_ahead = f.is_ahead; marks = f.marks; are = f.are; made = f.made }),
+  stopped tells old new last stops.Limit lines put p p.behind p.many tt
+      (λ entry f. record { now = f.now; pages = f.pages; answers = f.answers; ends = f.ends; near = f.near; ahead = f.ahead; is_ahead = f.is_ahead; marks = f.marks; are = f.are; made = f.made }),
 )
 
 pub Handled-cut : (tells : Type 0) (old new : World) (last : DeviceStop → List ℕ) (lines : List (List ℕ)) (a b : Option (List ℕ))
@@ -529,5 +526,5 @@ count-then tells old mid new last ending lines more a b c p q = omega (arith, le
 
 pub count-cut : (tells : Type 0) (old new : World) (last : DeviceStop → List ℕ) (lines : List (List ℕ)) (a b : Option (List ℕ)) (p : Handled tells old new last (Ok tt) lines a b)
     → (length p.replied.replies ≤ length (Handled-cut tells old new last lines a b p).0.replied.replies) × (length p.replied.replies ≤ length (Handled-cut tells old new last lines a b p).1.replied.replies)
-unfolding Handled-cut Replied-cut
+unfolding Handled-cut Replied-cut stopped
 count-cut tells old new last lines a b p = (omega arith, omega arith)

@@ -11,3 +11,4 @@ pub mod Pages
 pub mod Reaching
 pub mod Unserved
 pub mod Added
+pub mod Parts

@@ -5,11 +5,10 @@ ghost use Rattle.script_lang.specs.Commands as commands;
 ghost use Rattle.script_lang.specs.Commands.{FitsBlock as FitsCommand, asked};
 ghost use Rattle.script_lang.specs.Replies.{CanWrite, FitsBlock, said};
 ghost use Rattle.script_lang.specs.Arrays.{in_limits};
-ghost use Rattle.sdbt_base.specs.Arrays.{State};
 ghost use Rattle.device_core.specs.Leaf.{IsServedImage};
 ghost use Rattle.device_cli.specs.Run.{counts, IsBlamed};
 ghost use Rattle.platform.specs.History.{During};
-ghost use Rattle.device_cli.specs.Replied.{IsOfBlock, IsWrongPage, Serves, outcome};
+ghost use Rattle.device_cli.specs.Replied.{IsOfBlock};
 
 use crate::entry::MOST_BLOCKS;
 use crate::stop::DeviceStop;
@@ -34,11 +33,7 @@ pub(crate) struct Desk {
 
 impl Desk {
     ghost use Rattle.device_cli.specs.Desk.{IsReady, Before, After};
-    ghost use Rattle.device_cli.specs.World.{world_of};
-    ghost use Rattle.device_cli.specs.Pages.{pages_after};
-    ghost use Rattle.device_cli.specs.Represents.{Represents};
-    ghost use Rattle.device_course.specs.States.{IsListed};
-    ghost use Rattle.device_course.specs.Keys.{KeepsOn};
+    ghost use Rattle.device_cli.specs.Parts.{AddsPages, Keeps, KeepsFrom, KeepsStill, MeetsDamage, ServesAny};
 
     /// No session.
     pub(crate) fn new(alloc: Global) -> Desk
@@ -67,17 +62,10 @@ impl Desk {
         ensures blame { IsBlamed (counts (P.faults platform.old) (T.faults tape.old) 0 0 (L.faults ledger.old))
             (counts (P.faults platform.new) (T.faults tape.new) 0 0 (L.faults ledger.new)) result }
         ensures of_block { (addr : ℕ) → IsErrOf result (DeviceStop.BadRecord addr) → IsOfBlock (asked command.now self.old.buffer) }
-        ensures damage { P.tells → (addr : ℕ) → IsErrOf result (DeviceStop.BadRecord addr)
-            → IsWrongPage (P.history platform.new).present addr }
-        ensures pages { P.tells → (entry : State) → Represents (world_of P.Platform self.old.session platform.old) entry
-            → IfOk (outcome result self.new.buffer) (λ reply. P.head platform.new ≡ pages_after entry (asked command.now self.old.buffer) reply (P.head platform.old)) }
-        // Each moment keeps the keys that the image kept before, with those that were drawn, what was deleted stays so, and the cell can be served.
-        ensures keeps { KeepsOn P.tells (T.drawn tape.old) (T.drawn tape.new) (L.written ledger.old) (L.written ledger.new) self.old.session
-            (P.history platform.old) (P.history platform.new) (IsOk result)
-            (λ keys. OnOk result (IsListed self.new.session (P.history platform.new).present keys)) }
-        ensures answered { P.tells → (entry : State) → Represents (world_of P.Platform self.old.session platform.old) entry
-            → Serves (world_of P.Platform self.old.session platform.old)
-            (world_of P.Platform self.new.session platform.new) entry (asked command.now self.old.buffer) (outcome result self.new.buffer) }
+        ensures damage { P.tells → MeetsDamage (P.history platform.new).present result }
+        ensures pages { P.tells → AddsPages P.Platform self.old self.new platform.old platform.new (asked command.now self.old.buffer) result }
+        ensures keeps { Keeps P.Platform T.Tape L.Sink self.old self.new platform.old platform.new tape.old tape.new ledger.old ledger.new result }
+        ensures answered { P.tells → ServesAny P.Platform self.old self.new platform.old platform.new (asked command.now self.old.buffer) result }
     {
         match command {
             Command::Format { blocks, order } => {
@@ -109,15 +97,9 @@ impl Desk {
         ensures blame { IsBlamed (counts (P.faults platform.old) (T.faults tape.old) 0 0 (L.faults ledger.old))
             (counts (P.faults platform.new) (T.faults tape.new) 0 0 (L.faults ledger.new)) result }
         ensures damage { (addr : ℕ) → IsErrOf result (DeviceStop.BadRecord addr) → ⊥ }
-        ensures pages { P.tells → (entry : State) → Represents (world_of P.Platform self.old.session platform.old) entry
-            → IfOk (outcome result self.new.buffer) (λ reply. P.head platform.new ≡ pages_after entry (commands.Format blocks order) reply (P.head platform.old)) }
-        // Each moment keeps the keys that the image kept before, with those that were drawn, what was deleted stays so, and the cell can be served.
-        ensures keeps { KeepsOn P.tells (T.drawn tape.old) (T.drawn tape.new) (L.written ledger.old) (L.written ledger.new) self.old.session
-            (P.history platform.old) (P.history platform.new) (IsOk result)
-            (λ keys. OnOk result (IsListed self.new.session (P.history platform.new).present keys)) }
-        ensures answered { P.tells → (entry : State) → Represents (world_of P.Platform self.old.session platform.old) entry
-            → Serves (world_of P.Platform self.old.session platform.old) (world_of P.Platform self.new.session platform.new)
-            entry (commands.Format blocks order) (outcome result self.new.buffer) }
+        ensures pages { P.tells → AddsPages P.Platform self.old self.new platform.old platform.new (commands.Format blocks order) result }
+        ensures keeps { Keeps P.Platform T.Tape L.Sink self.old self.new platform.old platform.new tape.old tape.new ledger.old ledger.new result }
+        ensures answered { P.tells → ServesAny P.Platform self.old self.new platform.old platform.new (commands.Format blocks order) result }
     {
         if let Some(reply) = refused_size(blocks, order) {
             return refuse_format(platform, reply);
@@ -138,15 +120,9 @@ impl Desk {
         ensures after { After P.Platform self.new platform.old platform.new result }
         ensures blame { IsBlamed (counts (P.faults platform.old) 0 0 0 0) (counts (P.faults platform.new) 0 0 0 0) result }
         ensures damage { (addr : ℕ) → IsErrOf result (DeviceStop.BadRecord addr) → ⊥ }
-        ensures pages { P.tells → (entry : State) → Represents (world_of P.Platform self.old.session platform.old) entry
-            → IfOk (outcome result self.new.buffer) (λ reply. P.head platform.new ≡ pages_after entry commands.Mount reply (P.head platform.old)) }
-        // Each moment keeps the keys that the image kept before, what was deleted stays so, and the cell can be served.
-        ensures keeps { (drawn : Option (List (List ℕ))) (written : Option (List ℕ)) → KeepsOn P.tells drawn drawn written written self.old.session
-            (P.history platform.old) (P.history platform.new) (IsOk result)
-            (λ keys. OnOk result (IsListed self.new.session (P.history platform.new).present keys)) }
-        ensures answered { P.tells → (entry : State) → Represents (world_of P.Platform self.old.session platform.old) entry
-            → Serves (world_of P.Platform self.old.session platform.old)
-            (world_of P.Platform self.new.session platform.new) entry commands.Mount (outcome result self.new.buffer) }
+        ensures pages { P.tells → AddsPages P.Platform self.old self.new platform.old platform.new commands.Mount result }
+        ensures keeps { KeepsStill P.Platform self.old self.new platform.old platform.new result }
+        ensures answered { P.tells → ServesAny P.Platform self.old self.new platform.old platform.new commands.Mount result }
     {
         if self.session.is_some() {
             return Ok(Reply::AlreadyMounted);
@@ -168,17 +144,10 @@ impl Desk {
         requires { Before P.Platform self.old platform.old }
         ensures after { After P.Platform self.new platform.old platform.new result }
         ensures blame { IsBlamed (counts (P.faults platform.old) 0 0 0 0) (counts (P.faults platform.new) 0 0 0 0) result }
-        ensures damage { P.tells → (addr : ℕ) → IsErrOf result (DeviceStop.BadRecord addr)
-            → IsWrongPage (P.history platform.new).present addr }
-        ensures pages { P.tells → (entry : State) → Represents (world_of P.Platform self.old.session platform.old) entry
-            → IfOk (outcome result self.new.buffer) (λ reply. P.head platform.new ≡ pages_after entry (commands.Read block) reply (P.head platform.old)) }
-        // Each moment keeps the keys that the image kept before, what was deleted stays so, and the cell can be served.
-        ensures keeps { (drawn : Option (List (List ℕ))) (written : Option (List ℕ)) → KeepsOn P.tells drawn drawn written written self.old.session
-            (P.history platform.old) (P.history platform.new) (IsOk result)
-            (λ keys. OnOk result (IsListed self.new.session (P.history platform.new).present keys)) }
-        ensures answered { P.tells → (entry : State) → Represents (world_of P.Platform self.old.session platform.old) entry
-            → Serves (world_of P.Platform self.old.session platform.old) (world_of P.Platform self.new.session platform.new)
-            entry (commands.Read block) (outcome result self.new.buffer) }
+        ensures damage { P.tells → MeetsDamage (P.history platform.new).present result }
+        ensures pages { P.tells → AddsPages P.Platform self.old self.new platform.old platform.new (commands.Read block) result }
+        ensures keeps { KeepsStill P.Platform self.old self.new platform.old platform.new result }
+        ensures answered { P.tells → ServesAny P.Platform self.old self.new platform.old platform.new (commands.Read block) result }
     {
         let Some(session) = &mut self.session else {
             return Ok(Reply::Unmounted);
@@ -203,18 +172,11 @@ impl Desk {
         ensures after { After P.Platform self.new platform.old platform.new result }
         ensures blame { IsBlamed (counts (P.faults platform.old) (T.faults tape.old) 0 0 0)
             (counts (P.faults platform.new) (T.faults tape.new) 0 0 0) result }
-        ensures damage { P.tells → (addr : ℕ) → IsErrOf result (DeviceStop.BadRecord addr)
-            → IsWrongPage (P.history platform.new).present addr }
-        ensures pages { P.tells → (entry : State) → Represents (world_of P.Platform self.old.session platform.old) entry
-            → IfOk (outcome result self.new.buffer) (λ reply. P.head platform.new ≡ pages_after entry (commands.Write block (take count self.old.buffer)) reply (P.head platform.old)) }
-        // Each moment keeps the keys that the image kept before, with those that were drawn, what was deleted stays so, and the cell can be served.
-        ensures keeps { (written : Option (List ℕ)) → KeepsOn P.tells (T.drawn tape.old) (T.drawn tape.new) written written self.old.session
-            (P.history platform.old) (P.history platform.new) (IsOk result)
-            (λ keys. OnOk result (IsListed self.new.session (P.history platform.new).present keys)) }
-        ensures answered { P.tells → (entry : State) → Represents (world_of P.Platform self.old.session platform.old) entry
-            → Serves (world_of P.Platform self.old.session platform.old)
-            (world_of P.Platform self.new.session platform.new)
-            entry (commands.Write block (take count self.old.buffer)) (outcome result self.new.buffer) }
+        ensures damage { P.tells → MeetsDamage (P.history platform.new).present result }
+        ensures pages { P.tells → AddsPages P.Platform self.old self.new platform.old platform.new (commands.Write block (take count self.old.buffer)) result }
+        ensures keeps { (written : Option (List ℕ))
+            → KeepsFrom P.Platform (T.drawn tape.old) (T.drawn tape.new) written written self.old self.new platform.old platform.new result }
+        ensures answered { P.tells → ServesAny P.Platform self.old self.new platform.old platform.new (commands.Write block (take count self.old.buffer)) result }
     {
         let Some(session) = &mut self.session else {
             return Ok(Reply::Unmounted);
@@ -234,17 +196,10 @@ impl Desk {
         requires { Before P.Platform self.old platform.old }
         ensures after { After P.Platform self.new platform.old platform.new result }
         ensures blame { IsBlamed (counts (P.faults platform.old) 0 0 0 0) (counts (P.faults platform.new) 0 0 0 0) result }
-        ensures damage { P.tells → (addr : ℕ) → IsErrOf result (DeviceStop.BadRecord addr)
-            → IsWrongPage (P.history platform.new).present addr }
-        ensures pages { P.tells → (entry : State) → Represents (world_of P.Platform self.old.session platform.old) entry
-            → IfOk (outcome result self.new.buffer) (λ reply. P.head platform.new ≡ pages_after entry (commands.Trim block) reply (P.head platform.old)) }
-        // Each moment keeps the keys that the image kept before, what was deleted stays so, and the cell can be served.
-        ensures keeps { (drawn : Option (List (List ℕ))) (written : Option (List ℕ)) → KeepsOn P.tells drawn drawn written written self.old.session
-            (P.history platform.old) (P.history platform.new) (IsOk result)
-            (λ keys. OnOk result (IsListed self.new.session (P.history platform.new).present keys)) }
-        ensures answered { P.tells → (entry : State) → Represents (world_of P.Platform self.old.session platform.old) entry
-            → Serves (world_of P.Platform self.old.session platform.old) (world_of P.Platform self.new.session platform.new)
-            entry (commands.Trim block) (outcome result self.new.buffer) }
+        ensures damage { P.tells → MeetsDamage (P.history platform.new).present result }
+        ensures pages { P.tells → AddsPages P.Platform self.old self.new platform.old platform.new (commands.Trim block) result }
+        ensures keeps { KeepsStill P.Platform self.old self.new platform.old platform.new result }
+        ensures answered { P.tells → ServesAny P.Platform self.old self.new platform.old platform.new (commands.Trim block) result }
     {
         let Some(session) = &mut self.session else {
             return Ok(Reply::Unmounted);
@@ -269,15 +224,9 @@ impl Desk {
         ensures blame { IsBlamed (counts (P.faults platform.old) (T.faults tape.old) 0 0 (L.faults ledger.old))
             (counts (P.faults platform.new) (T.faults tape.new) 0 0 (L.faults ledger.new)) result }
         ensures damage { (addr : ℕ) → IsErrOf result (DeviceStop.BadRecord addr) → ⊥ }
-        ensures pages { P.tells → (entry : State) → Represents (world_of P.Platform self.old.session platform.old) entry
-            → IfOk (outcome result self.new.buffer) (λ reply. P.head platform.new ≡ pages_after entry commands.Commit reply (P.head platform.old)) }
-        // Each moment keeps the keys that the image kept before, with those that were drawn, what was deleted stays so, and the cell can be served.
-        ensures keeps { KeepsOn P.tells (T.drawn tape.old) (T.drawn tape.new) (L.written ledger.old) (L.written ledger.new) self.old.session
-            (P.history platform.old) (P.history platform.new) (IsOk result)
-            (λ keys. OnOk result (IsListed self.new.session (P.history platform.new).present keys)) }
-        ensures answered { P.tells → (entry : State) → Represents (world_of P.Platform self.old.session platform.old) entry
-            → Serves (world_of P.Platform self.old.session platform.old)
-            (world_of P.Platform self.new.session platform.new) entry commands.Commit (outcome result self.new.buffer) }
+        ensures pages { P.tells → AddsPages P.Platform self.old self.new platform.old platform.new commands.Commit result }
+        ensures keeps { Keeps P.Platform T.Tape L.Sink self.old self.new platform.old platform.new tape.old tape.new ledger.old ledger.new result }
+        ensures answered { P.tells → ServesAny P.Platform self.old self.new platform.old platform.new commands.Commit result }
     {
         let Some(session) = &mut self.session else {
             return Ok(Reply::Unmounted);
@@ -302,9 +251,7 @@ impl Desk {
         ensures short { IfOk result FitsBlock }
         ensures full { IfOk result (λ reply. reply ≡ Reply.Full → ⊥) }
         ensures stop { IfErr result (λ stop. ⊥) }
-        ensures answered { P.tells → (entry : State) → Represents (world_of P.Platform self.old.session platform.now) entry
-            → Serves (world_of P.Platform self.old.session platform.now)
-            (world_of P.Platform self.new.session platform.now) entry commands.Drop (outcome result self.new.buffer) }
+        ensures answered { P.tells → ServesAny P.Platform self.old self.new platform.now platform.now commands.Drop result }
     {
         let _ = platform;
         if self.session.is_none() {
@@ -319,15 +266,9 @@ impl Desk {
         ensures after { After P.Platform self.new platform.old platform.new result }
         ensures blame { IsBlamed (counts (P.faults platform.old) 0 0 0 0) (counts (P.faults platform.new) 0 0 0 0) result }
         ensures damage { (addr : ℕ) → IsErrOf result (DeviceStop.BadRecord addr) → ⊥ }
-        ensures pages { P.tells → (entry : State) → Represents (world_of P.Platform self.old.session platform.old) entry
-            → IfOk (outcome result self.new.buffer) (λ reply. P.head platform.new ≡ pages_after entry commands.Erase reply (P.head platform.old)) }
-        // Each moment keeps the keys that the image kept before, what was deleted stays so, and the cell can be served.
-        ensures keeps { (drawn : Option (List (List ℕ))) (written : Option (List ℕ)) → KeepsOn P.tells drawn drawn written written self.old.session
-            (P.history platform.old) (P.history platform.new) (IsOk result)
-            (λ keys. OnOk result (IsListed self.new.session (P.history platform.new).present keys)) }
-        ensures answered { P.tells → (entry : State) → Represents (world_of P.Platform self.old.session platform.old) entry
-            → Serves (world_of P.Platform self.old.session platform.old)
-            (world_of P.Platform self.new.session platform.new) entry commands.Erase (outcome result self.new.buffer) }
+        ensures pages { P.tells → AddsPages P.Platform self.old self.new platform.old platform.new commands.Erase result }
+        ensures keeps { KeepsStill P.Platform self.old self.new platform.old platform.new result }
+        ensures answered { P.tells → ServesAny P.Platform self.old self.new platform.old platform.new commands.Erase result }
     {
         match device_core::erase(platform) {
             Ok(()) => {
@@ -354,9 +295,7 @@ impl Desk {
         ensures short { IfOk result FitsBlock }
         ensures full { IfOk result (λ reply. reply ≡ Reply.Full → ⊥) }
         ensures stop { IfErr result (λ stop. ⊥) }
-        ensures answered { P.tells → (entry : State) → Represents (world_of P.Platform self.now.session platform.now) entry
-            → Serves (world_of P.Platform self.now.session platform.now)
-            (world_of P.Platform self.now.session platform.now) entry commands.Stat (outcome result self.now.buffer) }
+        ensures answered { P.tells → ServesAny P.Platform self.now self.now platform.now platform.now commands.Stat result }
     {
         let _ = platform;
         match &self.session {

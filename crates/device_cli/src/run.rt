@@ -15,9 +15,9 @@ ghost use Rattle.device_cli.specs.Run.{counts, IsBlamedOn, IsRefusal, status_of}
 ghost use Rattle.device_cli.specs.Kept.{IsKept, IsPending};
 ghost use Rattle.device_cli.specs.Replied.{Handled, HasPut, IsSound, no_line, damage_line};
 ghost use Rattle.device_cli.specs.Ran.{Ran};
-ghost use Rattle.device_course.specs.States.{IsListed};
 ghost use Rattle.device_course.specs.Keys.{KeepsOn};
 ghost use Rattle.device_cli.specs.Unserved.{IsUnserved};
+ghost use Rattle.device_cli.specs.Parts.{Blames, Keeps};
 
 use crate::desk::Desk;
 use crate::entry::check_cell;
@@ -83,9 +83,7 @@ fn serve_input<P: Platform, T: Tape, I: Source, O: Sink, L: Sink>(
 ) -> Result<(), Stop>
     requires { Before P.Platform desk.old platform.old }
     ensures bad_root { P.tells → IsErrOf result (Stop.Device DeviceStop.BadRoot) → ⊥ }
-    ensures keeps { KeepsOn P.tells (T.drawn tape.old) (T.drawn tape.new) (L.written ledger.old) (L.written ledger.new) desk.old.session
-        (P.history platform.old) (P.history platform.new) (IsOk result)
-        (λ keys. OnOk result (IsListed desk.new.session (P.history platform.new).present keys)) }
+    ensures keeps { Keeps P.Platform T.Tape L.Sink desk.old desk.new platform.old platform.new tape.old tape.new ledger.old ledger.new result }
     ensures blame { IsBlamedOn
         (counts (P.faults platform.old) (T.faults tape.old) (I.faults input.old) (O.faults output.old) (L.faults ledger.old))
         (counts (P.faults platform.new) (T.faults tape.new) (I.faults input.new) (O.faults output.new) (L.faults ledger.new)) result }
@@ -132,11 +130,8 @@ fn serve_piece<P: Platform, T: Tape, O: Sink, L: Sink>(
 ) -> Result<(), Stop>
     requires { Before P.Platform desk.old platform.old }
     ensures after { AfterLine P.Platform desk.new platform.new result }
-    ensures keeps { KeepsOn P.tells (T.drawn tape.old) (T.drawn tape.new) (L.written ledger.old) (L.written ledger.new) desk.old.session
-        (P.history platform.old) (P.history platform.new) (IsOk result)
-        (λ keys. OnOk result (IsListed desk.new.session (P.history platform.new).present keys)) }
-    ensures blame { IsBlamedOn (counts (P.faults platform.old) (T.faults tape.old) 0 (O.faults output.old) (L.faults ledger.old))
-        (counts (P.faults platform.new) (T.faults tape.new) 0 (O.faults output.new) (L.faults ledger.new)) result }
+    ensures keeps { Keeps P.Platform T.Tape L.Sink desk.old desk.new platform.old platform.new tape.old tape.new ledger.old ledger.new result }
+    ensures blame { Blames P.Platform T.Tape O.Sink L.Sink platform.old platform.new tape.old tape.new output.old output.new ledger.old ledger.new result }
     ensures pending { (rest : List ℕ) → IsPending pending.old rest → OnOk result (IsPending pending.new (rest_of (rest ++ piece.now))) }
     ensures handled { (rest : List ℕ) → IsPending pending.old rest → Handled P.tells (world_of P.Platform desk.old.session platform.old)
         (world_of P.Platform desk.new.session platform.new)
@@ -166,11 +161,8 @@ fn serve_end<P: Platform, T: Tape, O: Sink, L: Sink>(
 ) -> Result<(), Stop>
     requires { Before P.Platform desk.old platform.old }
     ensures after { AfterLine P.Platform desk.new platform.new result }
-    ensures keeps { KeepsOn P.tells (T.drawn tape.old) (T.drawn tape.new) (L.written ledger.old) (L.written ledger.new) desk.old.session
-        (P.history platform.old) (P.history platform.new) (IsOk result)
-        (λ keys. OnOk result (IsListed desk.new.session (P.history platform.new).present keys)) }
-    ensures blame { IsBlamedOn (counts (P.faults platform.old) (T.faults tape.old) 0 (O.faults output.old) (L.faults ledger.old))
-        (counts (P.faults platform.new) (T.faults tape.new) 0 (O.faults output.new) (L.faults ledger.new)) result }
+    ensures keeps { Keeps P.Platform T.Tape L.Sink desk.old desk.new platform.old platform.new tape.old tape.new ledger.old ledger.new result }
+    ensures blame { Blames P.Platform T.Tape O.Sink L.Sink platform.old platform.new tape.old tape.new output.old output.new ledger.old ledger.new result }
     ensures handled { (rest : List ℕ) → IsPending pending.now rest → Handled P.tells (world_of P.Platform desk.old.session platform.old)
         (world_of P.Platform desk.new.session platform.new)
         no_line result (line_at_end rest) (O.written output.old) (O.written output.new) }
@@ -192,11 +184,8 @@ fn answer<P: Platform, T: Tape, O: Sink, L: Sink>(
 ) -> Result<(), Stop>
     requires { Before P.Platform desk.old platform.old }
     ensures after { AfterLine P.Platform desk.new platform.new result }
-    ensures keeps { KeepsOn P.tells (T.drawn tape.old) (T.drawn tape.new) (L.written ledger.old) (L.written ledger.new) desk.old.session
-        (P.history platform.old) (P.history platform.new) (IsOk result)
-        (λ keys. OnOk result (IsListed desk.new.session (P.history platform.new).present keys)) }
-    ensures blame { IsBlamedOn (counts (P.faults platform.old) (T.faults tape.old) 0 (O.faults output.old) (L.faults ledger.old))
-        (counts (P.faults platform.new) (T.faults tape.new) 0 (O.faults output.new) (L.faults ledger.new)) result }
+    ensures keeps { Keeps P.Platform T.Tape L.Sink desk.old desk.new platform.old platform.new tape.old tape.new ledger.old ledger.new result }
+    ensures blame { Blames P.Platform T.Tape O.Sink L.Sink platform.old platform.new tape.old tape.new output.old output.new ledger.old ledger.new result }
     ensures handled { (text : List ℕ) → IsKept (option_copied line.entry) text → Handled P.tells (world_of P.Platform desk.old.session platform.old)
         (world_of P.Platform desk.new.session platform.new)
         no_line result (text ∷ []) (O.written output.old) (O.written output.new) }

@@ -3,7 +3,7 @@ use Rattle.std.proofs.Common.{◌≡◌, ◌≢◌, ◌⊎◌, inl, inr, ℕ, ze
 use Rattle.std.specs.Prelude.{AllPairs, Contains, None, Some, Result, Ok, Err, OnOk, IfOk}
 use Rattle.std.proofs.lemmas.Bool.{cases_eq, cases_lt, eq-eqb, ne_eqb}
 use Rattle.std.proofs.lemmas.Option.{none-some, same_Some}
-use Rattle.std.proofs.lemmas.List.{take_more, get_or_default}
+use Rattle.std.proofs.lemmas.List.{map-append, take_more, get_or_default}
 use Rattle.std.proofs.lemmas.List.Elements.{All-nil, All-cons, All-head, All-tail, All-weaker, All-append, All-map, All-contains, Contains-append_left, Contains-append_right}
 use Rattle.std.proofs.lemmas.List.Kept.{AllPairs-cons}
 use Rattle.platform.specs.Logged.{AllPairs-first, AllPairs-rest}
@@ -64,6 +64,10 @@ own_more base i entries added now e within is high gained a =
 
 pub own_less : (base i : ℕ) (entries : List Entry) (added : List Traced) (e : Entry) → i < length entries → e ≡ get_or entries i e → e.addr < base → AddsOwn base (take i entries) added → AddsOwn base (take (i + 1) entries) added
 own_less base i entries added e within is low a = rw (take_more entries i e within, ← is) (own_skipped base (take i entries) added e low a)
+
+-- the addresses of entries, with one more
+pub addrs_more : (i : ℕ) (entries : List Entry) (addrs : List ℕ) (e : Entry) → i < length entries → e ≡ get_or entries i e → addrs ≡ map (λ x. x.addr) (take i entries) → addrs ++ e.addr ∷ [] ≡ map (λ x. x.addr) (take (i + 1) entries)
+addrs_more i entries addrs e within is so = rw (take_more entries i e within, ← is) (ap (λ (ns : List ℕ). ns ++ e.addr ∷ []) so ∙ sym (map-append (λ (x : Entry). x.addr) (take i entries) (e ∷ [])))
 
 pub with_leaf : (base addr : ℕ) (entries : List Entry) (added now : List Traced) → AddsOwn base entries added → now ≡ added ++ leaf_of addr entries ∷ [] → AddsLeaf base addr entries now
 with_leaf base addr entries added now a gained = subst (AddsLeaf base addr entries) (sym gained) (

@@ -1,12 +1,17 @@
 -- What a commit does, whether its last step was taken or failed.
 use Rattle.std.proofs.Common.{◌≡◌, ◌∙◌, ◌+◌, ◌<◌, ◌≤◌, ◌^◌, inl, inr, ℕ, List, Some, true, refl, ap, sym, subst, arith, length}
-use Rattle.std.specs.Prelude.{◌⊎◌, ◌≢◌, AllPairs, Option, Contains}
+use Rattle.std.specs.Prelude.{◌⊎◌, ◌≢◌, AllPairs, Option, Contains, Result, Ok, Err, IfOk, IfErr, OnOk}
 use Rattle.sdbt_base.specs.Bytes.{IsBytes}
 use Rattle.sdbt_base.specs.Arrays.{Device, Blocks, committed_with}
 use Rattle.platform.specs.Image.{Image, LeavesOnly, with_page, with_cell, all_synced}
 use Rattle.sdbt_base.specs.Told.{Got, GotPart}
+use Rattle.platform.specs.Calls.{Grows}
 use Rattle.platform.specs.History.{History, Steps, Turns, CellStays}
-use Rattle.platform.proofs.Moments.{whole-now, Extends-earlier}
+use Rattle.platform.proofs.Moments.{During-start, whole-now, Extends-earlier}
+use Rattle.platform.specs.declared.platforms.Platform.{Ghosts as PlatformGhosts}
+use Rattle.sdbt_base.specs.declared.tapes.Tape.{Ghosts as TapeGhosts}
+use Rattle.sdbt_base.specs.declared.sinks.Sink.{Ghosts as SinkGhosts}
+use Rattle.sdbt_base.specs.Faults.{Rose}
 use Rattle.std.proofs.lemmas.List.Elements.{All-weaker}
 use Rattle.sdbt_base.specs.declared.lists.Unkept.{Unkept}
 use Rattle.cert_maker.specs.Cert.{Cert}
@@ -26,17 +31,20 @@ use Rattle.root_codec.specs.declared.root.Root.{Root}
 use Rattle.root_codec.specs.RootRecord.{root_bytes}
 use Rattle.page_store.specs.Buffer.{Held}
 use Rattle.page_store.specs.Stands.{Stands}
-use Rattle.page_store.proofs.KeepingLaws.{keeps_from}
+use Rattle.page_store.proofs.KeepingLaws.{keeps_from, keeps_idle}
 use Rattle.page_store.proofs.FloorLaws.{forgets_still}
 use Rattle.device_core.specs.Leaf.{AreEntries}
 use Rattle.device_core.specs.Open.{IsOpen}
 use Rattle.device_core.specs.Holds.{Holds, Follows}
 use Rattle.device_core.specs.Knowing.{HoldsListed}
 use Rattle.device_core.specs.Drawing.{KeepsTree}
-use Rattle.device_core.specs.Publishing.{Discloses}
+use Rattle.device_core.specs.Publishing.{Commits, Discloses, IsCommitCause}
+use Rattle.device_core.specs.Replies.{device_after}
+use Rattle.device_core.specs.declared.refusals.CommitReply.{CommitReply}
+use Rattle.device_core.specs.declared.refusals.CommitFault.{CommitFault}
 use Rattle.device_core.specs.Sessions.{Session}
-use Rattle.device_core.proofs.MomentLaws.{one_call, then_published, once, stays_once, stays_then}
-use Rattle.device_core.proofs.HoldLaws.{IsCommitOf, commit_fits, commit_leaf, commit_served, leaf_page, with_leaf, with_root, raised_leaf, raise_turns, raise_held}
+use Rattle.device_core.proofs.MomentLaws.{still, one_call, then_published, once, stays_once, stays_then}
+use Rattle.device_core.proofs.HoldLaws.{during_stands, held_stands, IsCommitOf, commit_fits, commit_leaf, commit_served, leaf_page, with_leaf, with_root, raised_leaf, raise_turns, raise_held}
 use Rattle.device_core.proofs.FollowLaws.{follows_committed}
 use Rattle.device_core.proofs.ServedLaws.{serves_still, serves_turned, served_published}
 use Rattle.device_core.proofs.KeyLaws.{Appends, listed_sound, raise_appends, raise_publishes, raise_listed, raise_knows, raise_forgets}
@@ -246,3 +254,37 @@ commit_certifies tells written written_now old mid new session pages addr key li
           put = puts_entry tells written written_now old mid new line e.cert next Done e.is (λ told. one_call old mid (same.steps told) (same.cell told))
               (subst (λ (n : ℕ). Published tells written written_now mid new line (next_root session n key) Done) here put);
         }
+
+-- what holds holds of each answer
+on_any : (result : Result CommitReply CommitFault) (X : Type 0) → X → OnOk result X
+on_any (Ok reply) X is = is
+on_any (Err fault) X is = tt
+
+-- a commit that called nothing
+pub commits_nothing : {S R W : Type 0} (P : PlatformGhosts S) (T : TapeGhosts R) (L : SinkGhosts W) (platform : S) (tape : R) (ledger : W) (session : Session) (result : Result CommitReply CommitFault)
+    → IsOpen session (P.head platform)
+    → (P.tells → (device : Device) (contents : Blocks) → Holds session (P.history platform).present device contents → IfOk result (λ reply. Holds session (P.history platform).present (device_after reply device contents) contents))
+    → IfErr result (IsCommitCause P T platform platform tape tape (Rose (P.faults platform) (P.faults platform)) (Rose (T.faults tape) (T.faults tape)) (Rose (L.faults ledger) (L.faults ledger)))
+    → Commits P T L platform platform tape tape ledger ledger session session result
+commits_nothing P T L platform tape ledger session result opened array cause =
+    let old = P.history platform in
+    record {
+      array = array;
+      goes_on = on_any result _ (opened, refl, refl);
+      time = λ told device contents h. during_stands _ _ (Some device) (Some (committed_with device contents)) (held_stands _ _ device contents h) (still old);
+      discloses = record {
+        keys = keeps_idle _ _ _ old old (HoldsListed session old.present) _ refl (λ told. During-start old (λ image. image ≡ old.present) refl) (λ told keys kept h. on_any result _ h);
+        turns = λ told. stays_once _ _ (still old);
+        serves = λ told. serves_still _ _ (still old);
+        forgets = λ told keys h. forgets_still _ _ (listed_sound _ _ keys h) (still old);
+      };
+      certifies = inl (refl, λ told. still old);
+      cause = cause;
+      grows = (record { rises = omega arith; by_one = omega arith; capacity = refl; faults = omega arith }, omega arith, omega arith);
+    }
+
+-- how many pages there are after an append, and whose count rose
+pub grows_by : {S : Type 0} (P : PlatformGhosts S) (old mid new : S) (told put : Type 0) → P.head old ≤ P.head mid → P.head mid ≤ P.head old + 1 → P.capacity mid ≡ P.capacity old → P.faults old ≤ P.faults mid
+    → P.head new ≡ P.head mid → P.capacity new ≡ P.capacity mid → P.faults mid ≤ P.faults new → told → put → Grows P old new × told × put
+grows_by P old mid new told put rises by_one capacity faults head_then capacity_then faults_then is_told is_put =
+    (record { rises = omega (arith, rises, head_then); by_one = omega (arith, by_one, head_then); capacity = capacity_then ∙ capacity; faults = omega (arith, faults, faults_then) }, is_told, is_put)

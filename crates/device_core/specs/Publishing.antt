@@ -1,20 +1,26 @@
 -- What the calls say that may replace the root record: a format, a commit and an erasure.
-use Rattle.std.specs.Prelude.{◌≡◌, ◌≢◌, ◌+◌, ℕ, false, [], List, Option, Some, None, Result, Ok, Err}
-use Rattle.sdbt_base.specs.Arrays.{Device, Blocks}
+use Rattle.std.specs.Prelude.{◌≡◌, ◌≢◌, ◌+◌, ◌≤◌, ℕ, false, [], List, Option, Some, None, Result, Ok, Err, IfOk, OnOk, IfErr, IsOk}
+use Rattle.sdbt_base.specs.Faults.{Rose}
+use Rattle.sdbt_base.specs.Arrays.{Device, Blocks, committed_with}
+use Rattle.sdbt_base.specs.declared.sinks.Sink.{Ghosts as SinkGhosts}
 use Rattle.sdbt_base.specs.declared.tapes.Tape.{Ghosts as TapeGhosts}
 use Rattle.platform.specs.declared.platforms.Platform.{Ghosts as PlatformGhosts}
-use Rattle.platform.specs.History.{History, During, CellStays, CellTurns}
+use Rattle.platform.specs.Calls.{Grows}
+use Rattle.platform.specs.Image.{LeavesOnly}
+use Rattle.platform.specs.History.{History, During, Turns, CellStays, CellTurns}
 use Rattle.root_codec.specs.RootRecord.{root_bytes}
 use Rattle.page_store.specs.Buffer.{IsBlank}
 use Rattle.page_store.specs.Keeping.{KeepsKeys}
 use Rattle.page_store.specs.Floors.{Forgets}
 use Rattle.page_store.specs.Stands.{Stands}
-use Rattle.device_core.specs.Certifying.{AreDataPages}
+use Rattle.device_core.specs.Certifying.{AreDataPages, Certifies, IsOfCommit}
 use Rattle.device_core.specs.Changes.{AddsNothing}
 use Rattle.device_core.specs.Drawing.{NamesLast, KeepsTree}
 use Rattle.device_core.specs.Holds.{Holds}
+use Rattle.device_core.specs.Knowing.{HoldsListed}
 use Rattle.device_core.specs.Leaf.{IsServedImage}
-use Rattle.device_core.specs.Open.{number_of, root_of, is_touched}
+use Rattle.device_core.specs.Open.{IsOpen, blocks_of, number_of, root_of, is_touched}
+use Rattle.device_core.specs.Replies.{device_after}
 use Rattle.device_core.specs.Sessions.{Session}
 use Rattle.device_core.specs.declared.publishing.PublishFault.{PublishFault}
 use Rattle.device_core.specs.declared.publishing.PublishFault.TheVariants as publish
@@ -65,6 +71,23 @@ IsCommitCause P T platform platform_now tape tape_now Failed Undrawn Unput commi
     Unput × (P.tells → CellStays (P.history platform) (P.history platform_now))
 IsCommitCause P T platform platform_now tape tape_now Failed Undrawn Unput commit.Memory =
     AddsNothing P T platform platform_now tape tape_now × (P.tells → CellStays (P.history platform) (P.history platform_now))
+
+-- a commit, whatever its answer: a session that goes on has its array still, and is open on the device that the answer tells of
+pub record Commits {S R W : Type 0} (P : PlatformGhosts S) (T : TapeGhosts R) (L : SinkGhosts W) (platform platform_now : S) (tape tape_now : R) (ledger ledger_now : W) (session now : Session) (result : Result CommitReply CommitFault) : Type 0 where
+  pub array : P.tells → (device : Device) (contents : Blocks) → Holds session (P.history platform).present device contents
+      → IfOk result (λ reply. Holds now (P.history platform_now).present (device_after reply device contents) contents)
+  pub goes_on : OnOk result (IsOpen now (P.head platform_now) × (blocks_of now ≡ blocks_of session) × (now.mapped ≡ session.mapped))
+  -- at each moment a loss of power leaves the device, until one from which on it leaves the one with the session's array
+  pub time : P.tells → (device : Device) (contents : Blocks) → Holds session (P.history platform).present device contents
+      → Turns (P.history platform) (P.history platform_now) (LeavesOnly (λ left. Stands left (Some device)))
+      (LeavesOnly (λ left. Stands left (Some (committed_with device contents))))
+  pub discloses : Discloses P.tells (T.drawn tape) (T.drawn tape_now) (P.history platform) (P.history platform_now)
+      (HoldsListed session (P.history platform).present) (λ keys. OnOk result (HoldsListed now (P.history platform_now).present keys))
+  pub certifies : Certifies P.tells (L.written ledger) (L.written ledger_now) (P.history platform) (P.history platform_now)
+      session.root.head (number_of session + 1) (IsOfCommit session (P.history platform).present (P.history platform_now).present) (IsOk result)
+  pub cause : IfErr result (IsCommitCause P T platform platform_now tape tape_now (Rose (P.faults platform) (P.faults platform_now))
+      (Rose (T.faults tape) (T.faults tape_now)) (Rose (L.faults ledger) (L.faults ledger_now)))
+  pub grows : Grows P platform platform_now × (T.faults tape ≤ T.faults tape_now) × (L.faults ledger ≤ L.faults ledger_now)
 
 -- nothing came of a format: no page, no key, and at each moment the cell as it was
 abbrev pub IsUnmade : {S R : Type 0} → PlatformGhosts S → TapeGhosts R → S → S → R → R → Type 0

@@ -1,6 +1,6 @@
 //! The ledger's entries of formats and commits.
-ghost use Rattle.std.specs.Prelude.{◌≡◌, ◌<◌, ◌^◌, ◌∷◌, IfOk, map};
-ghost use Rattle.device_core.specs.Certifying.{IsEntryOf, AddsLeaf, AddsOwn};
+ghost use Rattle.std.specs.Prelude.{◌≡◌, ◌<◌, ◌^◌, ◌∷◌, IfOk};
+ghost use Rattle.device_core.specs.Certifying.{IsEntryOf, AddsLeaf};
 
 use cert_codec::line;
 use cert_maker::{Added, AddedList, Cert};
@@ -27,27 +27,14 @@ pub(crate) fn entry_of(
     line(alloc, &cert)
 }
 
-/// What a leaf of these entries adds at this address.
+/// What a leaf of these entries adds at this address: itself, and the data records that came after the root record.
 fn added_with(alloc: Global, base: u64, addr: u64, entries: &[Entry]) -> Result<AddedList, Memory>
     ensures { IfOk result (AddsLeaf base addr entries.now) }
 {
-    let mut added = added_records(alloc, base, entries)?;
-    let children = addrs_of(alloc, entries)?;
-    let leaf = Added {
-        addr,
-        block: None,
-        children,
-    };
-    added.push(leaf)?;
-    Ok(added)
-}
-
-/// The data records that came after a root record.
-fn added_records(alloc: Global, base: u64, entries: &[Entry]) -> Result<AddedList, Memory>
-    ensures { IfOk result (AddsOwn base entries.now) }
-{
     let mut added = AddedList::new(alloc);
+    let mut children = Addrs::new(alloc);
     for entry in entries {
+        children.push(entry.addr)?;
         if entry.addr >= base {
             added.push(Added {
                 addr: entry.addr,
@@ -56,18 +43,12 @@ fn added_records(alloc: Global, base: u64, entries: &[Entry]) -> Result<AddedLis
             })?;
         }
     }
+    added.push(Added {
+        addr,
+        block: None,
+        children,
+    })?;
     Ok(added)
-}
-
-/// The addresses that entries name, in their order.
-fn addrs_of(alloc: Global, entries: &[Entry]) -> Result<Addrs, Memory>
-    ensures { IfOk result (λ addrs. addrs ≡ map (λ e. e.addr) entries.now) }
-{
-    let mut addrs = Addrs::new(alloc);
-    for entry in entries {
-        addrs.push(entry.addr)?;
-    }
-    Ok(addrs)
 }
 
 /// The address of the former root node, and those that are gone with it.

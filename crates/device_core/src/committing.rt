@@ -1,14 +1,7 @@
-ghost use Rattle.std.specs.Prelude.{◌≡◌, ◌≢◌, ◌<◌, ◌≤◌, ◌+◌, ◌^◌, Some, true, false, IfOk, IfErr, OnOk, IsOk};
-ghost use Rattle.sdbt_base.specs.Faults.{Rose};
-ghost use Rattle.platform.specs.Image.{LeavesOnly};
-ghost use Rattle.platform.specs.Calls.{Grows};
-ghost use Rattle.platform.specs.History.{Turns};
+ghost use Rattle.std.specs.Prelude.{◌≡◌, ◌≢◌, ◌<◌, ◌^◌, Some, true, false, IfOk, OnOk, IsOk};
 ghost use Rattle.root_codec.specs.RootRecord.{root_bytes};
-ghost use Rattle.sdbt_base.specs.Arrays.{Device, Blocks, committed_with};
-ghost use Rattle.page_store.specs.Stands.{Stands};
-ghost use Rattle.device_core.specs.Certifying.{Certifies, IsOfCommit, IsCommitEntry};
-ghost use Rattle.device_core.specs.Publishing.{Discloses, HasRaised, IsCommitCause};
-ghost use Rattle.device_core.specs.Replies.{device_after};
+ghost use Rattle.device_core.specs.Certifying.{IsCommitEntry};
+ghost use Rattle.device_core.specs.Publishing.{Commits, HasRaised};
 
 use crate::certifying::{entry_of, gone_with};
 use crate::publishing::{PublishFault, publish};
@@ -20,9 +13,8 @@ use root_codec::Root;
 use sdbt_base::{Line, Memory, Sink, Tape};
 
 impl Session {
-    ghost use Rattle.device_core.specs.Open.{IsOpen, blocks_of, number_of, root_of, is_touched};
-    ghost use Rattle.device_core.specs.Holds.{Holds, Follows};
-    ghost use Rattle.device_core.specs.Knowing.{HoldsListed};
+    ghost use Rattle.device_core.specs.Open.{IsOpen, number_of, root_of, is_touched};
+    ghost use Rattle.device_core.specs.Holds.{Follows};
 
     /// Makes the session's changes the device's: one new leaf, its certificate, and then the root record that names it.
     ///
@@ -45,31 +37,12 @@ impl Session {
             × IfOk result (λ reply. reply ≡ CommitReply.Full 1 0) × IsOk result }
         ensures raised { is_touched self.old ≡ true → P.head platform.old ≢ P.capacity platform.old
             → IfOk result (HasRaised P.Platform T.Tape platform.old platform.new tape.old tape.new self.old self.new) }
-        ensures array { P.tells → (device : Device) (contents : Blocks) → Holds self.old (P.history platform.old).present device contents
-            → IfOk result (λ reply. Holds self.new (P.history platform.new).present (device_after reply device contents) contents) }
-        ensures open { OnOk result (IsOpen self.new (P.head platform.new)
-            × (blocks_of self.new ≡ blocks_of self.old) × (self.new.mapped ≡ self.old.mapped)) }
+        ensures commits { Commits P.Platform T.Tape L.Sink platform.old platform.new tape.old tape.new ledger.old ledger.new self.old self.new result }
         // On any image: what was read of the pages fits still, and a session on the root record in the cell stays on it.
         ensures mounted { P.tells → OnOk result (
             (Follows self.old (P.history platform.old).present → Follows self.new (P.history platform.new).present)
             × ((P.history platform.old).present.cell ≡ Some (root_bytes (root_of self.old))
             → (P.history platform.new).present.cell ≡ Some (root_bytes (root_of self.new)))) }
-        // At each moment a loss of power leaves the device, until one from which on it leaves the one with the session's array.
-        ensures time { P.tells → (device : Device) (contents : Blocks) → Holds self.old (P.history platform.old).present device contents
-            → Turns (P.history platform.old) (P.history platform.new)
-            (LeavesOnly (λ left. Stands left (Some device)))
-            (LeavesOnly (λ left. Stands left (Some (committed_with device contents)))) }
-        ensures discloses { Discloses P.tells (T.drawn tape.old) (T.drawn tape.new) (P.history platform.old) (P.history platform.new)
-            (HoldsListed self.old (P.history platform.old).present)
-            (λ keys. OnOk result (HoldsListed self.new (P.history platform.new).present keys)) }
-        ensures certifies { Certifies P.tells (L.written ledger.old) (L.written ledger.new) (P.history platform.old) (P.history platform.new)
-            self.old.root.head (number_of self.old + 1) (IsOfCommit self.old (P.history platform.old).present (P.history platform.new).present)
-            (IsOk result) }
-        ensures cause { IfErr result (IsCommitCause P.Platform T.Tape platform.old platform.new tape.old tape.new
-            (Rose (P.faults platform.old) (P.faults platform.new)) (Rose (T.faults tape.old) (T.faults tape.new))
-            (Rose (L.faults ledger.old) (L.faults ledger.new))) }
-        ensures grows { Grows P.Platform platform.old platform.new × (T.faults tape.old ≤ T.faults tape.new)
-            × (L.faults ledger.old ≤ L.faults ledger.new) }
     {
         if !self.is_touched {
             let number = self.root.commit;
@@ -119,26 +92,8 @@ impl Session {
         requires entry { IsCommitEntry self.old (P.head platform.old) entry.now }
 
         ensures raised { IfOk result (HasRaised P.Platform T.Tape platform.old platform.new tape.old tape.new self.old self.new) }
-        ensures array { P.tells → (device : Device) (contents : Blocks) → Holds self.old (P.history platform.old).present device contents
-            → IfOk result (λ reply. Holds self.new (P.history platform.new).present (device_after reply device contents) contents) }
-        ensures open { OnOk result (IsOpen self.new (P.head platform.new)
-            × (blocks_of self.new ≡ blocks_of self.old) × (self.new.mapped ≡ self.old.mapped)) }
         ensures follows { P.tells → OnOk result (Follows self.new (P.history platform.new).present) }
-        ensures time { P.tells → (device : Device) (contents : Blocks) → Holds self.old (P.history platform.old).present device contents
-            → Turns (P.history platform.old) (P.history platform.new)
-            (LeavesOnly (λ left. Stands left (Some device)))
-            (LeavesOnly (λ left. Stands left (Some (committed_with device contents)))) }
-        ensures discloses { Discloses P.tells (T.drawn tape.old) (T.drawn tape.new) (P.history platform.old) (P.history platform.new)
-            (HoldsListed self.old (P.history platform.old).present)
-            (λ keys. OnOk result (HoldsListed self.new (P.history platform.new).present keys)) }
-        ensures certifies { Certifies P.tells (L.written ledger.old) (L.written ledger.new) (P.history platform.old) (P.history platform.new)
-            self.old.root.head (number_of self.old + 1) (IsOfCommit self.old (P.history platform.old).present (P.history platform.new).present)
-            (IsOk result) }
-        ensures cause { IfErr result (IsCommitCause P.Platform T.Tape platform.old platform.new tape.old tape.new
-            (Rose (P.faults platform.old) (P.faults platform.new)) (Rose (T.faults tape.old) (T.faults tape.new))
-            (Rose (L.faults ledger.old) (L.faults ledger.new))) }
-        ensures grows { Grows P.Platform platform.old platform.new × (T.faults tape.old ≤ T.faults tape.new)
-            × (L.faults ledger.old ≤ L.faults ledger.new) }
+        ensures commits { Commits P.Platform T.Tape L.Sink platform.old platform.new tape.old tape.new ledger.old ledger.new self.old self.new result }
     {
         self.buffers.put_node(platform.head(), 1, &self.entries);
         let placed = match self.buffers.append(platform, tape) {

@@ -19,6 +19,22 @@ none_given a (Some rest) bytes count e gave = gave ∙ ap (λ (front : List ℕ)
 front : (into behind : List ℕ) (count : ℕ) → count ≤ length into → take count into ≡ take count (into ++ behind)
 front into behind count bound = sym (take-append-le count into behind bound)
 
+-- what one take gave: no more than the limit leaves, and than a piece has
+record Taken (left count : ℕ) (before after : Option (List ℕ)) (piece : List ℕ) : Type 0 where
+  gave : Gave before piece after
+  short : length piece ≤ left
+  few : length piece ≤ 4096
+  less : left ≡ length piece + (left - count)
+
+taken_of : (into behind : List ℕ) (count left : ℕ) (before after : Option (List ℕ)) → count ≤ length into → length into ≤ left → length into ≤ 4096 → Gave before (take count into) after
+    → Taken left count before after (take count (into ++ behind))
+taken_of into behind count left before after bound long size gave = record {
+  gave = subst (λ (bytes : List ℕ). Gave before bytes after) (front into behind count bound) gave;
+  short = omega (arith, length-take count (into ++ behind), length-append into behind, bound, long);
+  few = omega (arith, length-take count (into ++ behind), length-append into behind, bound, size);
+  less = omega (arith, length-take count (into ++ behind), length-append into behind, bound, long);
+}
+
 -- and where something is left, it is given
 nothing_left : (a : Option (List ℕ)) (count : ℕ) → count ≡ 0 → IfSome a (λ rest. (count ≡ 0) ↔ (rest ≡ [])) → IsAtEnd a
 nothing_left None count e end = tt
@@ -75,17 +91,10 @@ returns-in-Err-clause-ran g c =
     let mid : World = world_of P c.loop-left.desk.session c.loop-left.platform in
     let new : World = world_of P c.serve_piece.new.desk.session c.serve_piece.new.platform in
     let reading = c.loop-left.invariant.reading in
-    let into : List ℕ = c.take.new.into in
-    let behind : List ℕ = drop c.min-room.result c.loop-left.piece in
-    let piece : List ℕ = take c.in-Ok.count (into ++ behind) in
-    let long : length into ≤ c.loop-left.left = grind (arith, common_steps, c.take.auto.into, c.min-room.ensures) in
-    let bound : c.in-Ok.count ≤ length into = omega (arith, c.in-Ok.ensures.bound, c.take.auto.into) in
-    let gave = subst (λ (bytes : List ℕ). Gave (left c.loop-left.input) bytes (left c.take.new.self)) (front into behind c.in-Ok.count bound) c.in-Ok.ensures.taken in
-    let short : length piece ≤ c.loop-left.left = omega (arith, length-take c.in-Ok.count (into ++ behind), length-append into behind) in
-    let size : length into ≤ 4096 = grind (arith, common_steps, c.take.auto.into, c.min-room.ensures) in
-    let few : length piece ≤ 4096 = omega (arith, length-take c.in-Ok.count (into ++ behind), length-append into behind) in
+    let took = taken_of c.take.new.into (drop c.min-room.result c.loop-left.piece) c.in-Ok.count c.loop-left.left (left c.loop-left.input) (left c.take.new.self)
+    (omega (arith, c.in-Ok.ensures.bound, c.take.auto.into)) (grind (arith, common_steps, c.take.auto.into, c.min-room.ensures)) (grind (arith, common_steps, c.take.auto.into, c.min-room.ensures)) c.in-Ok.ensures.taken in
     IsReading-stop P.tells old mid new (left c.args.input.now) (left c.loop-left.input) (left c.take.new.self) (written c.args.output.now) (written c.loop-left.output) (written c.serve_piece.new.output)
-    c.loop-left.pending c.loop-left.left piece c.in-Err.stop reading gave short few c.in-Err.ensures.after.stops
+    c.loop-left.pending c.loop-left.left _ c.in-Err.stop reading took.gave took.short took.few c.in-Err.ensures.after.stops
     (c.in-Err.ensures.handled (rest_of reading.taken) reading.pending)
 
 pub loop-left-preserved : goal.loop-left-preserved
@@ -97,13 +106,8 @@ loop-left-preserved g c =
     let mid : World = world_of P c.loop-left.desk.session c.loop-left.platform in
     let new : World = world_of P c.serve_piece.new.desk.session c.serve_piece.new.platform in
     let reading = c.loop-left.invariant.reading in
-    let into : List ℕ = c.take.new.into in
-    let behind : List ℕ = drop c.min-room.result c.loop-left.piece in
-    let piece : List ℕ = take c.in-Ok.count (into ++ behind) in
-    let long : length into ≤ c.loop-left.left = grind (arith, common_steps, c.take.auto.into, c.min-room.ensures) in
-    let bound : c.in-Ok.count ≤ length into = omega (arith, c.in-Ok.ensures.bound, c.take.auto.into) in
-    let gave = subst (λ (bytes : List ℕ). Gave (left c.loop-left.input) bytes (left c.take.new.self)) (front into behind c.in-Ok.count bound) c.in-Ok.ensures.taken in
-    let less : c.loop-left.left ≡ length piece + (c.loop-left.left - c.in-Ok.count) = omega (arith, length-take c.in-Ok.count (into ++ behind), length-append into behind) in
+    let took = taken_of c.take.new.into (drop c.min-room.result c.loop-left.piece) c.in-Ok.count c.loop-left.left (left c.loop-left.input) (left c.take.new.self)
+    (omega (arith, c.in-Ok.ensures.bound, c.take.auto.into)) (grind (arith, common_steps, c.take.auto.into, c.min-room.ensures)) (grind (arith, common_steps, c.take.auto.into, c.min-room.ensures)) c.in-Ok.ensures.taken in
     record {
       ready = c.in-Ok-serve_piece.ensures.after.ready;
       mounted = c.in-Ok-serve_piece.ensures.after.mounted;
@@ -112,7 +116,7 @@ loop-left-preserved g c =
           (on_then _ _ _ _ _ _ _ c.args.desk.now.session c.loop-left.desk.session _ _ _ _ _ _ tt c.loop-left.invariant.keeps c.in-Ok-serve_piece.ensures.keeps (handled_through _ _ _ _ _ _ _ c.loop-left.invariant.reading.handled)) (λ yes. refl) (λ keys h. h);
       counts = grind (arith, c.loop-left.invariant.counts, c.serve_piece.ensures.blame.fell, c.take.ensures.count);
       reading = IsReading-more P.tells old mid new (left c.args.input.now) (left c.loop-left.input) (left c.take.new.self) (written c.args.output.now) (written c.loop-left.output) (written c.serve_piece.new.output)
-          c.loop-left.pending c.serve_piece.new.pending c.loop-left.left (c.loop-left.left - c.in-Ok.count) piece reading gave less
+          c.loop-left.pending c.serve_piece.new.pending c.loop-left.left (c.loop-left.left - c.in-Ok.count) _ reading took.gave took.less
           (c.in-Ok-serve_piece.ensures.pending (rest_of reading.taken) reading.pending) (c.in-Ok-serve_piece.ensures.handled (rest_of reading.taken) reading.pending);
     }
 

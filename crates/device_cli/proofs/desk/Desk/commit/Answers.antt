@@ -40,7 +40,7 @@ returns-in-Committed-clause-answered g c told entry rep =
     (λ e. let idle = c.in-Ok.ensures.idle e in (idle.4, idle.0, ap (λ p. (P.history p).present) idle.1, keeps_same old new (ap (λ p. P.history p) idle.1)))
     (λ e f. (c.in-Ok.ensures.full e f).4)
     (λ e f. let raised = c.in-Ok.ensures.raised e f in (raised.replied, raised.untouched))
-    (λ d t holds. (c.in-Ok.ensures.array told d t.contents holds, c.commit.ensures.time told d t.contents holds))
+    (λ d t holds. (c.in-Ok.ensures.commits.array told d t.contents holds, c.commit.ensures.commits.time told d t.contents holds))
     rep
 
 pub returns-in-Full-clause-answered : goal.returns-in-Full-clause-answered
@@ -60,21 +60,21 @@ returns-in-Err-Memory-clause-answered g c told entry rep =
     let P = g.P.Platform in
     let old : World = world_of P c.args.self.now.session c.args.platform.now in
     let new : World = world_of P (Some c.commit.new.self) c.commit.new.platform in
-    halts_still old new entry Commit device.Memory tt rep ((rw c.in-Err-Memory.field-0-is at c.in-Err-Memory.ensures.cause).1 told)
+    halts_still old new entry Commit device.Memory tt rep ((rw c.in-Err-Memory.field-0-is at c.in-Err-Memory.ensures.commits.cause).1 told)
 
 pub returns-in-Err-TapeFault-clause-answered : goal.returns-in-Err-TapeFault-clause-answered
 returns-in-Err-TapeFault-clause-answered g c told entry rep =
     let P = g.P.Platform in
     let old : World = world_of P c.args.self.now.session c.args.platform.now in
     let new : World = world_of P (Some c.commit.new.self) c.commit.new.platform in
-    halts_still old new entry Commit device.Tape tt rep ((rw c.in-Err-TapeFault.field-0-is at c.in-Err-TapeFault.ensures.cause).2 told)
+    halts_still old new entry Commit device.Tape tt rep ((rw c.in-Err-TapeFault.field-0-is at c.in-Err-TapeFault.ensures.commits.cause).2 told)
 
 pub returns-in-Err-LedgerFault-clause-answered : goal.returns-in-Err-LedgerFault-clause-answered
 returns-in-Err-LedgerFault-clause-answered g c told entry rep =
     let P = g.P.Platform in
     let old : World = world_of P c.args.self.now.session c.args.platform.now in
     let new : World = world_of P (Some c.commit.new.self) c.commit.new.platform in
-    halts_still old new entry Commit device.Ledger tt rep ((rw c.in-Err-LedgerFault.field-0-is at c.in-Err-LedgerFault.ensures.cause).1 told)
+    halts_still old new entry Commit device.Ledger tt rep ((rw c.in-Err-LedgerFault.field-0-is at c.in-Err-LedgerFault.ensures.commits.cause).1 told)
 
 pub returns-in-Err-PlatformFault-clause-answered : goal.returns-in-Err-PlatformFault-clause-answered
 returns-in-Err-PlatformFault-clause-answered g c told entry rep =
@@ -85,7 +85,7 @@ returns-in-Err-PlatformFault-clause-answered g c told entry rep =
     halts_commit old new entry c.in-Some.session taken
     (λ e. let ok = (c.commit.ensures.idle e).5 in grind (arith, common_steps, ok))
     (λ e f. let ok = (c.commit.ensures.full e f).5 in grind (arith, common_steps, ok))
-    (λ d t holds. c.commit.ensures.time told d t.contents holds) rep
+    (λ d t holds. c.commit.ensures.commits.time told d t.contents holds) rep
 
 pub returns-in_default-clause-keeps : goal.returns-in_default-clause-keeps
 returns-in_default-clause-keeps g c = on_start _ _ _ c.args.self.now.session _ _
@@ -93,29 +93,29 @@ returns-in_default-clause-keeps g c = on_start _ _ _ c.args.self.now.session _ _
 pub returns-in-Committed-clause-keeps : goal.returns-in-Committed-clause-keeps
 returns-in-Committed-clause-keeps g c =
     let taken : c.args.self.now.session ≡ Some c.in-Some.session = c.in-Some.is in
-    on_call _ _ _ _ _ c.args.self.now.session _ _ _ _ _ _ c.in-Ok.ensures.discloses.keys (λ told keys h. listed_some _ c.in-Some.session _ keys taken h) (λ told keys h. c.commit.ensures.discloses.forgets told keys (listed_some _ c.in-Some.session _ keys taken h)) (λ told keys more h done. done) c.commit.ensures.discloses.serves (certified_commit {X = CommitReply} {Y = CommitFault} _ _ _ _ _ c.in-Some.session _ (Ok c.in-Ok.reply) (is_open g (goal.at.returns-in-Committed-clause-keeps g c).In-Some).served.fits (is_open g (goal.at.returns-in-Committed-clause-keeps g c).In-Some).served.key.0 c.commit.ensures.discloses.turns (cell g (goal.at.returns-in-Committed-clause-keeps g c).In-Some) c.in-Ok.ensures.certifies) (fitting_committed _ _ _ _ _ c.args.self.now.session c.in-Some.session _ taken (is_open g (goal.at.returns-in-Committed-clause-keeps g c).In-Some).loaded (λ e. let idle = c.commit.ensures.idle e in (ap (λ p. g.P.Platform.history p) idle.1, ap (λ l. g.L.Sink.written l) idle.3)) (λ told keys h. c.commit.ensures.discloses.forgets told keys h) c.commit.ensures.certifies)
+    on_call _ _ _ _ _ c.args.self.now.session _ _ _ _ _ _ c.in-Ok.ensures.commits.discloses.keys (λ told keys h. listed_some _ c.in-Some.session _ keys taken h) (λ told keys h. c.commit.ensures.commits.discloses.forgets told keys (listed_some _ c.in-Some.session _ keys taken h)) (λ told keys more h done. done) c.commit.ensures.commits.discloses.serves (certified_commit {X = CommitReply} {Y = CommitFault} _ _ _ _ _ c.in-Some.session _ (Ok c.in-Ok.reply) (is_open g (goal.at.returns-in-Committed-clause-keeps g c).In-Some).served.fits (is_open g (goal.at.returns-in-Committed-clause-keeps g c).In-Some).served.key.0 c.commit.ensures.commits.discloses.turns (cell g (goal.at.returns-in-Committed-clause-keeps g c).In-Some) c.in-Ok.ensures.commits.certifies) (fitting_committed _ _ _ _ _ c.args.self.now.session c.in-Some.session _ taken (is_open g (goal.at.returns-in-Committed-clause-keeps g c).In-Some).loaded (λ e. let idle = c.commit.ensures.idle e in (ap (λ p. g.P.Platform.history p) idle.1, ap (λ l. g.L.Sink.written l) idle.3)) (λ told keys h. c.commit.ensures.commits.discloses.forgets told keys h) c.commit.ensures.commits.certifies)
 
 pub returns-in-Full-clause-keeps : goal.returns-in-Full-clause-keeps
 returns-in-Full-clause-keeps g c =
     let taken : c.args.self.now.session ≡ Some c.in-Some.session = c.in-Some.is in
-    on_call _ _ _ _ _ c.args.self.now.session _ _ _ _ _ _ c.in-Ok.ensures.discloses.keys (λ told keys h. listed_some _ c.in-Some.session _ keys taken h) (λ told keys h. c.commit.ensures.discloses.forgets told keys (listed_some _ c.in-Some.session _ keys taken h)) (λ told keys more h done. done) c.commit.ensures.discloses.serves (certified_commit {X = CommitReply} {Y = CommitFault} _ _ _ _ _ c.in-Some.session _ (Ok c.in-Ok.reply) (is_open g (goal.at.returns-in-Full-clause-keeps g c).In-Some).served.fits (is_open g (goal.at.returns-in-Full-clause-keeps g c).In-Some).served.key.0 c.commit.ensures.discloses.turns (cell g (goal.at.returns-in-Full-clause-keeps g c).In-Some) c.in-Ok.ensures.certifies) (fitting_committed _ _ _ _ _ c.args.self.now.session c.in-Some.session _ taken (is_open g (goal.at.returns-in-Full-clause-keeps g c).In-Some).loaded (λ e. let idle = c.commit.ensures.idle e in (ap (λ p. g.P.Platform.history p) idle.1, ap (λ l. g.L.Sink.written l) idle.3)) (λ told keys h. c.commit.ensures.discloses.forgets told keys h) c.commit.ensures.certifies)
+    on_call _ _ _ _ _ c.args.self.now.session _ _ _ _ _ _ c.in-Ok.ensures.commits.discloses.keys (λ told keys h. listed_some _ c.in-Some.session _ keys taken h) (λ told keys h. c.commit.ensures.commits.discloses.forgets told keys (listed_some _ c.in-Some.session _ keys taken h)) (λ told keys more h done. done) c.commit.ensures.commits.discloses.serves (certified_commit {X = CommitReply} {Y = CommitFault} _ _ _ _ _ c.in-Some.session _ (Ok c.in-Ok.reply) (is_open g (goal.at.returns-in-Full-clause-keeps g c).In-Some).served.fits (is_open g (goal.at.returns-in-Full-clause-keeps g c).In-Some).served.key.0 c.commit.ensures.commits.discloses.turns (cell g (goal.at.returns-in-Full-clause-keeps g c).In-Some) c.in-Ok.ensures.commits.certifies) (fitting_committed _ _ _ _ _ c.args.self.now.session c.in-Some.session _ taken (is_open g (goal.at.returns-in-Full-clause-keeps g c).In-Some).loaded (λ e. let idle = c.commit.ensures.idle e in (ap (λ p. g.P.Platform.history p) idle.1, ap (λ l. g.L.Sink.written l) idle.3)) (λ told keys h. c.commit.ensures.commits.discloses.forgets told keys h) c.commit.ensures.commits.certifies)
 
 pub returns-in-Err-Memory-clause-keeps : goal.returns-in-Err-Memory-clause-keeps
 returns-in-Err-Memory-clause-keeps g c =
     let taken : c.args.self.now.session ≡ Some c.in-Some.session = c.in-Some.is in
-    on_call _ _ _ _ _ c.args.self.now.session _ _ _ _ _ _ c.commit.ensures.discloses.keys (λ told keys h. listed_some _ c.in-Some.session _ keys taken h) (λ told keys h. c.commit.ensures.discloses.forgets told keys (listed_some _ c.in-Some.session _ keys taken h)) (λ told keys more h done. tt) c.commit.ensures.discloses.serves (certified_going _ _ _ _ _ _ _ (λ never. absurd cc) (certified_commit _ _ _ _ _ c.in-Some.session _ c.commit.result (is_open g (goal.at.returns-in-Err-Memory-clause-keeps g c).In-Some).served.fits (is_open g (goal.at.returns-in-Err-Memory-clause-keeps g c).In-Some).served.key.0 c.commit.ensures.discloses.turns (cell g (goal.at.returns-in-Err-Memory-clause-keeps g c).In-Some) c.commit.ensures.certifies)) (fitting_committed _ _ _ _ _ c.args.self.now.session c.in-Some.session _ taken (is_open g (goal.at.returns-in-Err-Memory-clause-keeps g c).In-Some).loaded (λ e. let idle = c.commit.ensures.idle e in (ap (λ p. g.P.Platform.history p) idle.1, ap (λ l. g.L.Sink.written l) idle.3)) (λ told keys h. c.commit.ensures.discloses.forgets told keys h) c.commit.ensures.certifies)
+    on_call _ _ _ _ _ c.args.self.now.session _ _ _ _ _ _ c.commit.ensures.commits.discloses.keys (λ told keys h. listed_some _ c.in-Some.session _ keys taken h) (λ told keys h. c.commit.ensures.commits.discloses.forgets told keys (listed_some _ c.in-Some.session _ keys taken h)) (λ told keys more h done. tt) c.commit.ensures.commits.discloses.serves (certified_going _ _ _ _ _ _ _ (λ never. absurd cc) (certified_commit _ _ _ _ _ c.in-Some.session _ c.commit.result (is_open g (goal.at.returns-in-Err-Memory-clause-keeps g c).In-Some).served.fits (is_open g (goal.at.returns-in-Err-Memory-clause-keeps g c).In-Some).served.key.0 c.commit.ensures.commits.discloses.turns (cell g (goal.at.returns-in-Err-Memory-clause-keeps g c).In-Some) c.commit.ensures.commits.certifies)) (fitting_committed _ _ _ _ _ c.args.self.now.session c.in-Some.session _ taken (is_open g (goal.at.returns-in-Err-Memory-clause-keeps g c).In-Some).loaded (λ e. let idle = c.commit.ensures.idle e in (ap (λ p. g.P.Platform.history p) idle.1, ap (λ l. g.L.Sink.written l) idle.3)) (λ told keys h. c.commit.ensures.commits.discloses.forgets told keys h) c.commit.ensures.commits.certifies)
 
 pub returns-in-Err-TapeFault-clause-keeps : goal.returns-in-Err-TapeFault-clause-keeps
 returns-in-Err-TapeFault-clause-keeps g c =
     let taken : c.args.self.now.session ≡ Some c.in-Some.session = c.in-Some.is in
-    on_call _ _ _ _ _ c.args.self.now.session _ _ _ _ _ _ c.commit.ensures.discloses.keys (λ told keys h. listed_some _ c.in-Some.session _ keys taken h) (λ told keys h. c.commit.ensures.discloses.forgets told keys (listed_some _ c.in-Some.session _ keys taken h)) (λ told keys more h done. tt) c.commit.ensures.discloses.serves (certified_going _ _ _ _ _ _ _ (λ never. absurd cc) (certified_commit _ _ _ _ _ c.in-Some.session _ c.commit.result (is_open g (goal.at.returns-in-Err-TapeFault-clause-keeps g c).In-Some).served.fits (is_open g (goal.at.returns-in-Err-TapeFault-clause-keeps g c).In-Some).served.key.0 c.commit.ensures.discloses.turns (cell g (goal.at.returns-in-Err-TapeFault-clause-keeps g c).In-Some) c.commit.ensures.certifies)) (fitting_committed _ _ _ _ _ c.args.self.now.session c.in-Some.session _ taken (is_open g (goal.at.returns-in-Err-TapeFault-clause-keeps g c).In-Some).loaded (λ e. let idle = c.commit.ensures.idle e in (ap (λ p. g.P.Platform.history p) idle.1, ap (λ l. g.L.Sink.written l) idle.3)) (λ told keys h. c.commit.ensures.discloses.forgets told keys h) c.commit.ensures.certifies)
+    on_call _ _ _ _ _ c.args.self.now.session _ _ _ _ _ _ c.commit.ensures.commits.discloses.keys (λ told keys h. listed_some _ c.in-Some.session _ keys taken h) (λ told keys h. c.commit.ensures.commits.discloses.forgets told keys (listed_some _ c.in-Some.session _ keys taken h)) (λ told keys more h done. tt) c.commit.ensures.commits.discloses.serves (certified_going _ _ _ _ _ _ _ (λ never. absurd cc) (certified_commit _ _ _ _ _ c.in-Some.session _ c.commit.result (is_open g (goal.at.returns-in-Err-TapeFault-clause-keeps g c).In-Some).served.fits (is_open g (goal.at.returns-in-Err-TapeFault-clause-keeps g c).In-Some).served.key.0 c.commit.ensures.commits.discloses.turns (cell g (goal.at.returns-in-Err-TapeFault-clause-keeps g c).In-Some) c.commit.ensures.commits.certifies)) (fitting_committed _ _ _ _ _ c.args.self.now.session c.in-Some.session _ taken (is_open g (goal.at.returns-in-Err-TapeFault-clause-keeps g c).In-Some).loaded (λ e. let idle = c.commit.ensures.idle e in (ap (λ p. g.P.Platform.history p) idle.1, ap (λ l. g.L.Sink.written l) idle.3)) (λ told keys h. c.commit.ensures.commits.discloses.forgets told keys h) c.commit.ensures.commits.certifies)
 
 pub returns-in-Err-LedgerFault-clause-keeps : goal.returns-in-Err-LedgerFault-clause-keeps
 returns-in-Err-LedgerFault-clause-keeps g c =
     let taken : c.args.self.now.session ≡ Some c.in-Some.session = c.in-Some.is in
-    on_call _ _ _ _ _ c.args.self.now.session _ _ _ _ _ _ c.commit.ensures.discloses.keys (λ told keys h. listed_some _ c.in-Some.session _ keys taken h) (λ told keys h. c.commit.ensures.discloses.forgets told keys (listed_some _ c.in-Some.session _ keys taken h)) (λ told keys more h done. tt) c.commit.ensures.discloses.serves (certified_going _ _ _ _ _ _ _ (λ never. absurd cc) (certified_commit _ _ _ _ _ c.in-Some.session _ c.commit.result (is_open g (goal.at.returns-in-Err-LedgerFault-clause-keeps g c).In-Some).served.fits (is_open g (goal.at.returns-in-Err-LedgerFault-clause-keeps g c).In-Some).served.key.0 c.commit.ensures.discloses.turns (cell g (goal.at.returns-in-Err-LedgerFault-clause-keeps g c).In-Some) c.commit.ensures.certifies)) (fitting_committed _ _ _ _ _ c.args.self.now.session c.in-Some.session _ taken (is_open g (goal.at.returns-in-Err-LedgerFault-clause-keeps g c).In-Some).loaded (λ e. let idle = c.commit.ensures.idle e in (ap (λ p. g.P.Platform.history p) idle.1, ap (λ l. g.L.Sink.written l) idle.3)) (λ told keys h. c.commit.ensures.discloses.forgets told keys h) c.commit.ensures.certifies)
+    on_call _ _ _ _ _ c.args.self.now.session _ _ _ _ _ _ c.commit.ensures.commits.discloses.keys (λ told keys h. listed_some _ c.in-Some.session _ keys taken h) (λ told keys h. c.commit.ensures.commits.discloses.forgets told keys (listed_some _ c.in-Some.session _ keys taken h)) (λ told keys more h done. tt) c.commit.ensures.commits.discloses.serves (certified_going _ _ _ _ _ _ _ (λ never. absurd cc) (certified_commit _ _ _ _ _ c.in-Some.session _ c.commit.result (is_open g (goal.at.returns-in-Err-LedgerFault-clause-keeps g c).In-Some).served.fits (is_open g (goal.at.returns-in-Err-LedgerFault-clause-keeps g c).In-Some).served.key.0 c.commit.ensures.commits.discloses.turns (cell g (goal.at.returns-in-Err-LedgerFault-clause-keeps g c).In-Some) c.commit.ensures.commits.certifies)) (fitting_committed _ _ _ _ _ c.args.self.now.session c.in-Some.session _ taken (is_open g (goal.at.returns-in-Err-LedgerFault-clause-keeps g c).In-Some).loaded (λ e. let idle = c.commit.ensures.idle e in (ap (λ p. g.P.Platform.history p) idle.1, ap (λ l. g.L.Sink.written l) idle.3)) (λ told keys h. c.commit.ensures.commits.discloses.forgets told keys h) c.commit.ensures.commits.certifies)
 
 pub returns-in-Err-PlatformFault-clause-keeps : goal.returns-in-Err-PlatformFault-clause-keeps
 returns-in-Err-PlatformFault-clause-keeps g c =
     let taken : c.args.self.now.session ≡ Some c.in-Some.session = c.in-Some.is in
-    on_call _ _ _ _ _ c.args.self.now.session _ _ _ _ _ _ c.commit.ensures.discloses.keys (λ told keys h. listed_some _ c.in-Some.session _ keys taken h) (λ told keys h. c.commit.ensures.discloses.forgets told keys (listed_some _ c.in-Some.session _ keys taken h)) (λ told keys more h done. tt) c.commit.ensures.discloses.serves (certified_going _ _ _ _ _ _ _ (λ never. absurd cc) (certified_commit _ _ _ _ _ c.in-Some.session _ c.commit.result (is_open g (goal.at.returns-in-Err-PlatformFault-clause-keeps g c).In-Some).served.fits (is_open g (goal.at.returns-in-Err-PlatformFault-clause-keeps g c).In-Some).served.key.0 c.commit.ensures.discloses.turns (cell g (goal.at.returns-in-Err-PlatformFault-clause-keeps g c).In-Some) c.commit.ensures.certifies)) (fitting_committed _ _ _ _ _ c.args.self.now.session c.in-Some.session _ taken (is_open g (goal.at.returns-in-Err-PlatformFault-clause-keeps g c).In-Some).loaded (λ e. let idle = c.commit.ensures.idle e in (ap (λ p. g.P.Platform.history p) idle.1, ap (λ l. g.L.Sink.written l) idle.3)) (λ told keys h. c.commit.ensures.discloses.forgets told keys h) c.commit.ensures.certifies)
+    on_call _ _ _ _ _ c.args.self.now.session _ _ _ _ _ _ c.commit.ensures.commits.discloses.keys (λ told keys h. listed_some _ c.in-Some.session _ keys taken h) (λ told keys h. c.commit.ensures.commits.discloses.forgets told keys (listed_some _ c.in-Some.session _ keys taken h)) (λ told keys more h done. tt) c.commit.ensures.commits.discloses.serves (certified_going _ _ _ _ _ _ _ (λ never. absurd cc) (certified_commit _ _ _ _ _ c.in-Some.session _ c.commit.result (is_open g (goal.at.returns-in-Err-PlatformFault-clause-keeps g c).In-Some).served.fits (is_open g (goal.at.returns-in-Err-PlatformFault-clause-keeps g c).In-Some).served.key.0 c.commit.ensures.commits.discloses.turns (cell g (goal.at.returns-in-Err-PlatformFault-clause-keeps g c).In-Some) c.commit.ensures.commits.certifies)) (fitting_committed _ _ _ _ _ c.args.self.now.session c.in-Some.session _ taken (is_open g (goal.at.returns-in-Err-PlatformFault-clause-keeps g c).In-Some).loaded (λ e. let idle = c.commit.ensures.idle e in (ap (λ p. g.P.Platform.history p) idle.1, ap (λ l. g.L.Sink.written l) idle.3)) (λ told keys h. c.commit.ensures.commits.discloses.forgets told keys h) c.commit.ensures.commits.certifies)

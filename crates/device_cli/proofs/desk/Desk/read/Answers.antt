@@ -1,15 +1,14 @@
-use Rattle.std.proofs.Common.{◌≡◌, ◌<◌, ◌≤◌, ℕ, None, Some, Ok, Err, refl, sym, ◌∙◌, subst, rules, arith}
+use Rattle.std.proofs.Common.{◌≡◌, ◌<◌, ℕ, None, Some, Ok, refl, sym, ◌∙◌, subst, rules, arith}
 use Rattle.std.proofs.lemmas.Grind.{common_steps}
 use Rattle.script_lang.specs.Arrays.{content_reply}
 use Rattle.script_lang.specs.Replies.{Reply, said}
 use Rattle.device_cli.specs.declared.stop.DeviceStop.TheVariants as device
 use Rattle.device_cli.specs.World.{World, is_full, world_of}
-use Rattle.script_lang.specs.Replies as replies
 use Rattle.device_cli.specs.Replied.{Serves}
 use Rattle.script_lang.specs.Commands.{Read}
-use Rattle.device_cli.proofs.ServedLaws.{at, with_session, has_session, serves_still, halts_still, gives_unmounted_read, gives_content, gives_read_range}
+use Rattle.device_cli.proofs.ServedLaws.{at, with_session, has_session, serves_still, halts_still, serves_range, serves_damaged, gives_unmounted_read, gives_content, gives_read_range}
 use Rattle.device_cli.proofs.ServingLaws.{serves_unmounted}
-use Rattle.device_cli.proofs.CellLaws.{mounted_still}
+use Rattle.device_cli.proofs.CellLaws.{after_looked, mounted_still}
 use Rattle.device_course.proofs.KeysLaws.{on_start, on_look, listed_some}
 use Rattle.device_cli.proofs.desk.Desk.read.Goals as goal
 
@@ -37,31 +36,20 @@ returns-in-Ok-clause-answered g c told entry rep =
 pub returns-in-Err-Range-clause-answered : goal.returns-in-Err-Range-clause-answered
 returns-in-Err-Range-clause-answered g c told entry rep =
     let P = g.P.Platform in
-    let old : World = world_of P c.args.self.now.session c.args.platform.now in
-    let new : World = world_of P (Some c.read.new.self) c.read.new.platform in
-    let taken : c.args.self.now.session ≡ Some c.in-Some.session = c.in-Some.is in
-    with_session old c.in-Some.session entry taken rep (λ state. Serves old new state (Read c.args.block) (Ok replies.Range))
-    (λ d t holds touched.
-    let past : d.blocks ≤ c.args.block = subst (λ (n : ℕ). n ≤ c.args.block) holds.stands.blocks (rw c.in-Err-Range.field-0-is at c.in-Err-Range.ensures.cause) in
-    let after = has_session new c.read.new.self d t refl (c.read.ensures.array told d t.contents holds).0 (c.read.ensures.same.2 ∙ touched) in
-    serves_still old new (at d t) (at d t) (Read c.args.block) replies.Range (has_session old c.in-Some.session d t taken holds touched)
-    (gives_read_range (is_full old) d t c.args.block past) after (c.read.ensures.looks.time told))
+    let old = world_of P c.args.self.now.session c.args.platform.now in
+    serves_range old (world_of P (Some c.read.new.self) c.read.new.platform) c.in-Some.session c.read.new.self entry (Read c.args.block) c.args.block c.in-Some.is refl rep (λ d t holds. (c.read.ensures.array told d t.contents holds).0) c.read.ensures.same.2
+    (rw c.in-Err-Range.field-0-is at c.in-Err-Range.ensures.cause) (λ d t past. gives_read_range (is_full old) d t c.args.block past) (c.read.ensures.looks.time told)
 
 pub returns-in-Err-BadRecord-clause-answered : goal.returns-in-Err-BadRecord-clause-answered
 returns-in-Err-BadRecord-clause-answered g c told entry rep =
     let P = g.P.Platform in
-    let old : World = world_of P c.args.self.now.session c.args.platform.now in
-    let new : World = world_of P (Some c.read.new.self) c.read.new.platform in
-    let taken : c.args.self.now.session ≡ Some c.in-Some.session = c.in-Some.is in
-    with_session old c.in-Some.session entry taken rep (λ state. Serves old new state (Read c.args.block) (Err (device.BadRecord c.in-Err-BadRecord.addr)))
-    (λ d t holds touched. absurd ((rw c.in-Err-BadRecord.field-0-is at c.in-Err-BadRecord.ensures.array) told d t.contents holds).1)
+    serves_damaged (world_of P c.args.self.now.session c.args.platform.now) (world_of P (Some c.read.new.self) c.read.new.platform) c.in-Some.session entry (Read c.args.block) c.in-Err-BadRecord.addr c.in-Some.is rep
+    (λ d t holds. ((rw c.in-Err-BadRecord.field-0-is at c.in-Err-BadRecord.ensures.array) told d t.contents holds).1)
 
 pub returns-in-Err-PlatformFault-clause-answered : goal.returns-in-Err-PlatformFault-clause-answered
 returns-in-Err-PlatformFault-clause-answered g c told entry rep =
     let P = g.P.Platform in
-    let old : World = world_of P c.args.self.now.session c.args.platform.now in
-    let new : World = world_of P (Some c.read.new.self) c.read.new.platform in
-    halts_still old new entry (Read c.args.block) device.Platform tt rep (c.read.ensures.looks.time told)
+    halts_still (world_of P c.args.self.now.session c.args.platform.now) (world_of P (Some c.read.new.self) c.read.new.platform) entry (Read c.args.block) device.Platform tt rep (c.read.ensures.looks.time told)
 
 pub returns-in_default-clause-keeps : goal.returns-in_default-clause-keeps
 returns-in_default-clause-keeps g c = λ drawn written. on_start _ drawn written c.args.self.now.session _ _
@@ -79,15 +67,6 @@ pub returns-in-Err-PlatformFault-clause-keeps : goal.returns-in-Err-PlatformFaul
 returns-in-Err-PlatformFault-clause-keeps g c = λ drawn written. on_look _ drawn written c.args.self.now.session _ _ _ _ c.read.ensures.looks.image c.read.ensures.looks.time (λ told keys kept h. tt)
 
 pub returns-in-Ok-clause-after : goal.returns-in-Ok-clause-after
-returns-in-Ok-clause-after g c = record {
-  ready = c.in-Ok.ensures.open;
-  mounted = λ told. mounted_still _ c.in-Some.session _ _ _ c.in-Some.is (c.requires.mounted told) c.read.ensures.same.0 (c.read.ensures.looks.time told) (c.read.ensures.follows told);
-  reply = search rules;
-  short = search rules;
-  bad_root = search rules;
-  capacity = search rules;
-  rises = search rules;
-  by_one = search rules;
-  added = search rules;
-  full = search rules;
-}
+returns-in-Ok-clause-after g c = after_looked _ _ _ _ _ c.read.ensures.looks c.in-Ok.ensures.open
+    (λ told. mounted_still _ c.in-Some.session _ _ _ c.in-Some.is (c.requires.mounted told) c.read.ensures.same.0 (c.read.ensures.looks.time told) (c.read.ensures.follows told))
+    (search rules) (search rules) (search rules)

@@ -1,4 +1,4 @@
-use Rattle.std.proofs.Common.{◌≡◌, ◌<◌, ◌≤◌, ℕ, Bool, None, Some, Ok, Err, refl, ◌∙◌, ap, subst, rules, arith}
+use Rattle.std.proofs.Common.{◌≡◌, ◌<◌, ℕ, Bool, None, Some, Ok, refl, ◌∙◌, ap, subst, rules, arith}
 use Rattle.std.specs.Prelude.{◌||◌}
 use Rattle.std.proofs.lemmas.Grind.{common_steps}
 use Rattle.device_cli.specs.declared.stop.DeviceStop.TheVariants as device
@@ -8,9 +8,9 @@ use Rattle.device_cli.specs.Replied.{Serves}
 use Rattle.std.specs.FinMap.{contains_key}
 use Rattle.sdbt_base.specs.Arrays.{unmapped}
 use Rattle.script_lang.specs.Commands.{Trim}
-use Rattle.device_cli.proofs.ServedLaws.{at, with_session, has_session, serves_still, halts_still, gives_unmounted_trim, gives_trimmed, gives_trim_range}
+use Rattle.device_cli.proofs.ServedLaws.{at, with_session, has_session, serves_still, halts_still, serves_range, serves_damaged, gives_unmounted_trim, gives_trimmed, gives_trim_range}
 use Rattle.device_cli.proofs.ServingLaws.{serves_unmounted}
-use Rattle.device_cli.proofs.CellLaws.{mounted_still}
+use Rattle.device_cli.proofs.CellLaws.{after_looked, mounted_still}
 use Rattle.device_course.proofs.KeysLaws.{on_start, on_look, listed_some}
 use Rattle.device_cli.proofs.desk.Desk.trim.Goals as goal
 
@@ -38,38 +38,25 @@ returns-in-Ok-clause-answered g c told entry rep =
 pub returns-in-Err-Range-clause-answered : goal.returns-in-Err-Range-clause-answered
 returns-in-Err-Range-clause-answered g c told entry rep =
     let P = g.P.Platform in
-    let old : World = world_of P c.args.self.now.session c.args.platform.now in
-    let new : World = world_of P (Some c.trim.new.self) c.trim.new.platform in
-    let taken : c.args.self.now.session ≡ Some c.in-Some.session = c.in-Some.is in
-    with_session old c.in-Some.session entry taken rep (λ state. Serves old new state (Trim c.args.block) (Ok replies.Range))
-    (λ d t holds touched.
-    let past : d.blocks ≤ c.args.block = subst (λ (n : ℕ). n ≤ c.args.block) holds.stands.blocks (rw c.in-Err-Range.field-0-is at c.in-Err-Range.ensures.cause) in
-    let after = has_session new c.trim.new.self d t refl ((rw c.in-Err-Range.field-0-is at c.in-Err-Range.ensures.array) told d t.contents holds) (c.in-Err-Range.ensures.same.1 ∙ touched) in
-    serves_still old new (at d t) (at d t) (Trim c.args.block) replies.Range (has_session old c.in-Some.session d t taken holds touched)
-    (gives_trim_range (is_full old) d t c.args.block past) after (c.trim.ensures.looks.time told))
+    let old = world_of P c.args.self.now.session c.args.platform.now in
+    serves_range old (world_of P (Some c.trim.new.self) c.trim.new.platform) c.in-Some.session c.trim.new.self entry (Trim c.args.block) c.args.block c.in-Some.is refl rep (λ d t holds. (rw c.in-Err-Range.field-0-is at c.in-Err-Range.ensures.array) told d t.contents holds) c.in-Err-Range.ensures.same.1
+    (rw c.in-Err-Range.field-0-is at c.in-Err-Range.ensures.cause) (λ d t past. gives_trim_range (is_full old) d t c.args.block past) (c.trim.ensures.looks.time told)
 
 pub returns-in-Err-BadRecord-clause-answered : goal.returns-in-Err-BadRecord-clause-answered
 returns-in-Err-BadRecord-clause-answered g c told entry rep =
     let P = g.P.Platform in
-    let old : World = world_of P c.args.self.now.session c.args.platform.now in
-    let new : World = world_of P (Some c.trim.new.self) c.trim.new.platform in
-    let taken : c.args.self.now.session ≡ Some c.in-Some.session = c.in-Some.is in
-    with_session old c.in-Some.session entry taken rep (λ state. Serves old new state (Trim c.args.block) (Err (device.BadRecord c.in-Err-BadRecord.addr)))
-    (λ d t holds touched. absurd ((rw c.in-Err-BadRecord.field-0-is at c.in-Err-BadRecord.ensures.array) told d t.contents holds))
+    serves_damaged (world_of P c.args.self.now.session c.args.platform.now) (world_of P (Some c.trim.new.self) c.trim.new.platform) c.in-Some.session entry (Trim c.args.block) c.in-Err-BadRecord.addr c.in-Some.is rep
+    (λ d t holds. (rw c.in-Err-BadRecord.field-0-is at c.in-Err-BadRecord.ensures.array) told d t.contents holds)
 
 pub returns-in-Err-PlatformFault-clause-answered : goal.returns-in-Err-PlatformFault-clause-answered
 returns-in-Err-PlatformFault-clause-answered g c told entry rep =
     let P = g.P.Platform in
-    let old : World = world_of P c.args.self.now.session c.args.platform.now in
-    let new : World = world_of P (Some c.trim.new.self) c.trim.new.platform in
-    halts_still old new entry (Trim c.args.block) device.Platform tt rep (c.trim.ensures.looks.time told)
+    halts_still (world_of P c.args.self.now.session c.args.platform.now) (world_of P (Some c.trim.new.self) c.trim.new.platform) entry (Trim c.args.block) device.Platform tt rep (c.trim.ensures.looks.time told)
 
 pub returns-in-Err-Memory-clause-answered : goal.returns-in-Err-Memory-clause-answered
 returns-in-Err-Memory-clause-answered g c told entry rep =
     let P = g.P.Platform in
-    let old : World = world_of P c.args.self.now.session c.args.platform.now in
-    let new : World = world_of P (Some c.trim.new.self) c.trim.new.platform in
-    halts_still old new entry (Trim c.args.block) device.Memory tt rep (c.trim.ensures.looks.time told)
+    halts_still (world_of P c.args.self.now.session c.args.platform.now) (world_of P (Some c.trim.new.self) c.trim.new.platform) entry (Trim c.args.block) device.Memory tt rep (c.trim.ensures.looks.time told)
 
 pub returns-in_default-clause-keeps : goal.returns-in_default-clause-keeps
 returns-in_default-clause-keeps g c = λ drawn written. on_start _ drawn written c.args.self.now.session _ _
@@ -90,15 +77,6 @@ pub returns-in-Err-PlatformFault-clause-keeps : goal.returns-in-Err-PlatformFaul
 returns-in-Err-PlatformFault-clause-keeps g c = λ drawn written. on_look _ drawn written c.args.self.now.session _ _ _ _ c.trim.ensures.looks.image c.trim.ensures.looks.time (λ told keys kept h. tt)
 
 pub returns-in-Ok-clause-after : goal.returns-in-Ok-clause-after
-returns-in-Ok-clause-after g c = record {
-  ready = c.in-Ok.ensures.open;
-  mounted = λ told. mounted_still _ c.in-Some.session _ _ _ c.in-Some.is (c.requires.mounted told) c.trim.ensures.same.0 (c.trim.ensures.looks.time told) (c.trim.ensures.follows told);
-  reply = search rules;
-  short = search rules;
-  bad_root = search rules;
-  capacity = search rules;
-  rises = search rules;
-  by_one = search rules;
-  added = search rules;
-  full = search rules;
-}
+returns-in-Ok-clause-after g c = after_looked _ _ _ _ _ c.trim.ensures.looks c.in-Ok.ensures.open
+    (λ told. mounted_still _ c.in-Some.session _ _ _ c.in-Some.is (c.requires.mounted told) c.trim.ensures.same.0 (c.trim.ensures.looks.time told) (c.trim.ensures.follows told))
+    (search rules) (search rules) (search rules)

@@ -1,4 +1,4 @@
-use Rattle.std.proofs.Common.{◌≡◌, ◌<◌, ◌≤◌, ℕ, None, Some, Ok, Err, refl, rules, ◌∙◌, subst, arith, List, take}
+use Rattle.std.proofs.Common.{◌≡◌, ◌<◌, ℕ, None, Some, Ok, refl, rules, ◌∙◌, subst, arith, List, take}
 use Rattle.std.proofs.lemmas.Grind.{common_steps}
 use Rattle.device_cli.specs.declared.stop.DeviceStop.TheVariants as device
 use Rattle.device_cli.specs.World.{World, is_full, world_of}
@@ -7,7 +7,7 @@ use Rattle.device_cli.specs.Replied.{Serves}
 use Rattle.std.specs.Prelude.{List}
 use Rattle.sdbt_base.specs.Arrays.{written}
 use Rattle.script_lang.specs.Commands.{Write}
-use Rattle.device_cli.proofs.ServedLaws.{at, with_session, has_session, serves_still, halts_still, is_full_true, is_full_false, gives_unmounted_write, gives_written, gives_write_range, gives_write_full}
+use Rattle.device_cli.proofs.ServedLaws.{at, with_session, has_session, serves_still, halts_still, serves_range, serves_damaged, is_full_true, is_full_false, gives_unmounted_write, gives_written, gives_write_range, gives_write_full}
 use Rattle.device_cli.proofs.ServingLaws.{serves_unmounted}
 use Rattle.device_core.proofs.ServedLaws.{serves_still as serves_while_cell}
 use Rattle.device_cli.proofs.CellLaws.{mounted_still}
@@ -44,15 +44,9 @@ pub returns-in-Err-Range-clause-answered : goal.returns-in-Err-Range-clause-answ
 returns-in-Err-Range-clause-answered g c told entry rep =
     let P = g.P.Platform in
     let bytes : List ℕ = take c.args.count c.args.self.now.buffer in
-    let old : World = world_of P c.args.self.now.session c.args.platform.now in
-    let new : World = world_of P (Some c.write.new.self) c.write.new.platform in
-    let taken : c.args.self.now.session ≡ Some c.in-Some.session = c.in-Some.is in
-    with_session old c.in-Some.session entry taken rep (λ state. Serves old new state (Write c.args.block bytes) (Ok replies.Range))
-    (λ d t holds touched.
-    let past : d.blocks ≤ c.args.block = subst (λ (n : ℕ). n ≤ c.args.block) holds.stands.blocks (rw c.in-Err-Range.field-0-is at c.in-Err-Range.ensures.cause) in
-    let after = has_session new c.write.new.self d t refl ((rw c.in-Err-Range.field-0-is at c.in-Err-Range.ensures.array) told d t.contents holds) (c.in-Err-Range.ensures.same.2 ∙ touched) in
-    serves_still old new (at d t) (at d t) (Write c.args.block bytes) replies.Range (has_session old c.in-Some.session d t taken holds touched)
-    (gives_write_range (is_full old) d t c.args.block bytes past) after (c.write.ensures.time told))
+    let old = world_of P c.args.self.now.session c.args.platform.now in
+    serves_range old (world_of P (Some c.write.new.self) c.write.new.platform) c.in-Some.session c.write.new.self entry (Write c.args.block bytes) c.args.block c.in-Some.is refl rep (λ d t holds. (rw c.in-Err-Range.field-0-is at c.in-Err-Range.ensures.array) told d t.contents holds) c.in-Err-Range.ensures.same.2
+    (rw c.in-Err-Range.field-0-is at c.in-Err-Range.ensures.cause) (λ d t past. gives_write_range (is_full old) d t c.args.block bytes past) (c.write.ensures.time told)
 
 pub returns-in-Err-Full-clause-answered : goal.returns-in-Err-Full-clause-answered
 returns-in-Err-Full-clause-answered g c told entry rep =
@@ -73,35 +67,26 @@ pub returns-in-Err-BadRecord-clause-answered : goal.returns-in-Err-BadRecord-cla
 returns-in-Err-BadRecord-clause-answered g c told entry rep =
     let P = g.P.Platform in
     let bytes : List ℕ = take c.args.count c.args.self.now.buffer in
-    let old : World = world_of P c.args.self.now.session c.args.platform.now in
-    let new : World = world_of P (Some c.write.new.self) c.write.new.platform in
-    let taken : c.args.self.now.session ≡ Some c.in-Some.session = c.in-Some.is in
-    with_session old c.in-Some.session entry taken rep (λ state. Serves old new state (Write c.args.block bytes) (Err (device.BadRecord c.in-Err-BadRecord.addr)))
-    (λ d t holds touched. absurd ((rw c.in-Err-BadRecord.field-0-is at c.in-Err-BadRecord.ensures.array) told d t.contents holds))
+    serves_damaged (world_of P c.args.self.now.session c.args.platform.now) (world_of P (Some c.write.new.self) c.write.new.platform) c.in-Some.session entry (Write c.args.block bytes) c.in-Err-BadRecord.addr c.in-Some.is rep
+    (λ d t holds. (rw c.in-Err-BadRecord.field-0-is at c.in-Err-BadRecord.ensures.array) told d t.contents holds)
 
 pub returns-in-Err-Memory-clause-answered : goal.returns-in-Err-Memory-clause-answered
 returns-in-Err-Memory-clause-answered g c told entry rep =
     let P = g.P.Platform in
     let bytes : List ℕ = take c.args.count c.args.self.now.buffer in
-    let old : World = world_of P c.args.self.now.session c.args.platform.now in
-    let new : World = world_of P (Some c.write.new.self) c.write.new.platform in
-    halts_still old new entry (Write c.args.block bytes) device.Memory tt rep (c.write.ensures.time told)
+    halts_still (world_of P c.args.self.now.session c.args.platform.now) (world_of P (Some c.write.new.self) c.write.new.platform) entry (Write c.args.block bytes) device.Memory tt rep (c.write.ensures.time told)
 
 pub returns-in-Err-TapeFault-clause-answered : goal.returns-in-Err-TapeFault-clause-answered
 returns-in-Err-TapeFault-clause-answered g c told entry rep =
     let P = g.P.Platform in
     let bytes : List ℕ = take c.args.count c.args.self.now.buffer in
-    let old : World = world_of P c.args.self.now.session c.args.platform.now in
-    let new : World = world_of P (Some c.write.new.self) c.write.new.platform in
-    halts_still old new entry (Write c.args.block bytes) device.Tape tt rep (c.write.ensures.time told)
+    halts_still (world_of P c.args.self.now.session c.args.platform.now) (world_of P (Some c.write.new.self) c.write.new.platform) entry (Write c.args.block bytes) device.Tape tt rep (c.write.ensures.time told)
 
 pub returns-in-Err-PlatformFault-clause-answered : goal.returns-in-Err-PlatformFault-clause-answered
 returns-in-Err-PlatformFault-clause-answered g c told entry rep =
     let P = g.P.Platform in
     let bytes : List ℕ = take c.args.count c.args.self.now.buffer in
-    let old : World = world_of P c.args.self.now.session c.args.platform.now in
-    let new : World = world_of P (Some c.write.new.self) c.write.new.platform in
-    halts_still old new entry (Write c.args.block bytes) device.Platform tt rep (c.write.ensures.time told)
+    halts_still (world_of P c.args.self.now.session c.args.platform.now) (world_of P (Some c.write.new.self) c.write.new.platform) entry (Write c.args.block bytes) device.Platform tt rep (c.write.ensures.time told)
 
 pub returns-in_default-clause-keeps : goal.returns-in_default-clause-keeps
 returns-in_default-clause-keeps g c = λ ledger. on_start _ _ ledger c.args.self.now.session _ _

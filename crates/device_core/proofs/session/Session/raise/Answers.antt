@@ -6,11 +6,13 @@ use Rattle.device_core.specs.Leaf.{AreEntries}
 use Rattle.device_core.proofs.MomentLaws.{one_call, stays_then}
 use Rattle.device_core.proofs.EntryLaws.{AreEntries-later}
 use Rattle.device_core.proofs.HoldLaws.{during_stands, entries_fit, held_stands, commit_fits, commit_served}
-use Rattle.std.specs.Prelude.{◌<◌, ◌+◌}
+use Rattle.std.specs.Prelude.{◌<◌, ◌≤◌, ◌+◌}
+use Rattle.sdbt_base.proofs.FaultLaws.{Rose-within}
+use Rattle.platform.specs.Calls.{Grows}
 use Rattle.std.proofs.lemmas.List.Elements.{All-weaker}
 use Rattle.node_codec.specs.declared.body.Entry.{Entry}
 use Rattle.device_core.proofs.DataPageLaws.{pages_committed}
-use Rattle.device_core.proofs.CommitLaws.{IsCommitting, next_root, is_commit, committing, commit_turns, commit_held, commit_follows, commit_listed, commit_knows, commit_certifies, append_discloses, commit_discloses}
+use Rattle.device_core.proofs.CommitLaws.{IsCommitting, next_root, is_commit, committing, commit_turns, commit_held, commit_follows, commit_listed, commit_knows, commit_certifies, append_discloses, commit_discloses, grows_by}
 use Rattle.device_core.specs.contracts.session.Session.{the_view}
 use Rattle.device_core.proofs.session.Session.raise.Given.{Over}
 use Rattle.device_core.proofs.session.Session.raise.Goals.{After-publish}
@@ -29,6 +31,12 @@ calls g c =
     (ap (λ (b : Held). b.body) c.put_node.ensures) c.deref.ensures.0 (λ told. pages told c.args.platform.now) (λ told. pages told c.append.new.platform) (λ told. pages told c.publish.new.platform)
     c.append.ensures.time c.append.ensures.cell c.in-Ok.ensures.appended c.publish.ensures.time
 
+-- one page more, after all of the calls
+grown : (g : Over) (c : After-publish g) → Grows g.P.Platform c.args.platform.now c.publish.new.platform
+    × (g.T.Tape.faults c.args.tape.now ≤ g.T.Tape.faults c.append.new.tape) × (g.L.Sink.faults c.args.ledger.now ≤ g.L.Sink.faults c.publish.new.ledger)
+grown g c = grows_by g.P.Platform _ _ _ _ _ c.append.ensures.head_rises c.append.ensures.head_by_one c.append.ensures.capacity c.append.ensures.platform_faults
+    c.publish.ensures.head c.publish.ensures.capacity c.publish.ensures.faults c.append.ensures.tape_faults c.publish.ensures.ledger_faults
+
 pub put_node-requires : goal.put_node-requires
 put_node-requires g c =
     let is = rw (← c.self.view_is) at c.requires.open in
@@ -42,86 +50,10 @@ publish-requires g c =
     commit_fits (the_view c.self.inside) _ _
     (is_commit (the_view c.self.inside) c.in-Ok.placed.addr _ _ c.in-Ok.placed.key is touched c.in-Ok.ensures.address c.requires.room (g.met.P.Platform.is_limited c.args.platform.now) c.in-Ok.ensures.key)
 
-pub returns-in-Err-TapeFault-clause-time : goal.returns-in-Err-TapeFault-clause-time
-returns-in-Err-TapeFault-clause-time g c = λ told device contents h.
-    during_stands _ _ (Some device) (Some (committed_with device contents)) (held_stands _ _ device contents h) (one_call _ _ (c.append.ensures.time told) (c.append.ensures.cell told))
-
-pub returns-in-Err-PlatformFault-clause-time : goal.returns-in-Err-PlatformFault-clause-time
-returns-in-Err-PlatformFault-clause-time g c = λ told device contents h.
-    during_stands _ _ (Some device) (Some (committed_with device contents)) (held_stands _ _ device contents h) (one_call _ _ (c.append.ensures.time told) (c.append.ensures.cell told))
-
-pub returns-in-Err-Ledger-clause-time : goal.returns-in-Err-Ledger-clause-time
-returns-in-Err-Ledger-clause-time g c = rw (← c.self.view_is) (
-    let all = calls g (goal.at.returns-in-Err-Ledger-clause-time g c).After-publish in
-    λ told device contents h. commit_turns _ _ _ _ _ _ _ device contents all told h)
-
-pub returns-in-Err-Platform-clause-time : goal.returns-in-Err-Platform-clause-time
-returns-in-Err-Platform-clause-time g c = rw (← c.self.view_is) (
-    let all = calls g (goal.at.returns-in-Err-Platform-clause-time g c).After-publish in
-    λ told device contents h. commit_turns _ _ _ _ _ _ _ device contents all told h)
-
-pub returns-clause-time : goal.returns-clause-time
-returns-clause-time g c = rw (← c.self.view_is) (
-    let all = calls g (goal.at.returns-clause-time g c).After-publish in
-    λ told device contents h. commit_turns _ _ _ _ _ _ _ device contents all told h)
-
-pub returns-clause-array : goal.returns-clause-array
-returns-clause-array g c = rw (← c.self.view_is) (
-    let all = calls g (goal.at.returns-clause-array g c).After-publish in
-    λ told device contents h. rw (c.clear.ensures.gone, c.clear.ensures.never) (commit_held _ _ _ _ _ _ _ _ device contents all told (c.in-Ok-publish.ensures.published told) h))
-
-pub returns-clause-open : goal.returns-clause-open
-returns-clause-open g c = rw (← c.self.view_is) (
-    let all = calls g (goal.at.returns-clause-open g c).After-publish in (
-      record {
-        served = commit_served (the_view c.self.inside) _ _ (g.P.Platform.head c.publish.new.platform) all.commit (omega (arith, c.in-Ok.ensures.head_ok, c.publish.ensures.head));
-        mapped = all.commit.is_open.mapped;
-        entries = AreEntries-later c.self.inside.entries.items c.self.inside.root.blocks _ _ all.commit.is_open.entries (omega (arith, c.in-Ok.ensures.head_ok, c.publish.ensures.head));
-        loaded = λ never. all.commit.loaded;
-      },
-      refl,
-      refl,
-    ))
-
 pub returns-clause-follows : goal.returns-clause-follows
 returns-clause-follows g c =
     let all = calls g (goal.at.returns-clause-follows g c).After-publish in
     λ told. rw (c.clear.ensures.gone, c.clear.ensures.never) (commit_follows _ _ _ _ _ _ _ _ all told (c.in-Ok-publish.ensures.published told))
-
-pub returns-in-Err-TapeFault-clause-discloses : goal.returns-in-Err-TapeFault-clause-discloses
-returns-in-Err-TapeFault-clause-discloses g c = rw (← c.self.view_is) (
-    let is = rw (← c.self.view_is) at c.requires.open in
-    append_discloses _ _ _ _ _ _ c.put_node.new.self.body c.head.result _ c.deref.result.now _ is c.append.ensures.keeps (ap (λ (b : Held). b.body) c.put_node.ensures) c.deref.ensures.0 c.head.ensures.value c.append.ensures.time c.append.ensures.cell)
-
-pub returns-in-Err-PlatformFault-clause-discloses : goal.returns-in-Err-PlatformFault-clause-discloses
-returns-in-Err-PlatformFault-clause-discloses g c = rw (← c.self.view_is) (
-    let is = rw (← c.self.view_is) at c.requires.open in
-    append_discloses _ _ _ _ _ _ c.put_node.new.self.body c.head.result _ c.deref.result.now _ is c.append.ensures.keeps (ap (λ (b : Held). b.body) c.put_node.ensures) c.deref.ensures.0 c.head.ensures.value c.append.ensures.time c.append.ensures.cell)
-
-pub returns-in-Err-Ledger-clause-discloses : goal.returns-in-Err-Ledger-clause-discloses
-returns-in-Err-Ledger-clause-discloses g c = rw (← c.self.view_is) (
-    let all = calls g (goal.at.returns-in-Err-Ledger-clause-discloses g c).After-publish in
-    commit_discloses _ _ _ _ _ _ _ _ c.put_node.new.self.body c.head.result _ c.deref.result.now _ all c.in-Ok.ensures.keeps (ap (λ (b : Held). b.body) c.put_node.ensures) c.deref.ensures.0 c.head.ensures.value
-    (λ told keys h. tt))
-
-pub returns-in-Err-Platform-clause-discloses : goal.returns-in-Err-Platform-clause-discloses
-returns-in-Err-Platform-clause-discloses g c = rw (← c.self.view_is) (
-    let all = calls g (goal.at.returns-in-Err-Platform-clause-discloses g c).After-publish in
-    commit_discloses _ _ _ _ _ _ _ _ c.put_node.new.self.body c.head.result _ c.deref.result.now _ all c.in-Ok.ensures.keeps (ap (λ (b : Held). b.body) c.put_node.ensures) c.deref.ensures.0 c.head.ensures.value
-    (λ told keys h. tt))
-
-pub returns-clause-discloses : goal.returns-clause-discloses
-returns-clause-discloses g c = rw (← c.self.view_is) (
-    let all = calls g (goal.at.returns-clause-discloses g c).After-publish in
-    commit_discloses _ _ _ _ _ _ _ _ c.put_node.new.self.body c.head.result _ c.deref.result.now _ all c.in-Ok.ensures.keeps (ap (λ (b : Held). b.body) c.put_node.ensures) c.deref.ensures.0 c.head.ensures.value
-    (λ told keys h. rw (c.clear.ensures.gone, c.clear.ensures.never) (commit_listed _ _ _ _ _ _ _ _ keys all told (c.in-Ok-publish.ensures.published told) h)))
-
-pub returns-in-Err-TapeFault-clause-cause : goal.returns-in-Err-TapeFault-clause-cause
-returns-in-Err-TapeFault-clause-cause g c = (
-  c.append.ensures.tape_cause (cc),
-  record { head = c.append.ensures.untouched (cc); image = λ told. c.append.ensures.unchanged told (cc); drawn = c.append.ensures.undrawn (cc) },
-  λ told. one_call _ _ (c.append.ensures.time told) (c.append.ensures.cell told),
-)
 
 pub returns-clause-raised : goal.returns-clause-raised
 returns-clause-raised g c = rw (← c.self.view_is) (
@@ -144,34 +76,96 @@ returns-clause-raised g c = rw (← c.self.view_is) (
       knows = λ told device contents h. commit_knows _ _ _ _ _ _ _ device contents all told (c.in-Ok-publish.ensures.published told) h;
     })
 
--- a fault of the ledger comes with the cell as it was
-pub returns-in-Err-Ledger-clause-cause : goal.returns-in-Err-Ledger-clause-cause
-returns-in-Err-Ledger-clause-cause g c =
-    let cause = rw c.in-Err-Ledger.field-0-is at c.in-Err-Ledger.ensures.cause in (
-      cause.0,
-      λ told. stays_then _ _ _ (one_call _ _ (c.append.ensures.time told) (c.append.ensures.cell told)) (cause.1 told),
-    )
+pub returns-in-Err-TapeFault-clause-commits : goal.returns-in-Err-TapeFault-clause-commits
+returns-in-Err-TapeFault-clause-commits g c = rw (← c.self.view_is) (
+    let is = rw (← c.self.view_is) at c.requires.open in
+    record {
+      array = λ told device contents h. tt;
+      goes_on = tt;
+      time = λ told device contents h.
+          during_stands _ _ (Some device) (Some (committed_with device contents)) (held_stands _ _ device contents h) (one_call _ _ (c.append.ensures.time told) (c.append.ensures.cell told));
+      discloses = append_discloses _ _ _ _ _ _ c.put_node.new.self.body c.head.result _ c.deref.result.now _ is c.append.ensures.keeps (ap (λ (b : Held). b.body) c.put_node.ensures) c.deref.ensures.0 c.head.ensures.value c.append.ensures.time c.append.ensures.cell;
+      certifies = inl (refl, λ told. one_call _ _ (c.append.ensures.time told) (c.append.ensures.cell told));
+      cause = (
+        c.append.ensures.tape_cause (cc),
+        record { head = c.append.ensures.untouched (cc); image = λ told. c.append.ensures.unchanged told (cc); drawn = c.append.ensures.undrawn (cc) },
+        λ told. one_call _ _ (c.append.ensures.time told) (c.append.ensures.cell told),
+      );
+      grows = grows_by g.P.Platform _ _ _ _ _ c.append.ensures.head_rises c.append.ensures.head_by_one c.append.ensures.capacity c.append.ensures.platform_faults refl refl (omega arith) c.append.ensures.tape_faults (omega arith);
+    })
 
-pub returns-in-Err-TapeFault-clause-certifies : goal.returns-in-Err-TapeFault-clause-certifies
-returns-in-Err-TapeFault-clause-certifies g c = inl (refl, λ told. one_call _ _ (c.append.ensures.time told) (c.append.ensures.cell told))
+pub returns-in-Err-PlatformFault-clause-commits : goal.returns-in-Err-PlatformFault-clause-commits
+returns-in-Err-PlatformFault-clause-commits g c = rw (← c.self.view_is) (
+    let is = rw (← c.self.view_is) at c.requires.open in
+    record {
+      array = λ told device contents h. tt;
+      goes_on = tt;
+      time = λ told device contents h.
+          during_stands _ _ (Some device) (Some (committed_with device contents)) (held_stands _ _ device contents h) (one_call _ _ (c.append.ensures.time told) (c.append.ensures.cell told));
+      discloses = append_discloses _ _ _ _ _ _ c.put_node.new.self.body c.head.result _ c.deref.result.now _ is c.append.ensures.keeps (ap (λ (b : Held). b.body) c.put_node.ensures) c.deref.ensures.0 c.head.ensures.value c.append.ensures.time c.append.ensures.cell;
+      certifies = inl (refl, λ told. one_call _ _ (c.append.ensures.time told) (c.append.ensures.cell told));
+      cause = c.append.ensures.platform_cause (cc);
+      grows = grows_by g.P.Platform _ _ _ _ _ c.append.ensures.head_rises c.append.ensures.head_by_one c.append.ensures.capacity c.append.ensures.platform_faults refl refl (omega arith) c.append.ensures.tape_faults (omega arith);
+    })
 
-pub returns-in-Err-PlatformFault-clause-certifies : goal.returns-in-Err-PlatformFault-clause-certifies
-returns-in-Err-PlatformFault-clause-certifies g c = inl (refl, λ told. one_call _ _ (c.append.ensures.time told) (c.append.ensures.cell told))
-
-pub returns-in-Err-Ledger-clause-certifies : goal.returns-in-Err-Ledger-clause-certifies
-returns-in-Err-Ledger-clause-certifies g c = rw (← c.self.view_is) (
-    let at = goal.at.returns-in-Err-Ledger-clause-certifies g c in
+pub returns-in-Err-Ledger-clause-commits : goal.returns-in-Err-Ledger-clause-commits
+returns-in-Err-Ledger-clause-commits g c = rw (← c.self.view_is) (
+    let at = goal.at.returns-in-Err-Ledger-clause-commits g c in
+    let all = calls g at.After-publish in
     let entry = rw (← c.self.view_is) at c.requires.entry in
-    commit_certifies _ _ _ _ _ _ _ _ _ _ _ _ _ (λ was ok. absurd cc) c.in-Ok.ensures.address (calls g at.After-publish) entry c.publish.ensures.put)
+    record {
+      array = λ told device contents h. tt;
+      goes_on = tt;
+      time = λ told device contents h. commit_turns _ _ _ _ _ _ _ device contents all told h;
+      discloses = commit_discloses _ _ _ _ _ _ _ _ c.put_node.new.self.body c.head.result _ c.deref.result.now _ all c.in-Ok.ensures.keeps (ap (λ (b : Held). b.body) c.put_node.ensures) c.deref.ensures.0 c.head.ensures.value
+          (λ told keys h. tt);
+      certifies = commit_certifies _ _ _ _ _ _ _ _ _ _ _ _ _ (λ was ok. absurd cc) c.in-Ok.ensures.address all entry c.publish.ensures.put;
+      -- a fault of the ledger comes with the cell as it was
+      cause =
+          (let cause = rw c.in-Err-Ledger.field-0-is at c.in-Err-Ledger.ensures.cause in (
+            cause.0,
+            λ told. stays_then _ _ _ (one_call _ _ (c.append.ensures.time told) (c.append.ensures.cell told)) (cause.1 told),
+          ));
+      grows = grown g at.After-publish;
+    })
 
-pub returns-in-Err-Platform-clause-certifies : goal.returns-in-Err-Platform-clause-certifies
-returns-in-Err-Platform-clause-certifies g c = rw (← c.self.view_is) (
-    let at = goal.at.returns-in-Err-Platform-clause-certifies g c in
+pub returns-in-Err-Platform-clause-commits : goal.returns-in-Err-Platform-clause-commits
+returns-in-Err-Platform-clause-commits g c = rw (← c.self.view_is) (
+    let at = goal.at.returns-in-Err-Platform-clause-commits g c in
+    let all = calls g at.After-publish in
     let entry = rw (← c.self.view_is) at c.requires.entry in
-    commit_certifies _ _ _ _ _ _ _ _ _ _ _ _ _ (λ was ok. absurd cc) c.in-Ok.ensures.address (calls g at.After-publish) entry c.publish.ensures.put)
+    record {
+      array = λ told device contents h. tt;
+      goes_on = tt;
+      time = λ told device contents h. commit_turns _ _ _ _ _ _ _ device contents all told h;
+      discloses = commit_discloses _ _ _ _ _ _ _ _ c.put_node.new.self.body c.head.result _ c.deref.result.now _ all c.in-Ok.ensures.keeps (ap (λ (b : Held). b.body) c.put_node.ensures) c.deref.ensures.0 c.head.ensures.value
+          (λ told keys h. tt);
+      certifies = commit_certifies _ _ _ _ _ _ _ _ _ _ _ _ _ (λ was ok. absurd cc) c.in-Ok.ensures.address all entry c.publish.ensures.put;
+      cause = Rose-within _ _ _ _ c.append.ensures.platform_faults c.publish.ensures.faults (rw c.in-Err-Platform.field-0-is at c.in-Err-Platform.ensures.cause) (omega arith);
+      grows = grown g at.After-publish;
+    })
 
-pub returns-clause-certifies : goal.returns-clause-certifies
-returns-clause-certifies g c = rw (← c.self.view_is) (
-    let at = goal.at.returns-clause-certifies g c in
+pub returns-clause-commits : goal.returns-clause-commits
+returns-clause-commits g c = rw (← c.self.view_is) (
+    let at = goal.at.returns-clause-commits g c in
+    let all = calls g at.After-publish in
     let entry = rw (← c.self.view_is) at c.requires.entry in
-    commit_certifies _ _ _ _ _ _ _ _ _ _ _ _ _ (λ was ok. was (ap is_ok c.in-Ok-publish.is)) c.in-Ok.ensures.address (calls g at.After-publish) entry c.publish.ensures.put)
+    record {
+      array = λ told device contents h. rw (c.clear.ensures.gone, c.clear.ensures.never) (commit_held _ _ _ _ _ _ _ _ device contents all told (c.in-Ok-publish.ensures.published told) h);
+      goes_on = (
+        record {
+          served = commit_served (the_view c.self.inside) _ _ (g.P.Platform.head c.publish.new.platform) all.commit (omega (arith, c.in-Ok.ensures.head_ok, c.publish.ensures.head));
+          mapped = all.commit.is_open.mapped;
+          entries = AreEntries-later c.self.inside.entries.items c.self.inside.root.blocks _ _ all.commit.is_open.entries (omega (arith, c.in-Ok.ensures.head_ok, c.publish.ensures.head));
+          loaded = λ never. all.commit.loaded;
+        },
+        refl,
+        refl,
+      );
+      time = λ told device contents h. commit_turns _ _ _ _ _ _ _ device contents all told h;
+      discloses = commit_discloses _ _ _ _ _ _ _ _ c.put_node.new.self.body c.head.result _ c.deref.result.now _ all c.in-Ok.ensures.keeps (ap (λ (b : Held). b.body) c.put_node.ensures) c.deref.ensures.0 c.head.ensures.value
+          (λ told keys h. rw (c.clear.ensures.gone, c.clear.ensures.never) (commit_listed _ _ _ _ _ _ _ _ keys all told (c.in-Ok-publish.ensures.published told) h));
+      certifies = commit_certifies _ _ _ _ _ _ _ _ _ _ _ _ _ (λ was ok. was (ap is_ok c.in-Ok-publish.is)) c.in-Ok.ensures.address all entry c.publish.ensures.put;
+      cause = tt;
+      grows = grown g at.After-publish;
+    })

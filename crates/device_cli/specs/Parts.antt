@@ -1,0 +1,61 @@
+-- What a part of a run gives, whether it serves a command, a line, or a piece of the input.
+use Rattle.std.specs.Prelude.{◌≡◌, ℕ, List, Option, Result, IsOk, IfOk, OnOk, IsErrOf}
+use Rattle.sdbt_base.specs.Arrays.{State}
+use Rattle.sdbt_base.specs.declared.sinks.Sink.{Ghosts as SinkGhosts}
+use Rattle.sdbt_base.specs.declared.tapes.Tape.{Ghosts as TapeGhosts}
+use Rattle.platform.specs.Image.{Image}
+use Rattle.platform.specs.declared.platforms.Platform.{Ghosts as PlatformGhosts}
+use Rattle.script_lang.specs.Commands.{Command}
+use Rattle.script_lang.specs.declared.replies.Reply.{Reply as Given}
+use Rattle.device_course.specs.Keys.{KeepsOn}
+use Rattle.device_course.specs.States.{IsListed}
+use Rattle.device_cli.specs.Pages.{pages_after}
+use Rattle.device_cli.specs.Replied.{IsWrongPage, Serves, outcome}
+use Rattle.device_cli.specs.Represents.{Represents}
+use Rattle.device_cli.specs.Run.{IsBlamedOn, counts}
+use Rattle.device_cli.specs.World.{World, world_of}
+use Rattle.device_cli.specs.declared.desk.Desk.{Desk}
+use Rattle.device_cli.specs.declared.stop.Stop.{Stop}
+use Rattle.device_cli.specs.declared.stop.DeviceStop.{DeviceStop}
+use Rattle.device_cli.specs.declared.stop.DeviceStop.TheVariants as device
+
+-- each moment keeps the keys that the image kept before, with those that were drawn, what was deleted stays so, and the cell can be served; and the
+-- ledger got what belongs to the root records that came into the cell
+abbrev pub KeepsFrom : {S X E : Type 0} → PlatformGhosts S → Option (List (List ℕ)) → Option (List (List ℕ)) → Option (List ℕ) → Option (List ℕ) → Desk → Desk → S → S → Result X E → Type 0
+KeepsFrom P drawn drawn_now written written_now desk now platform platform_now result =
+    KeepsOn P.tells drawn drawn_now written written_now desk.session (P.history platform) (P.history platform_now) (IsOk result)
+    (λ keys. OnOk result (IsListed now.session (P.history platform_now).present keys))
+
+-- the same by a tape and a ledger
+abbrev pub Keeps : {S R L X E : Type 0} → PlatformGhosts S → TapeGhosts R → SinkGhosts L → Desk → Desk → S → S → R → R → L → L → Result X E → Type 0
+Keeps P T L desk now platform platform_now tape tape_now ledger ledger_now result =
+    KeepsFrom P (T.drawn tape) (T.drawn tape_now) (L.written ledger) (L.written ledger_now) desk now platform platform_now result
+
+-- the same where nothing is drawn, and nothing put
+abbrev pub KeepsStill : {S X E : Type 0} → PlatformGhosts S → Desk → Desk → S → S → Result X E → Type 0
+KeepsStill P desk now platform platform_now result =
+    (drawn : Option (List (List ℕ))) (written : Option (List ℕ)) → KeepsFrom P drawn drawn written written desk now platform platform_now result
+
+-- no count fell, and a stop at a fault came where the count of that object rose; the input is not called
+abbrev pub Blames : {S R O L : Type 0} → PlatformGhosts S → TapeGhosts R → SinkGhosts O → SinkGhosts L → S → S → R → R → O → O → L → L → Result (Unit {0}) Stop → Type 0
+Blames P T O L platform platform_now tape tape_now output output_now ledger ledger_now result =
+    IsBlamedOn (counts (P.faults platform) (T.faults tape) 0 (O.faults output) (L.faults ledger))
+    (counts (P.faults platform_now) (T.faults tape_now) 0 (O.faults output_now) (L.faults ledger_now)) result
+
+-- what a desk works on
+abbrev world_at : {S : Type 0} → PlatformGhosts S → Desk → S → World
+world_at P desk platform = world_of P desk.session platform
+
+-- a command is served from each state that the session and the image stand for
+abbrev pub ServesAny : {S : Type 0} → PlatformGhosts S → Desk → Desk → S → S → Command → Result Given DeviceStop → Type 0
+ServesAny P desk now platform platform_now command result = (entry : State) → Represents (world_at P desk platform) entry
+    → Serves (world_at P desk platform) (world_at P now platform_now) entry command (outcome result now.buffer)
+
+-- and where it has a reply, there are as many pages then as that reply tells
+abbrev pub AddsPages : {S : Type 0} → PlatformGhosts S → Desk → Desk → S → S → Command → Result Given DeviceStop → Type 0
+AddsPages P desk now platform platform_now command result = (entry : State) → Represents (world_at P desk platform) entry
+    → IfOk (outcome result now.buffer) (λ reply. P.head platform_now ≡ pages_after entry command reply (P.head platform))
+
+-- a record that doesn't fit is one
+abbrev pub MeetsDamage : {X : Type 0} → Image → Result X DeviceStop → Type 0
+MeetsDamage image result = (addr : ℕ) → IsErrOf result (device.BadRecord addr) → IsWrongPage image addr
