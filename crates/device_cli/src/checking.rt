@@ -24,9 +24,16 @@ pub(crate) enum Finding {
     /// The cell is full, and not with a root record that is served.
     BadRoot,
     /// The ledger breaks this rule first, as this value shows.
-    Broken { number: u8, value: u64 },
+    Broken {
+        number: u8,
+        value: u64,
+    },
     /// The ledger is accepted: the number of the last commit, how many addresses are live, and how many are deleted.
-    Accepted { commit: u64, live: u64, deleted: u64 },
+    Accepted {
+        commit: u64,
+        live: u64,
+        deleted: u64,
+    },
 }
 
 impl Finding {

@@ -171,7 +171,7 @@ returns-in-Ok-check-clause-checks g c words =
     let L = g.L.Sink in
     let ending : Result Finding Stop = Ok c.in-Ok-check.finding in
     let blame = blame_wide (P.faults c.args.platform.now) (P.faults c.check.new.platform) (I.faults c.args.input.now) (I.faults c.check.new.input) (O.faults c.args.output.now) (O.faults c.check.new.output)
-        (T.faults c.args.tape.now) (L.faults c.args.ledger.now) ending c.in-Ok-check.ensures.blame in
+    (T.faults c.args.tape.now) (L.faults c.args.ledger.now) ending c.in-Ok-check.ensures.blame in
     record {
       undrawn = refl;
       unput = refl;
@@ -196,7 +196,7 @@ returns-in-Err-check-clause-checks g c words =
     let L = g.L.Sink in
     let ending : Result Finding Stop = Err c.in-Err-check.stop in
     let blame = blame_wide (P.faults c.args.platform.now) (P.faults c.check.new.platform) (I.faults c.args.input.now) (I.faults c.check.new.input) (O.faults c.args.output.now) (O.faults c.check.new.output)
-        (T.faults c.args.tape.now) (L.faults c.args.ledger.now) ending c.in-Err-check.ensures.blame in
+    (T.faults c.args.tape.now) (L.faults c.args.ledger.now) ending c.in-Err-check.ensures.blame in
     record {
       undrawn = refl;
       unput = refl;
