@@ -1,15 +1,25 @@
--- That the cell can be served at each moment.
+-- That the cell can be served at each moment, and which state a part of a run comes to.
 use Rattle.platform.specs.History.{History, Steps, During}
-use Rattle.std.proofs.Common.{◌≡◌, sym, subst, ap, ◌∙◌}
+use Rattle.std.proofs.Common.{◌≡◌, ℕ, zero, List, [], ◌∷◌, None, Ok, refl, sym, subst, ap, ◌∙◌, arith}
 use Rattle.platform.proofs.Moments.{During-start, During-step, During-now, During-then}
-use Rattle.std.specs.Prelude.{Option, Some, IfSome}
+use Rattle.std.specs.Prelude.{Option, Some, IfSome, ◌<◌, length}
 use Rattle.platform.specs.History.{CellStays}
+use Rattle.std.proofs.lemmas.List.{length-replicate}
+use Rattle.std.specs.Prelude.{replicate}
 use Rattle.root_codec.specs.declared.root.Root.{Root}
 use Rattle.root_codec.specs.RootRecord.{root_bytes}
 use Rattle.device_core.specs.Holds.{Follows}
 use Rattle.device_core.specs.Leaf.{IsServedImage}
 use Rattle.device_core.specs.Sessions.{Session}
+use Rattle.sdbt_base.specs.Arrays.{State}
+use Rattle.platform.specs.Image.{Image}
+use Rattle.device_course.specs.States.{IsAt}
 use Rattle.device_cli.specs.Desk.{IsMounted}
+use Rattle.device_cli.specs.Kept.{IsKept}
+use Rattle.device_cli.specs.Replied.{Handled, no_line}
+use Rattle.device_cli.specs.Represents.{Stood}
+use Rattle.device_cli.specs.World.{World}
+use Rattle.device_cli.specs.declared.stop.DeviceStop.{DeviceStop}
 
 -- no time has passed
 pub serves_now : (history : History) → IsServedImage history.present → During history history IsServedImage
@@ -36,3 +46,25 @@ mounted_still held session now old new is mounted same stays follows =
       cell = During-now old new (λ image. image.cell ≡ old.present.cell) stays ∙ (there.cell ∙ ap (λ (r : Root). Some (root_bytes r)) (sym same));
       follows = follows there.follows;
     }
+
+-- a look at the platform leaves a run without a session in its state
+pub at_looked : (old new : Image) (held : Option Session) (entry : State) → held ≡ None → new ≡ old → IsAt old None entry → IsAt new held entry
+at_looked old new held entry none same at = subst (λ (i : Image). IsAt i held entry) (sym same) (subst (λ (s : Option Session). IsAt old s entry) (sym none) at)
+
+-- the state after lines that were handled
+pub handled_through : (tells : Type 0) (old new : World) (last : DeviceStop → List ℕ) (lines : List (List ℕ)) (written written_now : Option (List ℕ)) → Handled tells old new last (Ok tt) lines written written_now
+    → tells → (entry : State) → Stood old entry → (now : State) × Stood new now
+handled_through tells old new last lines written written_now h told entry at =
+    let a = h.replied.answered told entry at in
+    (a.now, a.ends.0)
+
+kept_text : (kept : Option (List ℕ)) → (text : List ℕ) × IsKept kept text
+kept_text None = (replicate 8301 zero, omega (arith, length-replicate {A = ℕ} 8301 zero))
+kept_text (Some bytes) = (bytes, refl)
+
+-- and after one line, whatever is kept of it
+pub answered_through : (tells : Type 0) (old new : World) (kept written written_now : Option (List ℕ)) → ((text : List ℕ) → IsKept kept text → Handled tells old new no_line (Ok tt) (text ∷ []) written written_now)
+    → tells → (entry : State) → Stood old entry → (now : State) × Stood new now
+answered_through tells old new kept written written_now handled told entry at =
+    let text = kept_text kept in
+    handled_through tells old new no_line (text.0 ∷ []) written written_now (handled text.0 text.1) told entry at

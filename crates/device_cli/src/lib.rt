@@ -12,6 +12,7 @@ ghost use Rattle.platform.specs.History.{During};
 ghost use Rattle.device_core.specs.Leaf.{IsServedImage};
 ghost use Rattle.sdbt_base.specs.Arrays.{Device, closed};
 ghost use Rattle.device_course.specs.Certified.{Certified};
+ghost use Rattle.device_course.specs.Fitting.{LeavesFitting};
 ghost use Rattle.device_cli.specs.World.{world_of};
 ghost use Rattle.device_cli.specs.Represents.{StandsFor};
 ghost use Rattle.device_cli.specs.Ran.{AnswersScript, IsAmple, IsComplete};
@@ -88,6 +89,11 @@ pub fn run_main<P: Platform, T: Tape, I: Source, O: Sink, L: Sink>(
 
     // The ledger gets the entry of a certificate for each root record that comes into the cell, in their order, and behind them at most a part of one more.
     ensures certified { Certified P.tells (L.written ledger.old) (L.written ledger.new) (P.history platform.old) (P.history platform.new) (result ≡ 0) }
+
+    // With these entries each ledger that the checker accepted for the image at the start is one that it accepts for what is left at the end.
+    ensures fits { P.tells → (there : Option Device) → StandsFor (P.history platform.old).present there
+        → IsServedImage (P.history platform.old).present
+        → LeavesFitting (L.written ledger.old) (L.written ledger.new) (P.history platform.old).present (P.history platform.new).present }
 
     // With room for a page a line, a short input and no fault, each line has its reply, unless no memory is given.
     ensures complete { P.tells → (there : Option Device) → StandsFor (P.history platform.old).present there

@@ -77,7 +77,7 @@ with_leaf base addr entries added now a gained = subst (AddsLeaf base addr entri
 
 -- ---- what a list says of addresses
 
-entry_has : (ts : List Traced) (addr : ℕ) (trace : TraceEntry) → entry_in ts addr ≡ Some trace → Contains ts (record { addr = addr; trace = trace })
+pub entry_has : (ts : List Traced) (addr : ℕ) (trace : TraceEntry) → entry_in ts addr ≡ Some trace → Contains ts (record { addr = addr; trace = trace })
 entry_has [] addr trace is = absurd (none-some trace is)
 entry_has (t ∷ ts) addr trace is = elim (cases_eq t.addr addr) [
   | inl same ↦
@@ -89,14 +89,14 @@ entry_has (t ∷ ts) addr trace is = elim (cases_eq t.addr addr) [
 abbrev ApartAll : List Traced → Type 0
 ApartAll = AllPairs (λ t u. t.addr ≢ u.addr)
 
-has_entry : (ts : List Traced) (t : Traced) (k : ℕ) → ApartAll ts → k < length ts → get_or ts k t ≡ t → entry_in ts t.addr ≡ Some t.trace
+pub has_entry : (ts : List Traced) (t : Traced) (k : ℕ) → ApartAll ts → k < length ts → get_or ts k t ≡ t → entry_in ts t.addr ≡ Some t.trace
 has_entry [] t k apart inside is = absurd (omega arith)
 has_entry (x ∷ xs) t zero apart inside is = rw (eq-eqb x.addr t.addr (ap (λ (y : Traced). y.addr) is)) (ap (λ (y : Traced). Some y.trace) is)
 has_entry (x ∷ xs) t (suc k) apart inside is =
     let other : x.addr ≢ t.addr = subst (λ (y : Traced). x.addr ≢ y.addr) is (apart 0 (suc k) t (omega arith) inside) in
     rw (ne_eqb x.addr t.addr other) (has_entry xs t k (AllPairs-rest (λ (t : Traced) (u : Traced). t.addr ≢ u.addr) x xs apart) (omega arith) is)
 
-nothing_said : (ts : List Traced) (addr : ℕ) → All (λ t. t.addr ≢ addr) ts → entry_in ts addr ≡ None
+pub nothing_said : (ts : List Traced) (addr : ℕ) → All (λ t. t.addr ≢ addr) ts → entry_in ts addr ≡ None
 nothing_said [] addr none = refl
 nothing_said (t ∷ ts) addr none =
     rw (ne_eqb t.addr addr (All-head (λ (t : Traced). t.addr ≢ addr) t ts none)) (nothing_said ts addr (All-tail (λ (t : Traced). t.addr ≢ addr) t ts none))

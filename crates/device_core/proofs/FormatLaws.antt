@@ -13,7 +13,7 @@ use Rattle.page_store.specs.Leaf.{StandsByLeaf, leaf_parts}
 use Rattle.page_store.specs.Tree.{Tree}
 use Rattle.page_store.proofs.LeafLaws.{leaf_tree}
 use Rattle.page_store.proofs.KeptLaws.{tree_later}
-use Rattle.device_core.specs.Certifying.{Certifies, PutsEntry, IsOfFormat, IsEntryOf}
+use Rattle.device_core.specs.Certifying.{Certifies, PutsEntry, IsOfTrees, IsOfFormat, IsEntryOf}
 use Rattle.device_core.proofs.CertifyingLaws.{first_cert}
 use Rattle.device_core.proofs.CommitLaws.{Published, published_done, puts_entry}
 use Rattle.page_store.specs.Stands.{Stands, IsSound}
@@ -157,12 +157,12 @@ first_tree tells old looked mid new blocks order addr key all told =
 pub format_certifies : (tells : Type 0) (written written_now : Option (List ℕ)) (old looked mid new : History) (blocks order addr at pages : ℕ) (key line : List ℕ) (Was Done : Type 0) → ((Was → ⊥) → Done → ⊥) → addr ≡ pages → at ≡ pages
     → IsFormatting tells old looked mid new blocks order addr key → IsEntryOf 0 at at [] [] [] line
     → Published tells written written_now mid new line (first_root blocks order addr key) Was
-    → Certifies tells written written_now old new pages 0 (IsOfFormat old.present pages new.present) Done
+    → Certifies tells written written_now old new pages 0 (IsOfFormat old.present new.present) Done
 format_certifies tells written written_now old looked mid new blocks order addr at pages key line Was Done never here there all e put =
     inr (go addr at here there all e (published_done tells written written_now mid new line (first_root blocks order addr key) Was Done never put))
   where
     go : (addr at : ℕ) → addr ≡ pages → at ≡ pages → IsFormatting tells old looked mid new blocks order addr key → IsEntryOf 0 at at [] [] [] line → Published tells written written_now mid new line (first_root blocks order addr key) Done
-        → PutsEntry tells written written_now old new pages 0 (IsOfFormat old.present pages new.present) Done
+        → PutsEntry tells written written_now old new pages 0 (IsOfFormat old.present new.present) Done
     go addr at here there all e put =
         let same = subst (λ (n : ℕ). IsFormatting tells old looked mid new blocks order n key) here all in
         let is = subst (λ (n : ℕ). IsEntryOf 0 n n [] [] [] line) there e in
@@ -175,14 +175,14 @@ format_certifies tells written written_now old looked mid new blocks order addr 
           in_range = first_fits blocks order pages key first.least first.most first.order_is first.room;
           number = refl;
           speaks = record { commit = is.commit_is; begins = is.base_is; node = is.root_is; head = is.head_is };
-          is = λ told. (
-            same.empty told,
-            record {
-              after = leaf_parts pages key [] [];
-              tree = first_tree tells old looked mid new blocks order pages key same told;
-              is = first_cert 0 pages pages key line is;
-            },
-          );
+          is = λ told.
+              let many : length old.present.recorded ≡ pages = ap (λ (i : Image). length i.recorded) (sym (same.same told)) ∙ sym (same.at_end told) in
+              let trees : IsOfTrees [] pages new.present.readable root [] is.cert = record {
+                after = leaf_parts pages key [] [];
+                tree = first_tree tells old looked mid new blocks order pages key same told;
+                is = first_cert 0 pages pages key line is;
+              } in
+              (same.empty told, subst (λ (n : ℕ). IsOfTrees [] n new.present.readable root [] is.cert) (sym many) trees);
           put = puts_entry tells written written_now old mid new line is.cert root Done is.is (λ told. look_still tells old looked mid new blocks order pages key same told)
               (subst (λ (n : ℕ). Published tells written written_now mid new line (first_root blocks order n key) Done) here put);
         }

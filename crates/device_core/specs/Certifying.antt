@@ -1,5 +1,5 @@
 -- What a format and a commit put to the ledger.
-use Rattle.std.specs.Prelude.{◌≡◌, ◌≤◌, ◌+◌, ◌⊎◌, true, [], ◌∷◌, ℕ, List, All, Contains, Option, None, Some, map}
+use Rattle.std.specs.Prelude.{◌≡◌, ◌≤◌, ◌+◌, ◌⊎◌, true, [], ◌∷◌, ℕ, List, All, Contains, Option, None, Some, map, length}
 use Rattle.sdbt_base.specs.Told.{Got, GotPart}
 use Rattle.sdbt_base.specs.Traces.{Traced, DataOf, NodeOver}
 use Rattle.sdbt_base.specs.Arrays.{Device, Blocks}
@@ -50,9 +50,9 @@ IsOfCommit session old new root cert =
     (device : Device) (contents : Blocks) → Holds session old device contents → (pages : List Unkept) → AreDataPages session pages
     → (before : Parts) → Tree old.readable session.root before → IsOfTrees before.places session.root.head new.readable root pages cert
 
--- a format's certificate, over an empty cell and so many pages: that of no tree before it, of the tree after it, and of no data page
-abbrev pub IsOfFormat : Image → ℕ → Image → Root → Cert → Type 0
-IsOfFormat old pages new root cert = (old.cell ≡ None) × IsOfTrees [] pages new.readable root [] cert
+-- a format's certificate, over an empty cell: that of no tree before it, of the tree after it, and of no data page
+abbrev pub IsOfFormat : Image → Image → Root → Cert → Type 0
+IsOfFormat old new root cert = (old.cell ≡ None) × IsOfTrees [] (length old.recorded) new.readable root [] cert
 
 -- an entry was put, whose certificate speaks of the root record that is to follow: all of it where the call was done or that root record came into the
 -- cell; and else, with the cell as it was at each moment, all or a first part

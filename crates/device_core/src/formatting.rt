@@ -59,7 +59,7 @@ pub fn format<P: Platform, T: Tape, L: Sink>(
     ensures discloses { Discloses P.tells (T.drawn tape.old) (T.drawn tape.new) (P.history platform.old) (P.history platform.new)
         (λ keys. IsSound (P.history platform.old).present) (λ keys. ⊤) }
     ensures certifies { Certifies P.tells (L.written ledger.old) (L.written ledger.new) (P.history platform.old) (P.history platform.new)
-        (P.head platform.old) 0 (IsOfFormat (P.history platform.old).present (P.head platform.old) (P.history platform.new).present) (IsOk result) }
+        (P.head platform.old) 0 (IsOfFormat (P.history platform.old).present (P.history platform.new).present) (IsOk result) }
     ensures grows { Grows P.Platform platform.old platform.new × (T.faults tape.old ≤ T.faults tape.new)
         × (L.faults ledger.old ≤ L.faults ledger.new) }
 {

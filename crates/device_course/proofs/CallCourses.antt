@@ -2,7 +2,7 @@
 use Rattle.std.proofs.Common.{◌≡◌, inl, inr, ℕ, List, [], ◌∷◌, ◌++◌, Bool, true, false, ◌+◌, Option, None, Some, length, refl, sym, ◌∙◌, subst, ap}
 use Rattle.platform.specs.Image.{Image}
 use Rattle.platform.specs.History.{History, Extends, During, Turns}
-use Rattle.platform.proofs.Moments.{During-now, LeavesOnly-now}
+use Rattle.platform.proofs.Moments.{During-now, LeavesOnly-now, Extends-earlier}
 use Rattle.platform.proofs.RunLaws.{Turns-cases}
 use Rattle.sdbt_base.specs.Arrays.{State, closed, session_on, Device, Blocks, committed_with}
 use Rattle.page_store.specs.Stands.{Stands, IsSound}
@@ -24,10 +24,12 @@ use Rattle.device_core.specs.declared.refusals.CommitReply.{CommitReply}
 use Rattle.device_core.specs.Sessions.{Session}
 use Rattle.device_core.proofs.ServedLaws.{serves_still}
 use Rattle.device_course.specs.Certified.{Certified}
+use Rattle.device_course.specs.Fitting.{KeepsFitting}
 use Rattle.device_course.specs.Marks.{Leaves}
 use Rattle.device_course.specs.States.{Outside, Represents, IsAt, IsListed, IsLater, mounted, committed_if}
 use Rattle.device_course.specs.Course.{Made, Course, Part, Stopped}
 use Rattle.device_course.proofs.CertifiedLaws.{certified_stays}
+use Rattle.device_course.proofs.FitsLaws.{fitting_still}
 use Rattle.device_course.proofs.KeysLaws.{sound_of}
 use Rattle.device_course.proofs.MadeLaws.{made_none, made_one, stayed}
 use Rattle.device_core.proofs.HoldLaws.{held_stands}
@@ -41,6 +43,7 @@ pub record Calls (tells Going : Type 0) (old new : Outside) (before after : Opti
   pub keys : KeepsKeys tells old.drawn new.drawn old.history new.history (IsListed before old.history.present) (IsListed after new.history.present)
   pub forgets : (keys : List (List ℕ)) → IsListed before old.history.present keys → Forgets old.history new.history
   pub certified : Certified tells old.written new.written old.history new.history Going
+  pub fits : KeepsFitting old.written new.written old.history.present new.history.present
 
 -- what an object that tells has put
 certified_told : (tells : Type 0) → tells → (written written_now : Option (List ℕ)) (old new : History) (Going : Type 0) → Certified tells written written_now old new Going → Certified (Unit {0}) written written_now old new Going
@@ -62,6 +65,7 @@ course_of tells Going old new before after entry exit marks c made = record {
     deleted = λ yes keys kept h. deleted_call old.history new.history (c.forgets keys h);
     serves = λ yes served. c.serves;
     certified = certified_told tells c.told old.written new.written old.history new.history Going c.certified;
+    fits = λ yes state there. c.fits;
   };
 }
 
@@ -124,6 +128,7 @@ cell_stays tells Going told old new before after entry at cell later written key
   keys = keys;
   forgets = λ keys h. forgets_still old.history new.history (sound_of before old.history.present keys h) cell;
   certified = subst (λ (w : Option (List ℕ)). Certified tells old.written w old.history new.history Going) (sym written) (certified_stays tells old.written old.history new.history Going (λ told. cell));
+  fits = fitting_still old.written new.written old.history.present new.history.present written (Extends-earlier old.history new.history cell.extends) (During-now old.history new.history (λ image. image.cell ≡ old.history.present.cell) cell);
 }
 
 -- such a call, whose end is in a state of the same device
@@ -183,6 +188,7 @@ pub record Commits (tells Going : Type 0) (old new : Outside) (session : Session
   pub forgets : tells → (keys : List (List ℕ)) → HoldsListed session old.history.present keys → Forgets old.history new.history
   pub serves : tells → IsServedImage old.history.present → During old.history new.history IsServedImage
   pub certified : Certified tells old.written new.written old.history new.history Going
+  pub fits : KeepsFitting old.written new.written old.history.present new.history.present
 
 commit_calls : (tells Going : Type 0) (old new : Outside) (session : Session) (after : Option Session) (device : Device) (array : Blocks) (touched : Bool) (Then : List (List ℕ) → Type 0) → Commits tells Going old new session device array touched Then
     → ((keys : List (List ℕ)) → Then keys → IsListed after new.history.present keys) → Calls tells Going old new (Some session) after (mounted device (record { contents = array; touched = touched }))
@@ -194,6 +200,7 @@ commit_calls tells Going old new session after device array touched Then c done 
   keys = keeps_from tells old.drawn new.drawn old.history new.history (HoldsListed session old.history.present) (HoldsListed session old.history.present) Then (IsListed after new.history.present) c.keeps (λ told keys h. h) (λ told keys more h then'. done (keys ++ more) then');
   forgets = λ keys h. c.forgets c.told keys h;
   certified = c.certified;
+  fits = c.fits;
 }
 
 -- a commit that was answered, with a number: its device is a mark
@@ -283,6 +290,7 @@ pub record Remakes (tells Going : Type 0) (old new : Outside) (before : Option S
   pub forgets : tells → IsSound old.history.present → Forgets old.history new.history
   pub serves : tells → IsServedImage old.history.present → During old.history new.history IsServedImage
   pub certified : Certified tells old.written new.written old.history new.history Going
+  pub fits : KeepsFitting old.written new.written old.history.present new.history.present
 
 remake_calls : (tells Going : Type 0) (old new : Outside) (before : Option Session) (entry : State) (next device : Option Device) → Remakes tells Going old new before entry next → Stands new.history.present device → Calls tells Going old new before None entry
 remake_calls tells Going old new before entry next device c stands = record {
@@ -293,6 +301,7 @@ remake_calls tells Going old new before entry next device c stands = record {
   keys = keeps_from tells old.drawn new.drawn old.history new.history (λ keys. IsSound old.history.present) (IsListed before old.history.present) (λ keys. Unit {0}) (λ keys. IsSound new.history.present) c.keeps (λ told keys h. sound_of before old.history.present keys h) (λ told keys more h then'. (device, stands));
   forgets = λ keys h. c.forgets c.told (sound_of before old.history.present keys h);
   certified = c.certified;
+  fits = c.fits;
 }
 
 pub remake_course : (tells Going : Type 0) (old new : Outside) (before : Option Session) (entry : State) (next : Option Device) → Remakes tells Going old new before entry next → Stands new.history.present next → Part Going old new before None entry (next ∷ []) (closed next)

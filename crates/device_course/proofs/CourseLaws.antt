@@ -11,6 +11,7 @@ use Rattle.device_course.specs.States.{Outside, IsAt, IsLater, IsListed}
 use Rattle.device_course.specs.Keys.{KeepsOn}
 use Rattle.device_course.specs.Course.{Made, Course, Part, Ended, Promised}
 use Rattle.device_course.proofs.CertifiedLaws.{certified_going}
+use Rattle.device_course.proofs.FitsLaws.{leaves_fitting}
 use Rattle.device_course.proofs.MadeLaws.{made_start, made_then, made_closed, made_stands}
 use Rattle.device_course.proofs.KeysLaws.{sound_of, on_start, on_then, on_done}
 
@@ -30,7 +31,7 @@ course_then Going first second third before between after entry mid exit one two
   later = record { capacity = b.later.capacity ∙ a.later.capacity; rises = omega (arith, a.later.rises, b.later.rises); within = b.later.within };
   on =
       on_then (Unit {0}) first.drawn second.drawn third.drawn first.written second.written third.written before between first.history second.history third.history (Unit {0}) Going (IsListed after third.history.present) tt
-      a.on b.on;
+      a.on b.on (λ told state there. (mid, a.made.exits));
 }
 
 -- the session is given up
@@ -70,6 +71,7 @@ course_ended tells Going told old new before entry exit marks Done made later on
     deleted = λ yes. on.deleted told;
     serves = λ yes. on.serves told;
     certified = record { certs = on.certified.certs; more = on.certified.more; count = on.certified.count; got = on.certified.got; of = λ yes. on.certified.of told; whole = on.certified.whole };
+    fits = λ yes. on.fits told;
   };
 }
 
@@ -91,4 +93,5 @@ promised Going old new after device exit marks stands served c = record {
   handed = c.on.keys.handed tt;
   discloses = λ keys kept. course_discloses Going old new None after (closed device) exit marks keys c kept (device, stands);
   certified = certified_going (Unit {0}) old.written new.written old.history new.history Going ⊥ (λ never. absurd never) c.on.certified;
+  fits = leaves_fitting old.written new.written old.history.present new.history.present exit.device c.made.exits.there.device (c.on.fits tt (closed device) (record { there = record { device = stands; session = tt }; served = served }));
 }

@@ -1,9 +1,9 @@
 -- How parts of a run compose that keep the keys of an image, and which calls do.
 use Rattle.std.proofs.Common.{◌≡◌, ℕ, List, ◌++◌, Option, None, Some, length, refl, sym, ◌∙◌, subst}
-use Rattle.sdbt_base.specs.Arrays.{Device}
+use Rattle.sdbt_base.specs.Arrays.{Device, State}
 use Rattle.root_codec.specs.RootRecord.{root_bytes}
 use Rattle.platform.specs.Image.{Image}
-use Rattle.platform.specs.History.{History, Extends, During}
+use Rattle.platform.specs.History.{History, Extends, During, Turns}
 use Rattle.platform.proofs.Moments.{During-start, During-now, During-then}
 use Rattle.page_store.specs.Stands.{Stands, IsSound}
 use Rattle.page_store.specs.Kept.{Kept}
@@ -17,10 +17,12 @@ use Rattle.device_core.specs.Sessions.{Session}
 use Rattle.device_core.specs.Leaf.{IsServedImage}
 use Rattle.device_core.proofs.ServedLaws.{serves_still}
 use Rattle.device_core.proofs.KeyLaws.{listed_sound, listed_same, listed_grown}
-use Rattle.device_course.specs.States.{IsListed}
+use Rattle.device_course.specs.Fitting.{KeepsFitting}
+use Rattle.device_course.specs.States.{IsListed, IsAt}
 use Rattle.device_course.specs.Certified.{Certified}
 use Rattle.device_course.specs.Keys.{KeepsOn}
 use Rattle.device_course.proofs.CertifiedLaws.{certified_start, certified_stays, certified_going, certified_then}
+use Rattle.device_course.proofs.FitsLaws.{fitting_start, fitting_same, fitting_erased, fitting_then}
 
 pub sound_of : (session : Option Session) (image : Image) (keys : List (List ℕ)) → IsListed session image keys → IsSound image
 sound_of None image keys sound = sound
@@ -36,6 +38,7 @@ on_start tells drawn written session history Going = record {
   deleted = λ told keys kept h. deleted_start history (sound_of session history.present keys h);
   serves = λ told served. During-start history IsServedImage served;
   certified = certified_start tells written history Going;
+  fits = λ told entry there. fitting_start written history.present;
 }
 
 -- a call that leaves the image as it was
@@ -45,15 +48,17 @@ on_look tells drawn written session old new Going Done same cell done = record {
   deleted = λ told keys kept h. deleted_call old new (forgets_still old new (sound_of session old.present keys h) (cell told));
   serves = λ told served. serves_still old new (cell told) served;
   certified = certified_stays tells written old new Going cell;
+  fits = λ told entry there. fitting_same written old.present new.present (same told);
 }
 
 -- a call that may draw
-pub on_call : (tells : Type 0) (drawn drawn_now : Option (List (List ℕ))) (written written_now : Option (List ℕ)) (session : Option Session) (old new : History) (Going : Type 0) (Ready Then Done : List (List ℕ) → Type 0) → KeepsKeys tells drawn drawn_now old new Ready Then → (tells → (keys : List (List ℕ)) → IsListed session old.present keys → Ready keys) → (tells → (keys : List (List ℕ)) → IsListed session old.present keys → Forgets old new) → (tells → (keys more : List (List ℕ)) → IsListed session old.present keys → Then (keys ++ more) → Done (keys ++ more)) → (tells → IsServedImage old.present → During old new IsServedImage) → Certified tells written written_now old new Going → KeepsOn tells drawn drawn_now written written_now session old new Going Done
-on_call tells drawn drawn_now written written_now session old new Going Ready Then Done k ready forgets done serves certified = record {
+pub on_call : (tells : Type 0) (drawn drawn_now : Option (List (List ℕ))) (written written_now : Option (List ℕ)) (session : Option Session) (old new : History) (Going : Type 0) (Ready Then Done : List (List ℕ) → Type 0) → KeepsKeys tells drawn drawn_now old new Ready Then → (tells → (keys : List (List ℕ)) → IsListed session old.present keys → Ready keys) → (tells → (keys : List (List ℕ)) → IsListed session old.present keys → Forgets old new) → (tells → (keys more : List (List ℕ)) → IsListed session old.present keys → Then (keys ++ more) → Done (keys ++ more)) → (tells → IsServedImage old.present → During old new IsServedImage) → Certified tells written written_now old new Going → (tells → (entry : State) → IsAt old.present session entry → KeepsFitting written written_now old.present new.present) → KeepsOn tells drawn drawn_now written written_now session old new Going Done
+on_call tells drawn drawn_now written written_now session old new Going Ready Then Done k ready forgets done serves certified fits = record {
   keys = keeps_from tells drawn drawn_now old new Ready (IsListed session old.present) Then Done k ready done;
   deleted = λ told keys kept h. deleted_call old new (forgets told keys h);
   serves = serves;
   certified = certified;
+  fits = fits;
 }
 
 -- a weaker end
@@ -64,12 +69,14 @@ on_done tells drawn drawn_now written written_now session old new Was Going Then
   deleted = on.deleted;
   serves = on.serves;
   certified = certified_going tells written written_now old new Was Going was on.certified;
+  fits = on.fits;
 }
 
 -- one part after another
 pub on_then : (tells : Type 0) (drawn mid drawn_now : Option (List (List ℕ))) (written put written_now : Option (List ℕ)) (session between : Option Session) (first second third : History) (Was Going : Type 0) (Done : List (List ℕ) → Type 0) → Was
-    → KeepsOn tells drawn mid written put session first second Was (IsListed between second.present) → KeepsOn tells mid drawn_now put written_now between second third Going Done → KeepsOn tells drawn drawn_now written written_now session first third Going Done
-on_then tells drawn mid drawn_now written put written_now session between first second third Was Going Done was one two = record {
+    → KeepsOn tells drawn mid written put session first second Was (IsListed between second.present) → KeepsOn tells mid drawn_now put written_now between second third Going Done
+    → (tells → (entry : State) → IsAt first.present session entry → (now : State) × IsAt second.present between now) → KeepsOn tells drawn drawn_now written written_now session first third Going Done
+on_then tells drawn mid drawn_now written put written_now session between first second third Was Going Done was one two through = record {
   keys = keeps_then tells drawn mid drawn_now first second third (IsListed session first.present) (IsListed between second.present) (IsListed between second.present) Done Done one.keys two.keys (λ told keys kept h. h) (λ told keys more h done. done);
   deleted = λ told keys kept h.
       let a = one.keys.keeps told keys kept h in
@@ -79,6 +86,9 @@ on_then tells drawn mid drawn_now written put written_now session between first 
       let first_part = one.serves told served in
       During-then first second third IsServedImage first_part (two.serves told (During-now first second IsServedImage first_part));
   certified = certified_then tells written put written_now first second third Was Going was two.keys.extends one.certified two.certified;
+  fits = λ told entry there.
+      let now = through told entry there in
+      fitting_then written put written_now first.present second.present third.present (one.fits told entry there) (two.fits told now.0 now.1);
 }
 
 -- ---- calls of a session
@@ -110,10 +120,11 @@ listed_keys (Some session) image other keys more same h =
     (listed_grown session image keys more h)
 
 -- a call that draws none and adds no page
-pub on_kept : (tells : Type 0) (drawn : Option (List (List ℕ))) (written : Option (List ℕ)) (session : Option Session) (old new : History) (Going : Type 0) (Done : List (List ℕ) → Type 0) → (tells → Extends old new) → (tells → length new.present.recorded ≡ length old.present.recorded) → (tells → (keys : List (List ℕ)) → Kept keys old.present → During old new (Kept keys)) → (tells → IsSound old.present → Forgets old new) → (tells → (keys : List (List ℕ)) → IsListed session old.present keys → Done keys) → (tells → IsServedImage old.present → During old new IsServedImage) → Certified tells written written old new Going → KeepsOn tells drawn drawn written written session old new Going Done
-on_kept tells drawn written session old new Going Done extends size kept forgets done serves certified = record {
+pub on_kept : (tells : Type 0) (drawn : Option (List (List ℕ))) (written : Option (List ℕ)) (session : Option Session) (old new : History) (Going : Type 0) (Done : List (List ℕ) → Type 0) → (tells → Extends old new) → (tells → length new.present.recorded ≡ length old.present.recorded) → (tells → (keys : List (List ℕ)) → Kept keys old.present → During old new (Kept keys)) → (tells → IsSound old.present → Forgets old new) → (tells → (keys : List (List ℕ)) → IsListed session old.present keys → Done keys) → (tells → IsServedImage old.present → During old new IsServedImage) → Certified tells written written old new Going → (tells → Turns old new (λ image. image.cell ≡ old.present.cell) (λ image. image.cell ≡ None)) → KeepsOn tells drawn drawn written written session old new Going Done
+on_kept tells drawn written session old new Going Done extends size kept forgets done serves certified turns = record {
   keys = keeps_still tells drawn drawn old new (IsListed session old.present) Done refl extends size (λ told keys k h. kept told keys k) done;
   deleted = λ told keys k h. deleted_call old new (forgets told (sound_of session old.present keys h));
   serves = serves;
   certified = certified;
+  fits = λ told entry there. fitting_erased written old new (turns told);
 }

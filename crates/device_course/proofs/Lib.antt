@@ -4,3 +4,4 @@ pub mod MadeLaws
 pub mod CourseLaws
 pub mod CallCourses
 pub mod KeysLaws
+pub mod FitsLaws

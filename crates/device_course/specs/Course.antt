@@ -10,6 +10,7 @@ use Rattle.page_store.specs.Disclosing.{DisclosesBy}
 use Rattle.device_core.specs.Leaf.{IsServedImage}
 use Rattle.device_core.specs.Sessions.{Session}
 use Rattle.device_course.specs.Certified.{Certified}
+use Rattle.device_course.specs.Fitting.{LeavesFitting}
 use Rattle.device_course.specs.Marks.{HasMark, last_mark}
 use Rattle.device_course.specs.Keys.{KeepsOn}
 use Rattle.device_course.specs.States.{Outside, IsAt, IsListed, IsLater}
@@ -43,7 +44,7 @@ Stopped old new before after entry mark without with =
 
 -- what is promised of a whole run that began on a device and made these others, whoever it served: at each moment a loss of power leaves
 -- one of them, in their order, and at the end the last; chains of opening reach exactly the tree of each moment, and never what was deleted; and the ledger
--- got a certificate for each root record that came into the cell
+-- got a certificate for each root record that came into the cell, with which each ledger that fitted the image at the start fits what is left at the end
 pub record Promised (old new : Outside) (device : Option Device) (marks : List (Option Device)) : Type 0 where
   pub passes : Passes old.history new.history (HasMark device marks) (length marks)
   pub stands : Stands new.history.present (last_mark device marks)
@@ -54,3 +55,4 @@ pub record Promised (old new : Outside) (device : Option Device) (marks : List (
   pub handed : HandedOver grew old.history.present new.history.present
   pub discloses : (keys : List (List ℕ)) → Kept keys old.history.present → DisclosesBy keys grew old.history new.history
   pub certified : Certified (Unit {0}) old.written new.written old.history new.history ⊥
+  pub fits : LeavesFitting old.written new.written old.history.present new.history.present

@@ -3,3 +3,4 @@ pub mod States
 pub mod Certified
 pub mod Keys
 pub mod Course
+pub mod Fitting

@@ -9,6 +9,9 @@ ghost use Rattle.device_core.specs.Sessions.{Session};
 ghost use Rattle.device_course.specs.States.{Outside, IsAt, IsListed};
 ghost use Rattle.page_store.specs.Disclosing.{DisclosesBy};
 ghost use Rattle.device_course.specs.Course.{Course, Ended};
+ghost use Rattle.device_course.specs.Fitting.{FitsImage};
+ghost use Rattle.platform.specs.Image.{Image, LeavesOnly};
+ghost use Rattle.page_store.specs.Stands.{Stands};
 
 /// How parts of a run compose.
 pub fn courses_compose()
@@ -31,4 +34,9 @@ pub fn course_discloses()
     ensures { (old new : Outside) (before after : Option Session) (entry exit : State) (marks : List (Option Device)) (keys : List (List ℕ))
         → (course : Ended old new before after entry marks exit) → Kept keys old.history.present → IsListed before old.history.present keys
         → DisclosesBy keys course.on.keys.grew old.history new.history }
+{}
+
+/// A ledger that fits an image fits all that a loss of power may leave of it.
+pub fn a_fitting_ledger_survives_a_loss_of_power()
+    ensures { (text : List ℕ) (image : Image) (device : Option Device) → Stands image device → FitsImage text image → LeavesOnly (FitsImage text) image }
 {}

@@ -1,7 +1,11 @@
 //! Two runs over one platform in memory, with a loss of power between them.
 #![tactic(auto)]
 
-ghost use Rattle.std.specs.Prelude.{◌≡◌, ◌∷◌, [], None, length};
+ghost use Rattle.std.specs.Prelude.{◌≡◌, ◌∷◌, [], Option, None, length};
+ghost use Rattle.sdbt_base.specs.Arrays.{Device};
+ghost use Rattle.device_core.specs.Leaf.{IsServedImage};
+ghost use Rattle.device_course.specs.Fitting.{LeavesFitting};
+ghost use Rattle.device_cli.specs.Represents.{StandsFor};
 ghost use Rattle.platform.specs.Mem.{mem_history, image_of_now, capacity_of, faults_of};
 ghost use Rattle.device_cli.specs.Run.{counts};
 ghost use Rattle.device_cli.specs.World.{world};
@@ -36,6 +40,9 @@ pub fn run_twice<T: Tape, I: Source, O: Sink, L: Sink>(
         (world None (mem_history platform.new) (length (image_of_now platform.new).recorded) (capacity_of platform.new))
         result.0 result.1 (I.left first.old) (I.left first.new) (I.left second.old) (I.left second.new)
         (O.written output.old) (O.written output.new) }
+    // A ledger that the checker accepted at the start is accepted, with the entries of both runs, for all that is left at the end.
+    ensures fits { (there : Option Device) → StandsFor (mem_history platform.old).present there → IsServedImage (mem_history platform.old).present
+        → LeavesFitting (L.written ledger.old) (L.written ledger.new) (mem_history platform.old).present (mem_history platform.new).present }
     // Each status that names an object comes only where the count of faults of that object rose in that run.
     ensures causes { HaveCauses result.0 result.1
         (counts (faults_of platform.old) (T.faults tape.old) (I.faults first.old) (O.faults output.old) (L.faults ledger.old))

@@ -14,7 +14,7 @@ use Rattle.device_course.proofs.KeysLaws.{on_start, on_look}
 use Rattle.device_core.proofs.MomentLaws.{one_look}
 use Rattle.device_cli.proofs.CheckLaws.{made_look, blame_wide, complete_check, so_bad, bad_line, image_stays}
 use Rattle.device_cli.specs.declared.checking.Finding.{Finding}
-use Rattle.device_cli.proofs.ReachingLaws.{discloses}
+use Rattle.device_cli.proofs.ReachingLaws.{discloses, fits}
 use Rattle.device_course.specs.States.{around}
 use Rattle.device_course.proofs.MadeLaws.{shut, made_start}
 use Rattle.device_cli.proofs.run_main.Goals as goal
@@ -122,6 +122,33 @@ returns-in-Ok-clause-certified g c = certified_going _ _ _ _ _ _ _ (λ ok. refl)
 pub returns-in-Err-clause-certified : goal.returns-in-Err-clause-certified
 returns-in-Err-clause-certified g c = certified_going _ _ _ _ _ _ _ (λ zero. absurd (never_zero c.in-Err.stop (sym c.status.ensures ∙ zero))) c.in-Err.ensures.keeps.certified
 
+pub returns-in-None-clause-fits : goal.returns-in-None-clause-fits
+returns-in-None-clause-fits g c told there stands served =
+    let P = g.P.Platform in
+    let here = around P g.T.Tape g.L.Sink c.args.platform.now c.args.tape.now c.args.ledger.now in
+    fits P.tells here here _ _ (on_start _ _ _ None here.history (Unit {0}))
+    (λ told device stands served. ([], made_start here.history None (closed device) (shut here.history.present device stands served))) told there stands served
+
+pub returns-in-Ok-clause-fits : goal.returns-in-Ok-clause-fits
+returns-in-Ok-clause-fits g c told there stands served =
+    let P = g.P.Platform in
+    let old = around P g.T.Tape g.L.Sink c.args.platform.now c.args.tape.now c.args.ledger.now in
+    let new = around P g.T.Tape g.L.Sink c.run.new.platform c.run.new.tape c.run.new.ledger in
+    let ran = c.in-Ok.ensures.ran in
+    fits P.tells old new _ _ c.run.ensures.keeps
+    (made_by P.tells (world None old.history old.head old.capacity) ran.0 new.history new.head new.capacity (Ok tt) (g.I.Source.left c.args.input.now) (g.I.Source.left c.run.new.input)
+    (g.O.Sink.written c.args.output.now) (g.O.Sink.written c.run.new.output) refl ran.1) told there stands served
+
+pub returns-in-Err-clause-fits : goal.returns-in-Err-clause-fits
+returns-in-Err-clause-fits g c told there stands served =
+    let P = g.P.Platform in
+    let old = around P g.T.Tape g.L.Sink c.args.platform.now c.args.tape.now c.args.ledger.now in
+    let new = around P g.T.Tape g.L.Sink c.run.new.platform c.run.new.tape c.run.new.ledger in
+    let ran = c.in-Err.ensures.ran in
+    fits P.tells old new _ _ c.run.ensures.keeps
+    (made_by P.tells (world None old.history old.head old.capacity) ran.0 new.history new.head new.capacity (Err c.in-Err.stop) (g.I.Source.left c.args.input.now) (g.I.Source.left c.run.new.input)
+    (g.O.Sink.written c.args.output.now) (g.O.Sink.written c.run.new.output) refl ran.1) told there stands served
+
 -- ---- a check
 
 pub returns-in-Ok-check-clause-certified : goal.returns-in-Ok-check-clause-certified
@@ -211,3 +238,21 @@ returns-in-Err-check-clause-checks g c words =
           (counts (P.faults c.check.new.platform) (T.faults c.args.tape.now) (I.faults c.check.new.input) (O.faults c.check.new.output) (L.faults c.args.ledger.now))
           (I.left c.args.input.now) (I.left c.check.new.input) (O.written c.args.output.now) (O.written c.check.new.output) ending c.in-Err-check.ensures.checks blame.cause told root text certs able quiet);
     }
+
+pub returns-in-Ok-check-clause-fits : goal.returns-in-Ok-check-clause-fits
+returns-in-Ok-check-clause-fits g c told there stands served =
+    let P = g.P.Platform in
+    let old = around P g.T.Tape g.L.Sink c.args.platform.now c.args.tape.now c.args.ledger.now in
+    let new = around P g.T.Tape g.L.Sink c.check.new.platform c.args.tape.now c.args.ledger.now in
+    fits P.tells old new (Unit {0}) (λ keys. Unit {0})
+    (on_look _ _ _ None _ _ _ _ c.check.ensures.image (λ told. one_look _ _ (c.check.ensures.time told) (c.check.ensures.image told)) (λ told keys kept h. tt))
+    (λ told device stands served. made_look old.history new.history device stands served (c.check.ensures.time told) (c.check.ensures.image told)) told there stands served
+
+pub returns-in-Err-check-clause-fits : goal.returns-in-Err-check-clause-fits
+returns-in-Err-check-clause-fits g c told there stands served =
+    let P = g.P.Platform in
+    let old = around P g.T.Tape g.L.Sink c.args.platform.now c.args.tape.now c.args.ledger.now in
+    let new = around P g.T.Tape g.L.Sink c.check.new.platform c.args.tape.now c.args.ledger.now in
+    fits P.tells old new (Unit {0}) (λ keys. Unit {0})
+    (on_look _ _ _ None _ _ _ _ c.check.ensures.image (λ told. one_look _ _ (c.check.ensures.time told) (c.check.ensures.image told)) (λ told keys kept h. tt))
+    (λ told device stands served. made_look old.history new.history device stands served (c.check.ensures.time told) (c.check.ensures.image told)) told there stands served

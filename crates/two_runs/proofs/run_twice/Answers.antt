@@ -3,6 +3,7 @@ use Rattle.platform.specs.Mem.{mem_history, image_of_now, capacity_of}
 use Rattle.platform.proofs.Moments.{During-now}
 use Rattle.device_core.specs.Leaf.{IsServedImage}
 use Rattle.device_cli.specs.World.{World, world}
+use Rattle.device_course.proofs.FitsLaws.{leaves_then}
 use Rattle.two_runs.proofs.LossLaws.{goes_on, anywhere, discloses_twice, served_left}
 use Rattle.two_runs.proofs.run_twice.Goals as goal
 
@@ -28,3 +29,17 @@ returns-clause-runs g c =
           (During-now (mem_history c.args.platform.now) (mem_history c.run_main-status.new.platform) IsServedImage (c.run_main-status.ensures.served tt served)));
       anywhere = λ there stands served. anywhere old mid _ _ _ _ _ (c.run_main-status.ensures.answers tt) there stands served (c.run_main-status.ensures.served tt served);
     }
+
+pub returns-clause-fits : goal.returns-clause-fits
+returns-clause-fits g c there stands served =
+    let old : World = world None (mem_history c.args.platform.now) (length (image_of_now c.args.platform.now).recorded) (capacity_of c.args.platform.now) in
+    let mid : World = world None (mem_history c.run_main-status.new.platform) (length (image_of_now c.run_main-status.new.platform).recorded) (capacity_of c.run_main-status.new.platform) in
+    let cut : World = world None (mem_history c.lose_power.new.platform) (length (image_of_now c.lose_power.new.platform).recorded) (capacity_of c.lose_power.new.platform) in
+    let new : World = world None (mem_history c.run_main-other.new.platform) (length (image_of_now c.run_main-other.new.platform).recorded) (capacity_of c.run_main-other.new.platform) in
+    let left = served_left (image_of_now c.run_main-status.new.platform) (image_of_now c.lose_power.new.platform) c.lose_power.ensures.left.may
+    (During-now (mem_history c.args.platform.now) (mem_history c.run_main-status.new.platform) IsServedImage (c.run_main-status.ensures.served tt served)) in
+    let next = goes_on old mid cut new _ _ _ _ _ _ _ _ _ (c.run_main-status.ensures.answers tt) c.lose_power.ensures.left.may (c.run_main-other.ensures.answers tt) there stands served left in
+    leaves_then (g.L.Sink.written c.args.ledger.now) (g.L.Sink.written c.run_main-status.new.ledger) (g.L.Sink.written c.run_main-other.new.ledger)
+    old.history.present mid.history.present cut.history.present new.history.present
+    (c.run_main-status.ensures.fits tt there stands served) c.lose_power.ensures.left.may
+    (c.run_main-other.ensures.fits tt next.goes.between next.goes.stands left)

@@ -8,6 +8,7 @@ use Rattle.device_cli.specs.declared.stop.Stop.TheVariants as stops
 use Rattle.device_cli.proofs.RanLaws.{Ran-refused, Ran-ended, Ran-other, Ran-after, sound_of}
 use Rattle.device_cli.proofs.StillLaws.{still_after}
 use Rattle.device_course.specs.States.{IsListed}
+use Rattle.device_cli.proofs.CellLaws.{at_looked}
 use Rattle.device_course.proofs.KeysLaws.{on_look, on_done, on_then, listed_none, listed_image}
 use Rattle.device_core.proofs.MomentLaws.{one_look}
 use Rattle.device_cli.proofs.run.run.Goals as goal
@@ -101,7 +102,7 @@ returns-in-Device-clause-keeps g c =
     let looked = on_look P.tells (g.T.Tape.drawn c.args.tape.now) (g.L.Sink.written c.args.ledger.now) None (P.history c.args.platform.now) (P.history c.check_cell.new.platform) (Unit {0}) (IsListed c.new-desk.result.session (P.history c.check_cell.new.platform).present)
     c.check_cell.ensures.image (λ told. one_look _ _ (c.check_cell.ensures.time told) (c.check_cell.ensures.image told))
     (λ told keys kept h. listed_none None c.new-desk.result.session _ keys none (listed_image None _ _ keys (c.check_cell.ensures.image told) h)) in
-    on_then _ _ _ _ _ _ _ None c.new-desk.result.session _ _ _ _ _ _ tt looked (on_done _ _ _ _ _ c.new-desk.result.session _ _ _ _ _ _ c.serve_input.ensures.keeps (λ never. absurd cc) (λ keys h. tt))
+    on_then _ _ _ _ _ _ _ None c.new-desk.result.session _ _ _ _ _ _ tt looked (on_done _ _ _ _ _ c.new-desk.result.session _ _ _ _ _ _ c.serve_input.ensures.keeps (λ never. absurd cc) (λ keys h. tt)) (λ told entry at. (entry, at_looked _ _ c.new-desk.result.session entry none (c.check_cell.ensures.image told) at))
 
 pub returns-clause-keeps : goal.returns-clause-keeps
 returns-clause-keeps g c =
@@ -110,7 +111,7 @@ returns-clause-keeps g c =
     let looked = on_look P.tells (g.T.Tape.drawn c.args.tape.now) (g.L.Sink.written c.args.ledger.now) None (P.history c.args.platform.now) (P.history c.check_cell.new.platform) (Unit {0}) (IsListed c.new-desk.result.session (P.history c.check_cell.new.platform).present)
     c.check_cell.ensures.image (λ told. one_look _ _ (c.check_cell.ensures.time told) (c.check_cell.ensures.image told))
     (λ told keys kept h. listed_none None c.new-desk.result.session _ keys none (listed_image None _ _ keys (c.check_cell.ensures.image told) h)) in
-    on_then _ _ _ _ _ _ _ None c.new-desk.result.session _ _ _ _ _ _ tt looked (on_done _ _ _ _ _ c.new-desk.result.session _ _ _ _ _ _ c.serve_input.ensures.keeps (λ never. absurd cc) (λ keys h. tt))
+    on_then _ _ _ _ _ _ _ None c.new-desk.result.session _ _ _ _ _ _ tt looked (on_done _ _ _ _ _ c.new-desk.result.session _ _ _ _ _ _ c.serve_input.ensures.keeps (λ never. absurd cc) (λ keys h. tt)) (λ told entry at. (entry, at_looked _ _ c.new-desk.result.session entry none (c.check_cell.ensures.image told) at))
 
 pub returns-in_default-clause-keeps : goal.returns-in_default-clause-keeps
 returns-in_default-clause-keeps g c =
@@ -119,4 +120,4 @@ returns-in_default-clause-keeps g c =
     let looked = on_look P.tells (g.T.Tape.drawn c.args.tape.now) (g.L.Sink.written c.args.ledger.now) None (P.history c.args.platform.now) (P.history c.check_cell.new.platform) (Unit {0}) (IsListed c.new-desk.result.session (P.history c.check_cell.new.platform).present)
     c.check_cell.ensures.image (λ told. one_look _ _ (c.check_cell.ensures.time told) (c.check_cell.ensures.image told))
     (λ told keys kept h. listed_none None c.new-desk.result.session _ keys none (listed_image None _ _ keys (c.check_cell.ensures.image told) h)) in
-    on_then _ _ _ _ _ _ _ None c.new-desk.result.session _ _ _ _ _ _ tt looked (on_done _ _ _ _ _ c.new-desk.result.session _ _ _ _ _ _ c.in_default.ensures.keeps (λ ok. refl) (λ keys h. tt))
+    on_then _ _ _ _ _ _ _ None c.new-desk.result.session _ _ _ _ _ _ tt looked (on_done _ _ _ _ _ c.new-desk.result.session _ _ _ _ _ _ c.in_default.ensures.keeps (λ ok. refl) (λ keys h. tt)) (λ told entry at. (entry, at_looked _ _ c.new-desk.result.session entry none (c.check_cell.ensures.image told) at))

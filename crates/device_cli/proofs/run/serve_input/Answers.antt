@@ -6,7 +6,7 @@ use Rattle.sdbt_base.specs.Told.{Gave, IsAtEnd}
 use Rattle.text_lines.specs.Lines.{rest_of}
 use Rattle.device_cli.specs.World.{World, world_of}
 use Rattle.device_cli.proofs.Reading.{IsReading, IsReading-start, IsReading-more, IsReading-stop, IsReading-end, IsReading-failed, IsReading-limit}
-use Rattle.device_cli.proofs.CellLaws.{served_at}
+use Rattle.device_cli.proofs.CellLaws.{served_at, handled_through}
 use Rattle.device_course.proofs.KeysLaws.{on_start, on_done, on_then}
 use Rattle.device_cli.proofs.run.serve_input.Goals as goal
 
@@ -109,7 +109,7 @@ loop-left-preserved g c =
       mounted = c.in-Ok-serve_piece.ensures.after.mounted;
       keeps =
           on_done _ _ _ _ _ c.args.desk.now.session _ _ _ _ _ _
-          (on_then _ _ _ _ _ _ _ c.args.desk.now.session c.loop-left.desk.session _ _ _ _ _ _ tt c.loop-left.invariant.keeps c.in-Ok-serve_piece.ensures.keeps) (λ yes. refl) (λ keys h. h);
+          (on_then _ _ _ _ _ _ _ c.args.desk.now.session c.loop-left.desk.session _ _ _ _ _ _ tt c.loop-left.invariant.keeps c.in-Ok-serve_piece.ensures.keeps (handled_through _ _ _ _ _ _ _ c.loop-left.invariant.reading.handled)) (λ yes. refl) (λ keys h. h);
       counts = grind (arith, c.loop-left.invariant.counts, c.serve_piece.ensures.blame.fell, c.take.ensures.count);
       reading = IsReading-more P.tells old mid new (left c.args.input.now) (left c.loop-left.input) (left c.take.new.self) (written c.args.output.now) (written c.loop-left.output) (written c.serve_piece.new.output)
           c.loop-left.pending c.serve_piece.new.pending c.loop-left.left (c.loop-left.left - c.in-Ok.count) piece reading gave less
@@ -142,10 +142,10 @@ pub returns-in_default-clause-keeps : goal.returns-in_default-clause-keeps
 returns-in_default-clause-keeps g c = on_done _ _ _ _ _ c.args.desk.now.session _ _ _ _ _ _ c.loop-left.invariant.keeps (λ never. tt) (λ keys h. tt)
 
 pub returns-then-count-eq0-clause-keeps : goal.returns-then-count-eq0-clause-keeps
-returns-then-count-eq0-clause-keeps g c = on_then _ _ _ _ _ _ _ c.args.desk.now.session c.loop-left.desk.session _ _ _ _ _ _ tt c.loop-left.invariant.keeps c.serve_end.ensures.keeps
+returns-then-count-eq0-clause-keeps g c = on_then _ _ _ _ _ _ _ c.args.desk.now.session c.loop-left.desk.session _ _ _ _ _ _ tt c.loop-left.invariant.keeps c.serve_end.ensures.keeps (handled_through _ _ _ _ _ _ _ c.loop-left.invariant.reading.handled)
 
 pub returns-in-Err-clause-keeps : goal.returns-in-Err-clause-keeps
-returns-in-Err-clause-keeps g c = on_then _ _ _ _ _ _ _ c.args.desk.now.session c.loop-left.desk.session _ _ _ _ _ _ tt c.loop-left.invariant.keeps (on_done _ _ _ _ _ c.loop-left.desk.session _ _ _ _ _ _ c.serve_piece.ensures.keeps (λ never. absurd cc) (λ keys h. tt))
+returns-in-Err-clause-keeps g c = on_then _ _ _ _ _ _ _ c.args.desk.now.session c.loop-left.desk.session _ _ _ _ _ _ tt c.loop-left.invariant.keeps (on_done _ _ _ _ _ c.loop-left.desk.session _ _ _ _ _ _ c.serve_piece.ensures.keeps (λ never. absurd cc) (λ keys h. tt)) (handled_through _ _ _ _ _ _ _ c.loop-left.invariant.reading.handled)
 
 pub returns-clause-keeps : goal.returns-clause-keeps
 returns-clause-keeps g c = on_done _ _ _ _ _ c.args.desk.now.session _ _ _ _ _ _ c.loop-left.invariant.keeps (λ never. tt) (λ keys h. tt)

@@ -3,7 +3,7 @@ use Rattle.std.proofs.lemmas.Grind.{common_steps}
 use Rattle.std.proofs.Common.{arith}
 use Rattle.device_cli.specs.World.{World, world_of}
 use Rattle.device_cli.proofs.Serving.{IsServing-start, IsServing-line, IsServing-stop, IsServing-end}
-use Rattle.device_cli.proofs.CellLaws.{served_at}
+use Rattle.device_cli.proofs.CellLaws.{served_at, answered_through}
 use Rattle.device_course.proofs.KeysLaws.{on_start, on_done, on_then}
 use Rattle.device_cli.proofs.run.serve_piece.Goals as goal
 
@@ -14,6 +14,7 @@ loop-front-init g c =
       ready = c.requires.ready;
       mounted = c.requires.mounted;
       keeps = on_start _ _ _ c.args.desk.now.session _ _;
+      stands = λ told entry at. (entry, at);
       counts = grind (arith, common_steps);
       serving = λ rest pending. IsServing-start P.tells (world_of P c.args.desk.now.session c.args.platform.now)
           (g.O.Sink.written c.args.output.now) c.args.pending.now rest c.args.piece.now (g.met.P.Platform.has_room c.args.platform.now) pending;
@@ -31,7 +32,10 @@ loop-front-preserved g c =
       mounted = c.in_default-answer.ensures.after.mounted;
       keeps =
           on_done _ _ _ _ _ c.args.desk.now.session _ _ _ _ _ _
-          (on_then _ _ _ _ _ _ _ c.args.desk.now.session c.loop-front.desk.session _ _ _ _ _ _ tt c.loop-front.invariant.keeps c.in_default-answer.ensures.keeps) (λ yes. refl) (λ keys h. h);
+          (on_then _ _ _ _ _ _ _ c.args.desk.now.session c.loop-front.desk.session _ _ _ _ _ _ tt c.loop-front.invariant.keeps c.in_default-answer.ensures.keeps c.loop-front.invariant.stands) (λ yes. refl) (λ keys h. h);
+      stands = λ told entry at.
+          let before = c.loop-front.invariant.stands told entry at in
+          answered_through P.tells mid new _ _ _ c.in_default-answer.ensures.handled told before.0 before.1;
       counts = grind (arith, c.loop-front.invariant.counts, c.answer.ensures.blame.fell);
       serving = λ rest pending.
           let so_far = c.loop-front.invariant.serving rest pending in
@@ -81,7 +85,7 @@ answer-requires g c = record {
 }
 
 pub returns-in-Err-clause-keeps : goal.returns-in-Err-clause-keeps
-returns-in-Err-clause-keeps g c = on_then _ _ _ _ _ _ _ c.args.desk.now.session c.loop-front.desk.session _ _ _ _ _ _ tt c.loop-front.invariant.keeps (on_done _ _ _ _ _ c.loop-front.desk.session _ _ _ _ _ _ c.answer.ensures.keeps (λ never. absurd cc) (λ keys h. tt))
+returns-in-Err-clause-keeps g c = on_then _ _ _ _ _ _ _ c.args.desk.now.session c.loop-front.desk.session _ _ _ _ _ _ tt c.loop-front.invariant.keeps (on_done _ _ _ _ _ c.loop-front.desk.session _ _ _ _ _ _ c.answer.ensures.keeps (λ never. absurd cc) (λ keys h. tt)) c.loop-front.invariant.stands
 
 pub returns-clause-keeps : goal.returns-clause-keeps
 returns-clause-keeps g c = on_done _ _ _ _ _ c.args.desk.now.session _ _ _ _ _ _ c.loop-front.invariant.keeps (λ ok. tt) (λ keys h. h)

@@ -6,6 +6,7 @@ use Rattle.script_lang.specs.Commands.{Commit}
 use Rattle.device_cli.proofs.ServedLaws.{halts_still, gives_unmounted_commit}
 use Rattle.device_cli.proofs.ServingLaws.{serves_unmounted, serves_committed, serves_commit_full, halts_commit, keeps_same}
 use Rattle.device_course.proofs.CertifiedLaws.{certified_going, certified_commit}
+use Rattle.device_course.proofs.FitsLaws.{fitting_committed}
 use Rattle.device_course.proofs.KeysLaws.{on_start, on_call, listed_some}
 use Rattle.root_codec.specs.RootRecord.{root_bytes}
 use Rattle.device_core.specs.Open.{IsOpen}
@@ -92,29 +93,29 @@ returns-in_default-clause-keeps g c = on_start _ _ _ c.args.self.now.session _ _
 pub returns-in-Committed-clause-keeps : goal.returns-in-Committed-clause-keeps
 returns-in-Committed-clause-keeps g c =
     let taken : c.args.self.now.session ≡ Some c.in-Some.session = c.in-Some.is in
-    on_call _ _ _ _ _ c.args.self.now.session _ _ _ _ _ _ c.in-Ok.ensures.discloses.keys (λ told keys h. listed_some _ c.in-Some.session _ keys taken h) (λ told keys h. c.commit.ensures.discloses.forgets told keys (listed_some _ c.in-Some.session _ keys taken h)) (λ told keys more h done. done) c.commit.ensures.discloses.serves (certified_commit {X = CommitReply} {Y = CommitFault} _ _ _ _ _ c.in-Some.session _ (Ok c.in-Ok.reply) (is_open g (goal.at.returns-in-Committed-clause-keeps g c).In-Some).served.fits (is_open g (goal.at.returns-in-Committed-clause-keeps g c).In-Some).served.key.0 c.commit.ensures.discloses.turns (cell g (goal.at.returns-in-Committed-clause-keeps g c).In-Some) c.in-Ok.ensures.certifies)
+    on_call _ _ _ _ _ c.args.self.now.session _ _ _ _ _ _ c.in-Ok.ensures.discloses.keys (λ told keys h. listed_some _ c.in-Some.session _ keys taken h) (λ told keys h. c.commit.ensures.discloses.forgets told keys (listed_some _ c.in-Some.session _ keys taken h)) (λ told keys more h done. done) c.commit.ensures.discloses.serves (certified_commit {X = CommitReply} {Y = CommitFault} _ _ _ _ _ c.in-Some.session _ (Ok c.in-Ok.reply) (is_open g (goal.at.returns-in-Committed-clause-keeps g c).In-Some).served.fits (is_open g (goal.at.returns-in-Committed-clause-keeps g c).In-Some).served.key.0 c.commit.ensures.discloses.turns (cell g (goal.at.returns-in-Committed-clause-keeps g c).In-Some) c.in-Ok.ensures.certifies) (fitting_committed _ _ _ _ _ c.args.self.now.session c.in-Some.session _ taken (is_open g (goal.at.returns-in-Committed-clause-keeps g c).In-Some).loaded (λ e. let idle = c.commit.ensures.idle e in (ap (λ p. g.P.Platform.history p) idle.1, ap (λ l. g.L.Sink.written l) idle.3)) (λ told keys h. c.commit.ensures.discloses.forgets told keys h) c.commit.ensures.certifies)
 
 pub returns-in-Full-clause-keeps : goal.returns-in-Full-clause-keeps
 returns-in-Full-clause-keeps g c =
     let taken : c.args.self.now.session ≡ Some c.in-Some.session = c.in-Some.is in
-    on_call _ _ _ _ _ c.args.self.now.session _ _ _ _ _ _ c.in-Ok.ensures.discloses.keys (λ told keys h. listed_some _ c.in-Some.session _ keys taken h) (λ told keys h. c.commit.ensures.discloses.forgets told keys (listed_some _ c.in-Some.session _ keys taken h)) (λ told keys more h done. done) c.commit.ensures.discloses.serves (certified_commit {X = CommitReply} {Y = CommitFault} _ _ _ _ _ c.in-Some.session _ (Ok c.in-Ok.reply) (is_open g (goal.at.returns-in-Full-clause-keeps g c).In-Some).served.fits (is_open g (goal.at.returns-in-Full-clause-keeps g c).In-Some).served.key.0 c.commit.ensures.discloses.turns (cell g (goal.at.returns-in-Full-clause-keeps g c).In-Some) c.in-Ok.ensures.certifies)
+    on_call _ _ _ _ _ c.args.self.now.session _ _ _ _ _ _ c.in-Ok.ensures.discloses.keys (λ told keys h. listed_some _ c.in-Some.session _ keys taken h) (λ told keys h. c.commit.ensures.discloses.forgets told keys (listed_some _ c.in-Some.session _ keys taken h)) (λ told keys more h done. done) c.commit.ensures.discloses.serves (certified_commit {X = CommitReply} {Y = CommitFault} _ _ _ _ _ c.in-Some.session _ (Ok c.in-Ok.reply) (is_open g (goal.at.returns-in-Full-clause-keeps g c).In-Some).served.fits (is_open g (goal.at.returns-in-Full-clause-keeps g c).In-Some).served.key.0 c.commit.ensures.discloses.turns (cell g (goal.at.returns-in-Full-clause-keeps g c).In-Some) c.in-Ok.ensures.certifies) (fitting_committed _ _ _ _ _ c.args.self.now.session c.in-Some.session _ taken (is_open g (goal.at.returns-in-Full-clause-keeps g c).In-Some).loaded (λ e. let idle = c.commit.ensures.idle e in (ap (λ p. g.P.Platform.history p) idle.1, ap (λ l. g.L.Sink.written l) idle.3)) (λ told keys h. c.commit.ensures.discloses.forgets told keys h) c.commit.ensures.certifies)
 
 pub returns-in-Err-Memory-clause-keeps : goal.returns-in-Err-Memory-clause-keeps
 returns-in-Err-Memory-clause-keeps g c =
     let taken : c.args.self.now.session ≡ Some c.in-Some.session = c.in-Some.is in
-    on_call _ _ _ _ _ c.args.self.now.session _ _ _ _ _ _ c.commit.ensures.discloses.keys (λ told keys h. listed_some _ c.in-Some.session _ keys taken h) (λ told keys h. c.commit.ensures.discloses.forgets told keys (listed_some _ c.in-Some.session _ keys taken h)) (λ told keys more h done. tt) c.commit.ensures.discloses.serves (certified_going _ _ _ _ _ _ _ (λ never. absurd cc) (certified_commit _ _ _ _ _ c.in-Some.session _ c.commit.result (is_open g (goal.at.returns-in-Err-Memory-clause-keeps g c).In-Some).served.fits (is_open g (goal.at.returns-in-Err-Memory-clause-keeps g c).In-Some).served.key.0 c.commit.ensures.discloses.turns (cell g (goal.at.returns-in-Err-Memory-clause-keeps g c).In-Some) c.commit.ensures.certifies))
+    on_call _ _ _ _ _ c.args.self.now.session _ _ _ _ _ _ c.commit.ensures.discloses.keys (λ told keys h. listed_some _ c.in-Some.session _ keys taken h) (λ told keys h. c.commit.ensures.discloses.forgets told keys (listed_some _ c.in-Some.session _ keys taken h)) (λ told keys more h done. tt) c.commit.ensures.discloses.serves (certified_going _ _ _ _ _ _ _ (λ never. absurd cc) (certified_commit _ _ _ _ _ c.in-Some.session _ c.commit.result (is_open g (goal.at.returns-in-Err-Memory-clause-keeps g c).In-Some).served.fits (is_open g (goal.at.returns-in-Err-Memory-clause-keeps g c).In-Some).served.key.0 c.commit.ensures.discloses.turns (cell g (goal.at.returns-in-Err-Memory-clause-keeps g c).In-Some) c.commit.ensures.certifies)) (fitting_committed _ _ _ _ _ c.args.self.now.session c.in-Some.session _ taken (is_open g (goal.at.returns-in-Err-Memory-clause-keeps g c).In-Some).loaded (λ e. let idle = c.commit.ensures.idle e in (ap (λ p. g.P.Platform.history p) idle.1, ap (λ l. g.L.Sink.written l) idle.3)) (λ told keys h. c.commit.ensures.discloses.forgets told keys h) c.commit.ensures.certifies)
 
 pub returns-in-Err-TapeFault-clause-keeps : goal.returns-in-Err-TapeFault-clause-keeps
 returns-in-Err-TapeFault-clause-keeps g c =
     let taken : c.args.self.now.session ≡ Some c.in-Some.session = c.in-Some.is in
-    on_call _ _ _ _ _ c.args.self.now.session _ _ _ _ _ _ c.commit.ensures.discloses.keys (λ told keys h. listed_some _ c.in-Some.session _ keys taken h) (λ told keys h. c.commit.ensures.discloses.forgets told keys (listed_some _ c.in-Some.session _ keys taken h)) (λ told keys more h done. tt) c.commit.ensures.discloses.serves (certified_going _ _ _ _ _ _ _ (λ never. absurd cc) (certified_commit _ _ _ _ _ c.in-Some.session _ c.commit.result (is_open g (goal.at.returns-in-Err-TapeFault-clause-keeps g c).In-Some).served.fits (is_open g (goal.at.returns-in-Err-TapeFault-clause-keeps g c).In-Some).served.key.0 c.commit.ensures.discloses.turns (cell g (goal.at.returns-in-Err-TapeFault-clause-keeps g c).In-Some) c.commit.ensures.certifies))
+    on_call _ _ _ _ _ c.args.self.now.session _ _ _ _ _ _ c.commit.ensures.discloses.keys (λ told keys h. listed_some _ c.in-Some.session _ keys taken h) (λ told keys h. c.commit.ensures.discloses.forgets told keys (listed_some _ c.in-Some.session _ keys taken h)) (λ told keys more h done. tt) c.commit.ensures.discloses.serves (certified_going _ _ _ _ _ _ _ (λ never. absurd cc) (certified_commit _ _ _ _ _ c.in-Some.session _ c.commit.result (is_open g (goal.at.returns-in-Err-TapeFault-clause-keeps g c).In-Some).served.fits (is_open g (goal.at.returns-in-Err-TapeFault-clause-keeps g c).In-Some).served.key.0 c.commit.ensures.discloses.turns (cell g (goal.at.returns-in-Err-TapeFault-clause-keeps g c).In-Some) c.commit.ensures.certifies)) (fitting_committed _ _ _ _ _ c.args.self.now.session c.in-Some.session _ taken (is_open g (goal.at.returns-in-Err-TapeFault-clause-keeps g c).In-Some).loaded (λ e. let idle = c.commit.ensures.idle e in (ap (λ p. g.P.Platform.history p) idle.1, ap (λ l. g.L.Sink.written l) idle.3)) (λ told keys h. c.commit.ensures.discloses.forgets told keys h) c.commit.ensures.certifies)
 
 pub returns-in-Err-LedgerFault-clause-keeps : goal.returns-in-Err-LedgerFault-clause-keeps
 returns-in-Err-LedgerFault-clause-keeps g c =
     let taken : c.args.self.now.session ≡ Some c.in-Some.session = c.in-Some.is in
-    on_call _ _ _ _ _ c.args.self.now.session _ _ _ _ _ _ c.commit.ensures.discloses.keys (λ told keys h. listed_some _ c.in-Some.session _ keys taken h) (λ told keys h. c.commit.ensures.discloses.forgets told keys (listed_some _ c.in-Some.session _ keys taken h)) (λ told keys more h done. tt) c.commit.ensures.discloses.serves (certified_going _ _ _ _ _ _ _ (λ never. absurd cc) (certified_commit _ _ _ _ _ c.in-Some.session _ c.commit.result (is_open g (goal.at.returns-in-Err-LedgerFault-clause-keeps g c).In-Some).served.fits (is_open g (goal.at.returns-in-Err-LedgerFault-clause-keeps g c).In-Some).served.key.0 c.commit.ensures.discloses.turns (cell g (goal.at.returns-in-Err-LedgerFault-clause-keeps g c).In-Some) c.commit.ensures.certifies))
+    on_call _ _ _ _ _ c.args.self.now.session _ _ _ _ _ _ c.commit.ensures.discloses.keys (λ told keys h. listed_some _ c.in-Some.session _ keys taken h) (λ told keys h. c.commit.ensures.discloses.forgets told keys (listed_some _ c.in-Some.session _ keys taken h)) (λ told keys more h done. tt) c.commit.ensures.discloses.serves (certified_going _ _ _ _ _ _ _ (λ never. absurd cc) (certified_commit _ _ _ _ _ c.in-Some.session _ c.commit.result (is_open g (goal.at.returns-in-Err-LedgerFault-clause-keeps g c).In-Some).served.fits (is_open g (goal.at.returns-in-Err-LedgerFault-clause-keeps g c).In-Some).served.key.0 c.commit.ensures.discloses.turns (cell g (goal.at.returns-in-Err-LedgerFault-clause-keeps g c).In-Some) c.commit.ensures.certifies)) (fitting_committed _ _ _ _ _ c.args.self.now.session c.in-Some.session _ taken (is_open g (goal.at.returns-in-Err-LedgerFault-clause-keeps g c).In-Some).loaded (λ e. let idle = c.commit.ensures.idle e in (ap (λ p. g.P.Platform.history p) idle.1, ap (λ l. g.L.Sink.written l) idle.3)) (λ told keys h. c.commit.ensures.discloses.forgets told keys h) c.commit.ensures.certifies)
 
 pub returns-in-Err-PlatformFault-clause-keeps : goal.returns-in-Err-PlatformFault-clause-keeps
 returns-in-Err-PlatformFault-clause-keeps g c =
     let taken : c.args.self.now.session ≡ Some c.in-Some.session = c.in-Some.is in
-    on_call _ _ _ _ _ c.args.self.now.session _ _ _ _ _ _ c.commit.ensures.discloses.keys (λ told keys h. listed_some _ c.in-Some.session _ keys taken h) (λ told keys h. c.commit.ensures.discloses.forgets told keys (listed_some _ c.in-Some.session _ keys taken h)) (λ told keys more h done. tt) c.commit.ensures.discloses.serves (certified_going _ _ _ _ _ _ _ (λ never. absurd cc) (certified_commit _ _ _ _ _ c.in-Some.session _ c.commit.result (is_open g (goal.at.returns-in-Err-PlatformFault-clause-keeps g c).In-Some).served.fits (is_open g (goal.at.returns-in-Err-PlatformFault-clause-keeps g c).In-Some).served.key.0 c.commit.ensures.discloses.turns (cell g (goal.at.returns-in-Err-PlatformFault-clause-keeps g c).In-Some) c.commit.ensures.certifies))
+    on_call _ _ _ _ _ c.args.self.now.session _ _ _ _ _ _ c.commit.ensures.discloses.keys (λ told keys h. listed_some _ c.in-Some.session _ keys taken h) (λ told keys h. c.commit.ensures.discloses.forgets told keys (listed_some _ c.in-Some.session _ keys taken h)) (λ told keys more h done. tt) c.commit.ensures.discloses.serves (certified_going _ _ _ _ _ _ _ (λ never. absurd cc) (certified_commit _ _ _ _ _ c.in-Some.session _ c.commit.result (is_open g (goal.at.returns-in-Err-PlatformFault-clause-keeps g c).In-Some).served.fits (is_open g (goal.at.returns-in-Err-PlatformFault-clause-keeps g c).In-Some).served.key.0 c.commit.ensures.discloses.turns (cell g (goal.at.returns-in-Err-PlatformFault-clause-keeps g c).In-Some) c.commit.ensures.certifies)) (fitting_committed _ _ _ _ _ c.args.self.now.session c.in-Some.session _ taken (is_open g (goal.at.returns-in-Err-PlatformFault-clause-keeps g c).In-Some).loaded (λ e. let idle = c.commit.ensures.idle e in (ap (λ p. g.P.Platform.history p) idle.1, ap (λ l. g.L.Sink.written l) idle.3)) (λ told keys h. c.commit.ensures.discloses.forgets told keys h) c.commit.ensures.certifies)

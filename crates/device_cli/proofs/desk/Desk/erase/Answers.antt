@@ -29,10 +29,10 @@ returns-in-Err-PlatformFault-clause-answered g c told entry rep =
     halts_erase old new entry (c.erase.ensures.time told _ rep.device)
 
 pub returns-in-Ok-clause-keeps : goal.returns-in-Ok-clause-keeps
-returns-in-Ok-clause-keeps g c = λ drawn written. on_kept _ drawn written c.args.self.now.session _ _ _ _ (λ told. (c.erase.ensures.turns told).extends) (λ told. let pages = g.met.P.Platform.counts_pages in pages told c.erase.new.platform ∙ (c.erase.ensures.pages.0 ∙ sym (pages told c.args.platform.now))) c.erase.ensures.keeps c.erase.ensures.forgets (λ told keys h. subst (λ (s : Option Session). IsListed s (g.P.Platform.history c.erase.new.platform).present keys) (sym c.close.ensures) (None, (c.in-Ok.ensures.cause told).1)) c.erase.ensures.serves (certified_emptied _ written _ _ _ c.erase.ensures.turns)
+returns-in-Ok-clause-keeps g c = λ drawn written. on_kept _ drawn written c.args.self.now.session _ _ _ _ (λ told. (c.erase.ensures.turns told).extends) (λ told. let pages = g.met.P.Platform.counts_pages in pages told c.erase.new.platform ∙ (c.erase.ensures.pages.0 ∙ sym (pages told c.args.platform.now))) c.erase.ensures.keeps c.erase.ensures.forgets (λ told keys h. subst (λ (s : Option Session). IsListed s (g.P.Platform.history c.erase.new.platform).present keys) (sym c.close.ensures) (None, (c.in-Ok.ensures.cause told).1)) c.erase.ensures.serves (certified_emptied _ written _ _ _ c.erase.ensures.turns) c.erase.ensures.turns
 
 pub returns-in-Err-NoDevice-clause-keeps : goal.returns-in-Err-NoDevice-clause-keeps
-returns-in-Err-NoDevice-clause-keeps g c = λ drawn written. on_kept _ drawn written c.args.self.now.session _ _ _ _ (λ told. (c.erase.ensures.turns told).extends) (λ told. let pages = g.met.P.Platform.counts_pages in pages told c.erase.new.platform ∙ (c.erase.ensures.pages.0 ∙ sym (pages told c.args.platform.now))) c.erase.ensures.keeps c.erase.ensures.forgets (λ told keys h. listed_image _ _ _ keys ((rw c.in-Err-NoDevice.field-0-is at c.in-Err-NoDevice.ensures.cause) told).1 h) c.erase.ensures.serves (certified_emptied _ written _ _ _ c.erase.ensures.turns)
+returns-in-Err-NoDevice-clause-keeps g c = λ drawn written. on_kept _ drawn written c.args.self.now.session _ _ _ _ (λ told. (c.erase.ensures.turns told).extends) (λ told. let pages = g.met.P.Platform.counts_pages in pages told c.erase.new.platform ∙ (c.erase.ensures.pages.0 ∙ sym (pages told c.args.platform.now))) c.erase.ensures.keeps c.erase.ensures.forgets (λ told keys h. listed_image _ _ _ keys ((rw c.in-Err-NoDevice.field-0-is at c.in-Err-NoDevice.ensures.cause) told).1 h) c.erase.ensures.serves (certified_emptied _ written _ _ _ c.erase.ensures.turns) c.erase.ensures.turns
 
 pub returns-in-Err-PlatformFault-clause-keeps : goal.returns-in-Err-PlatformFault-clause-keeps
-returns-in-Err-PlatformFault-clause-keeps g c = λ drawn written. on_kept _ drawn written c.args.self.now.session _ _ _ _ (λ told. (c.erase.ensures.turns told).extends) (λ told. let pages = g.met.P.Platform.counts_pages in pages told c.erase.new.platform ∙ (c.erase.ensures.pages.0 ∙ sym (pages told c.args.platform.now))) c.erase.ensures.keeps c.erase.ensures.forgets (λ told keys h. tt) c.erase.ensures.serves (certified_emptied _ written _ _ _ c.erase.ensures.turns)
+returns-in-Err-PlatformFault-clause-keeps g c = λ drawn written. on_kept _ drawn written c.args.self.now.session _ _ _ _ (λ told. (c.erase.ensures.turns told).extends) (λ told. let pages = g.met.P.Platform.counts_pages in pages told c.erase.new.platform ∙ (c.erase.ensures.pages.0 ∙ sym (pages told c.args.platform.now))) c.erase.ensures.keeps c.erase.ensures.forgets (λ told keys h. tt) c.erase.ensures.serves (certified_emptied _ written _ _ _ c.erase.ensures.turns) c.erase.ensures.turns
