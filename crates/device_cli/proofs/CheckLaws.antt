@@ -1,5 +1,5 @@
 -- What follows of a check, by its exit status.
-use Rattle.std.proofs.Common.{◌≡◌, ◌≢◌, ℕ, ◌+◌, ◌<◌, ◌≤◌, ◌^◌, List, [], ◌∷◌, ◌++◌, Option, None, Some, Result, Ok, Err, length, ◌⊎◌, inl, inr, refl, sym, ◌∙◌, subst, ap, arith, length-append}
+use Rattle.std.proofs.Common.{◌≡◌, ℕ, ◌<◌, ◌≤◌, ◌^◌, List, [], ◌++◌, Option, None, Some, Result, Ok, Err, length, ◌⊎◌, inl, inr, refl, sym, ◌∙◌, subst, ap, arith, length-append}
 use Rattle.std.specs.Prelude.{IfErr, ◌-◌}
 use Rattle.std.proofs.lemmas.List.{append-nil}
 use Rattle.sdbt_base.specs.Told.{Gave, Got, IsAtEnd}
@@ -12,7 +12,7 @@ use Rattle.root_codec.specs.Laws.{one_root}
 use Rattle.cert_maker.specs.Cert.{Cert}
 use Rattle.cert_codec.specs.Ledger.{IsLedger}
 use Rattle.cert_codec.proofs.LedgerLaws.{one_ledger}
-use Rattle.cert_checker.specs.Chain.{Accepted, chain_of}
+use Rattle.cert_checker.specs.Chain.{chain_of}
 use Rattle.cert_checker.specs.First.{First}
 use Rattle.cert_checker.proofs.FirstLaws.{none_first}
 use Rattle.ledger_check.specs.Judging.{IsWhole}
@@ -23,11 +23,10 @@ use Rattle.device_core.proofs.MomentLaws.{one_look}
 use Rattle.device_course.specs.Marks.{last_mark}
 use Rattle.device_course.specs.Course.{Made}
 use Rattle.device_course.proofs.MadeLaws.{made_none, shut}
-use Rattle.device_core.specs.Leaf.{IsServed, IsServedCell, IsServedImage}
-use Rattle.device_cli.specs.Run.{Counts, counts, NoneFell, NoneRose, HasCause, IsBlamedOn, IsStatus, Took, status_of}
-use Rattle.device_cli.specs.Words.{AreRunWords, AreCheckWords}
+use Rattle.device_core.specs.Leaf.{IsServedCell, IsServedImage}
+use Rattle.device_cli.specs.Run.{Counts, counts, NoneRose, HasCause, IsBlamedOn}
 use Rattle.device_cli.specs.Replied.{damage_line}
-use Rattle.device_cli.specs.Checks.{Checks, IsAcceptable, IsInCell, IsJudgedAs, IsLookedAt, IsSaid, IsSo, finding_line, status_at, status_of_finding}
+use Rattle.device_cli.specs.Checks.{Checks, IsAcceptable, IsInCell, IsSaid, IsSo, finding_line, status_at, status_of_finding}
 use Rattle.device_cli.specs.declared.checking.Finding.{Finding}
 use Rattle.device_cli.specs.declared.checking.Finding.TheVariants as findings
 use Rattle.device_cli.specs.declared.stop.DeviceStop.TheVariants as device

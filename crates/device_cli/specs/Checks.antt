@@ -1,5 +1,5 @@
 -- What the word `check` finds, says and leaves.
-use Rattle.std.specs.Prelude.{◌≡◌, ◌⊎◌, ℕ, ◌<◌, ◌≤◌, ◌^◌, List, [], ◌∷◌, ◌++◌, Option, None, Some, Result, Ok, Err, length, codes}
+use Rattle.std.specs.Prelude.{◌≡◌, ◌⊎◌, ℕ, ◌<◌, ◌^◌, List, [], ◌∷◌, ◌++◌, Option, None, Some, Result, Ok, Err, length, codes}
 use Rattle.std.specs.Fmt.{decimal}
 use Rattle.sdbt_base.specs.Told.{Got, GotPart}
 use Rattle.platform.specs.Image.{Image}

@@ -48,7 +48,7 @@ struct Row<'a> {
 }
 
 /// Two scripts in which nothing fails.
-fn row<'a>(name: &'a str, script: &'a str, next: &'a str, want: &'a str) -> Row<'a> {
+fn unstopped<'a>(name: &'a str, script: &'a str, next: &'a str, want: &'a str) -> Row<'a> {
     Row {
         name,
         script,
@@ -81,18 +81,18 @@ fn follow_row(rt: &(impl Abort + Alloc<A = Global>), row: &Row<'_>, step: usize)
 #[test]
 fn own_ledgers(rt: HostRuntime) -> Result<(), Fail> {
     for row in [
-        row("blank", "mount\n", "", "refused no device\n"),
-        row("one-block", ONE_BLOCK, "", "accepted commit 1 live 2 deleted 1\n"),
-        row("overwrite", ONE_BLOCK, AGAIN, "accepted commit 2 live 2 deleted 3\n"),
-        row(
+        unstopped("blank", "mount\n", "", "refused no device\n"),
+        unstopped("one-block", ONE_BLOCK, "", "accepted commit 1 live 2 deleted 1\n"),
+        unstopped("overwrite", ONE_BLOCK, AGAIN, "accepted commit 2 live 2 deleted 3\n"),
+        unstopped(
             "overwrite-before-commit",
             "format 8 64\nmount\nwrite 3 61\nwrite 3 62\ncommit\n",
             "",
             "accepted commit 1 live 2 deleted 2\n",
         ),
-        row("trim-committed", ONE_BLOCK, "mount\ntrim 3\ncommit\n", "accepted commit 2 live 1 deleted 3\n"),
-        row("erase", ONE_BLOCK, "erase\n", "refused no device\n"),
-        row("erase-and-format", ONE_BLOCK, "erase\nformat 8 64\n", "accepted commit 0 live 1 deleted 0\n"),
+        unstopped("trim-committed", ONE_BLOCK, "mount\ntrim 3\ncommit\n", "accepted commit 2 live 1 deleted 3\n"),
+        unstopped("erase", ONE_BLOCK, "erase\n", "refused no device\n"),
+        unstopped("erase-and-format", ONE_BLOCK, "erase\nformat 8 64\n", "accepted commit 0 live 1 deleted 0\n"),
     ] {
         for step in [1, 20, 4_096] {
             follow_row(&rt, &row, step)?;
@@ -112,11 +112,11 @@ fn own_ledgers_of_stopped_runs(rt: HostRuntime) -> Result<(), Fail> {
             nth: 2,
             effect,
         }];
-        let mut swapped = row("failed-swap", ONE_BLOCK, AGAIN, want);
+        let mut swapped = unstopped("failed-swap", ONE_BLOCK, AGAIN, want);
         swapped.failures = &failures;
         follow_row(&rt, &swapped, 4_096)?;
     }
-    let mut torn = row("failed-ends", ONE_BLOCK, AGAIN, "accepted commit 1 live 2 deleted 1\n");
+    let mut torn = unstopped("failed-ends", ONE_BLOCK, AGAIN, "accepted commit 1 live 2 deleted 1\n");
     torn.failing_entries = &[(2, 10)];
     follow_row(&rt, &torn, 4_096)
 }

@@ -103,6 +103,8 @@ fn bad_words(rt: HostRuntime) -> Result<(), Fail> {
         (["frob"].as_slice(), 2, ""),
         (["run", "x"].as_slice(), 2, ""),
         (["", "run"].as_slice(), 2, ""),
+        (["check"].as_slice(), 10, "refused no device\n"),
+        (["check", "x"].as_slice(), 2, ""),
     ] {
         let mut all = Vec::new(alloc);
         for word in words {
