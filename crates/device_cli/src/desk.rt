@@ -8,7 +8,8 @@ ghost use Rattle.script_lang.specs.Arrays.{in_limits};
 ghost use Rattle.sdbt_base.specs.Arrays.{State};
 ghost use Rattle.device_core.specs.Leaf.{IsServedImage};
 ghost use Rattle.device_cli.specs.Run.{counts, IsBlamed};
-ghost use Rattle.platform.specs.History.{During};
+ghost use Rattle.platform.specs.History.{During, moment};
+ghost use Rattle.seizure.specs.Opened.{count_of_kind};
 ghost use Rattle.device_cli.specs.Replied.{IsOfBlock, IsWrongPage, Serves, outcome};
 
 use crate::entry::MOST_BLOCKS;
@@ -20,6 +21,7 @@ use device_core::{
 use platform::Platform;
 use script_lang::{Command, Reply, ReplyWriter, reply_with_content};
 use sdbt_base::{BLOCK, MAX_BLOCKS, MAX_ORDER, ROOT, Sink, Tape};
+use seizure::{Report, SeizeRefusal};
 use std::alloc::Global;
 
 /// What a run keeps between lines: the session, if there is one, and the buffers that each line uses again.
@@ -37,6 +39,7 @@ impl Desk {
     ghost use Rattle.device_cli.specs.World.{world_of};
     ghost use Rattle.device_cli.specs.Pages.{pages_after};
     ghost use Rattle.device_cli.specs.Represents.{Represents};
+    ghost use Rattle.device_cli.specs.Seen.{Saw};
     ghost use Rattle.device_course.specs.States.{IsListed};
     ghost use Rattle.device_course.specs.Keys.{KeepsOn};
 
@@ -78,6 +81,8 @@ impl Desk {
         ensures answered { P.tells → (entry : State) → Represents (world_of P.Platform self.old.session platform.old) entry
             → Serves (world_of P.Platform self.old.session platform.old)
             (world_of P.Platform self.new.session platform.new) entry (asked command.now self.old.buffer) (outcome result self.new.buffer) }
+        ensures seen { P.tells → (entry : State) → Represents (world_of P.Platform self.old.session platform.old) entry
+            → IfOk (outcome result self.new.buffer) (Saw (P.history platform.new) (moment (P.history platform.old)) entry.device (P.head platform.old)) }
     {
         match command {
             Command::Format { blocks, order } => {
@@ -91,7 +96,7 @@ impl Desk {
             Command::Drop => self.give_up(platform),
             Command::Erase => self.erase(platform),
             Command::Stat => self.stat(platform),
-            Command::Seize => Ok(Reply::Unbuilt),
+            Command::Seize => self.seize(platform),
         }
     }
 
@@ -339,6 +344,31 @@ impl Desk {
         }
     }
 
+    /// Counts what an adversary would open now, who has the root record and every page.
+    fn seize<P: Platform>(&self, platform: &mut P) -> Result<Reply, DeviceStop>
+        requires { Before P.Platform self.now platform.old }
+        ensures after { After P.Platform self.now platform.old platform.new result }
+        ensures blame { IsBlamed (counts (P.faults platform.old) 0 0 0 0) (counts (P.faults platform.new) 0 0 0 0) result }
+        ensures damage { (addr : ℕ) → IsErrOf result (DeviceStop.BadRecord addr) → ⊥ }
+        ensures head { P.head platform.new ≡ P.head platform.old }
+        // Each moment keeps the keys that the image kept before, what was deleted stays so, and the cell can be served.
+        ensures keeps { (drawn : Option (List (List ℕ))) (written : Option (List ℕ)) → KeepsOn P.tells drawn drawn written written self.now.session
+            (P.history platform.old) (P.history platform.new) (IsOk result)
+            (λ keys. OnOk result (IsListed self.now.session (P.history platform.new).present keys)) }
+        ensures answered { P.tells → (entry : State) → Represents (world_of P.Platform self.now.session platform.old) entry
+            → Serves (world_of P.Platform self.now.session platform.old)
+            (world_of P.Platform self.now.session platform.new) entry commands.Seize (outcome result self.now.buffer) }
+        ensures seen { P.tells → (entry : State) → Represents (world_of P.Platform self.now.session platform.old) entry
+            → IfOk (outcome result self.now.buffer) (Saw (P.history platform.new) (moment (P.history platform.old)) entry.device (P.head platform.old)) }
+    {
+        match seizure::seize(self.alloc, platform) {
+            Ok(report) => Ok(reply_with_counts(&report)),
+            Err(SeizeRefusal::BadRoot) => Err(DeviceStop::BadRoot),
+            Err(SeizeRefusal::PlatformFault) => Err(DeviceStop::Platform),
+            Err(SeizeRefusal::Memory) => Err(DeviceStop::Memory),
+        }
+    }
+
     /// Ends the session, if there is one, and leaves nothing in its buffers.
     fn close(&mut self)
         ensures { self.new.session ≡ None }
@@ -366,6 +396,17 @@ impl Desk {
             }),
             None => Ok(Reply::Unmounted),
         }
+    }
+}
+
+/// The reply that gives what a seizure counted.
+fn reply_with_counts(report: &Report) -> Reply
+    ensures { result ≡ Reply.Seized report.now.pages (count_of_kind 2 report.now.opened) (count_of_kind 1 report.now.opened) }
+{
+    Reply::Seized {
+        pages: report.pages(),
+        nodes: report.nodes(),
+        blocks: report.blocks(),
     }
 }
 

@@ -12,6 +12,9 @@ use Rattle.device_cli.proofs.CompleteLaws.{complete_ending}
 use Rattle.device_course.proofs.CertifiedLaws.{certified_start, certified_going}
 use Rattle.device_course.proofs.KeysLaws.{on_start}
 use Rattle.device_cli.proofs.ReachingLaws.{discloses}
+use Rattle.device_cli.proofs.MappedLaws.{seizes_maps}
+use Rattle.platform.proofs.Moments.{During-start}
+use Rattle.device_core.specs.Leaf.{IsServedImage}
 use Rattle.device_course.specs.States.{around}
 use Rattle.device_course.proofs.MadeLaws.{shut, made_start}
 use Rattle.device_cli.proofs.run_main.Goals as goal
@@ -114,6 +117,16 @@ returns-in-Err-clause-discloses g c =
     discloses P.tells old new _ _ (record { capacity = later.capacity; rises = later.rises; within = later.within }) c.run.ensures.keeps
     (made_by P.tells (world None old.history old.head old.capacity) ran.0 new.history new.head new.capacity (Err c.in-Err.stop) (g.I.Source.left c.args.input.now) (g.I.Source.left c.run.new.input)
     (g.O.Sink.written c.args.output.now) (g.O.Sink.written c.run.new.output) refl ran.1)
+
+pub returns-then-not-are_run_words-clause-seizes : goal.returns-then-not-are_run_words-clause-seizes
+returns-then-not-are_run_words-clause-seizes g c =
+    seizes_maps _ _ _ _ _ (returns-then-not-are_run_words-clause-discloses g c) (λ told served. During-start _ IsServedImage served)
+
+pub returns-in-Ok-clause-seizes : goal.returns-in-Ok-clause-seizes
+returns-in-Ok-clause-seizes g c = seizes_maps _ _ _ _ _ (returns-in-Ok-clause-discloses g c) c.in-Ok.ensures.keeps.serves
+
+pub returns-in-Err-clause-seizes : goal.returns-in-Err-clause-seizes
+returns-in-Err-clause-seizes g c = seizes_maps _ _ _ _ _ (returns-in-Err-clause-discloses g c) c.in-Err.ensures.keeps.serves
 
 pub returns-then-not-are_run_words-clause-certified : goal.returns-then-not-are_run_words-clause-certified
 returns-then-not-are_run_words-clause-certified g c = certified_start _ _ _ _
