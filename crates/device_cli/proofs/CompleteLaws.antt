@@ -8,9 +8,9 @@ use Rattle.std.proofs.lemmas.List.Elements.{All-nil, All-cons}
 use Rattle.sdbt_base.specs.Told.{Gave, Got, IsAtEnd}
 use Rattle.text_lines.specs.Lines.{lines_of}
 use Rattle.script_lang.specs.Replies.{line_of}
-use Rattle.script_lang.specs.Arrays.{in_limits, needs_room, step}
+use Rattle.script_lang.specs.Arrays.{in_limits, needs_room, step, step_if}
 use Rattle.sdbt_base.specs.Arrays.{State, closed}
-use Rattle.script_lang.specs.Answers.{Answers, answer, is_unbuilt}
+use Rattle.script_lang.specs.Answers.{Answers, Counted, answer, served, is_unbuilt}
 use Rattle.script_lang.specs.Commands.{Command}
 use Rattle.script_lang.specs.Commands.{Format, Mount, Read, Write, Trim, Commit, Drop, Erase, Seize}
 use Rattle.script_lang.specs.Commands as commands
@@ -84,19 +84,31 @@ and_false true = refl
 and_false false = refl
 
 -- on a medium that is not full no reply says that it is
-answer_room : (state : State) (command : Command) → (answer false state command).0 ≡ Full → ⊥
-answer_room state command e = elim (cases_Bool (is_unbuilt state command)) [
+step_if_room : (state : State) (command : Command) → (step_if false state command).0 ≡ Full → ⊥
+step_if_room state command e = let f = rw (and_false (needs_room state command)) at e in step_room state.device state.session command f
+
+served_room : (counted : Counted) (state : State) (command : Command) → (served false counted state command).0 ≡ Full → ⊥
+served_room counted state Seize e = cc
+served_room counted state (Format blocks order) e = step_if_room state (Format blocks order) e
+served_room counted state Mount e = step_if_room state Mount e
+served_room counted state (Read block) e = step_if_room state (Read block) e
+served_room counted state (Write block content) e = step_if_room state (Write block content) e
+served_room counted state (Trim block) e = step_if_room state (Trim block) e
+served_room counted state Commit e = step_if_room state Commit e
+served_room counted state Drop e = step_if_room state Drop e
+served_room counted state Erase e = step_if_room state Erase e
+served_room counted state commands.Stat e = step_if_room state commands.Stat e
+
+answer_room : (counted : Counted) (state : State) (command : Command) → (answer false counted state command).0 ≡ Full → ⊥
+answer_room counted state command e = elim (cases_Bool (is_unbuilt state command)) [
   | inl holds ↦ let f = rw holds at e in cc
-  | inr fails ↦
-      let f = rw fails at e in
-      let g = rw (and_false (needs_room state command)) at f in
-      step_room state.device state.session command g
+  | inr fails ↦ let f = rw fails at e in served_room counted state command f
 ]
 
 turn_room : (full : Bool) (old : State) (pages : ℕ) (line : List ℕ) (reply : Reply) (new : State) (pages_now : ℕ) → full ≡ false → TurnIf full old pages line reply new pages_now → reply ≢ Full
-turn_room full old pages line reply new pages_now room (inl (command, spells, is, added)) e =
-    answer_room old command
-    (subst (λ (b : Bool). (answer b old command).0 ≡ Full) room (sym (ap (λ (p : Reply × State). p.0) is) ∙ e))
+turn_room full old pages line reply new pages_now room (inl (command, spells, (counted, is), added)) e =
+    answer_room counted old command
+    (subst (λ (b : Bool). (answer b counted old command).0 ≡ Full) room (sym (ap (λ (p : Reply × State). p.0) is) ∙ e))
 turn_room full old pages line reply new pages_now room (inr (bad, is, same, added)) e = cc
 
 -- with a page for each line

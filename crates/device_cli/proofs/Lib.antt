@@ -3,6 +3,7 @@ pub mod Choices
 pub mod RunLaws
 pub mod PageLaws
 pub mod PassLaws
+pub mod SeenLaws
 pub mod RepliedLaws
 pub mod Serving
 pub mod Reading
@@ -12,5 +13,7 @@ pub mod ScriptLaws
 pub mod CompleteLaws
 pub mod ServedLaws
 pub mod ServingLaws
+pub mod SeizingLaws
+pub mod MappedLaws
 pub mod ReachingLaws
 pub mod CheckLaws

@@ -72,7 +72,7 @@ Ran-other tells old new ending left left_now a b other r = let p = r.handled.rep
 Answered-part : (old new : World) (stop : DeviceStop) (entry : State) (lines : List (List ℕ)) (replies : List Reply) (part other : List ℕ)
     → Answered old new (Err (stops.Device stop)) entry lines replies part → Answered old new (Err (stops.Device stop)) entry lines replies other
 Answered-part old new stop entry lines replies part other f =
-    record { now = f.now; pages = f.pages; answers = f.answers; ends = f.ends; near = f.near; ahead = f.ahead; is_ahead = f.is_ahead; marks = f.marks; are = f.are; made = f.made }
+    record { now = f.now; pages = f.pages; answers = f.answers; seen = f.seen; ends = f.ends; near = f.near; ahead = f.ahead; is_ahead = f.is_ahead; marks = f.marks; are = f.are; made = f.made }
 
 -- a stop of the device, and then its last line
 pub Ran-last : (tells : Type 0) (old new : World) (stop : DeviceStop) (left left_now a b c : Option (List ℕ))
@@ -157,6 +157,7 @@ Ran-refused tells old new stop left written which later same still sound = recor
         now = entry;
         pages = old.head;
         answers = (refl, refl);
+        seen = (refl, refl);
         ends = sound told entry rep;
         near = none_added stop which;
         ahead = [];

@@ -5,15 +5,15 @@ use Rattle.std.proofs.lemmas.Grind.{flat_map-append, common_steps}
 use Rattle.std.proofs.lemmas.List.{append-nil}
 use Rattle.std.proofs.lemmas.List.Elements.{All-nil, All-cons, All-append, All-weaker}
 use Rattle.platform.specs.Image.{Image}
-use Rattle.platform.specs.History.{During, Turns}
-use Rattle.platform.proofs.Moments.{LeavesOnly-now, During-now, During-start, Turns-not}
+use Rattle.platform.specs.History.{During, Turns, moment}
+use Rattle.platform.proofs.Moments.{LeavesOnly-now, During-now, During-start, Turns-not, Extends-refl}
 use Rattle.page_store.proofs.StandsLaws.{one_device, stands_leaves}
 use Rattle.sdbt_base.proofs.ToldLaws.{Got-nothing, Got-then}
 use Rattle.script_lang.specs.Grammar.{Spells, IsBad}
 use Rattle.script_lang.specs.Replies.{line_of}
 use Rattle.script_lang.specs.Commands.{Command}
 use Rattle.sdbt_base.specs.Arrays.{State, Device, closed}
-use Rattle.script_lang.specs.Answers.{Turn, answer}
+use Rattle.script_lang.specs.Answers.{Turn, answer, none_counted}
 use Rattle.script_lang.specs.Replies.{Reply}
 use Rattle.script_lang.specs.Replies.{Full, Bad}
 use Rattle.device_core.specs.Leaf.{IsServedImage}
@@ -26,6 +26,8 @@ use Rattle.device_cli.specs.Represents.{Stood, StandsFor}
 use Rattle.device_cli.specs.Added.{HasAdded}
 use Rattle.device_cli.specs.Pages.{pages_after, TurnIf, AnswersOn}
 use Rattle.device_cli.specs.Replied.{no_line, Ending, AreMany, IsBehind, IfNext, IsDamageAt, IsAhead, AreMarks, EndsIn, Answered, Replied, Handled, AsksForBlock, IsSound, IsOfBlock, IsWrongPage, Halts, Serves, HasPut}
+use Rattle.device_cli.specs.Seen.{Saw, SeenOn}
+use Rattle.device_cli.proofs.SeenLaws.{saw_plain, SeenOn-append, SeenOn-longer}
 use Rattle.device_cli.specs.declared.stop.Stop.{Stop}
 use Rattle.device_cli.specs.declared.stop.Stop.TheVariants as stops
 use Rattle.device_cli.specs.declared.stop.DeviceStop.{DeviceStop}
@@ -67,6 +69,7 @@ Replied-idle tells old new last later same still = record {
     now = entry;
     pages = new.head;
     answers = (refl, same);
+    seen = (refl, same);
     ends = (both.0, refl);
     near = (omega arith, omega arith);
     ahead = [];
@@ -89,6 +92,7 @@ Replied-nothing tells w last fits = Replied-idle tells w w last (IsLater-refl w 
 abbrev pub Turned : World → World → State → List ℕ → Reply → Type 0
 Turned old new entry line reply =
     (now : State) × TurnIf (is_full old) entry old.head line reply now new.head × Stood new now × Turns old.history new.history (Leaves entry.device) (Leaves now.device)
+    × Saw new.history (moment old.history) entry.device old.head reply
 
 -- the device after it was made
 made_turned : (old new : World) (entry now : State) → Stood old entry → Stood new now → Turns old.history new.history (Leaves entry.device) (Leaves now.device)
@@ -117,6 +121,7 @@ Replied-line tells old new last line reply later full turned = record {
         now = t.0;
         pages = new.head;
         answers = (t.0, new.head, t.1, (refl, refl));
+        seen = (t.4, t.0, new.head, t.1, (refl, refl));
         ends = (t.2, refl);
         near = (omega arith, omega arith);
         ahead = [];
@@ -147,6 +152,7 @@ Replied-part tells old new last line reply n later turned = record {
         now = entry;
         pages = old.head;
         answers = (refl, refl);
+        seen = (refl, refl);
         ends = (reply, t.0, (t.0, new.head, t.1, (refl, refl)), (n, refl), t.2.there.device);
         near = (later.rises, one_page (is_full old) entry old.head line reply t.0 new.head t.1);
         ahead = reply ∷ [];
@@ -188,8 +194,8 @@ halted_turned old new entry now line reply turn rep served turns = elim (made_st
 halted : (old new : World) (entry : State) (line : List ℕ) (command : Command) (stop : DeviceStop) → Spells line command → Stood old entry → IsServedImage new.history.present
     → Halts old new entry command stop → Halted old new entry line stop
 halted old new entry line command device.Platform spells rep served h =
-    let next = answer (is_full old) entry command in
-    halted_turned old new entry next.1 line next.0 (inl (command, spells, is_full old, refl)) rep served h
+    let next = answer (is_full old) none_counted entry command in
+    halted_turned old new entry next.1 line next.0 (inl (command, spells, is_full old, (none_counted, refl))) rep served h
 halted old new entry line command device.Tape spells rep served h = halted_still old new entry line device.Tape tt refl rep served h
 halted old new entry line command device.Ledger spells rep served h = halted_still old new entry line device.Ledger tt refl rep served h
 halted old new entry line command device.Memory spells rep served h = halted_still old new entry line device.Memory tt refl rep served h
@@ -216,6 +222,7 @@ Replied-stop tells old new line command stop spells later added damage served ha
         now = entry;
         pages = old.head;
         answers = (refl, refl);
+        seen = (refl, refl);
         ends = h.sound;
         near = added;
         ahead = h.ahead;
@@ -260,6 +267,12 @@ IsDamageAt-then tells image (Err (stops.Device device.Memory)) lines more replie
 IsDamageAt-then tells image (Err (stops.Device device.BadRoot)) lines more replies others same h = tt
 IsDamageAt-then tells image (Err (stops.Device (device.BadRecord addr))) lines more replies others same h =
     (IfNext-behind AsksForBlock lines more replies others same h.0, h.1)
+
+SeenOn-moved : (old middle new : World) (from : ℕ) (mid now : State) (pages pages_now : ℕ) (lines : List (List ℕ)) (replies : List Reply) → middle.capacity ≡ old.capacity → middle.head ≡ pages
+    → SeenOn middle.capacity new.history from mid middle.head lines replies now pages_now → SeenOn old.capacity new.history from mid pages lines replies now pages_now
+SeenOn-moved old middle new from mid now pages pages_now lines replies capacity head h =
+    subst (λ (c : ℕ). SeenOn c new.history from mid pages lines replies now pages_now) capacity
+    (subst (λ (n : ℕ). SeenOn middle.capacity new.history from mid n lines replies now pages_now) head h)
 
 -- what the second run answers, counted from the first one's start
 AnswersOn-moved : (old middle : World) (mid new : State) (pages pages_now : ℕ) (lines : List (List ℕ)) (replies : List Reply) → middle.capacity ≡ old.capacity → middle.head ≡ pages
@@ -313,6 +326,8 @@ Answered-then old mid new ending entry lines more replies others none part later
       now = q.now;
       pages = q.pages;
       answers = AnswersOn-append old.capacity entry old.head p.now p.pages q.now q.pages lines more replies others same p.answers more_answers;
+      seen = SeenOn-append old.capacity mid.history new.history (moment old.history) entry old.head p.now p.pages q.now q.pages lines more replies others q.made.passes.extends
+          p.made.passes.extends.later same p.seen (SeenOn-moved old mid new (moment mid.history) p.now q.now p.pages q.pages more others later.capacity p.ends.1 q.seen);
       near = q.near;
       ends = EndsIn-then old mid new ending entry p.now q.now lines more replies others part p.pages q.pages later.capacity p.ends.1 same p.answers q.ends;
       ahead = q.ahead;
@@ -385,6 +400,7 @@ Replied-longer tells old new last stop lines more put line p = record {
     now = first.now;
     pages = first.pages;
     answers = AnswersOn-longer old.capacity entry old.head first.now first.pages lines more p.replies first.answers;
+    seen = SeenOn-longer old.capacity new.history (moment old.history) entry old.head first.now first.pages lines more p.replies first.seen;
     near = first.near;
     ends = EndsIn-longer old new stop entry first.now lines more p.replies p.part first.pages first.ends;
     ahead = first.ahead;
@@ -434,9 +450,9 @@ Replied-cut : (tells : Type 0) (old new : World) (last : DeviceStop → List ℕ
     → Replied tells old new last (Ok tt) lines put → Replied tells old new last (Err stops.Source) lines put × Replied tells old new last (Err stops.Limit) lines put
 Replied-cut tells old new last lines put p = (
   stopped tells old new last stops.Source lines put p p.behind p.many tt
-      (λ entry f. record { now = f.now; pages = f.pages; answers = f.answers; ends = f.ends; near = f.near; ahead = f.ahead; is_ahead = f.is_ahead; marks = f.marks; are = f.are; made = f.made }),
+      (λ entry f. record { now = f.now; pages = f.pages; answers = f.answers; seen = f.seen; ends = f.ends; near = f.near; ahead = f.ahead; is_ahead = f.is_ahead; marks = f.marks; are = f.are; made = f.made }),
   stopped tells old new last stops.Limit lines put p p.behind p.many tt
-      (λ entry f. record { now = f.now; pages = f.pages; answers = f.answers; ends = f.ends; near = f.near; ahead = f.ahead; is_ahead = f.is_ahead; marks = f.marks; are = f.are; made = f.made }),
+      (λ entry f. record { now = f.now; pages = f.pages; answers = f.answers; seen = f.seen; ends = f.ends; near = f.near; ahead = f.ahead; is_ahead = f.is_ahead; marks = f.marks; are = f.are; made = f.made }),
 )
 
 pub Handled-cut : (tells : Type 0) (old new : World) (last : DeviceStop → List ℕ) (lines : List (List ℕ)) (a b : Option (List ℕ))
@@ -464,13 +480,15 @@ turned_bad w entry line bad rep = (
   inr (bad, refl, refl, refl),
   rep,
   Turns-not w.history w.history (Leaves entry.device) (Leaves entry.device) (During-start w.history (Leaves entry.device) (stands_leaves w.history.present _ rep.there.device)),
+  saw_plain w.history w.history entry.device w.head Bad (Extends-refl w.history) (λ told nodes blocks e. cc),
 )
 
 -- a command's line
 pub turned_command : (old new : World) (entry : State) (line : List ℕ) (command : Command) (reply : Reply) → Spells line command
-    → IsServedImage new.history.present → new.head ≡ pages_after entry command reply old.head → Serves old new entry command (Ok reply) → Turned old new entry line reply
-turned_command old new entry line command reply spells served pages (now, is, rep, turns) =
-    (now, inl (command, spells, is, pages), record { there = rep; served = served }, turns)
+    → IsServedImage new.history.present → new.head ≡ pages_after entry command reply old.head → Saw new.history (moment old.history) entry.device old.head reply
+    → Serves old new entry command (Ok reply) → Turned old new entry line reply
+turned_command old new entry line command reply spells served pages saw (now, is, rep, turns) =
+    (now, inl (command, spells, is, pages), record { there = rep; served = served }, turns, saw)
 
 -- a line that the device stopped at
 pub Handled-stop : (tells : Type 0) (old new : World) (line : List ℕ) (command : Command) (stop : DeviceStop) (written : Option (List ℕ)) → Spells line command

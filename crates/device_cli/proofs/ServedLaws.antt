@@ -22,7 +22,7 @@ use Rattle.script_lang.specs.Replies.{Formatted, Mounted, Content, Done, Committ
 use Rattle.script_lang.specs.Replies as replies
 use Rattle.sdbt_base.specs.Arrays.{Device, Session as OpenSession, State, new_device, session_on, committed, written, unmapped}
 use Rattle.script_lang.specs.Arrays.{content_reply, in_limits}
-use Rattle.script_lang.specs.Answers.{answer}
+use Rattle.script_lang.specs.Answers.{answer, none_counted}
 use Rattle.device_cli.specs.World.{World, is_full}
 use Rattle.device_cli.specs.Replied.{Serves, Halts, IsSound}
 use Rattle.device_course.specs.States.{IsSessionOf}
@@ -93,16 +93,16 @@ pub leaves_still : (old new : World) (entry : State) → Represents old entry �
 leaves_still old new entry rep during = stands_during old.history new.history _ rep.device during
 
 -- a reply of a call that left the cell
-pub serves_still : (old new : World) (entry now : State) (command : Command) (reply : Reply) → Represents old entry → (reply, now) ≡ answer (is_full old) entry command → Represents new now
+pub serves_still : (old new : World) (entry now : State) (command : Command) (reply : Reply) → Represents old entry → (reply, now) ≡ answer (is_full old) none_counted entry command → Represents new now
     → During old.history new.history (λ image. image.cell ≡ old.history.present.cell) → Serves old new entry command (Ok reply)
 serves_still old new entry now command reply rep is after during =
-    (now, is, after, Turns-not old.history new.history (Leaves entry.device) (Leaves now.device) (leaves_still old new entry rep during))
+    (now, (none_counted, is), after, Turns-not old.history new.history (Leaves entry.device) (Leaves now.device) (leaves_still old new entry rep during))
 
 -- a fault of a call that left the cell
 pub halts_still : (old new : World) (entry : State) (command : Command) (stop : DeviceStop) → IsSound stop → Represents old entry
     → During old.history new.history (λ image. image.cell ≡ old.history.present.cell) → Halts old new entry command stop
 halts_still old new entry command device.Platform sound rep during =
-    Turns-not old.history new.history (Leaves entry.device) (Leaves (answer (is_full old) entry command).1.device) (leaves_still old new entry rep during)
+    Turns-not old.history new.history (Leaves entry.device) (Leaves (answer (is_full old) none_counted entry command).1.device) (leaves_still old new entry rep during)
 halts_still old new entry command device.Tape sound rep during = leaves_still old new entry rep during
 halts_still old new entry command device.Ledger sound rep during = leaves_still old new entry rep during
 halts_still old new entry command device.Memory sound rep during = leaves_still old new entry rep during
@@ -112,7 +112,7 @@ halts_still old new entry command (device.BadRecord addr) sound rep during = abs
 -- a block past the device's, at a call that left the array and the cell
 pub serves_range : (old new : World) (session now : Session) (entry : State) (command : Command) (block : ℕ) → old.session ≡ Some session → new.session ≡ Some now → Represents old entry
     → ((d : Device) (t : OpenSession) → Holds session old.history.present d t.contents → Holds now new.history.present d t.contents) → is_touched now ≡ is_touched session → session.root.blocks ≤ block
-    → ((d : Device) (t : OpenSession) → d.blocks ≤ block → (Range, at d t) ≡ answer (is_full old) (at d t) command)
+    → ((d : Device) (t : OpenSession) → d.blocks ≤ block → (Range, at d t) ≡ answer (is_full old) none_counted (at d t) command)
     → During old.history new.history (λ image. image.cell ≡ old.history.present.cell) → Serves old new entry command (Ok Range)
 serves_range old new session now entry command block taken going rep kept same past gives during =
     with_session old session entry taken rep (λ state. Serves old new state command (Ok Range))
@@ -138,27 +138,27 @@ is_full_false w other = elim (eqb_tells w.head w.capacity) [
 ]
 
 -- replies without a session
-pub gives_unmounted_read : (full : Bool) (device : Option Device) (block : ℕ) → (Unmounted, closed device) ≡ answer full (closed device) (Read block)
+pub gives_unmounted_read : (full : Bool) (device : Option Device) (block : ℕ) → (Unmounted, closed device) ≡ answer full none_counted (closed device) (Read block)
 gives_unmounted_read full None block = refl
 gives_unmounted_read full (Some d) block = refl
 
-pub gives_unmounted_write : (full : Bool) (device : Option Device) (block : ℕ) (bytes : List ℕ) → (Unmounted, closed device) ≡ answer full (closed device) (Write block bytes)
+pub gives_unmounted_write : (full : Bool) (device : Option Device) (block : ℕ) (bytes : List ℕ) → (Unmounted, closed device) ≡ answer full none_counted (closed device) (Write block bytes)
 gives_unmounted_write full None block bytes = refl
 gives_unmounted_write full (Some d) block bytes = refl
 
-pub gives_unmounted_trim : (full : Bool) (device : Option Device) (block : ℕ) → (Unmounted, closed device) ≡ answer full (closed device) (Trim block)
+pub gives_unmounted_trim : (full : Bool) (device : Option Device) (block : ℕ) → (Unmounted, closed device) ≡ answer full none_counted (closed device) (Trim block)
 gives_unmounted_trim full None block = refl
 gives_unmounted_trim full (Some d) block = refl
 
-pub gives_unmounted_commit : (full : Bool) (device : Option Device) → (Unmounted, closed device) ≡ answer full (closed device) Commit
+pub gives_unmounted_commit : (full : Bool) (device : Option Device) → (Unmounted, closed device) ≡ answer full none_counted (closed device) Commit
 gives_unmounted_commit full None = refl
 gives_unmounted_commit full (Some d) = refl
 
-pub gives_unmounted_drop : (full : Bool) (device : Option Device) → (Unmounted, closed device) ≡ answer full (closed device) Drop
+pub gives_unmounted_drop : (full : Bool) (device : Option Device) → (Unmounted, closed device) ≡ answer full none_counted (closed device) Drop
 gives_unmounted_drop full None = refl
 gives_unmounted_drop full (Some d) = refl
 
-pub gives_unmounted_stat : (full : Bool) (device : Option Device) → (Unmounted, closed device) ≡ answer full (closed device) commands.Stat
+pub gives_unmounted_stat : (full : Bool) (device : Option Device) → (Unmounted, closed device) ≡ answer full none_counted (closed device) commands.Stat
 gives_unmounted_stat full None = refl
 gives_unmounted_stat full (Some d) = refl
 
@@ -170,51 +170,51 @@ above block blocks h = grind (arith, common_steps)
 
 -- and with one
 pub gives_content : (full : Bool) (d : Device) (t : OpenSession) (block : ℕ) (content : List ℕ) → block < d.blocks → content ≡ content_of t.contents block
-    → (content_reply content, at d t) ≡ answer full (at d t) (Read block)
+    → (content_reply content, at d t) ≡ answer full none_counted (at d t) (Read block)
 gives_content full d t block content within is = rw (below block d.blocks within) (ap (λ (c : List ℕ). (content_reply c, at d t)) is)
 
-pub gives_read_range : (full : Bool) (d : Device) (t : OpenSession) (block : ℕ) → d.blocks ≤ block → (Range, at d t) ≡ answer full (at d t) (Read block)
+pub gives_read_range : (full : Bool) (d : Device) (t : OpenSession) (block : ℕ) → d.blocks ≤ block → (Range, at d t) ≡ answer full none_counted (at d t) (Read block)
 gives_read_range full d t block past = rw (above block d.blocks past) refl
 
 pub gives_written : (full : Bool) (d : Device) (t : OpenSession) (block : ℕ) (bytes : List ℕ) → full ≡ false → block < d.blocks
-    → (Done, at d (written t block bytes)) ≡ answer full (at d t) (Write block bytes)
+    → (Done, at d (written t block bytes)) ≡ answer full none_counted (at d t) (Write block bytes)
 gives_written full d t block bytes room within = rw (below block d.blocks within, room) refl
 
-pub gives_write_range : (full : Bool) (d : Device) (t : OpenSession) (block : ℕ) (bytes : List ℕ) → d.blocks ≤ block → (Range, at d t) ≡ answer full (at d t) (Write block bytes)
+pub gives_write_range : (full : Bool) (d : Device) (t : OpenSession) (block : ℕ) (bytes : List ℕ) → d.blocks ≤ block → (Range, at d t) ≡ answer full none_counted (at d t) (Write block bytes)
 gives_write_range full d t block bytes past = rw (above block d.blocks past) refl
 
-pub gives_write_full : (full : Bool) (d : Device) (t : OpenSession) (block : ℕ) (bytes : List ℕ) → full ≡ true → block < d.blocks → (Full, at d t) ≡ answer full (at d t) (Write block bytes)
+pub gives_write_full : (full : Bool) (d : Device) (t : OpenSession) (block : ℕ) (bytes : List ℕ) → full ≡ true → block < d.blocks → (Full, at d t) ≡ answer full none_counted (at d t) (Write block bytes)
 gives_write_full full d t block bytes none within = rw (below block d.blocks within, none) refl
 
-pub gives_trimmed : (full : Bool) (d : Device) (t : OpenSession) (block : ℕ) → block < d.blocks → (Done, at d (unmapped t block)) ≡ answer full (at d t) (Trim block)
+pub gives_trimmed : (full : Bool) (d : Device) (t : OpenSession) (block : ℕ) → block < d.blocks → (Done, at d (unmapped t block)) ≡ answer full none_counted (at d t) (Trim block)
 gives_trimmed full d t block within = rw (below block d.blocks within) refl
 
-pub gives_trim_range : (full : Bool) (d : Device) (t : OpenSession) (block : ℕ) → d.blocks ≤ block → (Range, at d t) ≡ answer full (at d t) (Trim block)
+pub gives_trim_range : (full : Bool) (d : Device) (t : OpenSession) (block : ℕ) → d.blocks ≤ block → (Range, at d t) ≡ answer full none_counted (at d t) (Trim block)
 gives_trim_range full d t block past = rw (above block d.blocks past) refl
 
 pub gives_raised : (full : Bool) (d : Device) (t : OpenSession) → full ≡ false → t.touched ≡ true
-    → (Committed (d.number + 1), at (committed d t) (session_on (committed d t))) ≡ answer full (at d t) Commit
+    → (Committed (d.number + 1), at (committed d t) (session_on (committed d t))) ≡ answer full none_counted (at d t) Commit
 gives_raised full d t room touched = rw (touched, room) refl
 
-pub gives_idle : (full : Bool) (d : Device) (t : OpenSession) → t.touched ≡ false → (Committed d.number, at d t) ≡ answer full (at d t) Commit
+pub gives_idle : (full : Bool) (d : Device) (t : OpenSession) → t.touched ≡ false → (Committed d.number, at d t) ≡ answer full none_counted (at d t) Commit
 gives_idle full d t idle = rw idle refl
 
-pub gives_commit_full : (full : Bool) (d : Device) (t : OpenSession) → full ≡ true → t.touched ≡ true → (Full, at d t) ≡ answer full (at d t) Commit
+pub gives_commit_full : (full : Bool) (d : Device) (t : OpenSession) → full ≡ true → t.touched ≡ true → (Full, at d t) ≡ answer full none_counted (at d t) Commit
 gives_commit_full full d t none touched = rw (touched, none) refl
 
 pub gives_stat : (full : Bool) (d : Device) (t : OpenSession) (mapped number : ℕ) → mapped ≡ map.len t.contents → number ≡ d.number
-    → (replies.Stat mapped number, at d t) ≡ answer full (at d t) commands.Stat
+    → (replies.Stat mapped number, at d t) ≡ answer full none_counted (at d t) commands.Stat
 gives_stat full d t mapped number m n = cc
 
 -- a device is there, or none, whatever the session
 abbrev pub on : Option Device → Option OpenSession → State
 on device there = record { device = device; session = there }
 
-pub gives_format_range : (full : Bool) (there : Option OpenSession) (blocks order : ℕ) → in_limits blocks order ≡ false → (Range, on None there) ≡ answer full (on None there) (Format blocks order)
+pub gives_format_range : (full : Bool) (there : Option OpenSession) (blocks order : ℕ) → in_limits blocks order ≡ false → (Range, on None there) ≡ answer full none_counted (on None there) (Format blocks order)
 gives_format_range full there blocks order out = rw out refl
 
 pub gives_format_unbuilt : (full : Bool) (there : Option OpenSession) (blocks order : ℕ) → in_limits blocks order ≡ true → (order ≢ 64) ⊎ (64 < blocks)
-    → (Unbuilt, on None there) ≡ answer full (on None there) (Format blocks order)
+    → (Unbuilt, on None there) ≡ answer full none_counted (on None there) (Format blocks order)
 gives_format_unbuilt full there blocks order within (inl other) =
     let e : (order == 64) ≡ false = grind (arith, common_steps) in rw (within, e) refl
 gives_format_unbuilt full there blocks order within (inr large) =
@@ -230,9 +230,9 @@ limits blocks least most =
     rw (a, b) refl
 
 pub gives_formatted : (full : Bool) (there : Option OpenSession) (blocks : ℕ) → full ≡ false → 1 ≤ blocks → blocks ≤ 64
-    → (Formatted, on (Some (new_device blocks 64)) there) ≡ answer full (on None there) (Format blocks 64)
+    → (Formatted, on (Some (new_device blocks 64)) there) ≡ answer full none_counted (on None there) (Format blocks 64)
 gives_formatted full there blocks room least most = rw (limits blocks least most, above 64 blocks most, room) refl
 
 pub gives_format_full : (full : Bool) (there : Option OpenSession) (blocks : ℕ) → full ≡ true → 1 ≤ blocks → blocks ≤ 64
-    → (Full, on None there) ≡ answer full (on None there) (Format blocks 64)
+    → (Full, on None there) ≡ answer full none_counted (on None there) (Format blocks 64)
 gives_format_full full there blocks none least most = rw (limits blocks least most, above 64 blocks most, none) refl

@@ -18,17 +18,17 @@ use Rattle.script_lang.specs.Commands.{Command}
 use Rattle.script_lang.specs.Commands.{Format, Mount, Read, Write, Trim, Commit, Drop, Erase, Seize}
 use Rattle.script_lang.specs.Commands as commands
 use Rattle.script_lang.specs.Replies.{Reply}
-use Rattle.script_lang.specs.Replies.{Formatted, Mounted, Done, Committed, Dropped, Erased, Unmounted, AlreadyMounted, NotEmpty, NoDevice, Range, Full, Unbuilt}
+use Rattle.script_lang.specs.Replies.{Formatted, Mounted, Done, Committed, Dropped, Erased, Unmounted, AlreadyMounted, NotEmpty, NoDevice, Range, Full, Unbuilt, Seized}
 use Rattle.script_lang.specs.Replies as replies
 use Rattle.sdbt_base.specs.Arrays.{Device, Session as OpenSession, State, new_device, session_on, committed, closed}
-use Rattle.script_lang.specs.Answers.{answer}
+use Rattle.script_lang.specs.Answers.{answer, none_counted}
 use Rattle.device_cli.specs.World.{World, is_full, world}
 use Rattle.device_cli.specs.Replied.{Serves, Halts}
 use Rattle.device_course.specs.States.{IsSessionOf}
 use Rattle.device_course.specs.Marks.{Leaves}
 use Rattle.device_cli.specs.Represents.{StandsFor, Represents}
 use Rattle.device_cli.specs.declared.stop.DeviceStop.TheVariants as device
-use Rattle.device_cli.proofs.ServedLaws.{at, on, with_session, without_session, holds_stands, has_session, has_none, serves_still, halts_still, is_full_true, is_full_false, gives_raised, gives_idle, gives_commit_full, gives_stat, gives_formatted, gives_format_full}
+use Rattle.device_cli.proofs.ServedLaws.{at, on, leaves_still, with_session, without_session, holds_stands, has_session, has_none, serves_still, halts_still, is_full_true, is_full_false, gives_raised, gives_idle, gives_commit_full, gives_stat, gives_formatted, gives_format_full}
 
 -- the cell stays at each moment
 abbrev pub KeepsCell : World → World → Type 0
@@ -42,23 +42,19 @@ keeps_same old new same =
 
 -- a reply that needed no call
 serves_at : (s now : Option Session) (h : History) (head capacity : ℕ) (entry next : State) (command : Command) (reply : Reply) → Represents (world s h head capacity) entry
-    → (reply, next) ≡ answer (is_full (world s h head capacity)) entry command → Represents (world now h head capacity) next
+    → (reply, next) ≡ answer (is_full (world s h head capacity)) none_counted entry command → Represents (world now h head capacity) next
     → Serves (world s h head capacity) (world now h head capacity) entry command (Ok reply)
 serves_at s now h head capacity entry next command reply rep is after =
-    (next, is, after, Turns-not h h (Leaves entry.device) (Leaves next.device) (During-start h (Leaves entry.device) (stands_leaves h.present _ rep.device)))
+    (next, (none_counted, is), after, Turns-not h h (Leaves entry.device) (Leaves next.device) (During-start h (Leaves entry.device) (stands_leaves h.present _ rep.device)))
 
 pub serves_unmounted : (s now : Option Session) (h : History) (head capacity : ℕ) (entry : State) (command : Command) → s ≡ None → now ≡ None
-    → ((full : Bool) (there : Option Device) → (Unmounted, closed there) ≡ answer full (closed there) command)
+    → ((full : Bool) (there : Option Device) → (Unmounted, closed there) ≡ answer full none_counted (closed there) command)
     → Represents (world s h head capacity) entry → Serves (world s h head capacity) (world now h head capacity) entry command (Ok Unmounted)
 serves_unmounted s now h head capacity entry command none none_now gives rep =
     let old = world s h head capacity in
     without_session old entry none rep (λ state. Serves old (world now h head capacity) state command (Ok Unmounted))
     (λ stands. serves_at s now h head capacity (closed entry.device) (closed entry.device) command Unmounted (has_none old entry.device none stands)
     (gives (is_full old) entry.device) (has_none (world now h head capacity) entry.device none_now stands))
-
-pub serves_seize : (s : Option Session) (h : History) (head capacity : ℕ) (entry : State) → Represents (world s h head capacity) entry
-    → Serves (world s h head capacity) (world s h head capacity) entry Seize (Ok Unbuilt)
-serves_seize s h head capacity entry rep = serves_at s s h head capacity entry entry Seize Unbuilt rep refl rep
 
 pub serves_drop : (s now : Option Session) (h : History) (head capacity : ℕ) (entry : State) (session : Session) → s ≡ Some session → now ≡ None
     → Represents (world s h head capacity) entry → Serves (world s h head capacity) (world now h head capacity) entry Drop (Ok Dropped)
@@ -131,7 +127,7 @@ serves_no_device old new entry none empty none_now image keeps rep =
 serves_erased_at : (old new : World) (there : Option Device) (opened : Option OpenSession) → old.history.present.cell ≢ None → StandsFor old.history.present there
     → Represents new (closed None) → Turns old.history new.history (Leaves there) (Leaves None) → Serves old new (on there opened) Erase (Ok Erased)
 serves_erased_at old new None opened full stands after turns = absurd (full stands)
-serves_erased_at old new (Some d) opened full stands after turns = (closed None, refl, after, turns)
+serves_erased_at old new (Some d) opened full stands after turns = (closed None, (none_counted, refl), after, turns)
 
 pub serves_erased : (old new : World) (entry : State) → old.history.present.cell ≢ None → new.session ≡ None → StandsFor new.history.present None
     → Turns old.history new.history (Leaves entry.device) (Leaves None) → Represents old entry → Serves old new entry Erase (Ok Erased)
@@ -149,13 +145,23 @@ serves_erase_none old new entry empty session image keeps rep =
     serves_none_at old new entry.device entry.session (none_stands old.history.present entry.device rep.device empty) rep
     (same_there old new entry session image rep) keeps
 
-erase_next : (full : Bool) (there : Option Device) (opened : Option OpenSession) → (answer full (on there opened) Erase).1.device ≡ None
+erase_next : (full : Bool) (there : Option Device) (opened : Option OpenSession) → (answer full none_counted (on there opened) Erase).1.device ≡ None
 erase_next full None opened = refl
 erase_next full (Some d) opened = refl
 
 pub halts_erase : (old new : World) (entry : State) → Turns old.history new.history (Leaves entry.device) (Leaves None) → Halts old new entry Erase device.Platform
 halts_erase old new entry turns =
     subst (λ (there : Option Device). Turns old.history new.history (Leaves entry.device) (Leaves there)) (sym (erase_next (is_full old) entry.device entry.session)) turns
+
+-- a seizure
+pub serves_seized : (old new : World) (entry : State) (pages nodes blocks : ℕ) → new.session ≡ old.session → new.history.present ≡ old.history.present
+    → KeepsCell old new → Represents old entry → Serves old new entry Seize (Ok (Seized pages nodes blocks))
+serves_seized old new entry pages nodes blocks session image keeps rep = (
+  entry,
+  (record { pages = pages; nodes = nodes; blocks = blocks }, refl),
+  same_there old new entry session image rep,
+  Turns-not old.history new.history (Leaves entry.device) (Leaves entry.device) (leaves_still old new entry rep keeps),
+)
 
 -- no session stands over no device
 no_session : (s : Option Session) (image : Image) (there : Option Device) (opened : Option OpenSession) → IsSessionOf s image there opened → there ≡ None → (s ≡ None) × (opened ≡ None)
@@ -182,7 +188,7 @@ serves_formatted old new entry blocks order empty session is least most room sta
     (with_nothing old entry empty rep (λ state. Serves old new state (Format blocks 64) (Ok Formatted))
     (λ none. (
       closed (Some (new_device blocks 64)),
-      gives_formatted (is_full old) None blocks (is_full_false old room) least most,
+      (none_counted, gives_formatted (is_full old) None blocks (is_full_false old room) least most),
       has_none new (Some (new_device blocks 64)) (session ∙ none) stands,
       turns None empty,
     )))
@@ -209,7 +215,7 @@ serves_not_empty old new entry blocks order full session image keeps rep =
 
 -- a format that is refused, after it was looked for a device
 pub serves_refused : (old new : World) (entry : State) (blocks order : ℕ) (reply given : Reply) → new.session ≡ old.session → new.history.present ≡ old.history.present
-    → KeepsCell old new → ((full : Bool) (opened : Option OpenSession) → (given, on None opened) ≡ answer full (on None opened) (Format blocks order))
+    → KeepsCell old new → ((full : Bool) (opened : Option OpenSession) → (given, on None opened) ≡ answer full none_counted (on None opened) (Format blocks order))
     → ((reply ≡ NotEmpty) × (old.history.present.cell ≢ None)) ⊎ ((reply ≡ given) × (old.history.present.cell ≡ None))
     → Represents old entry → Serves old new entry (Format blocks order) (Ok reply)
 serves_refused old new entry blocks order reply given session image keeps gives (inl (e, full)) rep =
@@ -228,7 +234,7 @@ pub halts_format : (old new : World) (entry : State) (blocks order : ℕ) → or
 halts_format old new entry blocks order is least most keeps turns rep =
     subst (λ (n : ℕ). Halts old new entry (Format blocks n) device.Platform) (sym is) (cases entry.device entry.session rep)
   where
-    made : (opened : Option OpenSession) → is_full old ≡ false → (answer (is_full old) (on None opened) (Format blocks 64)).1.device ≡ Some (new_device blocks 64)
+    made : (opened : Option OpenSession) → is_full old ≡ false → (answer (is_full old) none_counted (on None opened) (Format blocks 64)).1.device ≡ Some (new_device blocks 64)
     made opened room = sym (ap (λ (p : Reply × State). p.1.device) (gives_formatted (is_full old) opened blocks room least most))
 
     cases : (there : Option Device) (opened : Option OpenSession) → Represents old (on there opened) → Halts old new (on there opened) (Format blocks 64) device.Platform
@@ -274,7 +280,7 @@ serves_committed old new entry session now number reply some some_now is idle fu
           let has_now = subst (λ (k : ℕ). Holds now new.history.present (record d { number = k; contents = t.contents }) t.contents) e has in
           subst (λ (n : ℕ). Serves old new (at d t) Commit (Ok (Committed n))) (sym e) (
             at (committed d t) (session_on (committed d t)),
-            gives_raised (is_full old) d t room (sym same ∙ b),
+            (none_counted, gives_raised (is_full old) d t room (sym same ∙ b)),
             has_session new now (committed d t) (session_on (committed d t)) some_now has_now both.1,
             a.1,
           )
@@ -313,7 +319,7 @@ halts_commit old new entry session some busy room turns rep =
     (λ d t holds same. elim (cases_Bool (is_touched session)) [
       | inr idle ↦ absurd (busy idle)
       | inl touched ↦
-          let made : (answer (is_full old) (at d t) Commit).1.device ≡ Some (committed d t) =
+          let made : (answer (is_full old) none_counted (at d t) Commit).1.device ≡ Some (committed d t) =
           sym (ap (λ (p : Reply × State). p.1.device) (gives_raised (is_full old) d t (is_full_false old (room touched)) (sym same ∙ touched))) in
           subst (λ (there : Option Device). Turns old.history new.history (Leaves (Some d)) (Leaves there)) (sym made) (turns d t holds)
     ])

@@ -8,6 +8,7 @@ pub mod Ran
 pub mod Represents
 pub mod World
 pub mod Pages
+pub mod Seen
 pub mod Reaching
 pub mod Unserved
 pub mod Added

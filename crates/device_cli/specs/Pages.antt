@@ -3,7 +3,7 @@ use Rattle.std.specs.Prelude.{◌≡◌, ℕ, ◌+◌, ◌≤◌, Bool, true, fa
 use Rattle.script_lang.specs.Grammar.{Spells, IsBad}
 use Rattle.script_lang.specs.Arrays.{on_session}
 use Rattle.sdbt_base.specs.Arrays.{State}
-use Rattle.script_lang.specs.Answers.{answer}
+use Rattle.script_lang.specs.Answers.{IsAnswer}
 use Rattle.script_lang.specs.Commands.{Command}
 use Rattle.script_lang.specs.Commands.{Format, Mount, Read, Write, Trim, Commit, Drop, Erase, Stat, Seize}
 use Rattle.script_lang.specs.Replies.{Reply}
@@ -51,7 +51,7 @@ IsOneMore pages now = (pages ≤ now) × (now ≤ pages + 1)
 -- so many pages
 abbrev pub TurnIf : Bool → State → ℕ → List ℕ → Reply → State → ℕ → Type 0
 TurnIf full old pages line reply new pages_now =
-    ((command : Command) × Spells line command × ((reply, new) ≡ answer full old command) × (pages_now ≡ pages_after old command reply pages))
+    ((command : Command) × Spells line command × IsAnswer full old command reply new × (pages_now ≡ pages_after old command reply pages))
     ⊎ (IsBad line × (reply ≡ Bad) × (new ≡ old) × (pages_now ≡ pages))
 
 -- these replies belong to the first of these lines, as many as there are replies, on a medium that has room for `capacity`

@@ -4,6 +4,7 @@ use Rattle.sdbt_base.specs.Arrays.{State}
 use Rattle.sdbt_base.specs.declared.sinks.Sink.{Ghosts as SinkGhosts}
 use Rattle.sdbt_base.specs.declared.tapes.Tape.{Ghosts as TapeGhosts}
 use Rattle.platform.specs.Image.{Image}
+use Rattle.platform.specs.History.{moment}
 use Rattle.platform.specs.declared.platforms.Platform.{Ghosts as PlatformGhosts}
 use Rattle.script_lang.specs.Commands.{Command}
 use Rattle.script_lang.specs.declared.replies.Reply.{Reply as Given}
@@ -13,6 +14,7 @@ use Rattle.device_cli.specs.Pages.{pages_after}
 use Rattle.device_cli.specs.Replied.{IsWrongPage, Serves, outcome}
 use Rattle.device_cli.specs.Represents.{Represents}
 use Rattle.device_cli.specs.Run.{IsBlamedOn, counts}
+use Rattle.device_cli.specs.Seen.{Saw}
 use Rattle.device_cli.specs.World.{World, world_of}
 use Rattle.device_cli.specs.declared.desk.Desk.{Desk}
 use Rattle.device_cli.specs.declared.stop.Stop.{Stop}
@@ -55,6 +57,11 @@ ServesAny P desk now platform platform_now command result = (entry : State) → 
 abbrev pub AddsPages : {S : Type 0} → PlatformGhosts S → Desk → Desk → S → S → Command → Result Given DeviceStop → Type 0
 AddsPages P desk now platform platform_now command result = (entry : State) → Represents (world_at P desk platform) entry
     → IfOk (outcome result now.buffer) (λ reply. P.head platform_now ≡ pages_after entry command reply (P.head platform))
+
+-- and its reply belongs to a moment of the call, at which the image stands for the device of that state and has as many pages as before
+abbrev pub SeesAny : {S : Type 0} → PlatformGhosts S → Desk → Desk → S → S → Result Given DeviceStop → Type 0
+SeesAny P desk now platform platform_now result = (entry : State) → Represents (world_at P desk platform) entry
+    → IfOk (outcome result now.buffer) (Saw (P.history platform_now) (moment (P.history platform)) entry.device (P.head platform))
 
 -- a record that doesn't fit is one
 abbrev pub MeetsDamage : {X : Type 0} → Image → Result X DeviceStop → Type 0

@@ -12,6 +12,8 @@ use Rattle.script_lang.specs.Replies.{Full}
 use Rattle.device_cli.specs.World.{World}
 use Rattle.device_cli.specs.Represents.{StandsFor}
 use Rattle.device_cli.specs.Pages.{AnswersOn, IsOneMore}
+use Rattle.device_cli.specs.Seen.{SeenOn}
+use Rattle.platform.specs.History.{moment}
 use Rattle.device_cli.specs.Run.{TookUntil}
 use Rattle.device_cli.specs.Replied.{Ending, Handled, IsFirstPart, IfNext, AsksForBlock, IsWrongPage, HasMark, ExitsAt, damage_line}
 use Rattle.device_cli.specs.declared.stop.DeviceStop.{DeviceStop}
@@ -56,6 +58,9 @@ pub record AnswersFrom (old new : World) (status : ℕ) (entry : State) (lines :
   pub now : State
   pub pages : ℕ
   pub answers : AnswersOn old.capacity entry old.head lines replies now pages
+  -- a reply to a `seize` line counts what chains of opening come to at a moment of the run, at which the image stands for the device in the state at that
+  -- line; these moments ascend in the order of the lines
+  pub seen : SeenOn old.capacity new.history (moment old.history) entry old.head lines replies now pages
   pub ends : (status ≡ 0) ⊎ (status ≡ 3) ⊎ (status ≡ 12) → StandsFor new.history.present now.device × (new.head ≡ pages)
   pub next : status ≡ 4 → (reply : Reply) × (then : State) × AnswersOn old.capacity entry old.head lines (replies ++ reply ∷ []) then new.head
       × IsFirstPart (line_of reply) part × StandsFor new.history.present then.device

@@ -2,7 +2,7 @@
 use Rattle.std.specs.Prelude.{◌≡◌, ℕ, ◌≤◌, ◌⊎◌, List, [], ◌∷◌, ◌++◌, All, Option, None, Some, Result, Ok, Err, take, length, codes, flat_map}
 use Rattle.std.specs.Fmt.{decimal}
 use Rattle.platform.specs.Image.{Image}
-use Rattle.platform.specs.History.{During, Turns}
+use Rattle.platform.specs.History.{During, Turns, moment}
 use Rattle.root_codec.specs.declared.root.Root.{Root}
 use Rattle.root_codec.specs.RootRecord.{FitsRoot, root_bytes}
 use Rattle.device_core.specs.Damage.{IsDamaged}
@@ -11,7 +11,7 @@ use Rattle.script_lang.specs.Grammar.{Spells}
 use Rattle.script_lang.specs.Replies.{line_of, said}
 use Rattle.script_lang.specs.declared.replies.Reply.{Reply as Given}
 use Rattle.sdbt_base.specs.Arrays.{State, Device, closed}
-use Rattle.script_lang.specs.Answers.{IsMark, answer}
+use Rattle.script_lang.specs.Answers.{IsMark, IsAnswer, answer, none_counted}
 use Rattle.script_lang.specs.Commands.{Command}
 use Rattle.script_lang.specs.Commands as commands
 use Rattle.script_lang.specs.Replies.{Reply}
@@ -21,6 +21,7 @@ use Rattle.device_course.specs.Marks.{Leaves, mark_at, last_mark}
 use Rattle.device_course.specs.Course.{Made}
 use Rattle.device_cli.specs.Represents.{Represents, Stood, StandsFor}
 use Rattle.device_cli.specs.Pages.{AnswersOn}
+use Rattle.device_cli.specs.Seen.{SeenOn}
 use Rattle.device_cli.specs.Added.{IsNear}
 use Rattle.device_cli.specs.declared.stop.Stop.{Stop}
 use Rattle.device_cli.specs.declared.stop.Stop.TheVariants as stops
@@ -146,12 +147,13 @@ pub record AreMarks (entry : State) (lines : List (List ℕ)) (replies : List Re
   pub many : length marks ≡ length replies
   pub each : (k : ℕ) → k ≤ length replies → IsMark entry lines replies k (mark_at entry.device marks k)
 
--- the replies are those of the array, from the state at entry on; and the devices that they passed, with the one of a reply ahead, were made in their
--- order
+-- the replies are those of the array, from the state at entry on; those to `seize` lines belong to moments in the order of the lines; and the devices that they
+-- passed, with the one of a reply ahead, were made in their order
 pub record Answered (old new : World) (ending : Ending) (entry : State) (lines : List (List ℕ)) (replies : List Reply) (part : List ℕ) : Type 0 where
   pub now : State
   pub pages : ℕ
   pub answers : AnswersOn old.capacity entry old.head lines replies now pages
+  pub seen : SeenOn old.capacity new.history (moment old.history) entry old.head lines replies now pages
   pub ends : EndsIn old new entry lines replies part now pages ending
   pub near : IsNear ending pages new.head
   pub ahead : List Reply
@@ -188,7 +190,7 @@ outcome (Err stop) buffer = Err stop
 -- from which on it leaves the device after the command
 abbrev pub Halts : World → World → State → Command → DeviceStop → Type 0
 Halts old new entry command device.Platform =
-    Turns old.history new.history (Leaves entry.device) (Leaves (answer (is_full old) entry command).1.device)
+    Turns old.history new.history (Leaves entry.device) (Leaves (answer (is_full old) none_counted entry command).1.device)
 Halts old new entry command device.Tape = During old.history new.history (Leaves entry.device)
 Halts old new entry command device.Ledger = During old.history new.history (Leaves entry.device)
 Halts old new entry command device.Memory = During old.history new.history (Leaves entry.device)
@@ -199,7 +201,7 @@ Halts old new entry command (device.BadRecord addr) = ⊥
 -- free, and the state after it; or a stop without damage
 abbrev pub Serves : World → World → State → Command → Result Reply DeviceStop → Type 0
 Serves old new entry command (Ok reply) =
-    (now : State) × ((reply, now) ≡ answer (is_full old) entry command) × Represents new now
+    (now : State) × IsAnswer (is_full old) entry command reply now × Represents new now
     × Turns old.history new.history (Leaves entry.device) (Leaves now.device)
 Serves old new entry command (Err stop) = Halts old new entry command stop
 

@@ -8,6 +8,7 @@ ghost use Rattle.script_lang.specs.Arrays.{in_limits};
 ghost use Rattle.device_core.specs.Leaf.{IsServedImage};
 ghost use Rattle.device_cli.specs.Run.{counts, IsBlamed};
 ghost use Rattle.platform.specs.History.{During};
+ghost use Rattle.seizure.specs.Opened.{count_of_kind};
 ghost use Rattle.device_cli.specs.Replied.{IsOfBlock};
 
 use crate::entry::MOST_BLOCKS;
@@ -19,6 +20,7 @@ use device_core::{
 use platform::Platform;
 use script_lang::{Command, Reply, ReplyWriter, reply_with_content};
 use sdbt_base::{BLOCK, MAX_BLOCKS, MAX_ORDER, ROOT, Sink, Tape};
+use seizure::{Report, SeizeRefusal};
 use std::alloc::Global;
 
 /// What a run keeps between lines: the session, if there is one, and the buffers that each line uses again.
@@ -33,7 +35,7 @@ pub(crate) struct Desk {
 
 impl Desk {
     ghost use Rattle.device_cli.specs.Desk.{IsReady, Before, After};
-    ghost use Rattle.device_cli.specs.Parts.{AddsPages, Keeps, KeepsFrom, KeepsStill, MeetsDamage, ServesAny};
+    ghost use Rattle.device_cli.specs.Parts.{AddsPages, Keeps, KeepsFrom, KeepsStill, MeetsDamage, SeesAny, ServesAny};
 
     /// No session.
     pub(crate) fn new(alloc: Global) -> Desk
@@ -66,6 +68,7 @@ impl Desk {
         ensures pages { P.tells → AddsPages P.Platform self.old self.new platform.old platform.new (asked command.now self.old.buffer) result }
         ensures keeps { Keeps P.Platform T.Tape L.Sink self.old self.new platform.old platform.new tape.old tape.new ledger.old ledger.new result }
         ensures answered { P.tells → ServesAny P.Platform self.old self.new platform.old platform.new (asked command.now self.old.buffer) result }
+        ensures seen { P.tells → SeesAny P.Platform self.old self.new platform.old platform.new result }
     {
         match command {
             Command::Format { blocks, order } => {
@@ -79,7 +82,7 @@ impl Desk {
             Command::Drop => self.give_up(platform),
             Command::Erase => self.erase(platform),
             Command::Stat => self.stat(platform),
-            Command::Seize => Ok(Reply::Unbuilt),
+            Command::Seize => self.seize(platform),
         }
     }
 
@@ -280,6 +283,25 @@ impl Desk {
         }
     }
 
+    /// Counts what an adversary would open now, who has the root record and every page.
+    fn seize<P: Platform>(&self, platform: &mut P) -> Result<Reply, DeviceStop>
+        requires { Before P.Platform self.now platform.old }
+        ensures after { After P.Platform self.now platform.old platform.new result }
+        ensures blame { IsBlamed (counts (P.faults platform.old) 0 0 0 0) (counts (P.faults platform.new) 0 0 0 0) result }
+        ensures damage { (addr : ℕ) → IsErrOf result (DeviceStop.BadRecord addr) → ⊥ }
+        ensures head { P.head platform.new ≡ P.head platform.old }
+        ensures keeps { KeepsStill P.Platform self.now self.now platform.old platform.new result }
+        ensures answered { P.tells → ServesAny P.Platform self.now self.now platform.old platform.new commands.Seize result }
+        ensures seen { P.tells → SeesAny P.Platform self.now self.now platform.old platform.new result }
+    {
+        match seizure::seize(self.alloc, platform) {
+            Ok(report) => Ok(reply_with_counts(&report)),
+            Err(SeizeRefusal::BadRoot) => Err(DeviceStop::BadRoot),
+            Err(SeizeRefusal::PlatformFault) => Err(DeviceStop::Platform),
+            Err(SeizeRefusal::Memory) => Err(DeviceStop::Memory),
+        }
+    }
+
     /// Ends the session, if there is one, and leaves nothing in its buffers.
     fn close(&mut self)
         ensures { self.new.session ≡ None }
@@ -305,6 +327,17 @@ impl Desk {
             }),
             None => Ok(Reply::Unmounted),
         }
+    }
+}
+
+/// The reply that gives what a seizure counted.
+fn reply_with_counts(report: &Report) -> Reply
+    ensures { result ≡ Reply.Seized report.now.pages (count_of_kind 2 report.now.opened) (count_of_kind 1 report.now.opened) }
+{
+    Reply::Seized {
+        pages: report.pages(),
+        nodes: report.nodes(),
+        blocks: report.blocks(),
     }
 }
 

@@ -17,6 +17,7 @@ ghost use Rattle.device_cli.specs.World.{world_of};
 ghost use Rattle.device_cli.specs.Represents.{StandsFor};
 ghost use Rattle.device_cli.specs.Ran.{AnswersScript, IsAmple, IsComplete};
 ghost use Rattle.device_cli.specs.Reaching.{DisclosesTree};
+ghost use Rattle.device_cli.specs.Seen.{SeizesMaps};
 ghost use Rattle.device_cli.specs.Unserved.{IsUnserved};
 ghost use Rattle.device_cli.specs.Run.{IsStatus, Took, NoneFell, NoneRose, counts};
 
@@ -86,6 +87,10 @@ pub fn run_main<P: Platform, T: Tape, I: Source, O: Sink, L: Sink>(
 
     // Chains of opening from the root key reach at each moment exactly the device's records, and what was deleted never.
     ensures discloses { DisclosesTree P.tells (T.drawn tape.old) (T.drawn tape.new) (P.history platform.old) (P.history platform.new) }
+
+    // Under the premises on keys a seizure counts at each moment exactly the blocks of the device's map: so the replies to `seize` lines do, which
+    // belong to such moments.
+    ensures seizes { SeizesMaps P.tells (T.drawn tape.old) (T.drawn tape.new) (P.history platform.old) (P.history platform.new) }
 
     // The ledger gets the entry of a certificate for each root record that comes into the cell, in their order, and behind them at most a part of one more.
     ensures certified { Certified P.tells (L.written ledger.old) (L.written ledger.new) (P.history platform.old) (P.history platform.new) (result ≡ 0) }

@@ -2,14 +2,14 @@
 use Rattle.std.proofs.Common.{◌≡◌, ℕ, Bool, List, [], ◌∷◌, ◌++◌, length, inl, inr, refl, subst, arith}
 use Rattle.script_lang.specs.Grammar.{Spells, IsBad}
 use Rattle.sdbt_base.specs.Arrays.{State}
-use Rattle.script_lang.specs.Answers.{Turn, Answers, answer}
+use Rattle.script_lang.specs.Answers.{Turn, Answers, IsAnswer}
 use Rattle.script_lang.specs.Commands.{Command}
 use Rattle.script_lang.specs.Replies.{Reply}
 use Rattle.script_lang.specs.Replies.{Bad}
 
 -- a command's line
 pub turn_of_command : (old new : State) (line : List ℕ) (command : Command) (full : Bool) (reply : Reply) → Spells line command
-    → (reply, new) ≡ answer full old command → Turn old line reply new
+    → IsAnswer full old command reply new → Turn old line reply new
 turn_of_command old new line command full reply spells e = inl (command, spells, full, e)
 
 -- a line outside the grammar

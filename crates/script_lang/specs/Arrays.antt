@@ -67,7 +67,7 @@ step state Drop = in_session state.device state.session (Unmounted, state) (λ d
 step state Erase = on_device state.device (NoDevice, state) (λ device. (Erased, record { device = None; session = None }))
 step state Stat = in_session state.device state.session (Unmounted, state) (λ device session.
     (replies.Stat (map.len session.contents) device.number, state))
--- a seizure is no matter of the array
+-- a seizure is no matter of the array: its lines are answered outside of it
 step state Seize = (Unbuilt, state)
 
 -- whether the command is one that is accepted and needs room on the medium

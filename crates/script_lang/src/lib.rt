@@ -11,9 +11,7 @@ mod replies;
 mod words;
 mod writing;
 
-pub use commands::{
-    Command, lines_spell_one_command, long_lines_are_bad, parse,
-};
+pub use commands::{Command, lines_spell_one_command, long_lines_are_bad, parse};
 pub use devices::{Contents, Device, Session};
 pub use machine::{Machine, reply_with_content};
 pub use reading::{read_reply, replies_are_determined};

@@ -15,6 +15,9 @@ use Rattle.device_core.proofs.MomentLaws.{one_look}
 use Rattle.device_cli.proofs.CheckLaws.{made_look, blame_wide, complete_check, so_bad, bad_line, image_stays}
 use Rattle.device_cli.specs.declared.checking.Finding.{Finding}
 use Rattle.device_cli.proofs.ReachingLaws.{discloses, fits}
+use Rattle.device_cli.proofs.MappedLaws.{seizes_maps}
+use Rattle.platform.proofs.Moments.{During-start, During-step}
+use Rattle.device_core.specs.Leaf.{IsServedImage}
 use Rattle.device_course.specs.States.{around}
 use Rattle.device_course.proofs.MadeLaws.{shut, made_start}
 use Rattle.device_cli.proofs.run_main.Goals as goal
@@ -112,6 +115,16 @@ returns-in-Err-clause-discloses g c =
     discloses P.tells old new _ _ (record { capacity = later.capacity; rises = later.rises; within = later.within }) c.run.ensures.keeps
     (made_by P.tells (world None old.history old.head old.capacity) ran.0 new.history new.head new.capacity (Err c.in-Err.stop) (g.I.Source.left c.args.input.now) (g.I.Source.left c.run.new.input)
     (g.O.Sink.written c.args.output.now) (g.O.Sink.written c.run.new.output) refl ran.1)
+
+pub returns-in-None-clause-seizes : goal.returns-in-None-clause-seizes
+returns-in-None-clause-seizes g c =
+    seizes_maps _ _ _ _ _ (returns-in-None-clause-discloses g c) (λ told served. During-start _ IsServedImage served)
+
+pub returns-in-Ok-clause-seizes : goal.returns-in-Ok-clause-seizes
+returns-in-Ok-clause-seizes g c = seizes_maps _ _ _ _ _ (returns-in-Ok-clause-discloses g c) c.in-Ok.ensures.keeps.serves
+
+pub returns-in-Err-clause-seizes : goal.returns-in-Err-clause-seizes
+returns-in-Err-clause-seizes g c = seizes_maps _ _ _ _ _ (returns-in-Err-clause-discloses g c) c.in-Err.ensures.keeps.serves
 
 pub returns-in-None-clause-certified : goal.returns-in-None-clause-certified
 returns-in-None-clause-certified g c = certified_start _ _ _ _
@@ -256,3 +269,9 @@ returns-in-Err-check-clause-fits g c told there stands served =
     fits P.tells old new (Unit {0}) (λ keys. Unit {0})
     (on_look _ _ _ None _ _ _ _ c.check.ensures.image (λ told. one_look _ _ (c.check.ensures.time told) (c.check.ensures.image told)) (λ told keys kept h. tt))
     (λ told device stands served. made_look old.history new.history device stands served (c.check.ensures.time told) (c.check.ensures.image told)) told there stands served
+
+pub returns-in-Ok-check-clause-seizes : goal.returns-in-Ok-check-clause-seizes
+returns-in-Ok-check-clause-seizes g c = seizes_maps _ _ _ _ _ (returns-in-Ok-check-clause-discloses g c) (λ told served. During-step _ _ IsServedImage (c.check.ensures.time told) served (subst IsServedImage (sym (c.check.ensures.image told)) served))
+
+pub returns-in-Err-check-clause-seizes : goal.returns-in-Err-check-clause-seizes
+returns-in-Err-check-clause-seizes g c = seizes_maps _ _ _ _ _ (returns-in-Err-check-clause-discloses g c) (λ told served. During-step _ _ IsServedImage (c.check.ensures.time told) served (subst IsServedImage (sym (c.check.ensures.image told)) served))

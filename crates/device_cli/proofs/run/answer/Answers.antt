@@ -52,7 +52,8 @@ returns-in-Ok-clause-handled g c text kept =
     Handled-line P.tells old new no_line text reply c.put_reply-in-Ok.result (written c.args.output.now) (written c.put_reply-in-Ok.new.output)
     later (full_as_said c.in-Ok.reply c.serve.new.self.buffer _ c.in-Ok.ensures.after.full)
     (λ told entry rep. turned_command old new entry text command reply (c.in-Some.ensures.found text kept)
-    (served_at _ _ (c.serve.ensures.keeps.serves told (c.requires.cell told))) (c.in-Ok.ensures.pages told entry rep.there) (c.in-Ok.ensures.answered told entry rep.there))
+    (served_at _ _ (c.serve.ensures.keeps.serves told (c.requires.cell told))) (c.in-Ok.ensures.pages told entry rep.there)
+    (c.in-Ok.ensures.seen told entry rep.there) (c.in-Ok.ensures.answered told entry rep.there))
     c.put_reply-in-Ok.ensures.put
 
 pub returns-in-Err-clause-handled : goal.returns-in-Err-clause-handled

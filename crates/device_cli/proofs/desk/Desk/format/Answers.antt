@@ -12,7 +12,7 @@ use Rattle.device_cli.specs.Replied.{Serves, Halts, outcome}
 use Rattle.device_cli.specs.Represents.{Represents}
 use Rattle.script_lang.specs.Arrays.{in_limits}
 use Rattle.script_lang.specs.Commands.{Format}
-use Rattle.script_lang.specs.Answers.{answer}
+use Rattle.script_lang.specs.Answers.{answer, none_counted}
 use Rattle.sdbt_base.specs.Arrays.{Session as OpenSession}
 use Rattle.device_cli.proofs.ServedLaws.{on, halts_still, gives_format_range, gives_format_unbuilt}
 use Rattle.device_cli.proofs.ServingLaws.{KeepsCell, serves_formatted, serves_format_full, serves_not_empty, serves_refused, halts_format}
@@ -30,7 +30,7 @@ use Rattle.device_cli.proofs.desk.Desk.format.Goals as goal
 refused_result : (old new : World) (entry : State) (blocks order : ℕ) (reply : Given) (result : Result Given DeviceStop) (buffer : List ℕ) (Risen : Type 0)
     → IfOk result (λ now. ((now ≡ given.NotEmpty) × (old.history.present.cell ≢ None)) ⊎ ((now ≡ reply) × (old.history.present.cell ≡ None)))
     → IfErr result (λ stop. (stop ≡ device.Platform) × Risen) → new.history.present ≡ old.history.present → KeepsCell old new
-    → ((full : Bool) (there : Option OpenSession) → (said reply buffer, on None there) ≡ answer full (on None there) (Format blocks order))
+    → ((full : Bool) (there : Option OpenSession) → (said reply buffer, on None there) ≡ answer full none_counted (on None there) (Format blocks order))
     → new.session ≡ old.session → Represents old entry → Serves old new entry (Format blocks order) (outcome result buffer)
 refused_result old new entry blocks order reply (Ok now) buffer Risen replied cause image keeps gives session rep =
     serves_refused old new entry blocks order (said now buffer) (said reply buffer) session image keeps gives
@@ -45,12 +45,12 @@ refused_result old new entry blocks order reply (Err stop) buffer Risen replied 
 gives_refused : (blocks order : ℕ) (reply : Given) (buffer : List ℕ) → (reply ≡ given.Range) ⊎ (reply ≡ given.Unbuilt)
     → (reply ≡ given.Range → in_limits blocks order ≡ false)
     → (reply ≡ given.Unbuilt → (in_limits blocks order ≡ true) × ((order ≢ 64) ⊎ (64 < blocks)))
-    → (full : Bool) (there : Option OpenSession) → (said reply buffer, on None there) ≡ answer full (on None there) (Format blocks order)
+    → (full : Bool) (there : Option OpenSession) → (said reply buffer, on None there) ≡ answer full none_counted (on None there) (Format blocks order)
 gives_refused blocks order reply buffer (inl e) range unbuilt full there =
-    subst (λ (r : Given). (said r buffer, on None there) ≡ answer full (on None there) (Format blocks order)) (sym e) (gives_format_range full there blocks order (range e))
+    subst (λ (r : Given). (said r buffer, on None there) ≡ answer full none_counted (on None there) (Format blocks order)) (sym e) (gives_format_range full there blocks order (range e))
 gives_refused blocks order reply buffer (inr e) range unbuilt full there =
     let both = unbuilt e in
-    subst (λ (r : Given). (said r buffer, on None there) ≡ answer full (on None there) (Format blocks order)) (sym e) (gives_format_unbuilt full there blocks order both.0 both.1)
+    subst (λ (r : Given). (said r buffer, on None there) ≡ answer full none_counted (on None there) (Format blocks order)) (sym e) (gives_format_unbuilt full there blocks order both.0 both.1)
 
 third : {X Y Z : Type 0} → (X → ⊥) → (Y → ⊥) → X ⊎ (Y ⊎ Z) → Z
 third not_one not_two (inl x) = absurd (not_one x)

@@ -1,12 +1,12 @@
 use Rattle.std.specs.Prelude.{IfOk}
 use Rattle.device_cli.specs.Pages.{pages_after}
-use Rattle.std.proofs.Common.{◌≡◌, Ok, sym, subst}
+use Rattle.std.proofs.Common.{◌≡◌, sym, subst, take}
 use Rattle.device_cli.specs.World.{World, world_of}
-use Rattle.script_lang.specs.Replies as replies
 use Rattle.device_cli.specs.Replied.{Serves, outcome}
 use Rattle.script_lang.specs.Commands.{asked}
 use Rattle.script_lang.specs.declared.commands.Command.{Command as Parsed}
-use Rattle.device_cli.proofs.ServingLaws.{serves_seize}
+use Rattle.device_cli.proofs.SeizingLaws.{saw_of}
+use Rattle.script_lang.specs.Commands as commands
 use Rattle.device_course.proofs.KeysLaws.{on_start, on_done, listed_none}
 use Rattle.device_cli.proofs.ReachingLaws.{on_ok}
 use Rattle.device_cli.proofs.desk.Desk.serve.Goals as goal
@@ -24,8 +24,10 @@ pub returns-in-Seize-clause-answered : goal.returns-in-Seize-clause-answered
 returns-in-Seize-clause-answered g c told entry rep =
     let P = g.P.Platform in
     let old : World = world_of P c.args.self.now.session c.args.platform.now in
-    subst (λ (command : Parsed). Serves old old entry (asked command c.args.self.now.buffer) (Ok replies.Unbuilt)) (sym c.in-Seize.is)
-    (serves_seize c.args.self.now.session (P.history c.args.platform.now) (P.head c.args.platform.now) (P.capacity c.args.platform.now) entry rep)
+    let new : World = world_of P c.args.self.now.session c.seize.new.platform in
+    let buffer = c.args.self.now.buffer in
+    subst (λ (command : Parsed). Serves old new entry (asked command buffer) (outcome c.seize.result buffer)) (sym c.in-Seize.is)
+    (c.seize.ensures.answered told entry rep)
 
 pub returns-in-Stat-clause-answered : goal.returns-in-Stat-clause-answered
 returns-in-Stat-clause-answered g c told entry rep =
@@ -49,7 +51,7 @@ pub returns-in-Stat-clause-keeps : goal.returns-in-Stat-clause-keeps
 returns-in-Stat-clause-keeps g c = on_done _ _ _ _ _ c.args.self.now.session _ _ _ _ _ _ (on_start _ _ _ c.args.self.now.session _ _) (λ going. going) (λ keys h. on_ok c.stat.result _ h)
 
 pub returns-in-Seize-clause-keeps : goal.returns-in-Seize-clause-keeps
-returns-in-Seize-clause-keeps g c = on_start _ _ _ c.args.self.now.session _ _
+returns-in-Seize-clause-keeps g c = c.seize.ensures.keeps (g.T.Tape.drawn c.args.tape.now) (g.L.Sink.written c.args.ledger.now)
 
 pub returns-in-Mount-clause-keeps : goal.returns-in-Mount-clause-keeps
 returns-in-Mount-clause-keeps g c = c.mount.ensures.keeps (g.T.Tape.drawn c.args.tape.now) (g.L.Sink.written c.args.ledger.now)
@@ -65,3 +67,57 @@ returns-in-Erase-clause-keeps g c = c.erase.ensures.keeps (g.T.Tape.drawn c.args
 
 pub returns-in-Write-clause-keeps : goal.returns-in-Write-clause-keeps
 returns-in-Write-clause-keeps g c = c.write.ensures.keeps (g.L.Sink.written c.args.ledger.now)
+
+pub returns-in-Format-clause-seen : goal.returns-in-Format-clause-seen
+returns-in-Format-clause-seen g c told entry rep =
+    let P = g.P.Platform in
+    saw_of (world_of P c.args.self.now.session c.args.platform.now) (world_of P c.format.new.self.session c.format.new.platform) entry (commands.Format c.in-Format.blocks c.in-Format.order) (outcome c.format.result c.format.new.self.buffer) (λ e. cc)
+    (c.format.ensures.answered told entry rep)
+
+pub returns-in-Mount-clause-seen : goal.returns-in-Mount-clause-seen
+returns-in-Mount-clause-seen g c told entry rep =
+    let P = g.P.Platform in
+    saw_of (world_of P c.args.self.now.session c.args.platform.now) (world_of P c.mount.new.self.session c.mount.new.platform) entry (commands.Mount) (outcome c.mount.result c.mount.new.self.buffer) (λ e. cc)
+    (c.mount.ensures.answered told entry rep)
+
+pub returns-in-Read-clause-seen : goal.returns-in-Read-clause-seen
+returns-in-Read-clause-seen g c told entry rep =
+    let P = g.P.Platform in
+    saw_of (world_of P c.args.self.now.session c.args.platform.now) (world_of P c.read.new.self.session c.read.new.platform) entry (commands.Read c.in-Read.block) (outcome c.read.result c.read.new.self.buffer) (λ e. cc)
+    (c.read.ensures.answered told entry rep)
+
+pub returns-in-Write-clause-seen : goal.returns-in-Write-clause-seen
+returns-in-Write-clause-seen g c told entry rep =
+    let P = g.P.Platform in
+    saw_of (world_of P c.args.self.now.session c.args.platform.now) (world_of P c.write.new.self.session c.write.new.platform) entry (commands.Write c.in-Write.block (take c.in-Write.count c.args.self.now.buffer)) (outcome c.write.result c.write.new.self.buffer) (λ e. cc)
+    (c.write.ensures.answered told entry rep)
+
+pub returns-in-Trim-clause-seen : goal.returns-in-Trim-clause-seen
+returns-in-Trim-clause-seen g c told entry rep =
+    let P = g.P.Platform in
+    saw_of (world_of P c.args.self.now.session c.args.platform.now) (world_of P c.trim.new.self.session c.trim.new.platform) entry (commands.Trim c.in-Trim.block) (outcome c.trim.result c.trim.new.self.buffer) (λ e. cc)
+    (c.trim.ensures.answered told entry rep)
+
+pub returns-in-Commit-clause-seen : goal.returns-in-Commit-clause-seen
+returns-in-Commit-clause-seen g c told entry rep =
+    let P = g.P.Platform in
+    saw_of (world_of P c.args.self.now.session c.args.platform.now) (world_of P c.commit.new.self.session c.commit.new.platform) entry (commands.Commit) (outcome c.commit.result c.commit.new.self.buffer) (λ e. cc)
+    (c.commit.ensures.answered told entry rep)
+
+pub returns-in-Erase-clause-seen : goal.returns-in-Erase-clause-seen
+returns-in-Erase-clause-seen g c told entry rep =
+    let P = g.P.Platform in
+    saw_of (world_of P c.args.self.now.session c.args.platform.now) (world_of P c.erase.new.self.session c.erase.new.platform) entry (commands.Erase) (outcome c.erase.result c.erase.new.self.buffer) (λ e. cc)
+    (c.erase.ensures.answered told entry rep)
+
+pub returns-in-Drop-clause-seen : goal.returns-in-Drop-clause-seen
+returns-in-Drop-clause-seen g c told entry rep =
+    let P = g.P.Platform in
+    saw_of (world_of P c.args.self.now.session c.args.platform.now) (world_of P c.give_up.new.self.session c.args.platform.now) entry commands.Drop (outcome c.give_up.result c.give_up.new.self.buffer) (λ e. cc)
+    (c.give_up.ensures.answered told entry rep)
+
+pub returns-in-Stat-clause-seen : goal.returns-in-Stat-clause-seen
+returns-in-Stat-clause-seen g c told entry rep =
+    let P = g.P.Platform in
+    let here : World = world_of P c.args.self.now.session c.args.platform.now in
+    saw_of here here entry commands.Stat (outcome c.stat.result c.args.self.now.buffer) (λ e. cc) (c.stat.ensures.answered told entry rep)
