@@ -26,10 +26,15 @@ fn check(
 ) -> Result<Ran, Memory> {
     let mut words = Vec::new(alloc);
     words.push(String::from_str(alloc, "check")?)?;
-    let mut given = Given::script("");
-    given.words = &words;
-    given.script = ledger;
-    given.step = step;
+    let given = Given {
+        words: &words,
+        script: ledger,
+        step,
+        failing_takes: &[],
+        failing_puts: &[],
+        failing_entries: &[],
+        failing_draws: &[],
+    };
     run_over(alloc, platform, &given)
 }
 
@@ -60,7 +65,11 @@ fn unstopped<'a>(name: &'a str, script: &'a str, next: &'a str, want: &'a str) -
 }
 
 /// Runs the scripts of a row, and checks the ledger.
-fn follow_row(rt: &(impl Abort + Alloc<A = Global>), row: &Row<'_>, step: usize) -> Result<(), Fail> {
+fn follow_row(
+    rt: &(impl Abort + Alloc<A = Global>),
+    row: &Row<'_>,
+    step: usize,
+) -> Result<(), Fail> {
     let alloc = rt.alloc();
     let mut platform = MemPlatform::blank(alloc, 262_144);
     let mut ledger = Line::new(alloc);
@@ -72,7 +81,11 @@ fn follow_row(rt: &(impl Abort + Alloc<A = Global>), row: &Row<'_>, step: usize)
     run_on(alloc, &mut platform, &Given::script(row.next), &mut ledger)?;
     let ran = check(alloc, &mut platform, ledger.bytes(), step)?;
     assert_eq!(rt; ran.output.bytes(), row.want.as_bytes(), "row {}", row.name);
-    let status = if row.want.starts_with("accepted") { 0 } else { 10 };
+    let status = if row.want.starts_with("accepted") {
+        0
+    } else {
+        10
+    };
     assert_eq!(rt; ran.status, status, "row {}", row.name);
     assert!(rt; ran.ledger.bytes().is_empty(), "row {}", row.name);
     Ok(())
@@ -82,17 +95,37 @@ fn follow_row(rt: &(impl Abort + Alloc<A = Global>), row: &Row<'_>, step: usize)
 fn own_ledgers(rt: HostRuntime) -> Result<(), Fail> {
     for row in [
         unstopped("blank", "mount\n", "", "refused no device\n"),
-        unstopped("one-block", ONE_BLOCK, "", "accepted commit 1 live 2 deleted 1\n"),
-        unstopped("overwrite", ONE_BLOCK, AGAIN, "accepted commit 2 live 2 deleted 3\n"),
+        unstopped(
+            "one-block",
+            ONE_BLOCK,
+            "",
+            "accepted commit 1 live 2 deleted 1\n",
+        ),
+        unstopped(
+            "overwrite",
+            ONE_BLOCK,
+            AGAIN,
+            "accepted commit 2 live 2 deleted 3\n",
+        ),
         unstopped(
             "overwrite-before-commit",
             "format 8 64\nmount\nwrite 3 61\nwrite 3 62\ncommit\n",
             "",
             "accepted commit 1 live 2 deleted 2\n",
         ),
-        unstopped("trim-committed", ONE_BLOCK, "mount\ntrim 3\ncommit\n", "accepted commit 2 live 1 deleted 3\n"),
+        unstopped(
+            "trim-committed",
+            ONE_BLOCK,
+            "mount\ntrim 3\ncommit\n",
+            "accepted commit 2 live 1 deleted 3\n",
+        ),
         unstopped("erase", ONE_BLOCK, "erase\n", "refused no device\n"),
-        unstopped("erase-and-format", ONE_BLOCK, "erase\nformat 8 64\n", "accepted commit 0 live 1 deleted 0\n"),
+        unstopped(
+            "erase-and-format",
+            ONE_BLOCK,
+            "erase\nformat 8 64\n",
+            "accepted commit 0 live 1 deleted 0\n",
+        ),
     ] {
         for step in [1, 20, 4_096] {
             follow_row(&rt, &row, step)?;
@@ -116,7 +149,12 @@ fn own_ledgers_of_stopped_runs(rt: HostRuntime) -> Result<(), Fail> {
         swapped.failures = &failures;
         follow_row(&rt, &swapped, 4_096)?;
     }
-    let mut torn = unstopped("failed-ends", ONE_BLOCK, AGAIN, "accepted commit 1 live 2 deleted 1\n");
+    let mut torn = unstopped(
+        "failed-ends",
+        ONE_BLOCK,
+        AGAIN,
+        "accepted commit 1 live 2 deleted 1\n",
+    );
     torn.failing_entries = &[(2, 10)];
     follow_row(&rt, &torn, 4_096)
 }
@@ -124,8 +162,10 @@ fn own_ledgers_of_stopped_runs(rt: HostRuntime) -> Result<(), Fail> {
 /// The certificates of `ONE_BLOCK`, and that of `AGAIN` without page 1 in what is gone.
 const FIRST: &str =
     r#"{"added":[[0,1]],"base":0,"commit":0,"gone":[],"head":1,"never":[],"root":0}"#;
+
 const ONE: &str =
     r#"{"added":[[1,0,3],[2,1,1]],"base":1,"commit":1,"gone":[0],"head":3,"never":[],"root":2}"#;
+
 const LEFT: &str =
     r#"{"added":[[3,0,3],[4,1,3]],"base":3,"commit":2,"gone":[2],"head":5,"never":[],"root":4}"#;
 
@@ -137,7 +177,11 @@ fn refused_ledgers(rt: HostRuntime) -> Result<(), Fail> {
         ("", [FIRST].as_slice(), "refused rule 10 value 1\n"),
         ("", [ONE].as_slice(), "refused rule 1 value 1\n"),
         (AGAIN, [FIRST, ONE].as_slice(), "refused rule 10 value 2\n"),
-        (AGAIN, [FIRST, ONE, LEFT].as_slice(), "refused rule 9 value 1\n"),
+        (
+            AGAIN,
+            [FIRST, ONE, LEFT].as_slice(),
+            "refused rule 9 value 1\n",
+        ),
     ] {
         let mut platform = MemPlatform::blank(alloc, 262_144);
         let mut ledger = Line::new(alloc);

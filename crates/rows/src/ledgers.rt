@@ -8,46 +8,306 @@ use std::test::Fail;
 /// The certificates of a device of order 4, that was made, got blocks 0 to 4, and lost block 0 and then block 1.
 const FIRST: &str =
     r#"{"added":[[0,1]],"base":0,"commit":0,"gone":[],"head":1,"never":[],"root":0}"#;
-const SPLIT: &str = r#"{"added":[[1,0,0],[2,0,1],[3,0,2],[4,0,3],[5,0,4],[6,1,1,2],[7,1,3,4,5],[8,1,6,7]],"base":1,"commit":1,"gone":[0],"head":9,"never":[],"root":8}"#;
-const LOAN: &str = r#"{"added":[[9,1,2,3],[10,1,4,5],[11,1,9,10]],"base":9,"commit":2,"gone":[1,6,7,8],"head":12,"never":[],"root":11}"#;
-const MERGE: &str = r#"{"added":[[12,1,3,4,5]],"base":12,"commit":3,"gone":[2,9,10,11],"head":13,"never":[],"root":12}"#;
+
+const SPLIT: &str =
+    r#"{"added":[[1,0,0],[2,0,1],[3,0,2],[4,0,3],[5,0,4],[6,1,1,2],[7,1,3,4,5],[8,1,6,7]],"base":1,"commit":1,"gone":[0],"head":9,"never":[],"root":8}"#;
+
+const LOAN: &str =
+    r#"{"added":[[9,1,2,3],[10,1,4,5],[11,1,9,10]],"base":9,"commit":2,"gone":[1,6,7,8],"head":12,"never":[],"root":11}"#;
+
+const MERGE: &str =
+    r#"{"added":[[12,1,3,4,5]],"base":12,"commit":3,"gone":[2,9,10,11],"head":13,"never":[],"root":12}"#;
 
 /// What the ledger of these four is found to be.
 const ACCEPTED: &str = "commit 3 live 4 deleted 9";
 
 /// The rule that is broken, and the value, with the greatest number in the place of each number in turn; 0 where the ledger is accepted all the same.
 const AT_MOST: [(u8, u64); 72] = [
-    (3, u64::MAX), (1, 1), (2, u64::MAX), (1, u64::MAX), (2, 1), (8, u64::MAX), (3, u64::MAX), (1, 2), (0, 0), (3, u64::MAX), (1, 2), (0, 0), (3, u64::MAX), (1, 2), (0, 0), (3, u64::MAX), (1, 2), (0, 0), (3, u64::MAX), (1, 2), (0, 0), (3, u64::MAX), (1, 2), (6, u64::MAX), (6, u64::MAX), (3, u64::MAX), (1, 2), (6, u64::MAX), (6, u64::MAX), (6, u64::MAX), (3, u64::MAX), (1, 2), (6, u64::MAX), (6, u64::MAX), (2, u64::MAX), (1, u64::MAX), (4, u64::MAX), (2, 9), (8, u64::MAX), (3, u64::MAX), (1, 3), (6, u64::MAX), (6, u64::MAX), (3, u64::MAX), (1, 3), (6, u64::MAX), (6, u64::MAX), (3, u64::MAX), (1, 3), (6, u64::MAX), (6, u64::MAX), (2, u64::MAX), (1, u64::MAX), (4, u64::MAX), (4, u64::MAX), (4, u64::MAX), (4, u64::MAX), (2, 12), (8, u64::MAX), (3, u64::MAX), (10, 3), (6, u64::MAX), (6, u64::MAX), (6, u64::MAX), (2, u64::MAX), (1, u64::MAX), (4, u64::MAX), (4, u64::MAX), (4, u64::MAX), (4, u64::MAX), (10, 3), (8, u64::MAX),
+    (3, u64::MAX),
+    (1, 1),
+    (2, u64::MAX),
+    (1, u64::MAX),
+    (2, 1),
+    (8, u64::MAX),
+    (3, u64::MAX),
+    (1, 2),
+    (0, 0),
+    (3, u64::MAX),
+    (1, 2),
+    (0, 0),
+    (3, u64::MAX),
+    (1, 2),
+    (0, 0),
+    (3, u64::MAX),
+    (1, 2),
+    (0, 0),
+    (3, u64::MAX),
+    (1, 2),
+    (0, 0),
+    (3, u64::MAX),
+    (1, 2),
+    (6, u64::MAX),
+    (6, u64::MAX),
+    (3, u64::MAX),
+    (1, 2),
+    (6, u64::MAX),
+    (6, u64::MAX),
+    (6, u64::MAX),
+    (3, u64::MAX),
+    (1, 2),
+    (6, u64::MAX),
+    (6, u64::MAX),
+    (2, u64::MAX),
+    (1, u64::MAX),
+    (4, u64::MAX),
+    (2, 9),
+    (8, u64::MAX),
+    (3, u64::MAX),
+    (1, 3),
+    (6, u64::MAX),
+    (6, u64::MAX),
+    (3, u64::MAX),
+    (1, 3),
+    (6, u64::MAX),
+    (6, u64::MAX),
+    (3, u64::MAX),
+    (1, 3),
+    (6, u64::MAX),
+    (6, u64::MAX),
+    (2, u64::MAX),
+    (1, u64::MAX),
+    (4, u64::MAX),
+    (4, u64::MAX),
+    (4, u64::MAX),
+    (4, u64::MAX),
+    (2, 12),
+    (8, u64::MAX),
+    (3, u64::MAX),
+    (10, 3),
+    (6, u64::MAX),
+    (6, u64::MAX),
+    (6, u64::MAX),
+    (2, u64::MAX),
+    (1, u64::MAX),
+    (4, u64::MAX),
+    (4, u64::MAX),
+    (4, u64::MAX),
+    (4, u64::MAX),
+    (10, 3),
+    (8, u64::MAX),
 ];
 
 /// The rule that is broken, and the value, with the next number in the place of each number in turn; 0 where the ledger is accepted all the same.
 const NEXT: [(u8, u64); 72] = [
-    (3, 1), (1, 1), (3, 0), (1, 1), (2, 1), (8, 1), (3, 2), (6, 0), (0, 0), (3, 3), (7, 1), (0, 0), (3, 4), (7, 2), (0, 0), (3, 5), (7, 3), (0, 0), (3, 6), (7, 4), (0, 0), (3, 7), (1, 2), (7, 2), (7, 3), (3, 8), (1, 2), (7, 4), (7, 5), (7, 6), (3, 9), (1, 2), (7, 7), (6, 8), (2, 2), (1, 2), (4, 1), (2, 9), (8, 9), (3, 10), (1, 3), (7, 3), (7, 4), (3, 11), (1, 3), (7, 5), (6, 6), (3, 12), (1, 3), (7, 10), (6, 11), (2, 10), (1, 3), (6, 2), (4, 7), (4, 8), (4, 9), (2, 12), (8, 12), (3, 13), (10, 3), (7, 4), (7, 5), (6, 6), (2, 13), (10, 3), (6, 3), (4, 10), (4, 11), (4, 12), (10, 3), (8, 13),
+    (3, 1),
+    (1, 1),
+    (3, 0),
+    (1, 1),
+    (2, 1),
+    (8, 1),
+    (3, 2),
+    (6, 0),
+    (0, 0),
+    (3, 3),
+    (7, 1),
+    (0, 0),
+    (3, 4),
+    (7, 2),
+    (0, 0),
+    (3, 5),
+    (7, 3),
+    (0, 0),
+    (3, 6),
+    (7, 4),
+    (0, 0),
+    (3, 7),
+    (1, 2),
+    (7, 2),
+    (7, 3),
+    (3, 8),
+    (1, 2),
+    (7, 4),
+    (7, 5),
+    (7, 6),
+    (3, 9),
+    (1, 2),
+    (7, 7),
+    (6, 8),
+    (2, 2),
+    (1, 2),
+    (4, 1),
+    (2, 9),
+    (8, 9),
+    (3, 10),
+    (1, 3),
+    (7, 3),
+    (7, 4),
+    (3, 11),
+    (1, 3),
+    (7, 5),
+    (6, 6),
+    (3, 12),
+    (1, 3),
+    (7, 10),
+    (6, 11),
+    (2, 10),
+    (1, 3),
+    (6, 2),
+    (4, 7),
+    (4, 8),
+    (4, 9),
+    (2, 12),
+    (8, 12),
+    (3, 13),
+    (10, 3),
+    (7, 4),
+    (7, 5),
+    (6, 6),
+    (2, 13),
+    (10, 3),
+    (6, 3),
+    (4, 10),
+    (4, 11),
+    (4, 12),
+    (10, 3),
+    (8, 13),
 ];
 
 /// The rule that is broken, and the value, with the number before, or 0 in the place of each number in turn; 0 where the ledger is accepted all the same.
 const FORMER: [(u8, u64); 72] = [
-    (0, 0), (1, 1), (0, 0), (0, 0), (3, 0), (0, 0), (3, 0), (0, 0), (0, 0), (3, 1), (0, 0), (0, 0), (3, 2), (0, 0), (0, 0), (3, 3), (0, 0), (0, 0), (3, 4), (0, 0), (0, 0), (3, 5), (1, 2), (6, 0), (7, 1), (3, 6), (1, 2), (7, 2), (7, 3), (7, 4), (3, 7), (1, 2), (7, 5), (7, 6), (2, 0), (4, 0), (0, 0), (3, 8), (8, 8), (3, 8), (1, 3), (6, 1), (7, 2), (3, 9), (1, 3), (7, 3), (7, 4), (3, 10), (1, 3), (6, 8), (7, 9), (2, 8), (2, 9), (4, 0), (5, 1), (4, 6), (4, 7), (3, 11), (8, 11), (3, 11), (10, 3), (6, 2), (7, 3), (7, 4), (2, 11), (2, 12), (4, 1), (4, 8), (4, 9), (4, 10), (3, 12), (8, 11),
+    (0, 0),
+    (1, 1),
+    (0, 0),
+    (0, 0),
+    (3, 0),
+    (0, 0),
+    (3, 0),
+    (0, 0),
+    (0, 0),
+    (3, 1),
+    (0, 0),
+    (0, 0),
+    (3, 2),
+    (0, 0),
+    (0, 0),
+    (3, 3),
+    (0, 0),
+    (0, 0),
+    (3, 4),
+    (0, 0),
+    (0, 0),
+    (3, 5),
+    (1, 2),
+    (6, 0),
+    (7, 1),
+    (3, 6),
+    (1, 2),
+    (7, 2),
+    (7, 3),
+    (7, 4),
+    (3, 7),
+    (1, 2),
+    (7, 5),
+    (7, 6),
+    (2, 0),
+    (4, 0),
+    (0, 0),
+    (3, 8),
+    (8, 8),
+    (3, 8),
+    (1, 3),
+    (6, 1),
+    (7, 2),
+    (3, 9),
+    (1, 3),
+    (7, 3),
+    (7, 4),
+    (3, 10),
+    (1, 3),
+    (6, 8),
+    (7, 9),
+    (2, 8),
+    (2, 9),
+    (4, 0),
+    (5, 1),
+    (4, 6),
+    (4, 7),
+    (3, 11),
+    (8, 11),
+    (3, 11),
+    (10, 3),
+    (6, 2),
+    (7, 3),
+    (7, 4),
+    (2, 11),
+    (2, 12),
+    (4, 1),
+    (4, 8),
+    (4, 9),
+    (4, 10),
+    (3, 12),
+    (8, 11),
 ];
 
 /// Lines of a ledger, and what it is found to be.
 const ROWS: [(&str, &[&str], &str); 12] = [
     ("whole", &[FIRST, SPLIT, LOAN, MERGE], ACCEPTED),
     ("empty", &[], "rule 10 value 3"),
-    ("no certificate", &["", "frob", "{}", "[]"], "rule 10 value 3"),
-    ("ledger-twice", &[FIRST, SPLIT, LOAN, MERGE, FIRST, SPLIT, LOAN, MERGE], ACCEPTED),
-    ("certificates-exchanged", &[FIRST, LOAN, SPLIT, MERGE], "rule 1 value 2"),
-    ("ledger-cut", &[FIRST, SPLIT, LOAN, r#"{"added":[[12,1,3,4,5]],"base":12,"co"#], "rule 10 value 3"),
-    ("ledger-without-first", &[SPLIT, LOAN, MERGE], "rule 1 value 1"),
-    ("a torn line", &[FIRST, SPLIT, r#"{"added":[[9,1"#, LOAN, MERGE], ACCEPTED),
+    (
+        "no certificate",
+        &["", "frob", "{}", "[]"],
+        "rule 10 value 3",
+    ),
+    (
+        "ledger-twice",
+        &[FIRST, SPLIT, LOAN, MERGE, FIRST, SPLIT, LOAN, MERGE],
+        ACCEPTED,
+    ),
+    (
+        "certificates-exchanged",
+        &[FIRST, LOAN, SPLIT, MERGE],
+        "rule 1 value 2",
+    ),
+    (
+        "ledger-cut",
+        &[
+            FIRST,
+            SPLIT,
+            LOAN,
+            r#"{"added":[[12,1,3,4,5]],"base":12,"co"#,
+        ],
+        "rule 10 value 3",
+    ),
+    (
+        "ledger-without-first",
+        &[SPLIT, LOAN, MERGE],
+        "rule 1 value 1",
+    ),
+    (
+        "a torn line",
+        &[FIRST, SPLIT, r#"{"added":[[9,1"#, LOAN, MERGE],
+        ACCEPTED,
+    ),
     (
         "a certificate that counts no more",
-        &[FIRST, SPLIT, r#"{"added":[],"base":9,"commit":2,"gone":[],"head":9,"never":[],"root":8}"#, LOAN, MERGE],
+        &[
+            FIRST,
+            SPLIT,
+            r#"{"added":[],"base":9,"commit":2,"gone":[],"head":9,"never":[],"root":8}"#,
+            LOAN,
+            MERGE,
+        ],
         ACCEPTED,
     ),
     (
         "a certificate of a commit that was not done",
-        &[FIRST, SPLIT, LOAN, MERGE, r#"{"added":[],"base":13,"commit":4,"gone":[],"head":13,"never":[],"root":12}"#],
+        &[
+            FIRST,
+            SPLIT,
+            LOAN,
+            MERGE,
+            r#"{"added":[],"base":13,"commit":4,"gone":[],"head":13,"never":[],"root":12}"#,
+        ],
         ACCEPTED,
     ),
     (
@@ -62,7 +322,12 @@ const ROWS: [(&str, &[&str], &str); 12] = [
     ),
     (
         "a number past 64 bits",
-        &[FIRST, SPLIT, LOAN, r#"{"added":[[12,1,3,4,5]],"base":12,"commit":3,"gone":[2,9,10,11],"head":18446744073709551616,"never":[],"root":12}"#],
+        &[
+            FIRST,
+            SPLIT,
+            LOAN,
+            r#"{"added":[[12,1,3,4,5]],"base":12,"commit":3,"gone":[2,9,10,11],"head":18446744073709551616,"never":[],"root":12}"#,
+        ],
         "rule 10 value 3",
     ),
 ];
@@ -94,7 +359,10 @@ fn found(alloc: Global, ledger: &[u8], step: usize) -> Result<String, Fail> {
     let text = match judge(alloc, &mut input, &root) {
         Ok(verdict) => {
             let live = verdict.live.len();
-            format!(in alloc; "commit {} live {live} deleted {}", verdict.commit, verdict.deleted)?
+            format!(in alloc;
+                "commit {} live {live} deleted {}",
+                verdict.commit, verdict.deleted
+            )?
         }
         Err(JudgeRefusal::Rule { number, value }) => {
             format!(in alloc; "rule {number} value {value}")?
@@ -175,7 +443,11 @@ fn changed_numbers(rt: HostRuntime) -> Result<(), Fail> {
             } else {
                 format!(in alloc; "rule {rule} value {value}")?
             };
-            assert_eq!(rt; text.as_str(), want.as_str(), "{other} for number {nth}, which was {number}");
+            assert_eq!(rt;
+                text.as_str(),
+                want.as_str(),
+                "{other} for number {nth}, which was {number}"
+            );
         }
     }
     Ok(())
