@@ -8,12 +8,12 @@ use std::test::Fail;
 
 const SCRIPT: &str =
     "format 8 64\nmount\nwrite 3 6869\ncommit\nwrite 5 61\ntrim 3\ncommit\nmount\ndrop\nmount\n\
-     read 5\nerase\nformat 8 64\n";
+     read 5\nseize\nerase\nformat 8 64\n";
 
 /// What the script is answered where nothing fails.
 const REPLIES: &str =
     "formatted\nmounted 0\nok\ncommitted 1\nok\nok\ncommitted 2\nalready mounted\ndropped\n\
-     mounted 2\ndata 61\nerased\nformatted\n";
+     mounted 2\ndata 61\nseized pages 5 nodes 1 blocks 1\nerased\nformatted\n";
 
 /// What the new run asks, which comes once the power was lost.
 const LOOK: &str = "mount\nread 3\nread 5\nstat\n";
@@ -22,11 +22,11 @@ const LOOK: &str = "mount\nread 3\nread 5\nstat\n";
 fn answers_after(lines: usize) -> &'static str {
     match lines {
         // no device, before the first format and after the erase
-        0 | 12 => "no device\nunmounted\nunmounted\nunmounted\n",
+        0 | 13 => "no device\nunmounted\nunmounted\nunmounted\n",
         // a new device
-        1..=3 | 13 => "mounted 0\ndata -\ndata -\nstat mapped 0 commit 0\n",
+        1..=3 | 14 => "mounted 0\ndata -\ndata -\nstat mapped 0 commit 0\n",
         4..=6 => "mounted 1\ndata 6869\ndata -\nstat mapped 1 commit 1\n",
-        7..=11 => "mounted 2\ndata -\ndata 61\nstat mapped 1 commit 2\n",
+        7..=12 => "mounted 2\ndata -\ndata 61\nstat mapped 1 commit 2\n",
         _ => "",
     }
 }
@@ -107,7 +107,7 @@ fn fault_table(rt: HostRuntime) -> Result<(), Fail> {
 
 #[test]
 fn failing_ends(rt: HostRuntime) -> Result<(), Fail> {
-    for nth in 1..25 {
+    for nth in 1..27 {
         let (listed, part, whole) = ([nth], [(nth, 1)], [(nth, 100)]);
         let mut take = Given::script(SCRIPT);
         take.step = 5;
@@ -122,14 +122,14 @@ fn failing_ends(rt: HostRuntime) -> Result<(), Fail> {
         entry_part.failing_entries = &part;
         let mut entry_whole = Given::script(SCRIPT);
         entry_whole.failing_entries = &whole;
-        // The 105 bytes are 21 takes, and one tells the end; six records are sealed; 13 lines are answered; two formats and
+        // The 111 bytes are 23 takes, and one tells the end; six records are sealed; 14 lines are answered; two formats and
         // two commits have an entry. A line whose reply could not be put, or not whole, is done; one whose entry could not be
         // put is not.
         for (given, last, status, is_done) in [
-            (take, 22, 3, false),
+            (take, 24, 3, false),
             (draw, 6, 6, false),
-            (put_part, 13, 4, true),
-            (put_whole, 13, 4, false),
+            (put_part, 14, 4, true),
+            (put_whole, 14, 4, false),
             (entry_part, 4, 7, false),
             (entry_whole, 4, 7, false),
         ] {

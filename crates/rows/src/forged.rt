@@ -124,14 +124,26 @@ fn forged_root(rt: HostRuntime) -> Result<(), Fail> {
 fn forged_page(rt: HostRuntime) -> Result<(), Fail> {
     let sound = one_block(rt.alloc())?;
     for (changed, output, status) in [
-        (0, "mounted 1\ndata 6869\n", 0),
-        (1, "mounted 1\nbad record 1\n", 9),
-        (2, "mounted 1\nbad record 2\n", 9),
+        (
+            0,
+            "seized pages 3 nodes 1 blocks 1\nmounted 1\ndata 6869\n",
+            0,
+        ),
+        (
+            1,
+            "seized pages 3 nodes 1 blocks 0\nmounted 1\nbad record 1\n",
+            9,
+        ),
+        (
+            2,
+            "seized pages 3 nodes 0 blocks 0\nmounted 1\nbad record 2\n",
+            9,
+        ),
     ] {
         let mut platform = with_changed_page(rt.alloc(), &sound, changed);
         let step = Step {
             failures: &[],
-            script: "mount\nread 3\n",
+            script: "seize\nmount\nread 3\n",
             output,
             status,
         };

@@ -35,8 +35,8 @@ fn overwrite(rt: HostRuntime) -> Result<(), Fail> {
     follow(&rt, &mut platform, &[served(ONE_BLOCK, ONE_BLOCK_REPLIES)])?;
     assert_eq!(rt; platform.head(), 3);
     let again = served(
-        "mount\nwrite 3 00ff\ncommit\nread 3\n",
-        "mounted 1\nok\ncommitted 2\ndata 00ff\n",
+        "mount\nwrite 3 00ff\ncommit\nread 3\nseize\n",
+        "mounted 1\nok\ncommitted 2\ndata 00ff\nseized pages 5 nodes 1 blocks 1\n",
     );
     follow(&rt, &mut platform, &[again])?;
     assert_eq!(rt; platform.head(), 5);
@@ -47,8 +47,8 @@ fn overwrite(rt: HostRuntime) -> Result<(), Fail> {
 fn overwrite_before_commit(rt: HostRuntime) -> Result<(), Fail> {
     let mut platform = MemPlatform::blank(rt.alloc(), 262_144);
     let step = served(
-        "format 8 64\nmount\nwrite 3 61\nwrite 3 62\ncommit\nread 3\n",
-        "formatted\nmounted 0\nok\nok\ncommitted 1\ndata 62\n",
+        "format 8 64\nmount\nwrite 3 61\nwrite 3 62\ncommit\nread 3\nseize\n",
+        "formatted\nmounted 0\nok\nok\ncommitted 1\ndata 62\nseized pages 4 nodes 1 blocks 1\n",
     );
     follow(&rt, &mut platform, &[step])?;
     assert_eq!(rt; platform.head(), 4);
@@ -59,10 +59,41 @@ fn overwrite_before_commit(rt: HostRuntime) -> Result<(), Fail> {
 fn dropped_session(rt: HostRuntime) -> Result<(), Fail> {
     let mut platform = MemPlatform::blank(rt.alloc(), 262_144);
     let step = served(
-        "format 8 64\nmount\nwrite 3 78\ndrop\nmount\nread 3\nwrite 3 79\ncommit\n",
-        "formatted\nmounted 0\nok\ndropped\nmounted 0\ndata -\nok\ncommitted 1\n",
+        "format 8 64\nmount\nwrite 3 78\ndrop\nmount\nread 3\nseize\nwrite 3 79\ncommit\n",
+        "formatted\nmounted 0\nok\ndropped\nmounted 0\ndata -\nseized pages 2 nodes 1 blocks 0\nok\n\
+         committed 1\n",
     );
     follow(&rt, &mut platform, &[step])?;
+    assert_eq!(rt; platform.head(), 4);
+    Ok(())
+}
+
+#[test]
+fn trim_committed(rt: HostRuntime) -> Result<(), Fail> {
+    let mut platform = MemPlatform::blank(rt.alloc(), 262_144);
+    let trimmed = served(
+        "mount\ntrim 3\ncommit\nseize\ntrim 3\ncommit\nread 3\n",
+        "mounted 1\nok\ncommitted 2\nseized pages 4 nodes 1 blocks 0\nok\ncommitted 2\ndata -\n",
+    );
+    follow(
+        &rt,
+        &mut platform,
+        &[served(ONE_BLOCK, ONE_BLOCK_REPLIES), trimmed],
+    )
+}
+
+#[test]
+fn erase_and_format(rt: HostRuntime) -> Result<(), Fail> {
+    let mut platform = MemPlatform::blank(rt.alloc(), 262_144);
+    let erased = served(
+        "erase\nseize\nformat 8 64\n",
+        "erased\nseized pages 3 nodes 0 blocks 0\nformatted\n",
+    );
+    follow(
+        &rt,
+        &mut platform,
+        &[served(ONE_BLOCK, ONE_BLOCK_REPLIES), erased],
+    )?;
     assert_eq!(rt; platform.head(), 4);
     Ok(())
 }
@@ -144,6 +175,9 @@ fn torn_page(rt: HostRuntime) -> Result<(), Fail> {
     let mut page = [7; 4_128];
     let is_read = platform.head() == 2 && platform.read(1, &mut page).is_ok();
     assert!(rt; is_read && page == [0; 4_128]);
-    let next = served("mount\nread 3\n", "mounted 0\ndata -\n");
+    let next = served(
+        "mount\nread 3\nseize\n",
+        "mounted 0\ndata -\nseized pages 2 nodes 1 blocks 0\n",
+    );
     follow(&rt, &mut platform, &[next])
 }
