@@ -2,7 +2,7 @@
 use Rattle.platform.specs.History.{History, Steps, During}
 use Rattle.std.proofs.Common.{◌≡◌, ℕ, zero, List, [], ◌∷◌, None, Ok, refl, sym, subst, ap, ◌∙◌, arith}
 use Rattle.platform.proofs.Moments.{During-start, During-step, During-now, During-then}
-use Rattle.std.specs.Prelude.{Option, Some, IfSome, ◌<◌, length}
+use Rattle.std.specs.Prelude.{Option, Some, IfSome}
 use Rattle.platform.specs.History.{CellStays}
 use Rattle.std.proofs.lemmas.List.{length-replicate}
 use Rattle.std.specs.Prelude.{replicate}

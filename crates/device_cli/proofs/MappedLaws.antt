@@ -1,10 +1,7 @@
 -- How many data records a seizure counts of an image that stands: as many as the device has mapped blocks, under the premises on keys.
-use Rattle.std.proofs.Common.{◌≡◌, ◌≢◌, ◌<◌, ℕ, zero, suc, ◌+◌, cond, List, [], ◌∷◌, ◌++◌, Option, None, Some, Err, map, length, refl, sym, ◌∙◌, ap, subst, arith}
-use Rattle.std.specs.Prelude.{All, AllPairs, Contains, is_some, slice_get}
+use Rattle.std.proofs.Common.{◌≡◌, ◌≢◌, ◌<◌, ℕ, zero, suc, List, [], ◌∷◌, ◌++◌, Option, None, Some, map, length, refl, sym, ◌∙◌, ap, subst, arith}
+use Rattle.std.specs.Prelude.{All, AllPairs, Contains, slice_get}
 use Rattle.std.specs.List.{AllZip}
-use Rattle.std.specs.List.Sorted.{IsStrictlyIncreasing}
-use Rattle.std.specs.Cmp.{nat_cmp_total}
-use Rattle.std.specs.Ordering.{nat_cmp}
 use Rattle.std.specs.FinMap as maps
 use Rattle.std.proofs.lemmas.List.{append-nil, get_or-map, length-map}
 use Rattle.std.proofs.lemmas.List.Elements.{All-nil, All-cons, All-map, All-contains}
@@ -32,14 +29,12 @@ use Rattle.page_store.proofs.LeafStandsLaws.{stands_by_leaf, leaf_of_stands}
 use Rattle.page_store.proofs.RecordYields.{opens_record, yields_node}
 use Rattle.page_store.proofs.TreeMaps.{tree_closed}
 use Rattle.page_store.proofs.DisclosingLaws.{first_premises}
-use Rattle.device_core.specs.Leaf.{IsPlace, IsServedCell, IsServedImage}
-use Rattle.device_core.specs.Holding.{blocks_of_entries}
-use Rattle.device_core.proofs.ArrayLaws.{array_placed, array_without, length-AllZip}
-use Rattle.device_core.proofs.Ascending.{remove-ascending}
-use Rattle.device_core.proofs.EntryLaws.{above_next}
+use Rattle.device_core.specs.Leaf.{IsServedCell, IsServedImage}
+use Rattle.device_core.proofs.ArrayLaws.{length-AllZip}
 use Rattle.seizure.specs.Opened.{count_of_kind}
 use Rattle.seizure.specs.Report.{Seized, IsSeizure, Holds, roots_of}
 use Rattle.seizure.proofs.CountLaws.{counted}
+use Rattle.device_core.proofs.CountLaws.{map_len}
 use Rattle.device_cli.specs.Represents.{StandsFor}
 use Rattle.device_cli.specs.Reaching.{DisclosesTree}
 use Rattle.device_cli.specs.Seen.{IsCounted, mapped_of, SeizesMaps}
@@ -49,23 +44,6 @@ same_some x y same = cc
 
 no_some : {A : Type 0} (x : A) → None ≡ Some x → ⊥
 no_some x same = cc
-
--- ---- how many blocks a map of ascending ones has
-
-map_len : (entries : List Entry) (texts : List (List ℕ)) → IsStrictlyIncreasing (map (λ e. e.low) entries) → length texts ≡ length entries
-    → maps.len (blocks_of_entries entries texts) ≡ length entries
-map_len [] [] up same = maps.len-empty nat_cmp (List ℕ)
-map_len [] (c ∷ texts) up same = absurd (omega (arith, same))
-map_len (e ∷ entries) [] up same = absurd (omega (arith, same))
-map_len (e ∷ entries) (c ∷ texts) up same =
-    let less : length texts ≡ length entries = omega (arith, same) in
-    let place : IsPlace entries e.low (Err 0) = (omega arith, All-nil (λ (x : Entry). x.low < e.low), above_next (e ∷ entries) 0 e up (omega arith) refl) in
-    let none = array_without entries texts 0 e.low place in
-    let further = map_len entries texts (remove-ascending (map (λ (x : Entry). x.low) (e ∷ entries)) 0 up (omega arith)) less in
-    ap (λ (m : Blocks). maps.len m) (array_placed entries texts (Err 0) e c less place)
-    ∙ maps.len-insert nat_cmp_total (blocks_of_entries entries texts) e.low c
-    ∙ ap (λ (o : Option (List ℕ)). cond (is_some o) (maps.len (blocks_of_entries entries texts)) (maps.len (blocks_of_entries entries texts) + 1)) none
-    ∙ ap (λ (n : ℕ). n + 1) further ∙ omega arith
 
 -- ---- what stands on the page of a record
 

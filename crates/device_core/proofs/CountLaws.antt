@@ -20,7 +20,8 @@ use Rattle.device_core.proofs.ArrayLaws.{array_placed, array_without, length-All
 use Rattle.device_core.proofs.Ascending.{remove-ascending}
 use Rattle.device_core.proofs.EntryLaws.{above_next}
 
-map_len : (entries : List Entry) (texts : List (List ℕ)) → IsStrictlyIncreasing (map (λ e. e.low) entries) → length texts ≡ length entries
+-- a map of entries that ascend has as many blocks
+pub map_len : (entries : List Entry) (texts : List (List ℕ)) → IsStrictlyIncreasing (map (λ e. e.low) entries) → length texts ≡ length entries
     → maps.len (blocks_of_entries entries texts) ≡ length entries
 map_len [] [] up same = maps.len-empty nat_cmp (List ℕ)
 map_len [] (c ∷ texts) up same = absurd (omega (arith, same))
