@@ -12,11 +12,10 @@ use Rattle.btree_twigs.specs.declared.twigs.Spot.TheVariants.{Found, Absent, Bel
 use Rattle.btree_twigs.specs.Stubs.{Stub, low_of, children_of, start_by, stubs, stubs_by, stubs_in, stubs_below, datum_in}
 use Rattle.btree_twigs.specs.Search.{IsAt, IsSpot}
 use Rattle.btree_twigs.specs.Top.{top_least}
-use Rattle.btree_update.specs.GroveTree.{top_want}
+use Rattle.btree_update.specs.GroveTree.{want_at, top_want}
 use Rattle.btree_update.specs.Held.{AreBelow}
 use Rattle.btree_update.specs.Finding.{level_from, CanGoOn}
 use Rattle.btree_update.proofs.OpenLaws.{below_back}
-use Rattle.btree_update.proofs.RootHolds.{want_root}
 
 -- where so many reads are made at most, no more than some more are
 pub looks_more : {S : Type 0} (P : Ghosts S) (few most : ℕ) (old new : S) → few ≤ most → Looks P few old new → Looks P most old new
@@ -85,7 +84,7 @@ from_level block most ss Absent is up = omega arith
 from_level block most ss (Below level low high addr key) is up = here_up block most ss _ is.3 up
 
 -- what is wanted of a root
-same_want : (order high addr level level' low low' least least' : ℕ) → level ≡ level' → low ≡ low' → least ≡ least' → want_root order level low high addr least ≡ want_root order level' low' high addr least'
+same_want : (order high addr level level' low low' least least' : ℕ) → level ≡ level' → low ≡ low' → least ≡ least' → want_at order level low high addr least ≡ want_at order level' low' high addr least'
 same_want order high addr level level' low low' least least' e f g = cc
 
 least_is : (level : ℕ) → top_least level ≡ (if suc level == 1 then 0 else 2)
@@ -95,6 +94,9 @@ least_is (suc level) = elim (cases_Bool (suc (suc level) == 1)) [
   | inr more ↦ rw more refl
 ]
 
-pub want_is : (order high level low addr least : ℕ) → 1 ≤ level → low ≡ 0 → least ≡ top_least (level - 1) → want_root order level low high addr least ≡ top_want order high (suc (level - 1)) addr
+pub want_is : (order high level low addr least : ℕ) → 1 ≤ level → low ≡ 0 → least ≡ top_least (level - 1) → want_at order level low high addr least ≡ top_want order high (suc (level - 1)) addr
 want_is order high level low addr least one low_is is =
     same_want order high addr level (suc (level - 1)) low 0 least (if suc (level - 1) == 1 then 0 else 2) (omega (arith, one)) low_is (is ∙ least_is (level - 1))
+
+pub root_want : (order level low high addr : ℕ) → low ≡ 0 → want_at order (suc level) low high addr (top_least level) ≡ top_want order high (suc level) addr
+root_want order level low high addr low_is = same_want order high addr (suc level) (suc level) low 0 (top_least level) (if suc level == 1 then 0 else 2) refl low_is (least_is level)

@@ -24,12 +24,13 @@ use Rattle.btree_twigs.specs.Search.{IsAt, IsSpot}
 use Rattle.btree_twigs.specs.Top.{top_least}
 use Rattle.btree_twigs.proofs.ListLaws.{tiles_by, tiles_from}
 use Rattle.btree_twigs.proofs.Children.{tiles_child}
-use Rattle.btree_update.specs.GroveTree.{want_of, top_want, HasEach, Maps}
+use Rattle.btree_update.specs.GroveTree.{want_of, top_want, HasEach, Maps, MapsIn}
 use Rattle.btree_update.specs.Held.{stub_at, AreBelow}
-use Rattle.btree_update.specs.Roots.{IsRootBy, RootMapsBy}
+use Rattle.btree_update.specs.Roots.{IsRootBy, RootMaps}
 use Rattle.btree_update.specs.Finding.{FindsFrom, StopsFrom, RootFindsBy, RootStopsBy}
 use Rattle.btree_update.proofs.OpenLaws.{below_back}
-use Rattle.btree_update.proofs.Places.{IsIn, maps_split, in_maps}
+use Rattle.btree_update.proofs.FoundLaws.{root_want}
+use Rattle.btree_update.proofs.Places.{IsIn, maps_split, in_maps, one_place}
 
 -- ---- where a tree is, no place on the way is wrong
 
@@ -56,15 +57,6 @@ never_stops pages order (suc level) block addr want key parts small tree (inr st
     (subst (λ n. Subtree pages order (suc level) (child_want order (suc level) stop.entry n) stop.entry.key child.0) (sym stop.way.ends) child.1) stop.stops
 
 -- ---- among places
-
--- what one place maps
-one_place : (pages : List (List ℕ)) (order : ℕ) (s : Stub) (m : List Mapped) → Maps pages order (s ∷ []) m → (parts : Parts) × Subtree pages order s.level (want_of order s) s.key parts × (m ≡ parts.mapped)
-one_place pages order s m h = go h.each h.has h.is
-  where
-    go : (ps : List Parts) → HasEach pages order (s ∷ []) ps → m ≡ (joined ps).mapped → (parts : Parts) × Subtree pages order s.level (want_of order s) s.key parts × (m ≡ parts.mapped)
-    go [] has is = absurd has
-    go (p ∷ []) has is = (p, has.0, is ∙ append-nil p.mapped)
-    go (p ∷ q ∷ ps) has is = absurd has.1
 
 no_place_maps : (pages : List (List ℕ)) (order : ℕ) (m : List Mapped) → Maps pages order [] m → m ≡ []
 no_place_maps pages order m h = go h.each h.has h.is
@@ -164,27 +156,27 @@ twig_tiles order level least most high twig h =
 
 module _ (pages : List (List ℕ)) (order block level high : ℕ) where
   root_maps_by : (x : Child-F Child Twig) (mapped : List Mapped) (found : Option Entry) → IsRootBy order level high x → block < high → AreBelow (2 ^ 64) (stubs_in (stubs level) (suc level) high x) →
-      RootMapsBy pages order level high x mapped → RootFindsBy pages order block level high x found → IsMappedAs mapped block found
+      MapsIn pages order (top_least level) level high x mapped → RootFindsBy pages order block level high x found → IsMappedAs mapped block found
   root_maps_by (Kept low addr key) mapped found root lt small maps f =
-      subst (λ m. IsMappedAs m block found) (sym maps.2) (found_is_mapped pages order level block (top_want order high (suc level) addr) key f.0 maps.0 found small.0 maps.1
+      subst (λ m. IsMappedAs m block found) (sym maps.2) (found_is_mapped pages order level block (top_want order high (suc level) addr) key f.0 maps.0 found small.0 (subst (λ w. Subtree pages order (suc level) w key maps.0) (root_want order level low high addr root) maps.1)
       (subst (λ n. Finds (FitsAt pages) order block found n (top_want order high (suc level) addr) key f.0) (one_less level) f.1))
   root_maps_by (Grown low twig) mapped found root lt small maps f =
       spot_maps pages order block high (stubs_below level high twig) mapped f.spot found (twig_tiles order level (top_least level) order high twig root.1) lt small f.is maps f.finds
 
-  root_fits_by : (x : Child-F Child Twig) (mapped : List Mapped) (addr : ℕ) → AreBelow (2 ^ 64) (stubs_in (stubs level) (suc level) high x) →
-      RootMapsBy pages order level high x mapped → RootStopsBy pages order block addr level high x → ⊥
-  root_fits_by (Kept low at key) mapped addr small maps stops = never_stops pages order level block addr (top_want order high (suc level) at) key maps.0 small.0 maps.1
+  root_fits_by : (x : Child-F Child Twig) (mapped : List Mapped) (addr : ℕ) → IsRootBy order level high x → AreBelow (2 ^ 64) (stubs_in (stubs level) (suc level) high x) →
+      MapsIn pages order (top_least level) level high x mapped → RootStopsBy pages order block addr level high x → ⊥
+  root_fits_by (Kept low at key) mapped addr root small maps stops = never_stops pages order level block addr (top_want order high (suc level) at) key maps.0 small.0 (subst (λ w. Subtree pages order (suc level) w key maps.0) (root_want order level low high at root) maps.1)
       (subst (λ n. Stops (FitsAt pages) order block (NothingFits pages) addr n (top_want order high (suc level) at) key) (one_less level) stops)
-  root_fits_by (Grown low twig) mapped addr small maps stops = spot_fits pages order block addr (stubs_below level high twig) mapped stops.spot small stops.is maps stops.stops
+  root_fits_by (Grown low twig) mapped addr root small maps stops = spot_fits pages order block addr (stubs_below level high twig) mapped stops.spot small stops.is maps stops.stops
 
   -- what is found below a root is what it maps
   pub root_found : (top : Child) (mapped : List Mapped) (found : Option Entry) → IsRootBy order level high (out-Child top) → block < high → AreBelow (2 ^ 64) (stubs (suc level) high top) →
-      RootMapsBy pages order level high (out-Child top) mapped → RootFindsBy pages order block level high (out-Child top) found → IsMappedAs mapped block found
+      RootMaps pages order level high top mapped → RootFindsBy pages order block level high (out-Child top) found → IsMappedAs mapped block found
   unfolding stubs
   root_found top mapped found root lt small maps f = root_maps_by (out-Child top) mapped found root lt small maps f
 
   -- and where it maps anything, no place on the way is wrong
-  pub root_fits : (top : Child) (mapped : List Mapped) (addr : ℕ) → AreBelow (2 ^ 64) (stubs (suc level) high top) →
-      RootMapsBy pages order level high (out-Child top) mapped → RootStopsBy pages order block addr level high (out-Child top) → ⊥
+  pub root_fits : (top : Child) (mapped : List Mapped) (addr : ℕ) → IsRootBy order level high (out-Child top) → AreBelow (2 ^ 64) (stubs (suc level) high top) →
+      RootMaps pages order level high top mapped → RootStopsBy pages order block addr level high (out-Child top) → ⊥
   unfolding stubs
-  root_fits top mapped addr small maps stops = root_fits_by (out-Child top) mapped addr small maps stops
+  root_fits top mapped addr root small maps stops = root_fits_by (out-Child top) mapped addr root small maps stops

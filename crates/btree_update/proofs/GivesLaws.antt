@@ -1,5 +1,5 @@
 -- How what gives way below a child gives way below its node.
-use Rattle.std.proofs.Common.{◌≡◌, ℕ, suc, ◌<◌, ◌≤◌, List, [], ◌∷◌, ◌++◌, map, refl, sym, ap, subst, ◌∙◌, arith, append_assoc, append-nil}
+use Rattle.std.proofs.Common.{◌≡◌, ℕ, suc, ◌<◌, ◌≤◌, List, [], ◌∷◌, ◌++◌, map, refl, sym, ap, subst, ◌∙◌, arith, append_assoc, append-nil, ◌/◌}
 use Rattle.std.proofs.lemmas.List.{same_from_push, map-append}
 use Rattle.btree_twigs.specs.declared.twigs.Child.{Child, Child-F, out-Child}
 use Rattle.btree_twigs.specs.declared.twigs.Child.TheOpen.{Kept, Grown}
@@ -10,7 +10,8 @@ use Rattle.btree_twigs.specs.Updates.{IsNode, stubs_under}
 use Rattle.btree_twigs.specs.Levels.{Node, row_in, row}
 use Rattle.btree_twigs.proofs.Nodes.{stubs_of_grown}
 use Rattle.btree_update.specs.Held.{stub_at, IsReadAs, HeldIn, HeldFor, IsTakenUp, IsNoted}
-use Rattle.btree_update.specs.Roots.{IsRootBy, HeldRootBy}
+use Rattle.btree_twigs.specs.Top.{top_least}
+use Rattle.btree_update.specs.Roots.{IsRoot, IsRootBy, HeldRoot}
 use Rattle.btree_update.specs.Tells.{node_row, Tells}
 use Rattle.btree_update.specs.Opens.{Opens, Same, Here, Then, HasWay, GivesWay, GivesChild, GivesBelow}
 use Rattle.btree_update.proofs.OpenLaws.{still_opens}
@@ -101,15 +102,15 @@ abbrev grown_of : ℕ → Twig → Child-F Child Twig
 grown_of low twig = Grown low twig
 
 -- a child takes what is held for it
-takes_up_by : (pages : List (List ℕ)) (order block l high : ℕ) (Rest : ℕ → Child → List Twig → Type 0) (x : Child-F Child Twig) (new : Child) (held rest : List Twig) (low : ℕ) (twig : Twig) (gone more : List ℕ) → low_in x ≤ block → block < high →
-    HeldIn (IsReadAs pages order) order block Rest l high x held → IsTakenUp x new held rest → IsNoted x gone more → out-Child new ≡ Grown low twig → TakesUp pages order (HasWay block) l high x low twig gone more
-takes_up_by pages order block l high Rest (Kept low' addr key) new held rest low twig gone more from to h t n is =
+takes_up_by : (pages : List (List ℕ)) (order least block l high : ℕ) (Rest : ℕ → Child → List Twig → Type 0) (x : Child-F Child Twig) (new : Child) (held rest : List Twig) (low : ℕ) (twig : Twig) (gone more : List ℕ) → low_in x ≤ block → block < high →
+    HeldIn (IsReadAs pages order) order least block Rest l high x held → IsTakenUp x new held rest → IsNoted x gone more → out-Child new ≡ Grown low twig → TakesUp pages order (HasWay block) l high x low twig gone more
+takes_up_by pages order least block l high Rest (Kept low' addr key) new held rest low twig gone more from to h t n is =
     let same = same_from_push h.rest rest h.twig t.0 (sym h.is ∙ t.1) in
     let grown : grown_of low' t.0 ≡ grown_of low twig = sym t.2 ∙ is in
     let lows : low' ≡ low = cc in
     let twigs : t.0 ≡ twig = cc in
     kept_takes pages order (HasWay block) l high low' addr low key twig gone more lows (subst (IsReadAs pages order l (stub_at (suc l) low' high addr key)) (same.1 ∙ twigs) h.reads) (from, to) n
-takes_up_by pages order block l high Rest (Grown low' twig') new held rest low twig gone more from to h t n is =
+takes_up_by pages order least block l high Rest (Grown low' twig') new held rest low twig gone more from to h t n is =
     let grown : grown_of low' twig' ≡ grown_of low twig = sym t.0 ∙ is in
     let lows : low' ≡ low = cc in
     let twigs : twig' ≡ twig = cc in
@@ -118,20 +119,14 @@ takes_up_by pages order block l high Rest (Grown low' twig') new held rest low t
 pub takes_up : (pages : List (List ℕ)) (order block l high : ℕ) (c new : Child) (held rest : List Twig) (low : ℕ) (twig : Twig) (gone more : List ℕ) → low_of c ≤ block → block < high →
     HeldFor (IsReadAs pages order) order block (suc l) high c held → IsTakenUp (out-Child c) new held rest → IsNoted (out-Child c) gone more → out-Child new ≡ Grown low twig → TakesUp pages order (HasWay block) l high (out-Child c) low twig gone more
 unfolding HeldFor
-takes_up pages order block l high c new held rest low twig gone more from to h t n is = takes_up_by pages order block l high (HeldFor (IsReadAs pages order) order block l) (out-Child c) new held rest low twig gone more from to h t n is
+takes_up pages order block l high c new held rest low twig gone more from to h t n is = takes_up_by pages order (order / 2) block l high (HeldFor (IsReadAs pages order) order block l) (out-Child c) new held rest low twig gone more from to h t n is
 
 -- so does a root
-pub root_takes_up : (pages : List (List ℕ)) (order block l high : ℕ) (x : Child-F Child Twig) (new : Child) (held rest : List Twig) (low : ℕ) (twig : Twig) (gone more : List ℕ) → IsRootBy order l high x → block < high →
-    HeldRootBy (IsReadAs pages order) order block l high x held → IsTakenUp x new held rest → IsNoted x gone more → out-Child new ≡ Grown low twig → TakesUp pages order (HasWay block) l high x low twig gone more
-root_takes_up pages order block l high (Kept low' addr key) new held rest low twig gone more zero_is to h t n is =
-    let same = same_from_push h.rest rest h.twig t.0 (sym h.is ∙ t.1) in
-    let grown : grown_of low' t.0 ≡ grown_of low twig = sym t.2 ∙ is in
-    let lows : low' ≡ low = cc in
-    let twigs : t.0 ≡ twig = cc in
-    let reads = subst (λ m. IsReadAs pages order l (stub_at (suc l) m high addr key) twig) (sym zero_is) (subst (IsReadAs pages order l (stub_at (suc l) 0 high addr key)) (same.1 ∙ twigs) h.reads) in
-    kept_takes pages order (HasWay block) l high low' addr low key twig gone more lows reads (omega (arith, zero_is), to) n
-root_takes_up pages order block l high (Grown low' twig') new held rest low twig gone more shaped to h t n is =
-    let grown : grown_of low' twig' ≡ grown_of low twig = sym t.0 ∙ is in
-    let lows : low' ≡ low = cc in
-    let twigs : twig' ≡ twig = cc in
-    grown_takes pages order (HasWay block) l high low' low twig' twig gone more lows twigs n
+root_from : (order block l high : ℕ) (x : Child-F Child Twig) → IsRootBy order l high x → low_in x ≤ block
+root_from order block l high (Kept low addr key) h = omega (arith, h)
+root_from order block l high (Grown low twig) h = omega (arith, h.0)
+
+pub root_takes_up : (pages : List (List ℕ)) (order block l high : ℕ) (top new : Child) (held rest : List Twig) (low : ℕ) (twig : Twig) (gone more : List ℕ) → IsRoot order l high top → block < high →
+    HeldRoot (IsReadAs pages order) order block l high top held → IsTakenUp (out-Child top) new held rest → IsNoted (out-Child top) gone more → out-Child new ≡ Grown low twig → TakesUp pages order (HasWay block) l high (out-Child top) low twig gone more
+root_takes_up pages order block l high top new held rest low twig gone more root to h t n is =
+    takes_up_by pages order (top_least l) block l high (HeldFor (IsReadAs pages order) order block l) (out-Child top) new held rest low twig gone more (root_from order block l high (out-Child top) root) to h t n is

@@ -16,10 +16,10 @@ use Rattle.btree_twigs.specs.Search.{IsAt, IsSpot}
 use Rattle.btree_twigs.specs.Top.{IsTop, IsTopBy, top_least}
 use Rattle.btree_twigs.proofs.Nodes.{stubs_of_grown}
 use Rattle.btree_twigs.proofs.Ways.{open_back}
-use Rattle.btree_update.specs.GroveTree.{Maps}
+use Rattle.btree_update.specs.GroveTree.{Maps, MapsIn}
 use Rattle.btree_update.specs.Held.{AreBelow}
 use Rattle.btree_update.proofs.OpenLaws.{below_front, below_back, below_append}
-use Rattle.btree_update.specs.Roots.{IsRoot, IsRootBy, RootMaps, RootMapsBy}
+use Rattle.btree_update.specs.Roots.{IsRoot, IsRootBy, RootMaps}
 use Rattle.btree_update.specs.declared.groves.Grove.{Grove}
 use Rattle.btree_update.specs.Groves.{IsSound}
 
@@ -45,7 +45,7 @@ pub top_is_root : (order level high : ℕ) (c : Child) → IsTop order level hig
 top_is_root order level high c h = top_root_by order level high (out-Child c) h
 
 top_maps_by : (pages : List (List ℕ)) (order level high : ℕ) (x : Child-F Child Twig) (mapped : List Mapped) → IsTopBy order level high x → Maps pages order (stubs_in (stubs level) (suc level) high x) mapped →
-    RootMapsBy pages order level high x mapped
+    MapsIn pages order (top_least level) level high x mapped
 top_maps_by pages order level high (Kept low addr key) mapped h m = absurd h
 top_maps_by pages order level high (Grown low twig) mapped h m = m
 

@@ -1,5 +1,5 @@
 -- What is held of the way to a block.
-use Rattle.std.proofs.Common.{◌≡◌, ℕ, zero, suc, ◌/◌, ◌<◌, ◌≤◌, ◌^◌, List, [], ◌∷◌, ◌++◌, take, drop, refl, sym, ap, subst, ◌∙◌, arith}
+use Rattle.std.proofs.Common.{◌≡◌, ℕ, zero, suc, ◌-◌, ◌/◌, ◌<◌, ◌≤◌, ◌^◌, List, [], ◌∷◌, ◌++◌, take, drop, refl, sym, ap, subst, ◌∙◌, arith}
 use Rattle.std.specs.List.{AllByRecursion}
 use Rattle.std.proofs.lemmas.List.Elements.{recursion_from_All}
 use Rattle.node_codec.specs.declared.body.Entry.{Entry}
@@ -10,11 +10,13 @@ use Rattle.btree_twigs.specs.declared.twigs.Twig.{Twig}
 use Rattle.btree_twigs.specs.Stubs.{Stub, start_by, low_of, children_of, stubs, stubs_in, stubs_below, nodes, nodes_in, nodes_below, sum_by}
 use Rattle.btree_twigs.specs.Shape.{EachBy, IsChild, IsTwig}
 use Rattle.btree_twigs.specs.Updates.{stubs_under}
+use Rattle.btree_twigs.proofs.Nodes.{stubs_of_grown, low_of_grown}
+use Rattle.btree_twigs.proofs.Children.{low_of_kept}
 use Rattle.btree_twigs.proofs.ListLaws.{start_append, stubs_append, each_front, each_le}
-use Rattle.btree_update.specs.GroveTree.{stubs_at}
+use Rattle.btree_update.specs.GroveTree.{stubs_at, want_at}
 use Rattle.btree_update.specs.Reading.{kept_of, all_kept}
-use Rattle.btree_update.specs.Held.{stub_at, IsReadAs, OnWay, HeldIn, HeldFor}
-use Rattle.btree_update.specs.Holding.{IsNodeFor, IsNodeOf}
+use Rattle.btree_update.specs.Held.{stub_at, HasLeast, IsReadAs, OnWay, HeldIn, HeldFor, HeldFrom}
+use Rattle.btree_update.specs.Holding.{CanHold, CanHoldBelow, IsNodeFor, IsNodeOf}
 use Rattle.btree_update.specs.Held.{AreBelow}
 use Rattle.btree_update.proofs.OpenLaws.{IsOnWay, below_front, below_back, lower}
 use Rattle.btree_update.proofs.Readings.{kept_stubs, read_is_twig}
@@ -114,22 +116,60 @@ read_as pages order level low high addr least key twig small h = record {
   children = h.children;
 }
 
--- a child on the medium whose node is held
-pub holds_kept : (Reads : ℕ → Stub → Twig → Type 0) (order block level high low addr : ℕ) (key : List ℕ) (twig : Twig) (rest held : List Twig) → held ≡ rest ++ twig ∷ [] → Reads level (stub_at (suc level) low high addr key) twig →
-    IsTwig order level (order / 2) order low high twig → nodes_below level twig ≡ 0 → AreBelow addr (stubs_below level high twig) → OnWay block (λ end c. HeldFor Reads order block level end c rest) high twig → HeldFor Reads order block (suc level) high (made.Kept low addr key) held
-unfolding HeldFor
-holds_kept Reads order block level high low addr key twig rest held is reads shaped bare lowers way =
-    subst (λ x. HeldIn Reads order block (HeldFor Reads order block level) level high x held) (sym (made.outs-Kept low addr key))
-    (record { rest = rest; twig = twig; is = is; reads = reads; shaped = shaped; bare = bare; lower = lowers; on_way = way })
-
--- a child in memory
-pub holds_grown : (Reads : ℕ → Stub → Twig → Type 0) (order block level high low : ℕ) (twig : Twig) (held : List Twig) → OnWay block (λ end c. HeldFor Reads order block level end c held) high twig →
-    HeldFor Reads order block (suc level) high (made.Grown low twig) held
-unfolding HeldFor
-holds_grown Reads order block level high low twig held way =
-    subst (λ x. HeldIn Reads order block (HeldFor Reads order block level) level high x held) (sym (made.outs-Grown low twig)) way
-
 -- the place of a child on the medium
 pub kept_below : (head level high low addr : ℕ) (key : List ℕ) → AreBelow head (stubs (suc level) high (made.Kept low addr key)) → addr < head
 unfolding stubs
 kept_below head level high low addr key h = (subst (λ x. AreBelow head (stubs_in (stubs level) (suc level) high x)) (made.outs-Kept low addr key) h).0
+
+above : (level : ℕ) → 1 ≤ level → level ≡ suc (level - 1)
+above level one = omega (arith, one)
+
+-- a child in memory
+pub way_grown : (order least level block high head low : ℕ) (twig : Twig) → CanHold order least level block high head (made.Grown low twig) → CanHoldBelow order (level - 1) block high head twig
+way_grown order least level block high head low twig at = record {
+  least = least;
+  low = low;
+  two = λ one. at.two (omega (arith, one));
+  four = at.four;
+  most = at.most;
+  shaped = subst (HasLeast order least (level - 1) high) (made.outs-Grown low twig) at.shaped;
+  from = omega (arith, at.from, low_of_grown low twig);
+  to = at.to;
+  within = subst (AreBelow head) (stubs_of_grown (level - 1) high low twig) (subst (λ k. AreBelow head (stubs k high (made.Grown low twig))) (above level at.one) at.within);
+}
+
+pub held_grown : (Reads : ℕ → Stub → Twig → Type 0) (order least block level high low : ℕ) (twig : Twig) (held : List Twig) → OnWay block (λ end c. HeldFor Reads order block level end c held) high twig → HeldFrom Reads order least block level high (made.Grown low twig) held
+held_grown Reads order least block level high low twig held way = subst (λ x. HeldIn Reads order least block (HeldFor Reads order block level) level high x held) (sym (made.outs-Grown low twig)) way
+
+-- a child on the medium
+pub way_lt : (order least level block high head low addr : ℕ) (key : List ℕ) → CanHold order least level block high head (made.Kept low addr key) → addr < head
+way_lt order least level block high head low addr key at = kept_below head (level - 1) high low addr key (subst (λ k. AreBelow head (stubs k high (made.Kept low addr key))) (above level at.one) at.within)
+
+module _ (order least level block high head low addr : ℕ) (key : List ℕ) (twig : Twig) (at : CanHold order least level block high head (made.Kept low addr key)) (h : IsNodeFor (want_at order level low high addr least) twig) where
+  way_shaped : IsTwig order (level - 1) least order low high twig
+  way_shaped = node_is_twig order (level - 1) least low high addr twig at.most (λ one. omega (arith, at.two (omega (arith, one)))) (omega (arith, at.from, at.to, low_of_kept low addr key))
+      (subst (λ k. IsNodeFor (want_at order k low high addr least) twig) (above level at.one) h)
+
+  pub way_read : CanHoldBelow order (level - 1) block high head twig
+  way_read = record {
+    least = least;
+    low = low;
+    two = λ one. at.two (omega (arith, one));
+    four = at.four;
+    most = at.most;
+    shaped = way_shaped;
+    from = omega (arith, at.from, low_of_kept low addr key);
+    to = at.to;
+    within = read_below (level - 1) high head (want_at order level low high addr least) twig h (way_lt order least level block high head low addr key at);
+  }
+
+  pub way_held : (Reads : ℕ → Stub → Twig → Type 0) (rest held : List Twig) → held ≡ rest ++ twig ∷ [] → Reads (level - 1) (stub_at (suc (level - 1)) low high addr key) twig →
+      OnWay block (λ end c. HeldFor Reads order block (level - 1) end c rest) high twig → HeldFrom Reads order least block (level - 1) high (made.Kept low addr key) held
+  way_held Reads rest held is reads way = subst (λ x. HeldIn Reads order least block (HeldFor Reads order block (level - 1)) (level - 1) high x held) (sym (made.outs-Kept low addr key))
+      (record { rest = rest; twig = twig; is = is; reads = reads; shaped = way_shaped; bare = bare_of (level - 1) (want_at order level low high addr least) twig h; lower = read_lower (level - 1) high (want_at order level low high addr least) twig h; on_way = way })
+
+-- what is held from a child on
+pub held_for : (Reads : ℕ → Stub → Twig → Type 0) (order block level below high : ℕ) (c : Child) (held : List Twig) → level ≡ suc below → HeldFrom Reads order (order / 2) block below high c held → HeldFor Reads order block level high c held
+unfolding HeldFor
+held_for Reads order block zero below high c held is h = absurd (omega (arith, is))
+held_for Reads order block (suc level) below high c held is h = subst (λ k. HeldFrom Reads order (order / 2) block k high c held) (omega (arith, is)) h

@@ -1,11 +1,12 @@
 -- Whether a block is mapped below the way to it.
-use Rattle.std.proofs.Common.{Option, ◌≡◌, ◌≢◌, ◌↔◌, ℕ, zero, suc, ◌<◌, List, [], ◌∷◌, ◌++◌, Bool, true, false, IsTrue, take, drop, refl, sym, ap, subst, ◌∙◌, arith}
+use Rattle.std.proofs.Common.{Option, ◌≡◌, ◌≢◌, ◌↔◌, ℕ, zero, suc, ◌/◌, ◌<◌, List, [], ◌∷◌, ◌++◌, Bool, true, false, IsTrue, take, drop, refl, sym, ap, subst, ◌∙◌, arith}
 use Rattle.std.specs.Bool.{OnTrue, OnFalse}
 use Rattle.std.specs.List.{AllByRecursion}
 use Rattle.std.proofs.lemmas.Bool.{false≢true}
 use Rattle.std.proofs.lemmas.List.Elements.{Contains-append_left, Contains-append_right}
 use Rattle.page_store.specs.Tree.{Parts, Mapped, Subtree, joined}
-use Rattle.btree_twigs.specs.declared.twigs.Child.{Child}
+use Rattle.btree_twigs.specs.declared.twigs.Child.{Child, Child-F, out-Child}
+use Rattle.btree_twigs.specs.declared.twigs.Child.TheOpen.{Kept, Grown}
 use Rattle.btree_twigs.specs.declared.twigs.Child.TheVariants as made
 use Rattle.btree_twigs.specs.declared.twigs.Twig.{Twig}
 use Rattle.btree_twigs.specs.Stubs.{Stub, Tiles, datum, start_by, low_of, children_of, stubs, stubs_in, stubs_below}
@@ -15,16 +16,13 @@ use Rattle.btree_twigs.proofs.ListLaws.{stubs_append, each_front, each_back, til
 use Rattle.btree_twigs.proofs.Children.{tiles_child, one_datum}
 use Rattle.btree_update.specs.declared.siblings.Left.{Left}
 use Rattle.btree_update.specs.declared.siblings.Left.TheVariants.{Unmapped, Enough, Short}
-use Rattle.btree_update.specs.GroveTree.{HasEach, Maps, top_want}
+use Rattle.btree_update.specs.GroveTree.{HasEach, Maps, MapsIn, MapsFrom, want_at}
 use Rattle.btree_update.specs.Held.{stub_at, IsReadAs}
-use Rattle.btree_update.specs.Opens.{Here}
 use Rattle.btree_update.specs.Maps.{HasBlock, LacksBlock}
-use Rattle.btree_update.specs.Roots.{RootMaps, RootMapsBy}
 use Rattle.btree_update.specs.Beside.{HoldsBeside, IsMappedBy, IsAfter}
 use Rattle.btree_update.proofs.OpenLaws.{IsOnWay}
-use Rattle.btree_update.proofs.OpenMaps.{opened_maps}
 use Rattle.btree_update.proofs.Readings.{read_same}
-use Rattle.btree_update.proofs.Places.{maps_split, in_maps, weaker, IsIn, read_maps}
+use Rattle.btree_update.proofs.Places.{maps_split, in_maps, weaker, IsIn, read_maps, one_place}
 
 lacks_append : (block : ℕ) (xs ys : List Mapped) → LacksBlock block xs → LacksBlock block ys → LacksBlock block (xs ++ ys)
 lacks_append block [] ys h k = k
@@ -98,21 +96,24 @@ leaf_mapped pages order zero least low high block n twig c is shaped w left is_i
     (in_maps pages order (low_of c) (suc (low_of c)) (datum (low_of c) one.addr one.key ∷ []) here (omega arith, omega arith, omega arith) d) is_it f g t u)) mapped m
 
 -- a child whose node was read maps what the node maps
-pub kept_mapped : (pages : List (List ℕ)) (order l high low addr : ℕ) (key : List ℕ) (twig : Twig) → IsReadAs pages order l (stub_at (suc l) low high addr key) twig → (mapped : List Mapped) → Maps pages order (stubs (suc l) high (made.Kept low addr key)) mapped →
+pub kept_mapped : (pages : List (List ℕ)) (order least l high low addr : ℕ) (key : List ℕ) (twig : Twig) → IsReadAs pages order l (stub_at (suc l) low high addr key) twig → (mapped : List Mapped) → MapsFrom pages order least l high (made.Kept low addr key) mapped →
     Maps pages order (stubs_below l high twig) mapped
+kept_mapped pages order least l high low addr key twig r mapped m =
+    let k = subst (λ x. MapsIn pages order least l high x mapped) (made.outs-Kept low addr key) m in
+    subst (λ ss. Maps pages order ss mapped) (sym (read_same pages order l (stub_at (suc l) low high addr key) twig r)) (subst (Maps pages order _) (sym k.2) (read_maps pages order l (want_at order (suc l) low high addr least) key k.0 r.entries r.small k.1 r.here))
+
+pub grown_mapped : (pages : List (List ℕ)) (order least l high low : ℕ) (twig : Twig) (mapped : List Mapped) → MapsFrom pages order least l high (made.Grown low twig) mapped → Maps pages order (stubs_below l high twig) mapped
+grown_mapped pages order least l high low twig mapped m = subst (λ x. MapsIn pages order least l high x mapped) (made.outs-Grown low twig) m
+
+maps_in : (pages : List (List ℕ)) (order l high : ℕ) (x : Child-F Child Twig) (mapped : List Mapped) → Maps pages order (stubs_in (stubs l) (suc l) high x) mapped → MapsIn pages order (order / 2) l high x mapped
+maps_in pages order l high (Kept low addr key) mapped m = one_place pages order (stub_at (suc l) low high addr key) mapped m
+maps_in pages order l high (Grown low twig) mapped m = m
+
+-- and a child maps what is below its places
+pub maps_from : (pages : List (List ℕ)) (order level below high : ℕ) (c : Child) (mapped : List Mapped) → level ≡ suc below → Maps pages order (stubs level high c) mapped → MapsFrom pages order (order / 2) below high c mapped
 unfolding stubs
-kept_mapped pages order l high low addr key twig r mapped m =
-    opened_maps pages order (stub_at (suc l) low high addr key ∷ []) (stub_at (suc l) low high addr key ∷ []) (stubs_below l high twig) mapped (Here r)
-    (subst (λ x. Maps pages order (stubs_in (stubs l) (suc l) high x) mapped) (made.outs-Kept low addr key) m)
-
-pub root_kept_mapped : (pages : List (List ℕ)) (order below high low addr : ℕ) (key : List ℕ) (twig : Twig) → IsReadAs pages order below (stub_at (suc below) 0 high addr key) twig → (mapped : List Mapped) → RootMaps pages order below high (made.Kept low addr key) mapped →
-    Maps pages order (stubs_below below high twig) mapped
-root_kept_mapped pages order below high low addr key twig r mapped m =
-    let k = subst (λ x. RootMapsBy pages order below high x mapped) (made.outs-Kept low addr key) m in
-    subst (λ ss. Maps pages order ss mapped) (sym (read_same pages order below (stub_at (suc below) 0 high addr key) twig r)) (subst (Maps pages order _) (sym k.2) (read_maps pages order below (top_want order high (suc below) addr) key k.0 r.entries r.small k.1 r.here))
-
-pub root_grown_mapped : (pages : List (List ℕ)) (order below high low : ℕ) (twig : Twig) (mapped : List Mapped) → RootMaps pages order below high (made.Grown low twig) mapped → Maps pages order (stubs_below below high twig) mapped
-root_grown_mapped pages order below high low twig mapped m = subst (λ x. RootMapsBy pages order below high x mapped) (made.outs-Grown low twig) m
+maps_from pages order zero below high c mapped is m = absurd (omega (arith, is))
+maps_from pages order (suc level) below high c mapped is m = subst (λ k. MapsFrom pages order (order / 2) k high c mapped) (omega (arith, is)) (maps_in pages order level high (out-Child c) mapped m)
 
 -- what is held beside does not change that
 pub beside_mapped : (Reads : ℕ → Stub → Twig → Type 0) (order below width high block : ℕ) (fs : List Child) (c : Child) (bs : List Child) (old new : List (Option Twig)) (left after : Left) (mapped : List Mapped) → HoldsBeside Reads order below width high fs c bs old new left after →

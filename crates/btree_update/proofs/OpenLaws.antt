@@ -14,7 +14,7 @@ use Rattle.btree_twigs.specs.Shape.{EachBy, IsChildBy, IsChild, IsTwig}
 use Rattle.btree_twigs.specs.Updates.{IsNode, IsOpen, stubs_under}
 use Rattle.btree_twigs.proofs.ListLaws.{stubs_append, each_front, each_back, tiles_by, tiles_le, split_here, at_end, node_with}
 use Rattle.btree_twigs.proofs.Children.{tiles_child}
-use Rattle.btree_update.specs.Held.{AreBelow, OnWay, HeldIn, HeldFor, AnyRead, IsOpened, IsTakenUp, IsAtHand, IsOpenedBelow}
+use Rattle.btree_update.specs.Held.{AreBelow, HasLeast, OnWay, HeldIn, HeldFor, AnyRead, IsOpened, IsTakenUp, IsAtHand, IsOpenedBelow}
 use Rattle.btree_update.specs.Opens.{Opens, Within}
 
 -- places before the block or behind it are no hindrance
@@ -121,62 +121,71 @@ on_way order block level high n cs ds c same some within before after to here =
     }
 
 -- a place that takes what is held for it
-at_hand_by : (Reads : ℕ → Stub → Twig → Type 0) (order block l high : ℕ) (Rest : ℕ → Child → List Twig → Type 0) (x : Child-F Child Twig) (held : List Twig) → HeldIn Reads order block Rest l high x held → IsAtHand x held
-at_hand_by Reads order block l high Rest (Kept low addr key) held h = omega (arith, ap length h.is, length-append h.rest (h.twig ∷ []))
-at_hand_by Reads order block l high Rest (Grown low twig) held h = tt
+pub at_hand_by : (Reads : ℕ → Stub → Twig → Type 0) (order least block l high : ℕ) (Rest : ℕ → Child → List Twig → Type 0) (x : Child-F Child Twig) (held : List Twig) → HeldIn Reads order least block Rest l high x held → IsAtHand x held
+at_hand_by Reads order least block l high Rest (Kept low addr key) held h = omega (arith, ap length h.is, length-append h.rest (h.twig ∷ []))
+at_hand_by Reads order least block l high Rest (Grown low twig) held h = tt
 
 pub at_hand : (order block l high : ℕ) (c : Child) (held : List Twig) → HeldFor AnyRead order block (suc l) high c held → IsAtHand (out-Child c) held
 unfolding HeldFor
-at_hand order block l high c held h = at_hand_by AnyRead order block l high (HeldFor AnyRead order block l) (out-Child c) held h
+at_hand order block l high c held h = at_hand_by AnyRead order (order / 2) block l high (HeldFor AnyRead order block l) (out-Child c) held h
 
 abbrev grown_of : ℕ → Twig → Child-F Child Twig
 grown_of low twig = Grown low twig
 
 -- what is known of the node that a child is then
-pub record IsUp (Reads : ℕ → Stub → Twig → Type 0) (order block l high : ℕ) (Rest : ℕ → Child → List Twig → Type 0) (x : Child-F Child Twig) (low : ℕ) (twig : Twig) (held : List Twig) : Type 0 where
+pub record IsUp (Reads : ℕ → Stub → Twig → Type 0) (order least block l high : ℕ) (Rest : ℕ → Child → List Twig → Type 0) (x : Child-F Child Twig) (low : ℕ) (twig : Twig) (held : List Twig) : Type 0 where
   pub low_is : low ≡ low_in x
-  pub shaped : IsTwig order l (order / 2) order low high twig
+  pub shaped : IsTwig order l least order low high twig
   pub few : nodes_below l twig ≤ nodes_in (nodes l) x
   pub on_way : OnWay block (λ high c. Rest high c held) high twig
 
-up_by : (Reads : ℕ → Stub → Twig → Type 0) (order block l high : ℕ) (Rest : ℕ → Child → List Twig → Type 0) (x : Child-F Child Twig) (new : Child) (held rest : List Twig) (low : ℕ) (twig : Twig) →
-    IsChildBy (IsChild order l) order l high x → HeldIn Reads order block Rest l high x held → IsTakenUp x new held rest → out-Child new ≡ Grown low twig → IsUp Reads order block l high Rest x low twig rest
-up_by Reads order block l high Rest (Kept low' addr key) new held rest low twig c h t is =
+pub up_by : (Reads : ℕ → Stub → Twig → Type 0) (order least block l high : ℕ) (Rest : ℕ → Child → List Twig → Type 0) (x : Child-F Child Twig) (new : Child) (held rest : List Twig) (low : ℕ) (twig : Twig) →
+    HasLeast order least l high x → HeldIn Reads order least block Rest l high x held → IsTakenUp x new held rest → out-Child new ≡ Grown low twig → IsUp Reads order least block l high Rest x low twig rest
+up_by Reads order least block l high Rest (Kept low' addr key) new held rest low twig c h t is =
     let same = same_from_push h.rest rest h.twig t.0 (sym h.is ∙ t.1) in
     let grown : grown_of low' t.0 ≡ grown_of low twig = sym t.2 ∙ is in
     let lows : low' ≡ low = cc in
     let twigs : t.0 ≡ twig = cc in
     record {
       low_is = sym lows;
-      shaped = subst (λ m. IsTwig order l (order / 2) order m high twig) lows (subst (IsTwig order l (order / 2) order low' high) (same.1 ∙ twigs) h.shaped);
+      shaped = subst (λ m. IsTwig order l least order m high twig) lows (subst (IsTwig order l least order low' high) (same.1 ∙ twigs) h.shaped);
       few = omega (arith, subst (λ w. nodes_below l w ≡ 0) (same.1 ∙ twigs) h.bare);
       on_way = subst (λ r. OnWay block (λ high c. Rest high c r) high twig) same.0 (subst (OnWay block (λ high c. Rest high c h.rest) high) (same.1 ∙ twigs) h.on_way);
     }
-up_by Reads order block l high Rest (Grown low' twig') new held rest low twig c h t is =
+up_by Reads order least block l high Rest (Grown low' twig') new held rest low twig c h t is =
     let grown : grown_of low' twig' ≡ grown_of low twig = sym t.0 ∙ is in
     let lows : low' ≡ low = cc in
     let twigs : twig' ≡ twig = cc in
     record {
       low_is = sym lows;
-      shaped = subst (λ m. IsTwig order l (order / 2) order m high twig) lows (subst (IsTwig order l (order / 2) order low' high) twigs c);
+      shaped = subst (λ m. IsTwig order l least order m high twig) lows (subst (IsTwig order l least order low' high) twigs c);
       few = omega (arith, ap (nodes_below l) twigs);
       on_way = subst (λ r. OnWay block (λ high c. Rest high c r) high twig) (sym t.1) (subst (OnWay block (λ high c. Rest high c held) high) twigs h);
     }
 
+has_least_by : (order l high : ℕ) (x : Child-F Child Twig) → IsChildBy (IsChild order l) order l high x → HasLeast order (order / 2) l high x
+has_least_by order l high (Kept low addr key) h = tt
+has_least_by order l high (Grown low twig) h = h
+
+-- a child has as many children as it should
+pub has_least : (order l high : ℕ) (c : Child) → IsChild order (suc l) high c → HasLeast order (order / 2) l high (out-Child c)
+unfolding IsChild
+has_least order l high c h = has_least_by order l high (out-Child c) h
+
 pub up : (Reads : ℕ → Stub → Twig → Type 0) (order block l high : ℕ) (c new : Child) (held rest : List Twig) (low : ℕ) (twig : Twig) →
     IsChild order (suc l) high c → HeldFor Reads order block (suc l) high c held → IsTakenUp (out-Child c) new held rest → out-Child new ≡ Grown low twig →
-    IsUp Reads order block l high (HeldFor Reads order block l) (out-Child c) low twig rest
-unfolding IsChild HeldFor
-up Reads order block l high c new held rest low twig h k t is = up_by Reads order block l high (HeldFor Reads order block l) (out-Child c) new held rest low twig h k t is
+    IsUp Reads order (order / 2) block l high (HeldFor Reads order block l) (out-Child c) low twig rest
+unfolding HeldFor
+up Reads order block l high c new held rest low twig h k t is = up_by Reads order (order / 2) block l high (HeldFor Reads order block l) (out-Child c) new held rest low twig (has_least order l high c h) k t is
 
-up_below_by : (order block l high head : ℕ) (Rest : ℕ → Child → List Twig → Type 0) (x : Child-F Child Twig) (new : Child) (held rest : List Twig) (low : ℕ) (twig : Twig) →
-    HeldIn AnyRead order block Rest l high x held → IsTakenUp x new held rest → out-Child new ≡ Grown low twig → AreBelow head (stubs_in (stubs l) (suc l) high x) → AreBelow head (stubs_below l high twig)
-up_below_by order block l high head Rest (Kept low' addr key) new held rest low twig h t is below =
+pub up_below_by : (order least block l high head : ℕ) (Rest : ℕ → Child → List Twig → Type 0) (x : Child-F Child Twig) (new : Child) (held rest : List Twig) (low : ℕ) (twig : Twig) →
+    HeldIn AnyRead order least block Rest l high x held → IsTakenUp x new held rest → out-Child new ≡ Grown low twig → AreBelow head (stubs_in (stubs l) (suc l) high x) → AreBelow head (stubs_below l high twig)
+up_below_by order least block l high head Rest (Kept low' addr key) new held rest low twig h t is below =
     let same = same_from_push h.rest rest h.twig t.0 (sym h.is ∙ t.1) in
     let grown : grown_of low' t.0 ≡ grown_of low twig = sym t.2 ∙ is in
     let twigs : t.0 ≡ twig = cc in
     subst (λ w. AreBelow head (stubs_below l high w)) (same.1 ∙ twigs) (lower addr head _ (omega (arith, below.0)) h.lower)
-up_below_by order block l high head Rest (Grown low' twig') new held rest low twig h t is below =
+up_below_by order least block l high head Rest (Grown low' twig') new held rest low twig h t is below =
     let grown : grown_of low' twig' ≡ grown_of low twig = sym t.0 ∙ is in
     let twigs : twig' ≡ twig = cc in
     subst (λ w. AreBelow head (stubs_below l high w)) twigs below
@@ -184,7 +193,7 @@ up_below_by order block l high head Rest (Grown low' twig') new held rest low tw
 pub up_below : (order block l high head : ℕ) (c new : Child) (held rest : List Twig) (low : ℕ) (twig : Twig) →
     HeldFor AnyRead order block (suc l) high c held → IsTakenUp (out-Child c) new held rest → out-Child new ≡ Grown low twig → AreBelow head (stubs (suc l) high c) → AreBelow head (stubs_below l high twig)
 unfolding HeldFor stubs
-up_below order block l high head c new held rest low twig h t is below = up_below_by order block l high head (HeldFor AnyRead order block l) (out-Child c) new held rest low twig h t is below
+up_below order block l high head c new held rest low twig h t is below = up_below_by order (order / 2) block l high head (HeldFor AnyRead order block l) (out-Child c) new held rest low twig h t is below
 
 pub nodes_is : (l : ℕ) (c : Child) → nodes (suc l) c ≡ nodes_in (nodes l) (out-Child c)
 unfolding nodes

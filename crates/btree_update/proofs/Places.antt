@@ -1,5 +1,5 @@
 -- What stands at the places below the nodes in memory.
-use Rattle.std.proofs.Common.{◌≡◌, ℕ, zero, suc, ◌<◌, ◌≤◌, ◌^◌, List, [], ◌∷◌, ◌++◌, refl, sym, ap, subst, ◌∙◌, arith, append_assoc}
+use Rattle.std.proofs.Common.{◌≡◌, ℕ, zero, suc, ◌<◌, ◌≤◌, ◌^◌, List, [], ◌∷◌, ◌++◌, refl, sym, ap, subst, ◌∙◌, arith, append_assoc, append-nil}
 use Rattle.std.specs.List.{AllByRecursion}
 use Rattle.node_codec.specs.declared.body.Entry.{Entry}
 use Rattle.node_codec.specs.Record.{DataRecord, NodeRecord}
@@ -223,3 +223,12 @@ takes_maps pages order low high block old new mapped p h =
         after = weaker (IsIn (suc block) high) (λ k. block < k.block) (λ k i. omega (arith, i.0)) two.right (in_maps pages order (suc block) high p.back two.right p.after two.on_right);
       },
     )
+
+-- what one place maps
+pub one_place : (pages : List (List ℕ)) (order : ℕ) (s : Stub) (m : List Mapped) → Maps pages order (s ∷ []) m → (parts : Parts) × Subtree pages order s.level (want_of order s) s.key parts × (m ≡ parts.mapped)
+one_place pages order s m h = go h.each h.has h.is
+  where
+    go : (ps : List Parts) → HasEach pages order (s ∷ []) ps → m ≡ (joined ps).mapped → (parts : Parts) × Subtree pages order s.level (want_of order s) s.key parts × (m ≡ parts.mapped)
+    go [] has is = absurd has
+    go (p ∷ []) has is = (p, has.0, is ∙ append-nil p.mapped)
+    go (p ∷ q ∷ ps) has is = absurd has.1

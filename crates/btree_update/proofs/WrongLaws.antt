@@ -1,5 +1,5 @@
 -- How the way to a block comes to a wrong place.
-use Rattle.std.proofs.Common.{◌≡◌, ◌⊎◌, inl, inr, ℕ, zero, suc, ◌+◌, ◌-◌, ◌<◌, ◌≤◌, List, [], ◌∷◌, ◌++◌, length, take, drop, ◌==◌, if◌then◌else◌, refl, sym, ap, subst, ◌∙◌, arith, length-append, append_assoc}
+use Rattle.std.proofs.Common.{◌≡◌, ◌⊎◌, inl, inr, ℕ, zero, suc, ◌+◌, ◌-◌, ◌/◌, ◌<◌, ◌≤◌, List, [], ◌∷◌, ◌++◌, length, take, drop, refl, sym, ap, subst, ◌∙◌, arith, length-append, append_assoc}
 use Rattle.std.proofs.lemmas.List.{length-take-le}
 use Rattle.node_codec.specs.declared.body.Entry.{Entry}
 use Rattle.node_codec.specs.Record.{NodeRecord}
@@ -10,15 +10,12 @@ use Rattle.btree_twigs.specs.declared.twigs.Child.TheVariants as made
 use Rattle.btree_twigs.specs.declared.twigs.Twig.{Twig}
 use Rattle.btree_twigs.specs.Stubs.{start_by, low_of, children_of}
 use Rattle.btree_twigs.proofs.Children.{low_of_kept}
-use Rattle.btree_twigs.specs.Top.{top_least}
-use Rattle.btree_update.specs.GroveTree.{want_of, top_want}
+use Rattle.btree_update.specs.GroveTree.{want_at}
 use Rattle.btree_update.specs.Reading.{kept_of, all_kept}
-use Rattle.btree_update.specs.Held.{stub_at}
 use Rattle.btree_update.specs.Holding.{IsNodeFor, IsNodeOf}
-use Rattle.btree_update.specs.Wrong.{IsWrongBeside, entry_low, IsWrongEntry, ComesToWrong, Below, Beside, IsWrongIn, IsWrongChild, WrongChildBy, WrongOnWay, WrongUnder, WrongFrom, WrongFromBy}
+use Rattle.btree_update.specs.Wrong.{IsWrongBeside, entry_low, IsWrongEntry, ComesToWrong, Below, Beside, IsWrongIn, IsWrongChild, WrongChildBy, WrongOnWay, WrongUnder, WrongFrom}
 use Rattle.btree_update.proofs.OpenLaws.{IsOnWay}
 use Rattle.btree_update.proofs.BesideLaws.{same_split}
-use Rattle.btree_update.proofs.RootHolds.{want_root}
 
 -- below the child on the way, so below the node
 pub wrong_child : (pages : List (List ℕ)) (order level high block addr n : ℕ) (twig : Twig) (c : Child) → (w : IsOnWay order block level high (children_of twig) n c) →
@@ -145,7 +142,7 @@ entry_beside pages order addr level high front e [] h =
 comes_entry : (pages : List (List ℕ)) (order block addr level end : ℕ) (e : Entry) → WrongOnWay pages order block addr level end (kept_of e) → (1 ≤ level) × ComesToWrong pages order block addr (child_want order level e end) e.key
 unfolding WrongOnWay
 comes_entry pages order block addr zero end e h = absurd h
-comes_entry pages order block addr (suc level) end e h = (omega arith, subst (WrongChildBy pages order block addr (WrongOnWay pages order block addr level) level end) (made.outs-Kept e.low e.addr e.key) h)
+comes_entry pages order block addr (suc level) end e h = (omega arith, subst (WrongChildBy pages order (order / 2) block addr (WrongOnWay pages order block addr level) level end) (made.outs-Kept e.low e.addr e.key) h)
 
 -- and where it comes to a wrong place from one of its children on, it does so from the node on
 pub wrong_below : (pages : List (List ℕ)) (order block wrong level low high addr least most : ℕ) (key : List ℕ) (twig : Twig) →
@@ -172,28 +169,18 @@ wrong_below pages order block wrong level low high addr least most key twig h o 
         Beside level s.front s.e s.back fits (omega (arith, w.from, low_is)) (omega (arith, w.to, ends)) (entry_beside pages order wrong level high s.front s.e s.back c)
 
 -- a child on the medium, and one in memory
-pub wrong_kept : (pages : List (List ℕ)) (order block wrong level high low addr : ℕ) (key : List ℕ) →
-    ComesToWrong pages order block wrong (want_of order (stub_at (suc level) low high addr key)) key → WrongOnWay pages order block wrong (suc level) high (made.Kept low addr key)
-unfolding WrongOnWay
-wrong_kept pages order block wrong level high low addr key w = subst (WrongChildBy pages order block wrong (WrongOnWay pages order block wrong level) level high) (sym (made.outs-Kept low addr key)) w
-
-pub wrong_grown : (pages : List (List ℕ)) (order block wrong level high low : ℕ) (twig : Twig) →
-    WrongUnder pages order block wrong level high twig → WrongOnWay pages order block wrong (suc level) high (made.Grown low twig)
-unfolding WrongOnWay
-wrong_grown pages order block wrong level high low twig w = subst (WrongChildBy pages order block wrong (WrongOnWay pages order block wrong level) level high) (sym (made.outs-Grown low twig)) w
-
--- what is wanted of a root
-least_is : (below : ℕ) → top_least below ≡ (if suc below == 1 then 0 else 2)
-least_is zero = refl
-least_is (suc below) = grind arith
-
-root_want : (order below low high addr least : ℕ) → low ≡ 0 → least ≡ top_least below → want_root order (suc below) low high addr least ≡ top_want order high (suc below) addr
-root_want order below low high addr least low_is is = rw (low_is, is, least_is below) refl
-
-pub wrong_root : (pages : List (List ℕ)) (order block wrong level low high addr least : ℕ) (key : List ℕ) → 1 ≤ level → low ≡ 0 → least ≡ top_least (level - 1) →
-    ComesToWrong pages order block wrong (want_root order level low high addr least) key → WrongFrom pages order block wrong (level - 1) high (made.Kept low addr key)
-wrong_root pages order block wrong level low high addr least key one low_is is w =
+pub wrong_kept : (pages : List (List ℕ)) (order least block wrong level high low addr : ℕ) (key : List ℕ) → 1 ≤ level →
+    ComesToWrong pages order block wrong (want_at order level low high addr least) key → WrongFrom pages order least block wrong (level - 1) high (made.Kept low addr key)
+wrong_kept pages order least block wrong level high low addr key one w =
     let l : level ≡ suc (level - 1) = omega (arith, one) in
-    subst (WrongFromBy pages order block wrong (level - 1) high) (sym (made.outs-Kept low addr key))
-    (subst (λ v. ComesToWrong pages order block wrong v key) (root_want order (level - 1) low high addr least low_is is)
-    (subst (λ k. ComesToWrong pages order block wrong (want_root order k low high addr least) key) l w))
+    subst (WrongChildBy pages order least block wrong (WrongOnWay pages order block wrong (level - 1)) (level - 1) high) (sym (made.outs-Kept low addr key))
+    (subst (λ k. ComesToWrong pages order block wrong (want_at order k low high addr least) key) l w)
+
+pub wrong_grown : (pages : List (List ℕ)) (order least block wrong level high low : ℕ) (twig : Twig) →
+    WrongUnder pages order block wrong level high twig → WrongFrom pages order least block wrong level high (made.Grown low twig)
+wrong_grown pages order least block wrong level high low twig w = subst (WrongChildBy pages order least block wrong (WrongOnWay pages order block wrong level) level high) (sym (made.outs-Grown low twig)) w
+
+pub wrong_on_way : (pages : List (List ℕ)) (order block wrong level below high : ℕ) (c : Child) → level ≡ suc below → WrongFrom pages order (order / 2) block wrong below high c → WrongOnWay pages order block wrong level high c
+unfolding WrongOnWay
+wrong_on_way pages order block wrong zero below high c is w = absurd (omega (arith, is))
+wrong_on_way pages order block wrong (suc level) below high c is w = subst (λ k. WrongFrom pages order (order / 2) block wrong k high c) (omega (arith, is)) w

@@ -14,6 +14,10 @@ use Rattle.btree_twigs.specs.Shape.{IsTwig}
 abbrev pub want_of : ℕ → Stub → Want
 want_of order stub = record { addr = stub.addr; level = stub.level; low = stub.low; high = stub.high; least = order / 2; most = order }
 
+-- what is wanted at a place whose node has so many children at least
+abbrev pub want_at : ℕ → ℕ → ℕ → ℕ → ℕ → ℕ → Want
+want_at order level low high addr least = record { addr = addr; level = level; low = low; high = high; least = least; most = order }
+
 -- at each of these places there is what is wanted, and it has these parts
 abbrev pub HasEach : List (List ℕ) → ℕ → List Stub → List Parts → Type 0
 HasEach pages order = AllZip (λ s p. Subtree pages order s.level (want_of order s) s.key p)
@@ -23,6 +27,14 @@ pub record Maps (pages : List (List ℕ)) (order : ℕ) (stubs : List Stub) (map
   pub each : List Parts
   pub has : HasEach pages order stubs each
   pub is : mapped ≡ (joined each).mapped
+
+abbrev pub MapsIn : List (List ℕ) → ℕ → ℕ → ℕ → ℕ → Child-F Child Twig → List Mapped → Type 0
+MapsIn pages order least below high (Kept low addr key) mapped = (parts : Parts) × Subtree pages order (suc below) (want_at order (suc below) low high addr least) key parts × (mapped ≡ parts.mapped)
+MapsIn pages order least below high (Grown low twig) mapped = Maps pages order (stubs_below below high twig) mapped
+
+-- below a child over children of this level, whose node has so many at least, there are these mapped blocks, in order
+abbrev pub MapsFrom : List (List ℕ) → ℕ → ℕ → ℕ → ℕ → Child → List Mapped → Type 0
+MapsFrom pages order least below high child mapped = MapsIn pages order least below high (out-Child child) mapped
 
 -- what is wanted of a root at a level: a leaf may be empty, an inner node has two entries at least
 abbrev pub top_want : ℕ → ℕ → ℕ → ℕ → Want

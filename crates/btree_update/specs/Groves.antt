@@ -7,6 +7,7 @@ use Rattle.btree_twigs.specs.Stubs.{Stub, datum, stubs, nodes}
 use Rattle.btree_twigs.specs.Updates.{IsOpen, HasSpares}
 use Rattle.btree_twigs.specs.Levels.{Node, IsMedium, rows_at}
 use Rattle.btree_twigs.specs.Search.{IsAt}
+use Rattle.btree_twigs.specs.Top.{top_least}
 use Rattle.btree_update.specs.declared.groves.Grove.{Grove}
 use Rattle.btree_update.specs.Held.{AnyRead, IsReadAs}
 use Rattle.btree_update.specs.Tells.{Tells}
@@ -64,7 +65,7 @@ GroveMaps pages grove mapped = RootMaps pages grove.order (grove.level - 1) grov
 
 -- over these pages, a place at this address is on the way to a block or beside it, and nothing fits there
 abbrev pub IsWrongOnWay : List (List ℕ) → ℕ → Grove → ℕ → Type 0
-IsWrongOnWay pages block grove addr = WrongFrom pages grove.order block addr (grove.level - 1) grove.blocks grove.top
+IsWrongOnWay pages block grove addr = WrongFrom pages grove.order (top_least (grove.level - 1)) block addr (grove.level - 1) grove.blocks grove.top
 
 -- the places on the medium, from left to right
 abbrev pub places_of : Grove → List Stub

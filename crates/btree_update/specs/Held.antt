@@ -32,25 +32,34 @@ abbrev pub OnWay : ℕ → (ℕ → Child → Type 0) → ℕ → Twig → Type 
 OnWay block Rest high twig = (front back : List Child) (c : Child) → children_of twig ≡ front ++ c ∷ back → low_of c ≤ block → block < start_by low_of back high →
     Rest (start_by low_of back high) c
 
--- a place takes the node that is held last
-pub record TakesHeld (Reads : ℕ → Stub → Twig → Type 0) (order block : ℕ) (Rest : ℕ → Child → List Twig → Type 0) (below low high addr : ℕ) (key : List ℕ) (held : List Twig) : Type 0 where
+-- in memory a child over children of this level has so many of them at least
+abbrev pub HasLeast : ℕ → ℕ → ℕ → ℕ → Child-F Child Twig → Type 0
+HasLeast order least below high (Kept low addr key) = Unit {0}
+HasLeast order least below high (Grown low twig) = IsTwig order below least order low high twig
+
+-- a place, whose node has so many children at least, takes the node that is held last
+pub record TakesHeld (Reads : ℕ → Stub → Twig → Type 0) (order least block : ℕ) (Rest : ℕ → Child → List Twig → Type 0) (below low high addr : ℕ) (key : List ℕ) (held : List Twig) : Type 0 where
   pub rest : List Twig
   pub twig : Twig
   pub is : held ≡ rest ++ twig ∷ []
   pub reads : Reads below (stub_at (suc below) low high addr key) twig
-  pub shaped : IsTwig order below (order / 2) order low high twig
+  pub shaped : IsTwig order below least order low high twig
   pub bare : nodes_below below twig ≡ 0
   pub lower : AreBelow addr (stubs_below below high twig)
   pub on_way : OnWay block (λ high c. Rest high c rest) high twig
 
-abbrev pub HeldIn : (ℕ → Stub → Twig → Type 0) → ℕ → ℕ → (ℕ → Child → List Twig → Type 0) → ℕ → ℕ → Child-F Child Twig → List Twig → Type 0
-HeldIn Reads order block Rest below high (Kept low addr key) held = TakesHeld Reads order block Rest below low high addr key held
-HeldIn Reads order block Rest below high (Grown low twig) held = OnWay block (λ high c. Rest high c held) high twig
+abbrev pub HeldIn : (ℕ → Stub → Twig → Type 0) → ℕ → ℕ → ℕ → (ℕ → Child → List Twig → Type 0) → ℕ → ℕ → Child-F Child Twig → List Twig → Type 0
+HeldIn Reads order least block Rest below high (Kept low addr key) held = TakesHeld Reads order least block Rest below low high addr key held
+HeldIn Reads order least block Rest below high (Grown low twig) held = OnWay block (λ high c. Rest high c held) high twig
 
 -- for each place on the way to the block that isn't in memory its node is held, the topmost last
 unfoldable pub HeldFor : (ℕ → Stub → Twig → Type 0) → ℕ → ℕ → ℕ → ℕ → Child → List Twig → Type 0
 HeldFor Reads order block zero high child held = Unit {0}
-HeldFor Reads order block (suc level) high child held = HeldIn Reads order block (HeldFor Reads order block level) level high (out-Child child) held
+HeldFor Reads order block (suc level) high child held = HeldIn Reads order (order / 2) block (HeldFor Reads order block level) level high (out-Child child) held
+
+-- the same of a child over children of this level whose node has so many at least
+abbrev pub HeldFrom : (ℕ → Stub → Twig → Type 0) → ℕ → ℕ → ℕ → ℕ → ℕ → Child → List Twig → Type 0
+HeldFrom Reads order least block below high child held = HeldIn Reads order least block (HeldFor Reads order block below) below high (out-Child child) held
 
 -- whatever the pages say
 abbrev pub AnyRead : ℕ → Stub → Twig → Type 0

@@ -1,15 +1,15 @@
 -- What is read for an update.
-use Rattle.std.specs.Prelude.{◌≡◌, ℕ, suc, ◌-◌, ◌<◌, ◌≤◌, List, vec_capacity}
+use Rattle.std.specs.Prelude.{◌≡◌, ℕ, ◌-◌, ◌<◌, ◌≤◌, List, vec_capacity}
 use Rattle.node_codec.specs.declared.body.Entry.{Entry}
 use Rattle.node_codec.specs.Record.{NodeRecord, FitsNode}
 use Rattle.page_store.specs.declared.wants.Want.{Want}
 use Rattle.page_store.specs.Places.{IsRecordAt, IsNodeWanted}
-use Rattle.btree_twigs.specs.declared.twigs.Child.{Child}
+use Rattle.btree_twigs.specs.declared.twigs.Child.{Child, out-Child}
 use Rattle.btree_twigs.specs.declared.twigs.Twig.{Twig, out-Twig}
 use Rattle.btree_twigs.specs.Stubs.{low_of, level_of, children_of, stubs, stubs_below}
-use Rattle.btree_twigs.specs.Shape.{IsChild, IsTwig}
+use Rattle.btree_twigs.specs.Shape.{IsTwig}
 use Rattle.btree_update.specs.Reading.{all_kept}
-use Rattle.btree_update.specs.Held.{AreBelow}
+use Rattle.btree_update.specs.Held.{AreBelow, HasLeast}
 use Rattle.btree_update.specs.Roots.{IsRoot}
 
 -- a node in memory that is in range and wanted at a place, with room for one child more than a node may have
@@ -27,13 +27,13 @@ pub record IsNodeOf (pages : List (List ℕ)) (want : Want) (key : List ℕ) (tw
   pub here : IsRecordAt pages want.addr key (NodeRecord want.level entries)
   pub children : children_of twig ≡ all_kept entries
 
--- a child over children of some level, on the way to a block
-pub record CanHold (order level block high head : ℕ) (child : Child) : Type 0 where
-  pub below : ℕ
-  pub level_is : level ≡ suc below
+-- a child at a level, on the way to a block, whose node has so many children at least
+pub record CanHold (order least level block high head : ℕ) (child : Child) : Type 0 where
+  pub one : 1 ≤ level
+  pub two : 2 ≤ level → 2 ≤ least
   pub four : 4 ≤ order
   pub most : order ≤ 64
-  pub shaped : IsChild order level high child
+  pub shaped : HasLeast order least (level - 1) high (out-Child child)
   pub from : low_of child ≤ block
   pub to : block < high
   pub within : AreBelow head (stubs level high child)

@@ -1,5 +1,5 @@
 -- Where the way to a block comes to a wrong place.
-use Rattle.std.specs.Prelude.{◌≡◌, ◌⊎◌, ℕ, zero, suc, ◌<◌, ◌≤◌, List, [], ◌∷◌, ◌++◌}
+use Rattle.std.specs.Prelude.{◌≡◌, ◌⊎◌, ℕ, zero, suc, ◌/◌, ◌<◌, ◌≤◌, List, [], ◌∷◌, ◌++◌}
 use Rattle.node_codec.specs.declared.body.Entry.{Entry}
 use Rattle.node_codec.specs.Record.{NodeRecord}
 use Rattle.page_store.specs.declared.wants.Want.{Want}
@@ -8,7 +8,7 @@ use Rattle.btree_twigs.specs.declared.twigs.Child.{Child, Child-F, out-Child}
 use Rattle.btree_twigs.specs.declared.twigs.Child.TheOpen.{Kept, Grown}
 use Rattle.btree_twigs.specs.declared.twigs.Twig.{Twig}
 use Rattle.btree_twigs.specs.Stubs.{start_by, low_of, children_of}
-use Rattle.btree_update.specs.GroveTree.{want_of, top_want}
+use Rattle.btree_update.specs.GroveTree.{want_of, want_at}
 use Rattle.btree_update.specs.Held.{stub_at}
 
 -- nothing fits at a place, which has this address
@@ -53,23 +53,19 @@ pub record WrongBelow (pages : List (List ℕ)) (order block addr : ℕ) (Rest :
   pub to : block < start_by low_of back high
   pub comes : Rest (start_by low_of back high) child ⊎ IsWrongBeside low_of (IsWrongChild pages order addr level) high front child back
 
-abbrev pub WrongChildBy : List (List ℕ) → ℕ → ℕ → ℕ → (ℕ → Child → Type 0) → ℕ → ℕ → Child-F Child Twig → Type 0
-WrongChildBy pages order block addr Rest level high (Kept low at key) = ComesToWrong pages order block addr (want_of order (stub_at (suc level) low high at key)) key
-WrongChildBy pages order block addr Rest level high (Grown low twig) = WrongBelow pages order block addr Rest level high twig
+abbrev pub WrongChildBy : List (List ℕ) → ℕ → ℕ → ℕ → ℕ → (ℕ → Child → Type 0) → ℕ → ℕ → Child-F Child Twig → Type 0
+WrongChildBy pages order least block addr Rest level high (Kept low at key) = ComesToWrong pages order block addr (want_at order (suc level) low high at least) key
+WrongChildBy pages order least block addr Rest level high (Grown low twig) = WrongBelow pages order block addr Rest level high twig
 
 -- it does so from a child of this level on, up to a bound
 unfoldable pub WrongOnWay : List (List ℕ) → ℕ → ℕ → ℕ → ℕ → ℕ → Child → Type 0
 WrongOnWay pages order block addr zero high child = ⊥
-WrongOnWay pages order block addr (suc level) high child = WrongChildBy pages order block addr (WrongOnWay pages order block addr level) level high (out-Child child)
+WrongOnWay pages order block addr (suc level) high child = WrongChildBy pages order (order / 2) block addr (WrongOnWay pages order block addr level) level high (out-Child child)
 
 -- from a node over children of this level on
 abbrev pub WrongUnder : List (List ℕ) → ℕ → ℕ → ℕ → ℕ → ℕ → Twig → Type 0
 WrongUnder pages order block addr level high twig = WrongBelow pages order block addr (WrongOnWay pages order block addr level) level high twig
 
-abbrev pub WrongFromBy : List (List ℕ) → ℕ → ℕ → ℕ → ℕ → ℕ → Child-F Child Twig → Type 0
-WrongFromBy pages order block addr below high (Kept low at key) = ComesToWrong pages order block addr (top_want order high (suc below) at) key
-WrongFromBy pages order block addr below high (Grown low twig) = WrongUnder pages order block addr below high twig
-
--- and from a root on, over children of this level
-abbrev pub WrongFrom : List (List ℕ) → ℕ → ℕ → ℕ → ℕ → ℕ → Child → Type 0
-WrongFrom pages order block addr below high top = WrongFromBy pages order block addr below high (out-Child top)
+-- and from a child over children of this level on, whose node has so many at least
+abbrev pub WrongFrom : List (List ℕ) → ℕ → ℕ → ℕ → ℕ → ℕ → ℕ → Child → Type 0
+WrongFrom pages order least block addr below high child = WrongChildBy pages order least block addr (WrongOnWay pages order block addr below) below high (out-Child child)

@@ -26,7 +26,7 @@ ghost use Rattle.btree_update.specs.Groves.{KeepsTree, IsSound, IsReadFrom, IsRe
 use crate::counting::count;
 use crate::finding::find_root;
 use crate::helping::help_root;
-use crate::holding::hold_root;
+use crate::holding::{hold_way, least_of_root};
 use crate::opening::{note, open_root};
 use crate::refusals::ReadyRefusal;
 use crate::siblings::is_mapped;
@@ -187,12 +187,14 @@ impl Grove {
     {
         self.held.clear();
         self.beside.clear();
-        let left = hold_root(
+        let least = least_of_root(self.level);
+        let left = hold_way(
             alloc,
             platform,
             cache,
             buf,
             self.order,
+            least,
             block,
             &self.top,
             self.level,

@@ -3,15 +3,14 @@ ghost use Rattle.btree_update.specs.declared.refusals.ReadyRefusal.{ReadyRefusal
 ghost use Rattle.sdbt_base.specs.Faults.{Rose};
 ghost use Rattle.btree_walk.specs.Looks.{Looks};
 ghost use Rattle.btree_walk.specs.Sights.{StandsOver};
-ghost use Rattle.btree_update.specs.Held.{AnyRead, IsReadAs, OnWay, HeldFor};
+ghost use Rattle.btree_update.specs.Held.{AnyRead, IsReadAs, OnWay, HeldFor, HeldFrom};
 ghost use Rattle.btree_twigs.specs.Top.{top_least};
-ghost use Rattle.btree_update.specs.Roots.{HeldRoot, RootMaps};
-ghost use Rattle.btree_twigs.specs.Stubs.{stubs, stubs_below, children_of};
+ghost use Rattle.btree_twigs.specs.Stubs.{stubs_below, children_of};
 ghost use Rattle.page_store.specs.Tree.{Mapped};
-ghost use Rattle.btree_update.specs.GroveTree.{Maps};
-ghost use Rattle.btree_update.specs.Wrong.{WrongOnWay, WrongUnder, WrongFrom};
+ghost use Rattle.btree_update.specs.GroveTree.{Maps, MapsFrom};
+ghost use Rattle.btree_update.specs.Wrong.{WrongUnder, WrongFrom};
 ghost use Rattle.btree_update.specs.Beside.{IsLeft, HelpsBelow, LeftOf, IsMappedBy};
-ghost use Rattle.btree_update.specs.Holding.{CanHold, CanHoldBelow, CanHoldRoot};
+ghost use Rattle.btree_update.specs.Holding.{CanHold, CanHoldBelow};
 
 use crate::kept::read_kept;
 use crate::refusals::ReadyRefusal;
@@ -22,8 +21,8 @@ use page_store::Buffers;
 use platform::Platform;
 use std::alloc::Global;
 
-/// Reads the nodes on the way to a block that aren't in memory, from a child down, and holds them, the topmost last, and with
-/// them what a removal may need beside the way. Answers what a removal leaves of the child.
+/// Reads the nodes on the way to a block that aren't in memory, from a child down whose node has so many children at least, and
+/// holds them, the topmost last, and with them what a removal may need beside the way. Answers what a removal leaves of the child.
 #[cycle(hold)]
 pub(crate) fn hold_way<P: Platform>(
     alloc: Global,
@@ -31,6 +30,7 @@ pub(crate) fn hold_way<P: Platform>(
     cache: &mut NodeCache,
     buf: &mut Buffers,
     order: u16,
+    least: u16,
     block: u64,
     child: &Child,
     level: u8,
@@ -38,17 +38,17 @@ pub(crate) fn hold_way<P: Platform>(
     held: &mut Vec<Twig>,
     beside: &mut Vec<Option<Twig>>,
 ) -> Result<Left, ReadyRefusal>
-    requires can { CanHold order level block high (P.head platform.old) child.now }
-    ensures at_hand { IfOk result (λ _. HeldFor AnyRead order block level high child.now held.new.items) }
+    requires can { CanHold order least level block high (P.head platform.old) child.now }
+    ensures at_hand { IfOk result (λ _. HeldFrom AnyRead order least block (level - 1) high child.now held.new.items) }
     ensures reads { P.tells → StandsOver (P.history platform.old).present.readable cache.old →
-        IfOk result (λ _. HeldFor (IsReadAs (P.history platform.old).present.readable order) order block level high child.now held.new.items) }
+        IfOk result (λ _. HeldFrom (IsReadAs (P.history platform.old).present.readable order) order least block (level - 1) high child.now held.new.items) }
     ensures helps { IfOk result (LeftOf AnyRead order block (level - 1) high child.now held.new.items beside.new.items) }
     ensures beside { P.tells → StandsOver (P.history platform.old).present.readable cache.old →
         IfOk result (LeftOf (IsReadAs (P.history platform.old).present.readable order) order block (level - 1) high child.now held.new.items beside.new.items) }
     ensures bad { P.tells → StandsOver (P.history platform.old).present.readable cache.old → (addr : ℕ) → IsErrOf result (ReadyRefusal.BadRecord addr) →
-        WrongOnWay (P.history platform.old).present.readable order block addr level high child.now }
+        WrongFrom (P.history platform.old).present.readable order least block addr (level - 1) high child.now }
     ensures mapped { P.tells → StandsOver (P.history platform.old).present.readable cache.old →
-        IfOk result (λ left. (mapped : List Mapped) → Maps (P.history platform.old).present.readable order (stubs level high child.now) mapped → IsMappedBy block mapped left) }
+        IfOk result (λ left. (mapped : List Mapped) → MapsFrom (P.history platform.old).present.readable order least (level - 1) high child.now mapped → IsMappedBy block mapped left) }
     ensures stands { P.tells → StandsOver (P.history platform.old).present.readable cache.old → StandsOver (P.history platform.old).present.readable cache.new }
     ensures looks { Looks P.Platform (2 * level - 1) platform.old platform.new }
     ensures cause { IsErrOf result ReadyRefusal.PlatformFault → Rose (P.faults platform.old) (P.faults platform.new) }
@@ -68,7 +68,6 @@ pub(crate) fn hold_way<P: Platform>(
             beside,
         ),
         Child::Kept { low, addr, key } => {
-            let least = order / 2;
             let twig = read_kept(
                 alloc, platform, cache, buf, order, least, level, *low, high, *addr, *key,
             )?;
@@ -131,80 +130,13 @@ pub(crate) fn hold_below<P: Platform>(
         return Ok(left_of_leaf(twig, order, low_of(child) == block));
     }
     let end = end_of(&twig.children, at, high);
+    let half = order / 2;
     let left = hold_way(
-        alloc, platform, cache, buf, order, block, child, level, end, held, beside,
+        alloc, platform, cache, buf, order, half, block, child, level, end, held, beside,
     )?;
     hold_beside(
         alloc, platform, cache, buf, order, twig, at, level, high, left, beside,
     )
-}
-
-/// Reads the root and the nodes on the way to a block that aren't in memory, and holds them, the root last, and with them what
-/// a removal may need beside the way. Answers what a removal leaves of the root.
-pub(crate) fn hold_root<P: Platform>(
-    alloc: Global,
-    platform: &mut P,
-    cache: &mut NodeCache,
-    buf: &mut Buffers,
-    order: u16,
-    block: u64,
-    top: &Child,
-    level: u8,
-    high: u64,
-    held: &mut Vec<Twig>,
-    beside: &mut Vec<Option<Twig>>,
-) -> Result<Left, ReadyRefusal>
-    requires can { CanHoldRoot order level block high (P.head platform.old) top.now }
-    ensures at_hand { IfOk result (λ _. HeldRoot AnyRead order block (level - 1) high top.now held.new.items) }
-    ensures reads { P.tells → StandsOver (P.history platform.old).present.readable cache.old →
-        IfOk result (λ _. HeldRoot (IsReadAs (P.history platform.old).present.readable order) order block (level - 1) high top.now held.new.items) }
-    ensures helps { IfOk result (LeftOf AnyRead order block (level - 1) high top.now held.new.items beside.new.items) }
-    ensures beside { P.tells → StandsOver (P.history platform.old).present.readable cache.old →
-        IfOk result (LeftOf (IsReadAs (P.history platform.old).present.readable order) order block (level - 1) high top.now held.new.items beside.new.items) }
-    ensures bad { P.tells → StandsOver (P.history platform.old).present.readable cache.old → (addr : ℕ) → IsErrOf result (ReadyRefusal.BadRecord addr) →
-        WrongFrom (P.history platform.old).present.readable order block addr (level - 1) high top.now }
-    ensures mapped { P.tells → StandsOver (P.history platform.old).present.readable cache.old →
-        IfOk result (λ left. (mapped : List Mapped) → RootMaps (P.history platform.old).present.readable order (level - 1) high top.now mapped → IsMappedBy block mapped left) }
-    ensures stands { P.tells → StandsOver (P.history platform.old).present.readable cache.old → StandsOver (P.history platform.old).present.readable cache.new }
-    ensures looks { Looks P.Platform (2 * level) platform.old platform.new }
-    ensures cause { IsErrOf result ReadyRefusal.PlatformFault → Rose (P.faults platform.old) (P.faults platform.new) }
-{
-    match top {
-        Child::Grown { twig, .. } => hold_below(
-            alloc,
-            platform,
-            cache,
-            buf,
-            order,
-            block,
-            twig,
-            level - 1,
-            high,
-            held,
-            beside,
-        ),
-        Child::Kept { low, addr, key } => {
-            let least = least_of_root(level);
-            let twig = read_kept(
-                alloc, platform, cache, buf, order, least, level, *low, high, *addr, *key,
-            )?;
-            let left = hold_below(
-                alloc,
-                platform,
-                cache,
-                buf,
-                order,
-                block,
-                &twig,
-                level - 1,
-                high,
-                held,
-                beside,
-            )?;
-            hold(twig, held)?;
-            Ok(left)
-        }
-    }
 }
 
 /// The least number of children of a root.

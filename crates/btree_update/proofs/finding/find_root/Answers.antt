@@ -9,11 +9,11 @@ use Rattle.btree_twigs.specs.Stubs.{stubs_below}
 use Rattle.btree_twigs.specs.Shape.{IsTwig}
 use Rattle.btree_twigs.specs.Search.{IsSpot}
 use Rattle.btree_twigs.specs.Top.{top_least}
-use Rattle.btree_update.specs.GroveTree.{top_want}
+use Rattle.btree_update.specs.GroveTree.{want_at, top_want}
 use Rattle.btree_update.specs.Roots.{IsRootBy}
 use Rattle.btree_update.specs.Holding.{CanHoldRoot}
 use Rattle.btree_update.specs.Finding.{FindsBelow, ComesToWrong, RootFinds, RootFindsBy, RootStops, RootStopsBy}
-use Rattle.btree_update.proofs.RootHolds.{root_grown, root_lt, want_root}
+use Rattle.btree_update.proofs.RootHolds.{root_grown, root_lt}
 use Rattle.btree_update.proofs.FoundLaws.{looks_more, up_twig, goes_on, from_level, want_is}
 use Rattle.btree_update.proofs.finding.find_root.Goals as goal
 
@@ -68,14 +68,14 @@ returns-in-Grown-clause-looks g c =
 
 -- what is wanted of a root on the medium
 root_want_is : (order level block high head low addr least : ℕ) (key : List ℕ) (top : Child) → CanHoldRoot order level block high head top → top ≡ made.Kept low addr key → least ≡ top_least (level - 1) →
-    want_root order level low high addr least ≡ top_want order high (suc (level - 1)) addr
+    want_at order level low high addr least ≡ top_want order high (suc (level - 1)) addr
 root_want_is order level block high head low addr least key top can is least_is =
     want_is order high level low addr least can.one (subst (IsRootBy order (level - 1) high) (made.outs-Kept low addr key) (subst (CanHoldRoot order level block high head) is can).shaped) least_is
 
 pub returns-in-Kept-clause-found : goal.returns-in-Kept-clause-found
 returns-in-Kept-clause-found g c = λ tells stands.
     (let pages = (g.P.Platform.history c.args.platform.now).present.readable in
-    let want = want_root c.args.order c.args.level c.in-Kept.low c.args.high c.in-Kept.addr c.least_of_root.result in
+    let want = want_at c.args.order c.args.level c.in-Kept.low c.args.high c.in-Kept.addr c.least_of_root.result in
     let same = root_want_is c.args.order c.args.level c.args.block c.args.high (g.P.Platform.head c.args.platform.now) c.in-Kept.low c.in-Kept.addr c.least_of_root.result c.in-Kept.key c.args.top.now c.requires.can c.in-Kept.is c.least_of_root.ensures in
     subst (λ x. IfOk c.find.result (RootFinds pages c.args.order c.args.block (c.args.level - 1) c.args.high x)) (sym c.in-Kept.is)
     (IfOk_map _ _ c.find.result
@@ -89,7 +89,7 @@ pub returns-in-Kept-clause-bad : goal.returns-in-Kept-clause-bad
 returns-in-Kept-clause-bad g c = λ tells stands addr is.
     (let pages = (g.P.Platform.history c.args.platform.now).present.readable in
     let head = g.P.Platform.head c.args.platform.now in
-    let want = want_root c.args.order c.args.level c.in-Kept.low c.args.high c.in-Kept.addr c.least_of_root.result in
+    let want = want_at c.args.order c.args.level c.in-Kept.low c.args.high c.in-Kept.addr c.least_of_root.result in
     let same = root_want_is c.args.order c.args.level c.args.block c.args.high head c.in-Kept.low c.in-Kept.addr c.least_of_root.result c.in-Kept.key c.args.top.now c.requires.can c.in-Kept.is c.least_of_root.ensures in
     let lt = root_lt c.args.order c.args.level c.args.block c.args.high head c.in-Kept.low c.in-Kept.addr c.in-Kept.key (subst (CanHoldRoot c.args.order c.args.level c.args.block c.args.high head) c.in-Kept.is c.requires.can) in
     let small : c.in-Kept.addr < 2 ^ 64 = omega (arith, lt, g.met.P.Platform.has_room c.args.platform.now, g.met.P.Platform.is_limited c.args.platform.now) in

@@ -42,7 +42,7 @@ below_at order level block n least low high held twig c h at_hand w = record {
 }
 
 abbrev below_up : (order block l high : ℕ) (child : Child) (low : ℕ) (twig : Twig) (held : List Twig) → low_of child ≤ block → block < high →
-    IsUp AnyRead order block l high (HeldFor AnyRead order block l) (out-Child child) low twig held → CanOpenBelow l block held twig
+    IsUp AnyRead order (order / 2) block l high (HeldFor AnyRead order block l) (out-Child child) low twig held → CanOpenBelow l block held twig
 below_up order block l high child low twig held from to u = record {
   order = order;
   least = order / 2;

@@ -10,10 +10,10 @@ use Rattle.btree_twigs.proofs.Counts.{nodes_grown}
 use Rattle.btree_update.specs.GroveTree.{Maps}
 use Rattle.btree_update.specs.Held.{AreBelow, IsReadAs, AnyRead, OnWay, HeldFor}
 use Rattle.btree_update.specs.Opens.{HasWay, GivesChild, GivesBelow}
-use Rattle.btree_update.proofs.OpenLaws.{nodes_is}
+use Rattle.btree_update.proofs.OpenLaws.{nodes_is, at_hand_by}
 use Rattle.btree_update.proofs.GivesLaws.{root_takes_up, grown_gives}
 use Rattle.btree_update.proofs.OpenMaps.{opened_maps}
-use Rattle.btree_update.proofs.RootLaws.{root_at_hand, root_up, root_maps, root_below, below_root}
+use Rattle.btree_update.proofs.RootLaws.{root_up, root_maps, root_below, below_root}
 use Rattle.btree_update.specs.Beside.{HelpsBelow, ReadOver}
 use Rattle.btree_update.proofs.HelpLaws.{helps_up, from_grown}
 use Rattle.btree_update.proofs.opening.open_root.Goals as goal
@@ -21,7 +21,7 @@ use Rattle.btree_update.proofs.opening.open_root.Goals as goal
 pub take_held-requires-clause-at_hand : goal.take_held-requires-clause-at_hand
 take_held-requires-clause-at_hand c =
     let at = c.requires.can in
-    root_at_hand AnyRead at.order c.args.block at.below at.high (out-Child c.args.top.now) c.args.held.now.items at.at_hand
+    at_hand_by AnyRead at.order (top_least at.below) c.args.block at.below at.high (HeldFor AnyRead at.order c.args.block at.below) (out-Child c.args.top.now) c.args.held.now.items at.at_hand
 
 below_is : (level below : ℕ) → level ≡ suc below → level - 1 ≡ below
 below_is level below is = omega (arith, is)
@@ -30,14 +30,14 @@ pub open_below-requires-clause-can : goal.open_below-requires-clause-can
 open_below-requires-clause-can c =
     let at = c.requires.can in
     let is = ap out-Child c.in-Grown.is ∙ made.outs-Grown c.in-Grown.low c.in-Grown.twig in
-    let u = root_up AnyRead at.order c.args.block at.below at.high (out-Child c.args.top.now) c.take_held.new.child c.args.held.now.items c.take_held.new.held.items c.in-Grown.low c.in-Grown.twig at.shaped at.at_hand c.take_held.ensures.taken is in
+    let u = root_up AnyRead at.order c.args.block at.below at.high c.args.top.now c.take_held.new.child c.args.held.now.items c.take_held.new.held.items c.in-Grown.low c.in-Grown.twig at.shaped at.at_hand c.take_held.ensures.taken is in
     rw (c.in-Grown.is, made.outs-Grown c.in-Grown.low c.in-Grown.twig)
     (below_root at.order c.args.block at.below (c.args.level - 1) at.high c.in-Grown.low (out-Child c.args.top.now) c.in-Grown.twig c.take_held.new.held.items (below_is c.args.level at.below at.level_is) at.to u)
 
 pub returns-clause-opened : goal.returns-clause-opened
 returns-clause-opened c at =
     let is = ap out-Child c.in-Grown.is ∙ made.outs-Grown c.in-Grown.low c.in-Grown.twig in
-    let u = root_up AnyRead at.order c.args.block at.below at.high (out-Child c.args.top.now) c.take_held.new.child c.args.held.now.items c.take_held.new.held.items c.in-Grown.low c.in-Grown.twig at.shaped at.at_hand c.take_held.ensures.taken is in
+    let u = root_up AnyRead at.order c.args.block at.below at.high c.args.top.now c.take_held.new.child c.args.held.now.items c.take_held.new.held.items c.in-Grown.low c.in-Grown.twig at.shaped at.at_hand c.take_held.ensures.taken is in
     let e = rw (c.in-Grown.is, made.outs-Grown c.in-Grown.low c.in-Grown.twig) at c.open_below.ensures in
     let l = below_is c.args.level at.below at.level_is in
     let o = e.opened (below_root at.order c.args.block at.below (c.args.level - 1) at.high c.in-Grown.low (out-Child c.args.top.now) c.in-Grown.twig c.take_held.new.held.items l at.to u) in
@@ -52,12 +52,12 @@ pub returns-clause-gives : goal.returns-clause-gives
 returns-clause-gives c pages at held =
     let is = ap out-Child c.in-Grown.is ∙ made.outs-Grown c.in-Grown.low c.in-Grown.twig in
     let l = below_is c.args.level at.below at.level_is in
-    let u = root_up AnyRead at.order c.args.block at.below at.high (out-Child c.args.top.now) c.take_held.new.child c.args.held.now.items c.take_held.new.held.items c.in-Grown.low c.in-Grown.twig at.shaped at.at_hand c.take_held.ensures.taken is in
-    let v = root_up (IsReadAs pages at.order) at.order c.args.block at.below at.high (out-Child c.args.top.now) c.take_held.new.child c.args.held.now.items c.take_held.new.held.items c.in-Grown.low c.in-Grown.twig at.shaped held c.take_held.ensures.taken is in
+    let u = root_up AnyRead at.order c.args.block at.below at.high c.args.top.now c.take_held.new.child c.args.held.now.items c.take_held.new.held.items c.in-Grown.low c.in-Grown.twig at.shaped at.at_hand c.take_held.ensures.taken is in
+    let v = root_up (IsReadAs pages at.order) at.order c.args.block at.below at.high c.args.top.now c.take_held.new.child c.args.held.now.items c.take_held.new.held.items c.in-Grown.low c.in-Grown.twig at.shaped held c.take_held.ensures.taken is in
     let e = rw (c.in-Grown.is, made.outs-Grown c.in-Grown.low c.in-Grown.twig) at c.open_below.ensures in
     let can = below_root at.order c.args.block at.below (c.args.level - 1) at.high c.in-Grown.low (out-Child c.args.top.now) c.in-Grown.twig c.take_held.new.held.items l at.to u in
     let way = subst (λ m. OnWay c.args.block (λ high c'. HeldFor (IsReadAs pages at.order) at.order c.args.block m high c' c.take_held.new.held.items) at.high c.in-Grown.twig) (sym l) v.on_way in
-    let first = root_takes_up pages at.order c.args.block at.below at.high (out-Child c.args.top.now) c.take_held.new.child c.args.held.now.items c.take_held.new.held.items c.in-Grown.low c.in-Grown.twig c.args.gone.now.items c.take_held.new.gone.items at.shaped at.to held c.take_held.ensures.taken c.take_held.ensures.noted is in
+    let first = root_takes_up pages at.order c.args.block at.below at.high c.args.top.now c.take_held.new.child c.args.held.now.items c.take_held.new.held.items c.in-Grown.low c.in-Grown.twig c.args.gone.now.items c.take_held.new.gone.items at.shaped at.to held c.take_held.ensures.taken c.take_held.ensures.noted is in
     let second = subst (λ m. GivesBelow pages at.order (HasWay c.args.block) m at.high c.in-Grown.twig c.open_below.new.twig c.take_held.new.gone.items c.open_below.new.gone.items) l (e.gives pages can way) in
     let both = grown_gives pages at.order (HasWay c.args.block) at.below at.high c.args.top.now c.in-Grown.low c.in-Grown.twig c.open_below.new.twig c.args.gone.now.items c.take_held.new.gone.items c.open_below.new.gone.items first second in
     let new = made.Grown c.in-Grown.low c.open_below.new.twig in
@@ -68,13 +68,13 @@ pub returns-clause-maps : goal.returns-clause-maps
 returns-clause-maps c pages at held mapped m =
     let is = ap out-Child c.in-Grown.is ∙ made.outs-Grown c.in-Grown.low c.in-Grown.twig in
     let l = below_is c.args.level at.below at.level_is in
-    let u = root_up AnyRead at.order c.args.block at.below at.high (out-Child c.args.top.now) c.take_held.new.child c.args.held.now.items c.take_held.new.held.items c.in-Grown.low c.in-Grown.twig at.shaped at.at_hand c.take_held.ensures.taken is in
-    let v = root_up (IsReadAs pages at.order) at.order c.args.block at.below at.high (out-Child c.args.top.now) c.take_held.new.child c.args.held.now.items c.take_held.new.held.items c.in-Grown.low c.in-Grown.twig at.shaped held c.take_held.ensures.taken is in
+    let u = root_up AnyRead at.order c.args.block at.below at.high c.args.top.now c.take_held.new.child c.args.held.now.items c.take_held.new.held.items c.in-Grown.low c.in-Grown.twig at.shaped at.at_hand c.take_held.ensures.taken is in
+    let v = root_up (IsReadAs pages at.order) at.order c.args.block at.below at.high c.args.top.now c.take_held.new.child c.args.held.now.items c.take_held.new.held.items c.in-Grown.low c.in-Grown.twig at.shaped held c.take_held.ensures.taken is in
     let e = rw (c.in-Grown.is, made.outs-Grown c.in-Grown.low c.in-Grown.twig) at c.open_below.ensures in
     let can = below_root at.order c.args.block at.below (c.args.level - 1) at.high c.in-Grown.low (out-Child c.args.top.now) c.in-Grown.twig c.take_held.new.held.items l at.to u in
     let way = subst (λ m. OnWay c.args.block (λ high c'. HeldFor (IsReadAs pages at.order) at.order c.args.block m high c' c.take_held.new.held.items) at.high c.in-Grown.twig) (sym l) v.on_way in
     let second = subst (λ m. GivesBelow pages at.order (HasWay c.args.block) m at.high c.in-Grown.twig c.open_below.new.twig c.take_held.new.gone.items c.open_below.new.gone.items) l (e.gives pages can way) in
-    let before = root_maps pages at.order c.args.block at.below at.high (out-Child c.args.top.now) c.take_held.new.child c.args.held.now.items c.take_held.new.held.items c.in-Grown.low c.in-Grown.twig mapped held c.take_held.ensures.taken is m in
+    let before = root_maps pages at.order c.args.block at.below at.high c.args.top.now c.take_held.new.child c.args.held.now.items c.take_held.new.held.items c.in-Grown.low c.in-Grown.twig mapped held c.take_held.ensures.taken is m in
     let after = opened_maps pages at.order second.places.places _ _ mapped second.places.opens before in
     let new = made.Grown c.in-Grown.low c.open_below.new.twig in
     rw (c.in-Grown.is, made.outs-Grown c.in-Grown.low c.in-Grown.twig)
@@ -84,7 +84,7 @@ pub returns-clause-nodes : goal.returns-clause-nodes
 returns-clause-nodes c at =
     let is = ap out-Child c.in-Grown.is ∙ made.outs-Grown c.in-Grown.low c.in-Grown.twig in
     let l = below_is c.args.level at.below at.level_is in
-    let u = root_up AnyRead at.order c.args.block at.below at.high (out-Child c.args.top.now) c.take_held.new.child c.args.held.now.items c.take_held.new.held.items c.in-Grown.low c.in-Grown.twig at.shaped at.at_hand c.take_held.ensures.taken is in
+    let u = root_up AnyRead at.order c.args.block at.below at.high c.args.top.now c.take_held.new.child c.args.held.now.items c.take_held.new.held.items c.in-Grown.low c.in-Grown.twig at.shaped at.at_hand c.take_held.ensures.taken is in
     let e = rw (c.in-Grown.is, made.outs-Grown c.in-Grown.low c.in-Grown.twig) at c.open_below.ensures in
     let le = subst (λ m. nodes_below m c.open_below.new.twig ≤ nodes_below m c.in-Grown.twig + m) l
     (e.nodes (below_root at.order c.args.block at.below (c.args.level - 1) at.high c.in-Grown.low (out-Child c.args.top.now) c.in-Grown.twig c.take_held.new.held.items l at.to u)) in
@@ -96,7 +96,7 @@ pub returns-clause-below : goal.returns-clause-below
 returns-clause-below c head at below =
     let is = ap out-Child c.in-Grown.is ∙ made.outs-Grown c.in-Grown.low c.in-Grown.twig in
     let l = below_is c.args.level at.below at.level_is in
-    let u = root_up AnyRead at.order c.args.block at.below at.high (out-Child c.args.top.now) c.take_held.new.child c.args.held.now.items c.take_held.new.held.items c.in-Grown.low c.in-Grown.twig at.shaped at.at_hand c.take_held.ensures.taken is in
+    let u = root_up AnyRead at.order c.args.block at.below at.high c.args.top.now c.take_held.new.child c.args.held.now.items c.take_held.new.held.items c.in-Grown.low c.in-Grown.twig at.shaped at.at_hand c.take_held.ensures.taken is in
     let e = rw (c.in-Grown.is, made.outs-Grown c.in-Grown.low c.in-Grown.twig) at c.open_below.ensures in
     let first = root_below at.order c.args.block at.below at.high head c.args.top.now c.take_held.new.child c.args.held.now.items c.take_held.new.held.items c.in-Grown.low c.in-Grown.twig at.at_hand c.take_held.ensures.taken is
     (subst (λ k. AreBelow head (stubs k at.high c.args.top.now)) at.level_is below) in
@@ -111,7 +111,7 @@ pub returns-clause-helps : goal.returns-clause-helps
 returns-clause-helps c at source beside loses h =
     let is = ap out-Child c.in-Grown.is ∙ made.outs-Grown c.in-Grown.low c.in-Grown.twig in
     let l = below_is c.args.level at.below at.level_is in
-    let u = root_up AnyRead at.order c.args.block at.below at.high (out-Child c.args.top.now) c.take_held.new.child c.args.held.now.items c.take_held.new.held.items c.in-Grown.low c.in-Grown.twig at.shaped at.at_hand c.take_held.ensures.taken is in
+    let u = root_up AnyRead at.order c.args.block at.below at.high c.args.top.now c.take_held.new.child c.args.held.now.items c.take_held.new.held.items c.in-Grown.low c.in-Grown.twig at.shaped at.at_hand c.take_held.ensures.taken is in
     let e = rw (c.in-Grown.is, made.outs-Grown c.in-Grown.low c.in-Grown.twig) at c.open_below.ensures in
     let can = below_root at.order c.args.block at.below (c.args.level - 1) at.high c.in-Grown.low (out-Child c.args.top.now) c.in-Grown.twig c.take_held.new.held.items l at.to u in
     let up_is = helps_up (ReadOver source at.order) at.order c.args.block at.below at.high c.args.top.now c.take_held.new.child c.args.held.now.items c.take_held.new.held.items c.in-Grown.low c.in-Grown.twig beside loses h c.take_held.ensures.taken is in

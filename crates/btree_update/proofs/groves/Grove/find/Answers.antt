@@ -21,4 +21,4 @@ returns-clause-fits g c = λ tells stands mapped maps addr is.
     let grove = c.args.self.now in
     let head : g.P.Platform.head c.args.platform.now ≤ 2 ^ 64 = omega (arith, g.met.P.Platform.has_room c.args.platform.now, g.met.P.Platform.is_limited c.args.platform.now) in
     let small = subst (λ k. AreBelow (2 ^ 64) (stubs k grove.blocks grove.top)) (above_it grove.level c.requires.sound.one) (lower _ (2 ^ 64) (stubs grove.level grove.blocks grove.top) head c.requires.within) in
-    root_fits pages grove.order c.args.block (grove.level - 1) grove.blocks grove.top mapped addr small maps (c.find_root.ensures.bad tells stands addr is))
+    root_fits pages grove.order c.args.block (grove.level - 1) grove.blocks grove.top mapped addr c.requires.sound.shaped small maps (c.find_root.ensures.bad tells stands addr is))

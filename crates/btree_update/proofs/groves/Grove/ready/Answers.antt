@@ -1,9 +1,28 @@
-use Rattle.std.proofs.Common.{◌-◌, refl, arith}
-use Rattle.btree_update.specs.Held.{AnyRead, IsReadAs}
+use Rattle.std.proofs.Common.{◌≡◌, ◌-◌, Err, refl, sym, ap, subst, arith}
+use Rattle.std.proofs.lemmas.Result.{err_from_is_err_and}
+use Rattle.btree_update.specs.declared.refusals.ReadyRefusal.TheVariants.{BadRecord}
+use Rattle.btree_update.specs.GroveTree.{MapsFrom}
+use Rattle.btree_update.specs.Held.{AnyRead, IsReadAs, HeldFrom}
+use Rattle.btree_update.specs.Wrong.{WrongFrom}
+use Rattle.btree_update.proofs.RootHolds.{root_holds}
 use Rattle.btree_update.proofs.BesideLaws.{loses_of}
 use Rattle.btree_update.proofs.GroveLaws.{sound_as}
 use Rattle.btree_update.proofs.MappedLaws.{told}
 use Rattle.btree_update.proofs.groves.Grove.ready.Goals as goal
+
+pub hold_way-requires : goal.hold_way-requires
+hold_way-requires g c = record {
+  can = root_holds c.args.self.now.order c.least_of_root-least.result c.args.self.now.level c.args.block c.args.self.now.blocks (g.P.Platform.head c.args.platform.now) c.args.self.now.top
+      (record { one = c.requires.sound.one; four = c.requires.sound.least; most = c.requires.sound.most; shaped = c.requires.sound.shaped; to = c.requires.to; within = c.requires.within }) c.least_of_root-least.ensures;
+}
+
+pub returns-in_err-left-clause-bad : goal.returns-in_err-left-clause-bad
+returns-in_err-left-clause-bad g c =
+    let p = err_from_is_err_and c.from_residual.result c.from_residual.ensures.1 in
+    rw (p.1, p.2) (λ tells stands addr is.
+    let same : c.in_err-left.field-0.0 ≡ BadRecord addr = cc in
+    subst (λ l. WrongFrom (g.P.Platform.history c.args.platform.now).present.readable c.args.self.now.order l c.args.block addr (c.args.self.now.level - 1) c.args.self.now.blocks c.args.self.now.top) c.least_of_root-least.ensures
+    (c.in_err-left.ensures.bad tells stands addr (ap Err same)))
 
 pub returns-in_err-make_spares-clause-sound : goal.returns-in_err-make_spares-clause-sound
 returns-in_err-make_spares-clause-sound g c =
@@ -15,22 +34,23 @@ returns-in_err-make_room-clause-sound g c =
 
 pub returns-clause-can : goal.returns-clause-can
 returns-clause-can g c =
-    let spared = c.make_spares.ensures.kept c.args.self.now.order c.requires.sound.most c.requires.sound.spares in (
+    let spared = c.make_spares.ensures.kept c.args.self.now.order c.requires.sound.most c.requires.sound.spares in
+    let at_hand = subst (λ l. HeldFrom AnyRead c.args.self.now.order l c.args.block (c.args.self.now.level - 1) c.args.self.now.blocks c.args.self.now.top c.hold_way.new.held.items) c.least_of_root-least.ensures c.in_ok-left.ensures.at_hand in (
       record {
         sound = sound_as c.args.self.now _ c.requires.sound (refl, refl, refl, refl) spared;
         to = c.requires.to;
-        at_hand = c.in_ok-left.ensures.at_hand;
+        at_hand = at_hand;
         spares = c.in_ok-make_spares.ensures.made c.args.self.now.order c.requires.sound.most c.requires.sound.spares;
         gone_room = omega (arith, c.in_ok-make_room.ensures.gone, c.len.ensures);
         never_room = c.in_ok-make_room.ensures.never;
       },
       λ mapped.
-          (let l = loses_of AnyRead c.args.self.now.order c.args.block (c.args.self.now.level - 1) c.args.self.now.blocks c.args.self.now.top c.hold_root.new.held.items c.hold_root.new.beside.items c.in_ok-left.left
+          (let l = loses_of AnyRead c.args.self.now.order c.args.block (c.args.self.now.level - 1) c.args.self.now.blocks c.args.self.now.top c.hold_way.new.held.items c.hold_way.new.beside.items c.in_ok-left.left
           (c.is_mapped.ensures.0 mapped) c.in_ok-left.ensures.helps in
           record {
             sound = sound_as c.args.self.now _ c.requires.sound (refl, refl, refl, refl) spared;
             to = c.requires.to;
-            at_hand = c.in_ok-left.ensures.at_hand;
+            at_hand = at_hand;
             loses = l.0;
             beside = l.1;
             gone_room = omega (arith, c.in_ok-make_room.ensures.gone, c.len.ensures, c.len-2.ensures);
@@ -40,8 +60,9 @@ returns-clause-can g c =
 
 pub returns-clause-reads : goal.returns-clause-reads
 returns-clause-reads g c = λ tells stands. (
-  c.in_ok-left.ensures.reads tells stands,
-  λ mapped. loses_of (IsReadAs (g.P.Platform.history c.args.platform.now).present.readable c.args.self.now.order) c.args.self.now.order c.args.block (c.args.self.now.level - 1) c.args.self.now.blocks c.args.self.now.top c.hold_root.new.held.items c.hold_root.new.beside.items c.in_ok-left.left
+  subst (λ l. HeldFrom (IsReadAs (g.P.Platform.history c.args.platform.now).present.readable c.args.self.now.order) c.args.self.now.order l c.args.block (c.args.self.now.level - 1) c.args.self.now.blocks c.args.self.now.top c.hold_way.new.held.items) c.least_of_root-least.ensures
+      (c.in_ok-left.ensures.reads tells stands),
+  λ mapped. loses_of (IsReadAs (g.P.Platform.history c.args.platform.now).present.readable c.args.self.now.order) c.args.self.now.order c.args.block (c.args.self.now.level - 1) c.args.self.now.blocks c.args.self.now.top c.hold_way.new.held.items c.hold_way.new.beside.items c.in_ok-left.left
       (c.is_mapped.ensures.0 mapped) (c.in_ok-left.ensures.beside tells stands),
 )
 
@@ -50,4 +71,6 @@ returns-clause-sound g c =
     sound_as c.args.self.now _ c.requires.sound (refl, refl, refl, refl) (c.make_spares.ensures.kept c.args.self.now.order c.requires.sound.most c.requires.sound.spares)
 
 pub returns-clause-mapped : goal.returns-clause-mapped
-returns-clause-mapped g c = λ tells stands map m. told c.args.block map c.in_ok-left.left c.is_mapped.result c.is_mapped.ensures (c.in_ok-left.ensures.mapped tells stands map m)
+returns-clause-mapped g c = λ tells stands map m.
+    told c.args.block map c.in_ok-left.left c.is_mapped.result c.is_mapped.ensures (c.in_ok-left.ensures.mapped tells stands map
+    (subst (λ l. MapsFrom (g.P.Platform.history c.args.platform.now).present.readable c.args.self.now.order l (c.args.self.now.level - 1) c.args.self.now.blocks c.args.self.now.top map) (sym c.least_of_root-least.ensures) m))
