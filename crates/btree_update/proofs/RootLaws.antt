@@ -1,5 +1,5 @@
 -- How a root is opened.
-use Rattle.std.proofs.Common.{◌≡◌, ℕ, suc, ◌<◌, ◌≤◌, List, [], ◌∷◌, length, sym, ap, subst, ◌∙◌, arith, length-append}
+use Rattle.std.proofs.Common.{◌≡◌, ℕ, suc, ◌<◌, ◌≤◌, List, sym, subst, ◌∙◌, arith}
 use Rattle.std.proofs.lemmas.List.{same_from_push}
 use Rattle.page_store.specs.Tree.{Mapped}
 use Rattle.btree_twigs.specs.declared.twigs.Child.{Child, Child-F, out-Child}

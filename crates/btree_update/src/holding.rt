@@ -21,8 +21,9 @@ use page_store::Buffers;
 use platform::Platform;
 use std::alloc::Global;
 
-/// Reads the nodes on the way to a block that aren't in memory, from a child down whose node has so many children at least, and
-/// holds them, the topmost last, and with them what a removal may need beside the way. Answers what a removal leaves of the child.
+/// Reads the nodes on the way to a block that are not in memory, from a child down, and holds them, the topmost last, and with
+/// them what a removal may need beside the way. The node of the child has `least` children at least: in a root fewer may be than in
+/// other nodes. Answers what a removal leaves of the child.
 #[cycle(hold)]
 pub(crate) fn hold_way<P: Platform>(
     alloc: Global,

@@ -1,23 +1,23 @@
-use Rattle.std.proofs.Common.{length, ◌+◌, ◌≡◌, ℕ, suc, ◌<◌, ◌≤◌, ◌-◌, ◌/◌, ◌^◌, List, take, drop, sym, ap, subst, ◌∙◌, rules, arith}
+use Rattle.std.proofs.Common.{length, ◌+◌, ◌≡◌, ℕ, suc, ◌<◌, ◌-◌, ◌/◌, ◌^◌, List, take, drop, sym, ap, subst, ◌∙◌, rules, arith}
 use Rattle.btree_walk.proofs.OnLaws.{IfOk_map}
 use Rattle.btree_update.proofs.BesideLaws.{IfOk_all, leaf_left, left_at, left_grown, left_kept}
 use Rattle.btree_update.specs.Beside.{LeftOf, IsLeft, HelpsBelow, HoldsBeside}
 use Rattle.std.proofs.lemmas.List.{length-take-le}
 use Rattle.btree_twigs.specs.declared.twigs.Child.{Child}
-use Rattle.btree_twigs.specs.declared.twigs.Child.TheVariants as made
 use Rattle.btree_twigs.specs.declared.twigs.Twig.{Twig}
 use Rattle.btree_twigs.specs.Stubs.{start_by, low_of, children_of, stubs, stubs_below}
-use Rattle.btree_twigs.specs.Shape.{IsChild, IsTwig}
+use Rattle.btree_twigs.specs.Shape.{IsChild}
 use Rattle.btree_twigs.specs.Updates.{IsNode}
-use Rattle.btree_update.specs.Held.{stub_at, AnyRead, IsReadAs, OnWay, HeldFor, HeldFrom}
+use Rattle.btree_update.specs.Held.{AnyRead, IsReadAs, OnWay, HeldFor, HeldFrom}
 use Rattle.btree_walk.specs.Sights.{StandsOver}
 use Rattle.btree_update.specs.Holding.{CanHold, CanHoldBelow, IsNodeFor, IsNodeOf}
 use Rattle.btree_update.specs.Held.{AreBelow}
 use Rattle.btree_update.proofs.OpenLaws.{IsOnWay, on_way, child_is, has_least}
+use Rattle.btree_update.proofs.GroveLaws.{above_it}
 use Rattle.btree_update.proofs.HoldLaws.{no_way, leaf_way, one_way, below_child, read_as, way_grown, held_grown, way_lt, way_read, way_held, held_for}
 use Rattle.btree_update.specs.Wrong.{ComesToWrong, Here, WrongOnWay, WrongUnder, WrongFrom}
 use Rattle.btree_update.specs.declared.refusals.ReadyRefusal.TheVariants.{BadRecord}
-use Rattle.btree_update.proofs.WrongLaws.{wrong_child, wrong_near, wrong_below, wrong_kept, wrong_grown, wrong_on_way}
+use Rattle.btree_update.proofs.WrongLaws.{wrong_child, wrong_near, wrong_below, wrong_kept, wrong_on_way}
 use Rattle.std.proofs.Common.{Err}
 use Rattle.std.proofs.lemmas.Result.{err_from_is_err_and}
 use Rattle.std.proofs.Common.{◌==◌}
@@ -206,16 +206,13 @@ hold_below-returns-clause-mapped g t c = λ tells stands.
     (way_mapped pages c.args.order c.args.level at.least at.low c.args.high c.args.block c.place-at.result c.args.twig.now c.index-child.result.now at.shaped w c.in_ok-left.left one mapped m))
     (c.hold_beside.ensures.helps (take w.at cs) c.index-child.result.now (drop (suc w.at) cs) w.split (before_is w.at c.place-at.result cs w.within w.at_is)))
 
-above_one : (level : ℕ) → 1 ≤ level → level ≡ suc (level - 1)
-above_one level one = omega (arith, one)
-
 pub hold_way-hold_below-requires : goal.hold_way-hold_below-requires
 hold_way-hold_below-requires g t c κs within = (
   search rules,
   (
     within,
     way_grown c.args.order c.args.least c.args.level c.args.block c.args.high (g.P.Platform.head c.args.platform.now) c.in-Grown.low c.in-Grown.twig
-      (subst (CanHold c.args.order c.args.least c.args.level c.args.block c.args.high (g.P.Platform.head c.args.platform.now)) c.in-Grown.is c.requires.can),
+        (subst (CanHold c.args.order c.args.least c.args.level c.args.block c.args.high (g.P.Platform.head c.args.platform.now)) c.in-Grown.is c.requires.can),
   ),
 )
 
@@ -226,13 +223,12 @@ hold_way-read_kept-requires-clause-within g t c =
 
 pub hold_way-hold_below-requires-in-Kept : goal.hold_way-hold_below-requires-in-Kept
 hold_way-hold_below-requires-in-Kept g t c κs within =
-    let at = subst (CanHold c.args.order c.args.least c.args.level c.args.block c.args.high (g.P.Platform.head c.args.platform.now)) c.in-Kept.is c.requires.can in
-    (
+    let at = subst (CanHold c.args.order c.args.least c.args.level c.args.block c.args.high (g.P.Platform.head c.args.platform.now)) c.in-Kept.is c.requires.can in (
       search rules,
       (
         within,
         subst (λ m. CanHoldBelow c.args.order (c.args.level - 1) c.args.block c.args.high m c.in_ok-twig-in-Kept.twig) (sym c.in_ok-twig-in-Kept.ensures.looks.head)
-          (way_read c.args.order c.args.least c.args.level c.args.block c.args.high (g.P.Platform.head c.args.platform.now) c.in-Kept.low c.in-Kept.addr c.in-Kept.key c.in_ok-twig-in-Kept.twig at c.in_ok-twig-in-Kept.ensures.fits),
+            (way_read c.args.order c.args.least c.args.level c.args.block c.args.high (g.P.Platform.head c.args.platform.now) c.in-Kept.low c.in-Kept.addr c.in-Kept.key c.in_ok-twig-in-Kept.twig at c.in_ok-twig-in-Kept.ensures.fits),
       ),
     )
 
@@ -269,7 +265,7 @@ hold_way-returns-in_ok-hold-in-Kept-clause-reads g t c = λ tells stands.
     let way = subst (λ p. OnWay c.args.block (λ end d. HeldFor (IsReadAs p c.args.order) c.args.order c.args.block (c.args.level - 1) end d c.hold_below-in-Kept.new.held.items) c.args.high twig) same (c.in_ok-left-in-Kept.ensures.reads tells stands') in
     let lt = way_lt c.args.order c.args.least c.args.level c.args.block c.args.high (g.P.Platform.head c.args.platform.now) c.in-Kept.low c.in-Kept.addr c.in-Kept.key at in
     let small : c.in-Kept.addr < 2 ^ 64 = omega (arith, lt, g.met.P.Platform.has_room c.args.platform.now, g.met.P.Platform.is_limited c.args.platform.now) in
-    let node = subst (λ k. IsNodeOf pages (want_at c.args.order k c.in-Kept.low c.args.high c.in-Kept.addr c.args.least) c.in-Kept.key twig) (above_one c.args.level at.one)
+    let node = subst (λ k. IsNodeOf pages (want_at c.args.order k c.in-Kept.low c.args.high c.in-Kept.addr c.args.least) c.in-Kept.key twig) (above_it c.args.level at.one)
     (c.in_ok-twig-in-Kept.ensures.reads tells stands) in
     let reads = read_as pages c.args.order (c.args.level - 1) c.in-Kept.low c.args.high c.in-Kept.addr c.args.least c.in-Kept.key twig small node in
     let h = way_held c.args.order c.args.least c.args.level c.args.block c.args.high (g.P.Platform.head c.args.platform.now) c.in-Kept.low c.in-Kept.addr c.in-Kept.key twig at c.in_ok-twig-in-Kept.ensures.fits
@@ -295,7 +291,7 @@ hold_way-returns-in_err-left-in-Kept-clause-bad g t c =
     let at = subst (CanHold c.args.order c.args.least c.args.level c.args.block c.args.high (g.P.Platform.head c.args.platform.now)) c.in-Kept.is c.requires.can in
     let twig = c.in_ok-twig-in-Kept.twig in
     let pages = (g.P.Platform.history c.args.platform.now).present.readable in
-    let l = above_one c.args.level at.one in
+    let l = above_it c.args.level at.one in
     let same : (g.P.Platform.history c.read_kept.new.platform).present.readable ≡ pages = ap (λ i. i.readable) (c.in_ok-twig-in-Kept.ensures.looks.image tells) in
     let stands' = subst (λ p. StandsOver p c.read_kept.new.cache) (sym same) (c.in_ok-twig-in-Kept.ensures.stands tells stands) in
     let w = subst (λ p. WrongUnder p c.args.order c.args.block addr (c.args.level - 1) c.args.high twig) same (c.in_err-left-in-Kept.ensures.bad tells stands' addr (ap Err err)) in
@@ -349,7 +345,7 @@ hold_way-returns-in_ok-hold-in-Kept-clause-mapped g t c = λ tells stands mapped
     let stands' = subst (λ p. StandsOver p c.read_kept.new.cache) (sym same) (c.in_ok-twig-in-Kept.ensures.stands tells stands) in
     let lt = way_lt c.args.order c.args.least c.args.level c.args.block c.args.high (g.P.Platform.head c.args.platform.now) c.in-Kept.low c.in-Kept.addr c.in-Kept.key at in
     let small : c.in-Kept.addr < 2 ^ 64 = omega (arith, lt, g.met.P.Platform.has_room c.args.platform.now, g.met.P.Platform.is_limited c.args.platform.now) in
-    let node = subst (λ k. IsNodeOf pages (want_at c.args.order k c.in-Kept.low c.args.high c.in-Kept.addr c.args.least) c.in-Kept.key twig) (above_one c.args.level at.one)
+    let node = subst (λ k. IsNodeOf pages (want_at c.args.order k c.in-Kept.low c.args.high c.in-Kept.addr c.args.least) c.in-Kept.key twig) (above_it c.args.level at.one)
     (c.in_ok-twig-in-Kept.ensures.reads tells stands) in
     let reads = read_as pages c.args.order (c.args.level - 1) c.in-Kept.low c.args.high c.in-Kept.addr c.args.least c.in-Kept.key twig small node in
     let k = kept_mapped pages c.args.order c.args.least (c.args.level - 1) c.args.high c.in-Kept.low c.in-Kept.addr c.in-Kept.key twig reads mapped (subst (λ x. MapsFrom pages c.args.order c.args.least (c.args.level - 1) c.args.high x mapped) c.in-Kept.is m) in
