@@ -15,12 +15,23 @@ AreCheckWords [] = ⊥
 AreCheckWords (word ∷ []) = word ≡ codes "check"
 AreCheckWords (word ∷ next ∷ words) = ⊥
 
+-- the one word `seize`
+abbrev pub AreSeizeWords : List (List ℕ) → Type 0
+AreSeizeWords [] = ⊥
+AreSeizeWords (word ∷ []) = word ≡ codes "seize"
+AreSeizeWords (word ∷ next ∷ words) = ⊥
+
+-- a form whose work is over a device that is served
+abbrev pub AreServingWords : List (List ℕ) → Type 0
+AreServingWords words = AreRunWords words ⊎ AreCheckWords words
+
 -- one of the forms
 abbrev pub AreWords : List (List ℕ) → Type 0
-AreWords words = AreRunWords words ⊎ AreCheckWords words
+AreWords words = AreServingWords words ⊎ AreSeizeWords words
 
 -- the words ask for this, or for nothing
 abbrev pub Asks : List (List ℕ) → Option Order → Type 0
 Asks words (Some orders.Run) = AreRunWords words
 Asks words (Some orders.Check) = AreCheckWords words
+Asks words (Some orders.Seize) = AreSeizeWords words
 Asks words None = AreWords words → ⊥

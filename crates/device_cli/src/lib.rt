@@ -6,8 +6,9 @@
 ghost use Rattle.std.specs.Prelude.{◌≡◌, ◌≤◌, ℕ, List, Option, None, ◌↔◌, ◌⊎◌, map, string_bytes};
 ghost use Rattle.sdbt_base.specs.Faults.{Rose};
 ghost use Rattle.sdbt_base.specs.Told.{Gave};
-ghost use Rattle.device_cli.specs.Words.{AreRunWords, AreCheckWords, AreWords};
+ghost use Rattle.device_cli.specs.Words.{AreRunWords, AreCheckWords, AreSeizeWords, AreServingWords, AreWords};
 ghost use Rattle.device_cli.specs.Checks.{Checked};
+ghost use Rattle.device_cli.specs.Seizing.{Seizing};
 ghost use Rattle.platform.specs.History.{During};
 ghost use Rattle.device_core.specs.Leaf.{IsServedImage};
 ghost use Rattle.sdbt_base.specs.Arrays.{Device, closed};
@@ -26,6 +27,7 @@ mod desk;
 mod entry;
 mod pending;
 mod run;
+mod seizing;
 mod stop;
 mod texts;
 mod words;
@@ -34,6 +36,7 @@ use checking::check;
 use platform::Platform;
 use run::run;
 use sdbt_base::{Sink, Source, Tape};
+use seizing::seize_word;
 use std::alloc::Global;
 use words::{Order, order_of};
 
@@ -42,7 +45,8 @@ use words::{Order, order_of};
 /// With no words, or `run`, it serves the script that `input` gives: each whole line before more input is
 /// taken, and one reply put to `output` for each line. `ledger` gets an entry before each format and each commit of changes is done:
 /// a certificate, which says what it adds and what it deletes. With `check` it judges the ledger that `input` gives for the root record
-/// in the cell, and puts one line. Statuses: 0, the input was served to its end, or the ledger is accepted; 2, other words; 3 to 7, `input`,
+/// in the cell, and puts one line. With `seize` it takes nothing, and puts a line for each body that the root record in the cell opens,
+/// and one with their numbers. Statuses: 0, the input was served to its end, the ledger is accepted, or the seizure is told; 2, other words; 3 to 7, `input`,
 /// `output`, the platform, the tape or `ledger` failed; 8, the root cell is full and its root record can't be served; 9, a record was
 /// not what the tree wants there; 10, the ledger is refused, or there is no device to check it for; 11, no memory; 12, the limit of 2^32
 /// bytes of input was reached.
@@ -69,9 +73,9 @@ pub fn run_main<P: Platform, T: Tape, I: Source, O: Sink, L: Sink>(
         (counts (P.faults platform.old) (T.faults tape.old) (I.faults input.old) (O.faults output.old) (L.faults ledger.old))
         (counts (P.faults platform.new) (T.faults tape.new) (I.faults input.new) (O.faults output.new) (L.faults ledger.new)) }
 
-    // 8 exactly where the cell at the start is full and can't be served, unless that could not be told or not be said.
+    // 8 only where the cell at the start is full and can't be served; for a run and a check exactly there, unless that could not be told or not be said.
     ensures bad_root_only { P.tells → result ≡ 8 → IsServedImage (P.history platform.old).present → ⊥ }
-    ensures bad_root { P.tells → (IsServedImage (P.history platform.old).present → ⊥) → AreWords (map string_bytes words.now)
+    ensures bad_root { P.tells → (IsServedImage (P.history platform.old).present → ⊥) → AreServingWords (map string_bytes words.now)
         → (result ≡ 8) ⊎ (result ≡ 4) ⊎ (result ≡ 5) }
     // At 8 all is as it was but for the line that says so, and at 2 all is.
     ensures unserved { P.tells → result ≡ 8
@@ -114,8 +118,8 @@ pub fn run_main<P: Platform, T: Tape, I: Source, O: Sink, L: Sink>(
     ensures head { P.head platform.old ≤ P.head platform.new }
     ensures capacity { P.capacity platform.new ≡ P.capacity platform.old }
 
-    // 0 and 3 before the limit of input, and 12 at it.
-    ensures taken { (taken : List ℕ) × Gave (I.left input.old) taken (I.left input.new) × Took result taken (I.left input.new) }
+    // 0 and 3 before the limit of input, and 12 at it. With the word `seize` nothing is taken.
+    ensures taken { (AreSeizeWords (map string_bytes words.now) → ⊥) → (taken : List ℕ) × Gave (I.left input.old) taken (I.left input.new) × Took result taken (I.left input.new) }
 
     // With the word `check`, 0 exactly where the cell holds a root record and the chain of the whole input is accepted for it; the live addresses are those
     // that its trace reaches, and none that it says is deleted. 10 exactly where the cell is empty or a rule is broken, this one first.
@@ -124,6 +128,14 @@ pub fn run_main<P: Platform, T: Tape, I: Source, O: Sink, L: Sink>(
         (counts (P.faults platform.old) (T.faults tape.old) (I.faults input.old) (O.faults output.old) (L.faults ledger.old))
         (counts (P.faults platform.new) (T.faults tape.new) (I.faults input.new) (O.faults output.new) (L.faults ledger.new))
         result (I.left input.old) (I.left input.new) (O.written output.old) (O.written output.new) }
+
+    // With the word `seize`, 0 only with exactly the bodies at which a chain of opening from the key in the cell ends, over what a read gives of each page;
+    // 8 exactly where the cell is full, and not with the root record of a root within the pages, unless that could not be told or not be said.
+    ensures seizing { AreSeizeWords (map string_bytes words.now) → Seizing P.tells tape.old tape.new input.old input.new ledger.old ledger.new
+        (P.head platform.old) (P.head platform.new) (P.history platform.old) (P.history platform.new)
+        (counts (P.faults platform.old) (T.faults tape.old) (I.faults input.old) (O.faults output.old) (L.faults ledger.old))
+        (counts (P.faults platform.new) (T.faults tape.new) (I.faults input.new) (O.faults output.new) (L.faults ledger.new))
+        result (O.written output.old) (O.written output.new) }
 {
     match order_of(words) {
         Some(Order::Run) => match run(alloc, platform, tape, input, output, ledger) {
@@ -132,6 +144,10 @@ pub fn run_main<P: Platform, T: Tape, I: Source, O: Sink, L: Sink>(
         },
         Some(Order::Check) => match check(alloc, platform, input, output) {
             Ok(finding) => finding.status(),
+            Err(stop) => stop.status(),
+        },
+        Some(Order::Seize) => match seize_word(alloc, platform, output) {
+            Ok(()) => 0,
             Err(stop) => stop.status(),
         },
         None => 2,

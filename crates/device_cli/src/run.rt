@@ -231,7 +231,7 @@ fn put_reply<O: Sink>(
 }
 
 /// Puts the last line of a run that met a record or a root record which does not fit.
-fn last_line<O: Sink>(stop: DeviceStop, output: &mut O) -> Stop
+pub(crate) fn last_line<O: Sink>(stop: DeviceStop, output: &mut O) -> Stop
     ensures stop { ((result ≡ Stop.Device stop) × Got (O.written output.old) (damage_line stop) (O.written output.new))
         ⊎ ((result ≡ Stop.Sink) × Rose (O.faults output.old) (O.faults output.new)
         × GotPart (O.written output.old) (damage_line stop) (O.written output.new) × (IsSound stop → ⊥)) }

@@ -9,6 +9,8 @@ pub(crate) enum Order {
     Run,
     /// To judge the ledger that the input gives.
     Check,
+    /// To tell what the root record in the cell opens.
+    Seize,
 }
 
 /// What the words ask for. None where they are none of the forms.
@@ -32,6 +34,9 @@ fn order_named(word: &String) -> Option<Order>
     }
     if word == b"check".as_slice() {
         return Some(Order::Check);
+    }
+    if word == b"seize".as_slice() {
+        return Some(Order::Seize);
     }
     None
 }

@@ -20,6 +20,14 @@ use Rattle.platform.proofs.Moments.{During-start, During-step}
 use Rattle.device_core.specs.Leaf.{IsServedImage}
 use Rattle.device_course.specs.States.{around}
 use Rattle.device_course.proofs.MadeLaws.{shut, made_start}
+use Rattle.std.proofs.Common.{List, Option}
+use Rattle.sdbt_base.specs.Told.{Got}
+use Rattle.platform.specs.Image.{Image}
+use Rattle.page_store.specs.Roots.{IsBadCell}
+use Rattle.device_core.specs.Leaf.{IsServedCell}
+use Rattle.device_cli.specs.Replied.{Ending, damage_line}
+use Rattle.device_cli.specs.Seizing.{Seizes}
+use Rattle.device_cli.proofs.SeizeWordLaws.{not_bad, blame_of_two, at_eight, bad_status, complete_seizure}
 use Rattle.device_cli.proofs.run_main.Goals as goal
 
 -- a run that was stopped has another status than 0
@@ -275,3 +283,134 @@ returns-in-Ok-check-clause-seizes g c = seizes_maps _ _ _ _ _ (returns-in-Ok-che
 
 pub returns-in-Err-check-clause-seizes : goal.returns-in-Err-check-clause-seizes
 returns-in-Err-check-clause-seizes g c = seizes_maps _ _ _ _ _ (returns-in-Err-check-clause-discloses g c) (λ told served. During-step _ _ IsServedImage (c.check.ensures.time told) served (subst IsServedImage (sym (c.check.ensures.image told)) served))
+
+-- ---- a seizure
+
+pub returns-in-Ok-seize_word-clause-certified : goal.returns-in-Ok-seize_word-clause-certified
+returns-in-Ok-seize_word-clause-certified g c = certified_stays _ _ _ _ _ (λ told. one_look _ _ (c.seize_word.ensures.time told) (c.seize_word.ensures.image told))
+
+pub returns-in-Ok-seize_word-clause-discloses : goal.returns-in-Ok-seize_word-clause-discloses
+returns-in-Ok-seize_word-clause-discloses g c =
+    let P = g.P.Platform in
+    let old = around P g.T.Tape g.L.Sink c.args.platform.now c.args.tape.now c.args.ledger.now in
+    let new = around P g.T.Tape g.L.Sink c.seize_word.new.platform c.args.tape.now c.args.ledger.now in
+    discloses P.tells old new (Unit {0}) (λ keys. Unit {0}) (record { capacity = c.seize_word.ensures.capacity; rises = omega (arith, c.seize_word.ensures.head); within = g.met.P.Platform.has_room c.seize_word.new.platform })
+    (on_look _ _ _ None _ _ _ _ c.seize_word.ensures.image (λ told. one_look _ _ (c.seize_word.ensures.time told) (c.seize_word.ensures.image told)) (λ told keys kept h. tt))
+    (λ told device stands served. made_look old.history new.history device stands served (c.seize_word.ensures.time told) (c.seize_word.ensures.image told))
+
+pub returns-in-Ok-seize_word-clause-fits : goal.returns-in-Ok-seize_word-clause-fits
+returns-in-Ok-seize_word-clause-fits g c told there stands served =
+    let P = g.P.Platform in
+    let old = around P g.T.Tape g.L.Sink c.args.platform.now c.args.tape.now c.args.ledger.now in
+    let new = around P g.T.Tape g.L.Sink c.seize_word.new.platform c.args.tape.now c.args.ledger.now in
+    fits P.tells old new (Unit {0}) (λ keys. Unit {0})
+    (on_look _ _ _ None _ _ _ _ c.seize_word.ensures.image (λ told. one_look _ _ (c.seize_word.ensures.time told) (c.seize_word.ensures.image told)) (λ told keys kept h. tt))
+    (λ told device stands served. made_look old.history new.history device stands served (c.seize_word.ensures.time told) (c.seize_word.ensures.image told)) told there stands served
+
+pub returns-in-Ok-seize_word-clause-seizes : goal.returns-in-Ok-seize_word-clause-seizes
+returns-in-Ok-seize_word-clause-seizes g c = seizes_maps _ _ _ _ _ (returns-in-Ok-seize_word-clause-discloses g c) (λ told served. During-step _ _ IsServedImage (c.seize_word.ensures.time told) served (subst IsServedImage (sym (c.seize_word.ensures.image told)) served))
+
+pub returns-in-Ok-seize_word-clause-seizing : goal.returns-in-Ok-seize_word-clause-seizing
+returns-in-Ok-seize_word-clause-seizing g c words =
+    let P = g.P.Platform in
+    let T = g.T.Tape in
+    let I = g.I.Source in
+    let O = g.O.Sink in
+    let L = g.L.Sink in
+    let ending : Ending = Ok tt in
+    let image = (P.history c.args.platform.now).present in
+    let blame = blame_of_two (P.faults c.args.platform.now) (P.faults c.seize_word.new.platform) (O.faults c.args.output.now) (O.faults c.seize_word.new.output)
+    (T.faults c.args.tape.now) (I.faults c.args.input.now) (L.faults c.args.ledger.now) ending c.in-Ok-seize_word.ensures.blame in
+    record {
+      undrawn = refl;
+      untaken = refl;
+      unput = refl;
+      pages = c.seize_word.ensures.head;
+      image = λ told. image_stays _ _ (c.seize_word.ensures.time told) (c.seize_word.ensures.image told);
+      ending = ending;
+      status_is = refl;
+      seizes = c.in-Ok-seize_word.ensures.seizes;
+      bad_root = λ told bad. bad_status P.tells (P.head c.args.platform.now) image (O.written c.args.output.now) (O.written c.seize_word.new.output) ending c.in-Ok-seize_word.ensures.seizes told bad;
+      complete = λ told good quiet. complete_seizure P.tells (P.head c.args.platform.now) image
+          (counts (P.faults c.args.platform.now) (T.faults c.args.tape.now) (I.faults c.args.input.now) (O.faults c.args.output.now) (L.faults c.args.ledger.now))
+          (counts (P.faults c.seize_word.new.platform) (T.faults c.args.tape.now) (I.faults c.args.input.now) (O.faults c.seize_word.new.output) (L.faults c.args.ledger.now))
+          (O.written c.args.output.now) (O.written c.seize_word.new.output) ending c.in-Ok-seize_word.ensures.seizes blame.cause told good quiet;
+    }
+
+pub returns-in-Err-seize_word-clause-certified : goal.returns-in-Err-seize_word-clause-certified
+returns-in-Err-seize_word-clause-certified g c = certified_stays _ _ _ _ _ (λ told. one_look _ _ (c.seize_word.ensures.time told) (c.seize_word.ensures.image told))
+
+pub returns-in-Err-seize_word-clause-discloses : goal.returns-in-Err-seize_word-clause-discloses
+returns-in-Err-seize_word-clause-discloses g c =
+    let P = g.P.Platform in
+    let old = around P g.T.Tape g.L.Sink c.args.platform.now c.args.tape.now c.args.ledger.now in
+    let new = around P g.T.Tape g.L.Sink c.seize_word.new.platform c.args.tape.now c.args.ledger.now in
+    discloses P.tells old new (Unit {0}) (λ keys. Unit {0}) (record { capacity = c.seize_word.ensures.capacity; rises = omega (arith, c.seize_word.ensures.head); within = g.met.P.Platform.has_room c.seize_word.new.platform })
+    (on_look _ _ _ None _ _ _ _ c.seize_word.ensures.image (λ told. one_look _ _ (c.seize_word.ensures.time told) (c.seize_word.ensures.image told)) (λ told keys kept h. tt))
+    (λ told device stands served. made_look old.history new.history device stands served (c.seize_word.ensures.time told) (c.seize_word.ensures.image told))
+
+pub returns-in-Err-seize_word-clause-fits : goal.returns-in-Err-seize_word-clause-fits
+returns-in-Err-seize_word-clause-fits g c told there stands served =
+    let P = g.P.Platform in
+    let old = around P g.T.Tape g.L.Sink c.args.platform.now c.args.tape.now c.args.ledger.now in
+    let new = around P g.T.Tape g.L.Sink c.seize_word.new.platform c.args.tape.now c.args.ledger.now in
+    fits P.tells old new (Unit {0}) (λ keys. Unit {0})
+    (on_look _ _ _ None _ _ _ _ c.seize_word.ensures.image (λ told. one_look _ _ (c.seize_word.ensures.time told) (c.seize_word.ensures.image told)) (λ told keys kept h. tt))
+    (λ told device stands served. made_look old.history new.history device stands served (c.seize_word.ensures.time told) (c.seize_word.ensures.image told)) told there stands served
+
+pub returns-in-Err-seize_word-clause-seizes : goal.returns-in-Err-seize_word-clause-seizes
+returns-in-Err-seize_word-clause-seizes g c = seizes_maps _ _ _ _ _ (returns-in-Err-seize_word-clause-discloses g c) (λ told served. During-step _ _ IsServedImage (c.seize_word.ensures.time told) served (subst IsServedImage (sym (c.seize_word.ensures.image told)) served))
+
+pub returns-in-Err-seize_word-clause-seizing : goal.returns-in-Err-seize_word-clause-seizing
+returns-in-Err-seize_word-clause-seizing g c words =
+    let P = g.P.Platform in
+    let T = g.T.Tape in
+    let I = g.I.Source in
+    let O = g.O.Sink in
+    let L = g.L.Sink in
+    let ending : Ending = Err c.in-Err-seize_word.stop in
+    let image = (P.history c.args.platform.now).present in
+    let blame = blame_of_two (P.faults c.args.platform.now) (P.faults c.seize_word.new.platform) (O.faults c.args.output.now) (O.faults c.seize_word.new.output)
+    (T.faults c.args.tape.now) (I.faults c.args.input.now) (L.faults c.args.ledger.now) ending c.in-Err-seize_word.ensures.blame in
+    record {
+      undrawn = refl;
+      untaken = refl;
+      unput = refl;
+      pages = c.seize_word.ensures.head;
+      image = λ told. image_stays _ _ (c.seize_word.ensures.time told) (c.seize_word.ensures.image told);
+      ending = ending;
+      status_is = c.status-in-Err-seize_word.ensures;
+      seizes = c.in-Err-seize_word.ensures.seizes;
+      bad_root = λ told bad. subst (λ (status : ℕ). (status ≡ 8) ⊎ (status ≡ 4) ⊎ (status ≡ 5)) (sym c.status-in-Err-seize_word.ensures)
+          (bad_status P.tells (P.head c.args.platform.now) image (O.written c.args.output.now) (O.written c.seize_word.new.output) ending c.in-Err-seize_word.ensures.seizes told bad);
+      complete = λ told good quiet. subst (λ (status : ℕ). (status ≡ 0) ⊎ (status ≡ 11)) (sym c.status-in-Err-seize_word.ensures)
+          (complete_seizure P.tells (P.head c.args.platform.now) image
+          (counts (P.faults c.args.platform.now) (T.faults c.args.tape.now) (I.faults c.args.input.now) (O.faults c.args.output.now) (L.faults c.args.ledger.now))
+          (counts (P.faults c.seize_word.new.platform) (T.faults c.args.tape.now) (I.faults c.args.input.now) (O.faults c.seize_word.new.output) (L.faults c.args.ledger.now))
+          (O.written c.args.output.now) (O.written c.seize_word.new.output) ending c.in-Err-seize_word.ensures.seizes blame.cause told good quiet);
+    }
+
+-- at 8 the cell is one that a seizure refuses, and the line says so
+bad_there : (tells : Type 0) (head status : ℕ) (image : Image) (written written_now : Option (List ℕ)) (stop : Stop) → Seizes tells head image written written_now (Err stop) → status ≡ status_of stop → status ≡ 8
+    → (tells → IsBadCell head image.cell) × Got written (damage_line device.BadRoot) written_now
+bad_there tells head status image written now stop seizes is e = at_eight tells head image written now (Err stop) seizes (sym is ∙ e)
+
+pub returns-in-Err-seize_word-clause-bad_root_only : goal.returns-in-Err-seize_word-clause-bad_root_only
+returns-in-Err-seize_word-clause-bad_root_only g c told e served =
+    let P = g.P.Platform in
+    let image = (P.history c.args.platform.now).present in
+    let bad = bad_there P.tells (P.head c.args.platform.now) _ image (g.O.Sink.written c.args.output.now) (g.O.Sink.written c.seize_word.new.output) c.in-Err-seize_word.stop c.in-Err-seize_word.ensures.seizes c.status-in-Err-seize_word.ensures e in
+    not_bad image.cell (P.head c.args.platform.now) (subst (λ (n : ℕ). IsServedCell image.cell n) (g.met.P.Platform.counts_pages told c.args.platform.now) served) (bad.0 told)
+
+pub returns-in-Err-seize_word-clause-unserved : goal.returns-in-Err-seize_word-clause-unserved
+returns-in-Err-seize_word-clause-unserved g c told e =
+    let P = g.P.Platform in
+    let bad = bad_there P.tells (P.head c.args.platform.now) _ (P.history c.args.platform.now).present (g.O.Sink.written c.args.output.now) (g.O.Sink.written c.seize_word.new.output) c.in-Err-seize_word.stop c.in-Err-seize_word.ensures.seizes c.status-in-Err-seize_word.ensures e in
+    record {
+      undrawn = refl;
+      untaken = refl;
+      unput = refl;
+      pages = c.seize_word.ensures.head;
+      line = bad.1;
+      image = image_stays _ _ (c.seize_word.ensures.time told) (c.seize_word.ensures.image told);
+    }

@@ -3,7 +3,6 @@ use Rattle.platform.specs.Image.{Image}
 use Rattle.platform.specs.History.{History, Steps, CellStays, moment}
 use Rattle.platform.proofs.Moments.{During-step}
 use Rattle.device_core.specs.Leaf.{IsServedCell}
-use Rattle.page_store.specs.Roots.{IsBadCell}
 use Rattle.seizure.specs.Opened.{count_of_kind}
 use Rattle.seizure.specs.Report.{Begins}
 use Rattle.script_lang.specs.Replies.{said}
@@ -15,6 +14,7 @@ use Rattle.device_cli.specs.declared.stop.DeviceStop.TheVariants as device
 use Rattle.device_cli.proofs.ServedLaws.{halts_still}
 use Rattle.device_cli.proofs.ServingLaws.{serves_seized}
 use Rattle.device_cli.proofs.SeizingLaws.{saw_seized}
+use Rattle.device_cli.proofs.SeizeWordLaws.{not_bad}
 use Rattle.device_course.proofs.KeysLaws.{on_look, listed_image}
 use Rattle.device_cli.specs.Replied.{Serves}
 use Rattle.device_cli.proofs.desk.Desk.seize.Goals as goal
@@ -22,11 +22,6 @@ use Rattle.device_cli.proofs.desk.Desk.seize.Goals as goal
 -- the cell stays where the image does
 stays : (old new : History) → Steps old new → new.present ≡ old.present → CellStays old new
 stays old new steps same = During-step old new (λ (i : Image). i.cell ≡ old.present.cell) steps refl (ap (λ (i : Image). i.cell) same)
-
--- a cell that can be served is none that a seizure refuses
-not_bad : (cell : Option (List ℕ)) (pages : ℕ) → IsServedCell cell pages → IsBadCell pages cell → ⊥
-not_bad None pages served bad = bad.full refl
-not_bad (Some bytes) pages (root, served, is) bad = bad.bad root (record { in_range = served.fits; key = served.key; within = served.within }) (ap Some is)
 
 pub returns-in-Ok-clause-answered : goal.returns-in-Ok-clause-answered
 returns-in-Ok-clause-answered g c told entry rep =

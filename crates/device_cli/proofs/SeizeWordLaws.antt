@@ -1,0 +1,192 @@
+-- What follows of the word `seize`, by its exit status.
+use Rattle.std.proofs.Common.{◌≡◌, ℕ, zero, suc, ◌<◌, ◌^◌, List, [], ◌∷◌, ◌++◌, Option, None, Some, Result, Ok, Err, ◌⊎◌, inl, inr, length, take, drop, get_or, refl, sym, ◌∙◌, subst, ap, arith, append_assoc, append-nil}
+use Rattle.std.specs.Prelude.{IfErr, ◌-◌, flat_map}
+use Rattle.sdbt_base.specs.Told.{Got, GotPart}
+use Rattle.sdbt_base.proofs.ToldLaws.{Got-then, GotPart-then}
+use Rattle.platform.specs.Image.{Image}
+use Rattle.page_store.specs.Roots.{IsBadCell}
+use Rattle.seizure.specs.Report.{Begins}
+use Rattle.device_core.specs.Leaf.{IsServedCell}
+use Rattle.seizure.specs.declared.opened.Opened.{Opened}
+use Rattle.device_cli.specs.Replied.{Ending, HasPut, IsSound, damage_line}
+use Rattle.device_cli.specs.Run.{Counts, counts, NoneRose, HasCause, IsBlamedOn}
+use Rattle.device_cli.specs.Seizing.{Seizes, status_at, opened_line}
+use Rattle.device_cli.specs.declared.stop.DeviceStop.{DeviceStop}
+use Rattle.device_cli.specs.declared.stop.DeviceStop.TheVariants as device
+use Rattle.device_cli.specs.declared.stop.Stop.TheVariants as stops
+use Rattle.device_cli.specs.declared.stop.Stop.{Stop}
+
+-- ---- the cell
+
+-- a cell that can be served is none that a seizure refuses
+pub not_bad : (cell : Option (List ℕ)) (pages : ℕ) → IsServedCell cell pages → IsBadCell pages cell → ⊥
+not_bad None pages served bad = bad.full refl
+not_bad (Some bytes) pages (root, served, is) bad = bad.bad root (record { in_range = served.fits; key = served.key; within = served.within }) (ap Some is)
+
+-- nor is one from whose key chains begin
+begun_not_bad : (head : ℕ) (cell : Option (List ℕ)) (keys roots : List (List ℕ)) → Begins head cell keys roots → IsBadCell head cell → ⊥
+begun_not_bad head cell keys roots (None, holds, is) bad = bad.full holds
+begun_not_bad head cell keys roots (Some root, holds, is) bad = bad.bad root holds.0 holds.1
+
+-- ---- faults
+
+-- no fault of the tape, the input or the ledger plays a part
+pub blame_of_two : (p p_now o o_now t i l : ℕ) (ending : Ending) → IsBlamedOn (counts p 0 0 o 0) (counts p_now 0 0 o_now 0) ending
+    → IsBlamedOn (counts p t i o l) (counts p_now t i o_now l) ending
+blame_of_two p p_now o o_now t i l ending blame = record {
+  fell = record { platform = blame.fell.platform; tape = omega arith; input = omega arith; output = blame.fell.output; ledger = omega arith };
+  cause = go ending blame.cause;
+}
+  where
+    never : (0 < 0) ⊎ (0 ≡ 2 ^ 64 - 1) → ⊥
+    never (inl e) = omega (arith, e)
+    never (inr e) = omega (arith, e)
+
+    go : (e : Ending) → IfErr e (HasCause (counts p 0 0 o 0) (counts p_now 0 0 o_now 0)) → IfErr e (HasCause (counts p t i o l) (counts p_now t i o_now l))
+    go (Ok done) h = tt
+    go (Err stops.Source) h = absurd (never h)
+    go (Err stops.Sink) h = h
+    go (Err stops.Limit) h = tt
+    go (Err (stops.Device device.Platform)) h = h
+    go (Err (stops.Device device.Tape)) h = absurd (never h)
+    go (Err (stops.Device device.Ledger)) h = absurd (never h)
+    go (Err (stops.Device device.BadRoot)) h = tt
+    go (Err (stops.Device (device.BadRecord addr))) h = tt
+    go (Err (stops.Device device.Memory)) h = tt
+
+-- ---- the exit status
+
+-- at 8 the cell is bad, and the line that says so was put
+pub at_eight : (tells : Type 0) (head : ℕ) (image : Image) (written written_now : Option (List ℕ)) (ending : Ending) → Seizes tells head image written written_now ending → status_at ending ≡ 8
+    → (tells → IsBadCell head image.cell) × Got written (damage_line device.BadRoot) written_now
+at_eight tells head image written now (Ok done) h e = absurd (omega (arith, e))
+at_eight tells head image written now (Err stops.Source) h e = absurd h
+at_eight tells head image written now (Err stops.Sink) h e = absurd (omega (arith, e))
+at_eight tells head image written now (Err stops.Limit) h e = absurd h
+at_eight tells head image written now (Err (stops.Device device.Platform)) h e = absurd (omega (arith, e))
+at_eight tells head image written now (Err (stops.Device device.Tape)) h e = absurd h
+at_eight tells head image written now (Err (stops.Device device.Ledger)) h e = absurd h
+at_eight tells head image written now (Err (stops.Device device.BadRoot)) h e = h
+at_eight tells head image written now (Err (stops.Device (device.BadRecord addr))) h e = absurd h
+at_eight tells head image written now (Err (stops.Device device.Memory)) h e = absurd (omega (arith, e))
+
+-- over a bad cell it is 8, unless that could not be told or not be said
+pub bad_status : (tells : Type 0) (head : ℕ) (image : Image) (written written_now : Option (List ℕ)) (ending : Ending) → Seizes tells head image written written_now ending
+    → tells → IsBadCell head image.cell → (status_at ending ≡ 8) ⊎ (status_at ending ≡ 4) ⊎ (status_at ending ≡ 5)
+bad_status tells head image written now (Ok done) h told bad = absurd (begun_not_bad head image.cell [] (h.1 told).0 (h.1 told).1 bad)
+bad_status tells head image written now (Err stops.Source) h told bad = absurd h
+bad_status tells head image written now (Err stops.Sink) h told bad = inr (inl refl)
+bad_status tells head image written now (Err stops.Limit) h told bad = absurd h
+bad_status tells head image written now (Err (stops.Device device.Platform)) h told bad = inr (inr refl)
+bad_status tells head image written now (Err (stops.Device device.Tape)) h told bad = absurd h
+bad_status tells head image written now (Err (stops.Device device.Ledger)) h told bad = absurd h
+bad_status tells head image written now (Err (stops.Device device.BadRoot)) h told bad = inl refl
+bad_status tells head image written now (Err (stops.Device (device.BadRecord addr))) h told bad = absurd h
+bad_status tells head image written now (Err (stops.Device device.Memory)) h told bad = absurd (h.0 told bad)
+
+-- over any other it is 0, unless something failed or no memory was given
+pub complete_seizure : (tells : Type 0) (head : ℕ) (image : Image) (before now : Counts) (written written_now : Option (List ℕ)) (ending : Ending) → Seizes tells head image written written_now ending
+    → IfErr ending (HasCause before now) → tells → (IsBadCell head image.cell → ⊥) → NoneRose before now → (status_at ending ≡ 0) ⊎ (status_at ending ≡ 11)
+complete_seizure tells head image before now written written_now (Ok done) h cause told good quiet = inl refl
+complete_seizure tells head image before now written written_now (Err stops.Source) h cause told good quiet = absurd h
+complete_seizure tells head image before now written written_now (Err stops.Sink) h cause told good quiet = absurd (quiet.output cause)
+complete_seizure tells head image before now written written_now (Err stops.Limit) h cause told good quiet = absurd h
+complete_seizure tells head image before now written written_now (Err (stops.Device device.Platform)) h cause told good quiet = absurd (quiet.platform cause)
+complete_seizure tells head image before now written written_now (Err (stops.Device device.Tape)) h cause told good quiet = absurd h
+complete_seizure tells head image before now written written_now (Err (stops.Device device.Ledger)) h cause told good quiet = absurd h
+complete_seizure tells head image before now written written_now (Err (stops.Device device.BadRoot)) h cause told good quiet = absurd (good (h.0 told))
+complete_seizure tells head image before now written written_now (Err (stops.Device (device.BadRecord addr))) h cause told good quiet = absurd h
+complete_seizure tells head image before now written written_now (Err (stops.Device device.Memory)) h cause told good quiet = inr refl
+
+-- ---- what was put
+
+-- a first part of a text is one of a longer text
+front_take : (n : ℕ) (bytes rest : List ℕ) → (m : ℕ) × (take n bytes ≡ take m (bytes ++ rest))
+front_take zero bytes rest = (0, refl)
+front_take (suc n) [] rest = (0, refl)
+front_take (suc n) (byte ∷ bytes) rest = let more = front_take n bytes rest in (suc more.0, ap (λ (l : List ℕ). byte ∷ l) more.1)
+
+got_front : (written written_now : Option (List ℕ)) (bytes rest : List ℕ) → GotPart written bytes written_now → GotPart written (bytes ++ rest) written_now
+got_front written now bytes rest (n, got) = let more = front_take n bytes rest in (more.0, subst (λ (l : List ℕ). Got written l now) more.1 got)
+
+-- a line that was not put whole, behind what was, is a first part of the text
+pub put_front : (stop : Stop) (before line rest : List ℕ) (a b c : Option (List ℕ)) → Got a before b → HasPut line (Err stop) b c → HasPut (before ++ (line ++ rest)) (Err stop) a c
+put_front stops.Sink before line rest a b c got part =
+    subst (λ (l : List ℕ). GotPart a l c) (append_assoc before line rest) (got_front a c (before ++ line) rest (GotPart-then a before b line c got part))
+put_front stops.Source before line rest a b c got part = absurd part
+put_front stops.Limit before line rest a b c got part = absurd part
+put_front (stops.Device stop) before line rest a b c got part = absurd part
+
+-- the same of a last line, whatever became of it
+pub put_last : (ending : Ending) (before line : List ℕ) (a b c : Option (List ℕ)) → Got a before b → HasPut line ending b c → HasPut (before ++ line) ending a c
+put_last (Ok done) before line a b c got put = Got-then a before b line c got put
+put_last (Err stops.Sink) before line a b c got put = GotPart-then a before b line c got put
+put_last (Err stops.Source) before line a b c got put = absurd put
+put_last (Err stops.Limit) before line a b c got put = absurd put
+put_last (Err (stops.Device stop)) before line a b c got put = absurd put
+
+-- the lines in front of an item, the item's own, and the lines behind it
+flat_split : (opened : List Opened) (i : ℕ) (d : Opened) → i < length opened
+    → flat_map opened_line opened ≡ flat_map opened_line (take i opened) ++ (opened_line (get_or opened i d) ++ flat_map opened_line (drop (suc i) opened))
+flat_split [] i d within = absurd (omega (arith, within))
+flat_split (o ∷ opened) zero d within = refl
+flat_split (o ∷ opened) (suc i) d within =
+    ap (λ (l : List ℕ). opened_line o ++ l) (flat_split opened i d (omega (arith, within)))
+    ∙ sym (append_assoc (opened_line o) (flat_map opened_line (take i opened)) (opened_line (get_or opened i d) ++ flat_map opened_line (drop (suc i) opened)))
+
+-- an item's line that was not put whole
+pub put_stopped : (opened : List Opened) (i : ℕ) (d : Opened) (line : List ℕ) (stop : Stop) (a b c : Option (List ℕ)) → i < length opened → line ≡ opened_line (get_or opened i d)
+    → Got a (flat_map opened_line (take i opened)) b → HasPut line (Err stop) b c → HasPut (flat_map opened_line opened) (Err stop) a c
+put_stopped opened i d line stop a b c within is got put =
+    let text = flat_split opened i d within in
+    subst (λ (l : List ℕ). HasPut l (Err stop) a c) (sym text)
+    (put_front stop (flat_map opened_line (take i opened)) (opened_line (get_or opened i d)) (flat_map opened_line (drop (suc i) opened)) a b c got
+    (subst (λ (l : List ℕ). HasPut l (Err stop) b c) is put))
+
+-- ---- how it ends
+
+got_none : (written written_now : Option (List ℕ)) → Got written [] written_now → written_now ≡ written
+got_none None now got = got
+got_none (Some bytes) now got = got ∙ ap (λ (b : List ℕ). Some b) (append-nil bytes)
+
+-- why a seizure does not come about
+abbrev IsWhy : DeviceStop → Type 0 → Type 0
+IsWhy stop R = (stop ≡ device.BadRoot) ⊎ (stop ≡ device.Memory) ⊎ ((stop ≡ device.Platform) × R)
+
+no_tape : (R : Type 0) → IsWhy device.Tape R → ⊥
+no_tape R (inl e) = cc
+no_tape R (inr (inl e)) = cc
+no_tape R (inr (inr (e, r))) = cc
+
+no_ledger : (R : Type 0) → IsWhy device.Ledger R → ⊥
+no_ledger R (inl e) = cc
+no_ledger R (inr (inl e)) = cc
+no_ledger R (inr (inr (e, r))) = cc
+
+no_record : (R : Type 0) (addr : ℕ) → IsWhy (device.BadRecord addr) R → ⊥
+no_record R addr (inl e) = cc
+no_record R addr (inr (inl e)) = cc
+no_record R addr (inr (inr (e, r))) = cc
+
+-- its last line was put, if it has one
+pub stopped_whole : (tells : Type 0) (head : ℕ) (image : Image) (written written_now : Option (List ℕ)) (stop : DeviceStop) (R : Type 0)
+    → (tells → stop ≡ device.BadRoot → IsBadCell head image.cell) → (tells → stop ≡ device.Memory → IsBadCell head image.cell → ⊥) → IsWhy stop R
+    → Got written (damage_line stop) written_now → Seizes tells head image written written_now (Err (stops.Device stop))
+unfolding damage_line
+stopped_whole tells head image written now device.BadRoot R bad memory why got = (λ told. bad told refl, got)
+stopped_whole tells head image written now device.Memory R bad memory why got = (λ told cell. memory told refl cell, got_none written now got)
+stopped_whole tells head image written now device.Platform R bad memory why got = got_none written now got
+stopped_whole tells head image written now device.Tape R bad memory why got = absurd (no_tape R why)
+stopped_whole tells head image written now device.Ledger R bad memory why got = absurd (no_ledger R why)
+stopped_whole tells head image written now (device.BadRecord addr) R bad memory why got = absurd (no_record R addr why)
+
+-- or not whole
+pub stopped_part : (tells : Type 0) (head : ℕ) (image : Image) (written written_now : Option (List ℕ)) (stop : DeviceStop) (R : Type 0)
+    → (tells → stop ≡ device.BadRoot → IsBadCell head image.cell) → IsWhy stop R → (IsSound stop → ⊥)
+    → GotPart written (damage_line stop) written_now → Seizes tells head image written written_now (Err stops.Sink)
+stopped_part tells head image written now device.BadRoot R bad why unsound part = inr (λ told. bad told refl, part)
+stopped_part tells head image written now device.Memory R bad why unsound part = absurd (unsound tt)
+stopped_part tells head image written now device.Platform R bad why unsound part = absurd (unsound tt)
+stopped_part tells head image written now device.Tape R bad why unsound part = absurd (unsound tt)
+stopped_part tells head image written now device.Ledger R bad why unsound part = absurd (unsound tt)
+stopped_part tells head image written now (device.BadRecord addr) R bad why unsound part = absurd (no_record R addr why)

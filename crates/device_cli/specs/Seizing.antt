@@ -1,0 +1,75 @@
+-- What the word `seize` tells and leaves.
+use Rattle.std.specs.Prelude.{◌≡◌, ◌⊎◌, ◌==◌, if◌then◌else◌, ℕ, List, [], ◌∷◌, ◌++◌, Option, Result, Ok, Err, codes, flat_map}
+use Rattle.std.specs.Fmt.{decimal}
+use Rattle.sdbt_base.specs.Told.{Got, GotPart}
+use Rattle.platform.specs.Image.{Image}
+use Rattle.platform.specs.History.{History, During}
+use Rattle.page_store.specs.Roots.{IsBadCell}
+use Rattle.seizure.specs.declared.opened.Opened.{Opened}
+use Rattle.seizure.specs.Opened.{count_of_kind}
+use Rattle.seizure.specs.Report.{Seized, IsSeizure, Begins}
+use Rattle.device_cli.specs.Replied.{Ending, damage_line}
+use Rattle.device_cli.specs.Run.{Counts, NoneRose, status_of}
+use Rattle.device_cli.specs.declared.stop.DeviceStop.TheVariants as device
+use Rattle.device_cli.specs.declared.stop.Stop.TheVariants as stops
+
+-- what a line says of a body: a data record has its block, a node nothing more, and any other its kind
+abbrev pub what : Opened → List ℕ
+what opened =
+    if opened.kind == 1 then codes " block " ++ decimal opened.block
+    else if opened.kind == 2 then codes " node"
+    else codes " kind " ++ decimal opened.kind
+
+-- the line of a body that was opened
+unfoldable pub opened_line : Opened → List ℕ
+opened_line opened = codes "open " ++ (decimal opened.addr ++ (what opened ++ 10 ∷ []))
+
+-- the line with the numbers: how many pages there are, and how many nodes and data records were opened
+unfoldable pub counts_line : Seized → List ℕ
+counts_line seized =
+    codes "seized pages " ++ (decimal seized.pages ++ (codes " nodes " ++ (decimal (count_of_kind 2 seized.opened)
+    ++ (codes " blocks " ++ (decimal (count_of_kind 1 seized.opened) ++ 10 ∷ [])))))
+
+-- a report's text: a line for each body, and then the numbers
+abbrev pub report_text : Seized → List ℕ
+report_text seized = flat_map opened_line seized.opened ++ counts_line seized
+
+-- the report has what chains from the key of the root record in the cell, and from these keys, open of the image's pages, of which there are so many
+abbrev pub IsReport : ℕ → Image → List (List ℕ) → Seized → Type 0
+IsReport head image keys seized =
+    (roots : List (List ℕ)) × Begins head image.cell keys roots × IsSeizure roots image.readable seized
+
+-- the text of the report was put; or the cell can't be seized, and the line that says so was put; or, where the output failed, a first part of
+-- the one or the other; or nothing was, and without memory only where the cell can be seized
+abbrev pub Seizes : Type 0 → ℕ → Image → Option (List ℕ) → Option (List ℕ) → Ending → Type 0
+Seizes tells head image written written_now (Ok done) =
+    (seized : Seized) × (tells → IsReport head image [] seized) × Got written (report_text seized) written_now
+Seizes tells head image written written_now (Err (stops.Device device.BadRoot)) =
+    (tells → IsBadCell head image.cell) × Got written (damage_line device.BadRoot) written_now
+Seizes tells head image written written_now (Err stops.Sink) =
+    ((seized : Seized) × (tells → IsReport head image [] seized) × GotPart written (report_text seized) written_now)
+    ⊎ ((tells → IsBadCell head image.cell) × GotPart written (damage_line device.BadRoot) written_now)
+Seizes tells head image written written_now (Err (stops.Device device.Platform)) = written_now ≡ written
+Seizes tells head image written written_now (Err (stops.Device device.Memory)) =
+    (tells → IsBadCell head image.cell → ⊥) × (written_now ≡ written)
+Seizes tells head image written written_now (Err _) = ⊥
+
+-- its exit status
+abbrev pub status_at : Ending → ℕ
+status_at (Ok done) = 0
+status_at (Err stop) = status_of stop
+
+-- a seizure: no key is drawn, nothing taken, no entry put, no page added, and the image is as it was at each moment; it ends so, with this status: 8
+-- exactly where the cell is full, and not with the root record of a root within the pages, unless that could not be told or not be said; and else 0,
+-- unless something failed or no memory was given
+pub record Seizing {T I L : Type 0} (tells : Type 0) (tape tape_now : T) (input input_now : I) (ledger ledger_now : L) (head head_now : ℕ) (old new : History) (before now : Counts) (status : ℕ) (written written_now : Option (List ℕ)) : Type 0 where
+  pub undrawn : tape_now ≡ tape
+  pub untaken : input_now ≡ input
+  pub unput : ledger_now ≡ ledger
+  pub pages : head_now ≡ head
+  pub image : tells → During old new (λ image. image ≡ old.present)
+  pub ending : Ending
+  pub status_is : status ≡ status_at ending
+  pub seizes : Seizes tells head old.present written written_now ending
+  pub bad_root : tells → IsBadCell head old.present.cell → (status ≡ 8) ⊎ (status ≡ 4) ⊎ (status ≡ 5)
+  pub complete : tells → (IsBadCell head old.present.cell → ⊥) → NoneRose before now → (status ≡ 0) ⊎ (status ≡ 11)

@@ -1,0 +1,175 @@
+//! The word `seize`: tells what an adversary would open now.
+ghost use Rattle.std.specs.Prelude.{◌≡◌, ◌≤◌, ◌⊎◌, [], IfErr, IfOk, OnOk, IsErrOf, flat_map};
+ghost use Rattle.sdbt_base.specs.Faults.{Rose};
+ghost use Rattle.platform.specs.History.{Steps};
+ghost use Rattle.page_store.specs.Roots.{IsBadCell};
+ghost use Rattle.seizure.specs.Looks.{Looks};
+ghost use Rattle.device_cli.specs.Run.{counts, IsBlamedOn};
+ghost use Rattle.device_cli.specs.Replied.{HasPut};
+ghost use Rattle.device_cli.specs.Seizing.{IsReport, Seizes, opened_line, counts_line, report_text};
+
+use crate::run::last_line;
+use crate::stop::{DeviceStop, Stop};
+use crate::texts::push_text;
+use arrayvec::ArrayVec;
+use page_store::{CurrentRefusal, current};
+use platform::Platform;
+use sdbt_base::Sink;
+use seizure::{Opened, Report, SeizeRefusal, seize};
+use std::alloc::Global;
+
+/// The kind byte of a data record.
+const DATA: u8 = 1;
+
+/// The kind byte of a node.
+const NODE: u8 = 2;
+
+/// Puts what the root record in the cell opens now: a line for each body, and one with their numbers. Where the cell is
+/// full, and not with the root record of a root within the pages that there are, one line says so.
+pub(crate) fn seize_word<P: Platform, O: Sink>(
+    alloc: Global,
+    platform: &mut P,
+    output: &mut O,
+) -> Result<(), Stop>
+    ensures seizes { Seizes P.tells (P.head platform.old) (P.history platform.old).present (O.written output.old) (O.written output.new) result }
+    ensures blame { IsBlamedOn (counts (P.faults platform.old) 0 0 (O.faults output.old) 0)
+        (counts (P.faults platform.new) 0 0 (O.faults output.new) 0) result }
+    ensures image { P.tells → (P.history platform.new).present ≡ (P.history platform.old).present }
+    ensures time { P.tells → Steps (P.history platform.old) (P.history platform.new) }
+    ensures head { P.head platform.new ≡ P.head platform.old }
+    ensures capacity { P.capacity platform.new ≡ P.capacity platform.old }
+{
+    match find(alloc, platform) {
+        Ok(report) => put_report(&report, output),
+        Err(stop) => Err(last_line(stop, output)),
+    }
+}
+
+/// What the root record in the cell opens now.
+fn find<P: Platform>(alloc: Global, platform: &mut P) -> Result<Report, DeviceStop>
+    ensures found { P.tells → IfOk result (IsReport (P.head platform.old) (P.history platform.old).present []) }
+    ensures bad_root { P.tells → IsErrOf result DeviceStop.BadRoot →
+        IsBadCell (P.head platform.old) (P.history platform.old).present.cell }
+    ensures memory { P.tells → IsErrOf result DeviceStop.Memory →
+        IsBadCell (P.head platform.old) (P.history platform.old).present.cell → ⊥ }
+    ensures stops { IfErr result (λ stop. (stop ≡ DeviceStop.BadRoot) ⊎ (stop ≡ DeviceStop.Memory)
+        ⊎ ((stop ≡ DeviceStop.Platform) × Rose (P.faults platform.old) (P.faults platform.new))) }
+    ensures looks { Looks P.Platform platform.old platform.new }
+{
+    check_root(platform)?;
+    match seize(alloc, platform) {
+        Ok(report) => Ok(report),
+        Err(SeizeRefusal::BadRoot) => Err(DeviceStop::BadRoot),
+        Err(SeizeRefusal::PlatformFault) => Err(DeviceStop::Platform),
+        Err(SeizeRefusal::Memory) => Err(DeviceStop::Memory),
+    }
+}
+
+/// Refuses a cell that is full, and not with the root record of a root within the pages that there are.
+fn check_root<P: Platform>(platform: &mut P) -> Result<(), DeviceStop>
+    ensures good { P.tells → OnOk result (IsBadCell (P.head platform.old) (P.history platform.old).present.cell → ⊥) }
+    ensures bad_root { P.tells → IsErrOf result DeviceStop.BadRoot →
+        IsBadCell (P.head platform.old) (P.history platform.old).present.cell }
+    ensures stops { IfErr result (λ stop. (stop ≡ DeviceStop.BadRoot)
+        ⊎ ((stop ≡ DeviceStop.Platform) × Rose (P.faults platform.old) (P.faults platform.new))) }
+    ensures looks { Looks P.Platform platform.old platform.new }
+{
+    match current(platform) {
+        Ok(_) => Ok(()),
+        Err(CurrentRefusal::BadRoot) => Err(DeviceStop::BadRoot),
+        Err(CurrentRefusal::PlatformFault) => Err(DeviceStop::Platform),
+    }
+}
+
+/// Puts the lines of a report: one for each body that was opened, and one with their numbers.
+fn put_report<O: Sink>(report: &Report, output: &mut O) -> Result<(), Stop>
+    ensures put { HasPut (report_text report.now) result (O.written output.old) (O.written output.new) }
+    ensures stop { IfErr result (λ stop. (stop ≡ Stop.Sink) × Rose (O.faults output.old) (O.faults output.new)) }
+    ensures count { O.faults output.old ≤ O.faults output.new }
+{
+    if let Err(stop) = put_opened(report.opened(), output) {
+        return Err(stop);
+    }
+    put_line(counts_text(report).as_slice(), output)
+}
+
+/// Puts a line for each body that was opened.
+fn put_opened<O: Sink>(opened: &[Opened], output: &mut O) -> Result<(), Stop>
+    ensures put { HasPut (flat_map opened_line opened.now) result (O.written output.old) (O.written output.new) }
+    ensures stop { IfErr result (λ stop. (stop ≡ Stop.Sink) × Rose (O.faults output.old) (O.faults output.new)) }
+    ensures count { O.faults output.old ≤ O.faults output.new }
+{
+    for item in opened {
+        if let Err(stop) = put_line(opened_text(item).as_slice(), output) {
+            return Err(stop);
+        }
+    }
+    Ok(())
+}
+
+/// Puts a line.
+fn put_line<O: Sink>(line: &[u8], output: &mut O) -> Result<(), Stop>
+    ensures put { HasPut line.now result (O.written output.old) (O.written output.new) }
+    ensures stop { IfErr result (λ stop. (stop ≡ Stop.Sink) × Rose (O.faults output.old) (O.faults output.new)) }
+    ensures count { O.faults output.old ≤ O.faults output.new }
+{
+    match output.put(line) {
+        Ok(()) => Ok(()),
+        Err(_) => Err(Stop::Sink),
+    }
+}
+
+/// The line of a body that was opened. The longest one has 53 bytes.
+#[tactic(auto, unfolding(crate::specs::Seizing::opened_line))]
+fn opened_text(opened: &Opened) -> ArrayVec<u8, 64>
+    ensures { result.items ≡ opened_line opened.now }
+{
+    let mut line = ArrayVec::new();
+    push_text(&mut line, b"open ");
+    push_text(
+        &mut line,
+        itoa::Buffer::new().format(opened.addr).as_bytes(),
+    );
+    if opened.kind == DATA {
+        push_text(&mut line, b" block ");
+        push_text(
+            &mut line,
+            itoa::Buffer::new().format(opened.block).as_bytes(),
+        );
+    } else if opened.kind == NODE {
+        push_text(&mut line, b" node");
+    } else {
+        push_text(&mut line, b" kind ");
+        push_text(
+            &mut line,
+            itoa::Buffer::new().format(opened.kind).as_bytes(),
+        );
+    }
+    push_text(&mut line, b"\n");
+    line
+}
+
+/// The line with the numbers of a report. The longest one has 89 bytes.
+#[tactic(auto, unfolding(crate::specs::Seizing::counts_line))]
+fn counts_text(report: &Report) -> ArrayVec<u8, 96>
+    ensures { result.items ≡ counts_line report.now }
+{
+    let mut line = ArrayVec::new();
+    push_text(&mut line, b"seized pages ");
+    push_text(
+        &mut line,
+        itoa::Buffer::new().format(report.pages()).as_bytes(),
+    );
+    push_text(&mut line, b" nodes ");
+    push_text(
+        &mut line,
+        itoa::Buffer::new().format(report.nodes()).as_bytes(),
+    );
+    push_text(&mut line, b" blocks ");
+    push_text(
+        &mut line,
+        itoa::Buffer::new().format(report.blocks()).as_bytes(),
+    );
+    push_text(&mut line, b"\n");
+    line
+}
