@@ -1,7 +1,7 @@
 //! The texts that the program prints beside the replies of a script. The manual page is made from the help.
 
 /// How the program is called, in one line.
-pub const USAGE: &str = "usage: sdbt [(- | [--root CELL] FOLDER) [run | check]]\n";
+pub const USAGE: &str = "usage: sdbt [(- | [--root CELL] FOLDER) [run | check | seize]]\n";
 
 /// The help behind the usage. Headings stand alone in capitals, and a line of a list has its term, two spaces or
 /// more, and what is said of it.
@@ -19,6 +19,8 @@ WORDS
   run          serves the script, as is done without this word
   check        judges the ledger on standard input by the root record, and writes one line:
                accepted commit C live L deleted D, or refused rule N value V, or refused no device
+  seize        shows what whoever has the root record and all pages can open now: open A block N or
+               open A node, a line for each page, and then seized pages P nodes X blocks Y
   -h, --help   prints this text
   --version    prints the version
 
@@ -35,9 +37,10 @@ LINES
   drop         gives the session and what it changed up
   erase        clears the root record
   stat         counts the mapped blocks, and the commits so far
+  seize        counts the pages, and the nodes and blocks that the root record leads to
 
 STATUS
-  0   the script was served to its end, or the ledger is accepted
+  0   the script was served to its end, the ledger is accepted, or all was shown
   1   a folder, a file in it or the source of keys could not be made ready, or is in use
   2   the words are not as above
   3   the input failed
