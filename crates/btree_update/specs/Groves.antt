@@ -90,13 +90,14 @@ LetsGo head block (Some addr) gone more never most =
 abbrev pub IsReadBesideAt : List (List ℕ) → (Stub → Bool) → ℕ → Grove → Type 0
 IsReadBesideAt pages may block grove = (loses : ℕ) × HelpsFrom (IsReadWhere pages may grove.order) grove.order block (grove.level - 1) grove.blocks grove.top grove.held.items grove.beside.items loses
 
--- an update of a block opens such places until the way to it is open; their nodes are gone, and so is the block's data record
-pub record Goes (pages : List (List ℕ)) (order head block : ℕ) (May : Stub → Type 0) (old : List Stub) (gone more : List ℕ) (never most : List Unkept) : Type 0 where
+-- an update of a block opens such places until the way to it is open, and makes this of them; their nodes are gone, and so is the block's data record
+pub record Goes (pages : List (List ℕ)) (order head block : ℕ) (May : Stub → Type 0) (Makes : List Stub → Type 0) (old : List Stub) (gone more : List ℕ) (never most : List Unkept) : Type 0 where
   pub opened : List Stub
   pub places : List Stub
   pub opens : Opens pages order places old opened
   pub may : AllByRecursion May places
   pub is_open : IsOpen block opened
+  pub makes : Makes opened
   pub replaced : Option ℕ
   pub was : IsAddressOf block opened replaced
   pub goes : LetsGo head block replaced (gone ++ map (λ s. s.addr) places) more never most

@@ -4,7 +4,7 @@ ghost use Rattle.node_codec.specs.Record.{DataRecord};
 ghost use Rattle.page_store.specs.Places.{IsRecordAt};
 ghost use Rattle.page_store.specs.Tree.{Parts, Mapped, Tree};
 ghost use Rattle.btree_twigs.specs.declared.twigs.Child.TheVariants.{Kept};
-ghost use Rattle.btree_twigs.specs.Stubs.{Stub, stubs};
+ghost use Rattle.btree_twigs.specs.Stubs.{Stub, Puts, Takes, datum, stubs};
 ghost use Rattle.btree_twigs.specs.Levels.{Node, Reshape, ReshapeDown};
 ghost use Rattle.btree_update.specs.Opens.{HasWay};
 ghost use Rattle.btree_twigs.specs.Updates.{IsOpen, HasSpares};
@@ -224,7 +224,8 @@ impl Grove {
             → IsRecordAt pages addr key (DataRecord block content)
             → (after : List Mapped) × GroveMaps pages self.new after × MapPuts (record { block = block; addr = addr; key = key; content = content }) mapped after }
         ensures goes { (pages : List (List ℕ)) → IsReadFrom pages block self.old
-            → Goes pages self.old.order self.old.head block (HasWay block) (places_of self.old) self.old.gone.items self.new.gone.items self.old.never.items self.new.never.items }
+            → Goes pages self.old.order self.old.head block (HasWay block) (λ opened. Puts 0 self.old.blocks (datum block addr key) opened (places_of self.new))
+            (places_of self.old) self.old.gone.items self.new.gone.items self.old.never.items self.new.never.items }
         ensures levels { (pages : List (List ℕ)) (levels : ℕ → List Node) → IsReadFrom pages block self.old → HasLevels pages self.old levels
             → (after : ℕ → List Node) × HasLevels pages self.new after × Reshape self.old.order block self.old.level self.new.level levels after }
         ensures below { (head : ℕ) → AreBelow head (places_of self.old) → addr < head → AreBelow head (places_of self.new) }
@@ -261,7 +262,8 @@ impl Grove {
             → (after : List Mapped) × GroveMaps pages self.new after × MapTakes block mapped after }
         // Beside the way no place is opened but those for which a neighbour's node is held.
         ensures goes { (pages : List (List ℕ)) (may : Stub → Bool) → IsReadFrom pages block self.old → IsReadBesideAt pages may block self.old
-            → Goes pages self.old.order self.old.head block (λ s. HasWay block s ⊎ IsTrue (may s)) (places_of self.old) self.old.gone.items self.new.gone.items self.old.never.items self.new.never.items }
+            → Goes pages self.old.order self.old.head block (λ s. HasWay block s ⊎ IsTrue (may s)) (λ opened. Takes 0 self.old.blocks block opened (places_of self.new))
+            (places_of self.old) self.old.gone.items self.new.gone.items self.old.never.items self.new.never.items }
         ensures levels { (pages : List (List ℕ)) (levels : ℕ → List Node) → IsReadFrom pages block self.old → IsReadBeside pages block self.old → HasLevels pages self.old levels
             → (after : ℕ → List Node) × HasLevels pages self.new after × ReshapeDown self.old.order block self.old.level self.new.level levels after }
         ensures below { (head : ℕ) → AreBelow head (places_of self.old) → AreBelow head (places_of self.new) }

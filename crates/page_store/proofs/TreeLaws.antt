@@ -73,7 +73,8 @@ each_kept pages others Below Below' order level high (entry ∷ entries) (parts 
   each_kept pages others Below Below' order level high entries children kept each.1 (All-right (ReadsAlike pages others) parts.places (joined children).places alike),
 )
 
-subtree_kept : (pages others : List (List ℕ)) (order level : ℕ) (want : Want) (key : List ℕ) (parts : Parts) → Subtree pages order level want key parts → All (ReadsAlike pages others) parts.places → Subtree others order level want key parts
+-- what stands from a place on depends on what its own places read alone
+pub subtree_kept : (pages others : List (List ℕ)) (order level : ℕ) (want : Want) (key : List ℕ) (parts : Parts) → Subtree pages order level want key parts → All (ReadsAlike pages others) parts.places → Subtree others order level want key parts
 unfolding Subtree
 subtree_kept pages others order zero want key parts is alike =
     let here = All-head (ReadsAlike pages others) (record { addr = want.addr; key = key; trace = DataOf want.low }) [] (subst (λ (p : Parts). All (ReadsAlike pages others) p.places) is.has alike) in
@@ -108,7 +109,7 @@ each_read pages Below order level high (entry ∷ entries) (parts ∷ children) 
     (read (child_want order level entry (bound_of entries high)) entry.key parts each.0)
     (each_read pages Below order level high entries children read each.1)
 
-subtree_read : (pages : List (List ℕ)) (order level : ℕ) (want : Want) (key : List ℕ) (parts : Parts) → Subtree pages order level want key parts → All (IsRead pages) parts.places
+pub subtree_read : (pages : List (List ℕ)) (order level : ℕ) (want : Want) (key : List ℕ) (parts : Parts) → Subtree pages order level want key parts → All (IsRead pages) parts.places
 unfolding Subtree
 subtree_read pages order zero want key parts is =
     let here : Place = record { addr = want.addr; key = key; trace = DataOf want.low } in

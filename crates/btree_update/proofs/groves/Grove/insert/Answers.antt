@@ -2,7 +2,7 @@ use Rattle.std.proofs.Common.{◌≡◌, ◌⊎◌, ℕ, suc, ◌+◌, ◌-◌, 
 use Rattle.node_codec.specs.Record.{DataRecord}
 use Rattle.page_store.specs.Places.{IsRecordAt}
 use Rattle.btree_twigs.specs.declared.twigs.Child.{Child}
-use Rattle.btree_twigs.specs.Stubs.{stubs, nodes}
+use Rattle.btree_twigs.specs.Stubs.{Puts, datum, stubs, nodes}
 use Rattle.btree_twigs.specs.Updates.{IsOpen}
 use Rattle.btree_twigs.specs.Levels.{rows_at, Reshape}
 use Rattle.btree_twigs.specs.Top.{child_level, CanPutTop}
@@ -86,12 +86,19 @@ returns-clause-goes c pages held =
     let can = can_open c.args.block c.args.self.now c.requires.can in
     let o = c.open_root.ensures.opened can in
     let g = c.open_root.ensures.gives pages can held in
+    let blocks = c.args.self.now.blocks in
+    let mid = c.open_root.new.top in
+    let p = c.put_top.ensures.put (can_put c.args.block c.args.self.now mid c.requires.can c.requires.small o) in
+    let l = c.level_of-self.ensures ∙ top_level c.args.self.now.order p.new_level blocks c.put_top.new.top p.shaped in
+    let there = subst (λ k. Puts 0 blocks (datum c.args.block c.args.addr c.bytes.result) (stubs (suc (c.args.self.now.level - 1)) blocks mid) (stubs k blocks c.put_top.new.top)) (sym l) p.puts in
+    let here = subst (λ k. Puts 0 blocks (datum c.args.block c.args.addr c.bytes.result) (stubs k blocks mid) (stubs c.level_of-self.result blocks c.put_top.new.top)) (sym can.level_is) there in
     record {
       opened = stubs c.args.self.now.level c.args.self.now.blocks c.open_root.new.top;
       places = g.places.places;
       opens = g.places.opens;
       may = g.places.may;
       is_open = subst (λ k. IsOpen c.args.block (stubs k c.args.self.now.blocks c.open_root.new.top)) (sym can.level_is) o.is_open;
+      makes = subst (λ k. Puts 0 blocks (datum c.args.block c.args.addr k) (stubs c.args.self.now.level blocks mid) (stubs c.level_of-self.result blocks c.put_top.new.top)) c.bytes.ensures.value here;
       replaced = c.address_of-old.result;
       was = subst (λ k. IsAddressOf c.args.block (stubs k c.args.self.now.blocks c.open_root.new.top) c.address_of-old.result) (sym can.level_is)
           (c.address_of-old.ensures c.args.self.now.order (c.args.self.now.level - 1) o.shaped c.requires.can.to o.is_open);

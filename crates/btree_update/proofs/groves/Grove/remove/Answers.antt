@@ -1,7 +1,7 @@
 use Rattle.std.proofs.Common.{◌≡◌, ◌⊎◌, ℕ, suc, ◌+◌, ◌-◌, ◌*◌, ◌≤◌, List, Bool, true, IsTrue, inl, inr, refl, sym, subst, ◌∙◌, arith}
 use Rattle.btree_twigs.specs.declared.twigs.Child.{Child}
 use Rattle.btree_twigs.specs.declared.twigs.Twig.{Twig}
-use Rattle.btree_twigs.specs.Stubs.{Stub, stubs, nodes}
+use Rattle.btree_twigs.specs.Stubs.{Stub, Takes, stubs, nodes}
 use Rattle.btree_twigs.specs.Updates.{IsOpen}
 use Rattle.btree_twigs.specs.Levels.{rows_at, ReshapeDown}
 use Rattle.btree_twigs.specs.Top.{child_level, CanTakeTop}
@@ -136,12 +136,18 @@ returns-clause-goes c pages may held beside =
     let g = gives_then pages c.args.self.now.order Might _ _ _ _ _ _
     (gives_weaker pages c.args.self.now.order (HasWay c.args.block) Might (λ s k. inl k) _ _ _ _ first.places)
     (gives_weaker pages c.args.self.now.order (λ s. IsTrue (may s)) Might (λ s k. inr k) _ _ _ _ second.places) in
+    let blocks = c.args.self.now.blocks in
+    let mid = c.help_root.new.top in
+    let p = c.take_top.ensures.taken (can_take c.args.block c.args.self.now c.open_root.new.top mid _ _ c.requires.can h) in
+    let l = c.level_of-self.ensures ∙ top_level c.args.self.now.order p.new_level blocks c.take_top.new.top p.shaped in
+    let there = subst (λ k. Takes 0 blocks c.args.block (stubs (suc (c.args.self.now.level - 1)) blocks mid) (stubs k blocks c.take_top.new.top)) (sym l) p.takes in
     record {
       opened = stubs c.args.self.now.level c.args.self.now.blocks c.help_root.new.top;
       places = g.places;
       opens = g.opens;
       may = g.may;
       is_open = subst (λ k. IsOpen c.args.block (stubs k c.args.self.now.blocks c.help_root.new.top)) (sym can.level_is) h.is_open;
+      makes = subst (λ k. Takes 0 blocks c.args.block (stubs k blocks mid) (stubs c.level_of-self.result blocks c.take_top.new.top)) (sym can.level_is) there;
       replaced = c.address_of-addr.result;
       was = subst (λ k. IsAddressOf c.args.block (stubs k c.args.self.now.blocks c.help_root.new.top) c.address_of-addr.result) (sym can.level_is)
           (c.address_of-addr.ensures c.args.self.now.order (c.args.self.now.level - 1) h.shaped c.requires.can.to h.is_open);
