@@ -1,0 +1,5 @@
+pub mod ListLaws
+pub mod PartsLaws
+pub mod AccountLaws
+pub mod PlaceLaws
+pub mod HoldingLaws

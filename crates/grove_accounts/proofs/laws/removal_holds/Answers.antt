@@ -1,0 +1,8 @@
+use Rattle.std.proofs.Common.{◌⊎◌, IsTrue}
+use Rattle.btree_update.specs.Opens.{HasWay}
+use Rattle.grove_accounts.proofs.HoldingLaws as holds
+use Rattle.grove_accounts.proofs.laws.removal_holds.Goals as goal
+
+pub returns : goal.returns
+returns c = λ image root committed old new each block may h size to turns.
+    holds.remove_holds image root committed old new each block (λ s. HasWay block s ⊎ IsTrue (may s)) h size to turns
