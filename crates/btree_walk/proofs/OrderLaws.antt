@@ -118,7 +118,8 @@ each_up_to Below order level high addr (e ∷ es) (parts ∷ children) up_to und
     (All-weaker (IsUpTo e.addr) (IsUpTo addr) (λ p at. omega arith) parts.places (up_to (child_want order level e (bound_of es high)) e.key parts each.0))
     (each_up_to Below order level high addr es children up_to (All-tail (λ (x : Entry). x.addr < addr) e es under) each.1)
 
-subtree_up_to : (pages : List (List ℕ)) (order level : ℕ) (want : Want) (key : List ℕ) (parts : Parts) → Subtree pages order level want key parts → All (IsUpTo want.addr) parts.places
+-- no place below another one has a later address
+pub subtree_up_to : (pages : List (List ℕ)) (order level : ℕ) (want : Want) (key : List ℕ) (parts : Parts) → Subtree pages order level want key parts → All (IsUpTo want.addr) parts.places
 unfolding Subtree
 subtree_up_to pages order zero want key parts is =
     let here : Place = record { addr = want.addr; key = key; trace = DataOf want.low } in
