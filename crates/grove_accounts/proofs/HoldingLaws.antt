@@ -1,35 +1,100 @@
 -- What a tree with changes is over an image, from its root record over insertions and removals.
-use Rattle.std.proofs.Common.{◌≡◌, ◌≢◌, ◌⊎◌, inl, inr, ℕ, zero, suc, ◌+◌, ◌<◌, ◌≤◌, List, [], ◌∷◌, ◌++◌, All, map, take, length, refl, sym, ap, subst, ◌∙◌, arith, append-nil}
+use Rattle.std.proofs.Common.{◌≡◌, ◌≢◌, ◌⊎◌, inl, inr, ℕ, zero, suc, ◌+◌, ◌-◌, ◌==◌, if◌then◌else◌, ◌<◌, ◌≤◌, List, [], ◌∷◌, ◌++◌, All, map, take, length, refl, sym, ap, subst, ◌∙◌, arith, append-nil}
 use Rattle.std.specs.Prelude.{AllPairs, Contains, Option, None, Some, slice_get}
 use Rattle.std.specs.List.{AllByRecursion}
 use Rattle.std.specs.List.Sorted.{IsPermutation}
-use Rattle.std.proofs.lemmas.Bool.{cases_lt}
+use Rattle.std.proofs.lemmas.Bool.{cases_lt, eq-eqb}
 use Rattle.std.proofs.lemmas.List.Elements.{All-nil, All-cons, All-head, All-weaker}
 use Rattle.std.proofs.lemmas.List.Kept.{AllPairs-cons}
 use Rattle.std.proofs.lemmas.List.Sorted.{IsPermutation-sym, IsPermutation-trans, IsPermutation-append_right, All-permutation}
 use Rattle.sdbt_base.specs.Traces.{DataOf}
+use Rattle.sdbt_base.specs.Arrays.{Device}
 use Rattle.sdbt_base.specs.declared.lists.Unkept.{Unkept}
 use Rattle.platform.specs.Image.{Image, IsEarlier}
 use Rattle.node_codec.specs.Record.{DataRecord}
 use Rattle.root_codec.specs.declared.root.Root.{Root}
-use Rattle.page_store.specs.Places.{IsRecordAt}
+use Rattle.page_store.specs.Places.{IsRecordAt, root_want}
 use Rattle.page_store.specs.Tree.{Parts, Place, Mapped, Subtree, joined, data_parts}
+use Rattle.page_store.specs.Stands.{StandsBy}
 use Rattle.page_store.proofs.TreeLaws.{subtree_kept}
-use Rattle.btree_twigs.specs.Stubs.{Stub, Tiles, Puts, Takes, datum}
+use Rattle.btree_twigs.specs.Stubs.{Stub, Tiles, Puts, Takes, datum, stubs}
+use Rattle.btree_twigs.proofs.Finds.{kept_stub}
 use Rattle.btree_twigs.specs.Updates.{IsOpen}
 use Rattle.btree_update.specs.Opens.{Opens}
 use Rattle.btree_update.specs.declared.groves.Grove.{Grove}
-use Rattle.btree_update.specs.GroveTree.{Maps}
+use Rattle.btree_update.specs.GroveTree.{Maps, want_at}
 use Rattle.btree_update.specs.Maps.{MapPuts, MapTakes}
-use Rattle.btree_update.specs.Groves.{IsSound, IsAddressOf, LetsGo, places_of}
+use Rattle.btree_update.specs.Groves.{IsSound, IsAddressOf, KeepsTree, LetsGo, places_of}
 use Rattle.btree_update.proofs.Places.{in_maps}
-use Rattle.grove_accounts.specs.Below.{HaveParts, GroveHas}
+use Rattle.btree_update.proofs.GroveLaws.{above_it}
+use Rattle.grove_accounts.specs.Below.{least_at, want_in, HaveParts, GroveHas}
 use Rattle.grove_accounts.specs.Accounts.{Accounts, IsOwn}
-use Rattle.grove_accounts.specs.Holding.{IsAccounted, HoldsTree, Arrives, Turns, IsSameSize, data_place}
+use Rattle.grove_accounts.specs.Holding.{IsAccounted, HoldsTree, Arrives, Turns, IsSameSize, IsTreeOf, root_stub, data_place}
 use Rattle.grove_accounts.proofs.ListLaws.{AreApart, past, same_order, all_left, all_right, each_left, each_right, each_append, each_weaker, apart_permutation, apart_right}
 use Rattle.grove_accounts.proofs.PartsLaws.{OpensParts, opens_parts, opens_all, HaveBoth, parts_split, parts_append, parts_from, parts_each, places_between, mapped_between, joined_places, joined_mapped, IsInner}
-use Rattle.grove_accounts.proofs.AccountLaws.{accounts_permuted, accounts_later, accounts_gone, accounts_never, accounts_come, inner_committed}
+use Rattle.grove_accounts.proofs.AccountLaws.{accounts_start, accounts_permuted, accounts_later, accounts_gone, accounts_never, accounts_come, inner_committed}
 use Rattle.grove_accounts.proofs.PlaceLaws.{IsUnder, AreBelowRoot, IsPlaceOf, under_root, places_below, open_below, puts_no_root, takes_no_root, mid_at}
+
+-- ---- of a root record
+
+-- where the image stands, the tree of its root record, with no node in memory, is what the record says
+pub holds_start : (image : Image) (device : Device) (root : Root) (parts : Parts) (grove : Grove) → StandsBy image device root parts → image.synced ≤ length image.recorded → IsTreeOf root grove → HoldsTree image root parts.places grove (parts ∷ [])
+holds_start image device root parts grove stands whole of =
+    let places : places_of grove ≡ root_stub root ∷ [] = places_are in
+    let same : want_in grove.order grove.level (root_stub root) ≡ root_want root = want_same in
+    let tree = subst (λ w. Subtree image.readable root.order root.level w root.key parts) (sym same) stands.tree in
+    let has = subst (λ n. Subtree image.readable n root.level (want_in grove.order grove.level (root_stub root)) root.key parts) (sym of.order) tree in
+    let all = append-nil parts.places in
+    record {
+      sound = of.sound;
+      order = of.order;
+      blocks = of.blocks;
+      head = of.head;
+      within = stands.below;
+      has = subst (λ ss. HaveParts image.readable grove.order grove.level ss (parts ∷ [])) (sym places) (has, tt);
+      accounted = subst (λ ps. IsAccounted image root.head parts.places ps grove.gone.items grove.never.items) (sym all)
+          (subst (λ ns. IsAccounted image root.head parts.places parts.places ns grove.never.items) (sym of.none_gone) (subst (λ ns. IsAccounted image root.head parts.places parts.places [] ns) (sym of.none_never)
+          (record {
+            apart = stands.apart;
+            below = All-weaker (λ p. p.addr < root.head) (λ p. p.addr < length image.recorded) (λ p less. omega (arith, less, stands.head, whole)) parts.places stands.below;
+            recorded = stands.recorded;
+            accounts = accounts_start root.head (length image.recorded) parts.places;
+          })));
+    }
+  where
+    places_are : places_of grove ≡ root_stub root ∷ []
+    places_are =
+        let one = above_it grove.level of.sound.one in
+        let level : suc (grove.level - 1) ≡ root.level = sym one ∙ of.level in
+        ap (λ n. stubs n grove.blocks grove.top) one ∙ ap (λ c. stubs (suc (grove.level - 1)) grove.blocks c) of.top ∙ kept_stub (grove.level - 1) grove.blocks 0 root.addr root.key
+        ∙ (λ i. record { level = level i; low = 0; high = of.blocks i; addr = root.addr; key = root.key } ∷ [])
+
+    want_same : want_in grove.order grove.level (root_stub root) ≡ root_want root
+    want_same =
+        let order = of.order in
+        let level = of.level in
+        (λ i. want_in (order i) (level i) (root_stub root)) ∙ ap (λ n. want_at root.order root.level 0 root.blocks root.addr n) least
+      where
+        least : least_at root.order root.level root.level ≡ (if root.level == 1 then 0 else 2)
+        least = rw (eq-eqb root.level root.level refl) refl
+
+-- bringing into memory beside the tree what an update may need changes nothing
+pub holds_ready : (image : Image) (root : Root) (committed : List Place) (old new : Grove) (each : List Parts) → KeepsTree old new → IsSound new → HoldsTree image root committed old each → HoldsTree image root committed new each
+holds_ready image root committed old new each keeps sound h = record {
+  sound = sound;
+  order = keeps.order ∙ h.order;
+  blocks = keeps.blocks ∙ h.blocks;
+  head = keeps.head ∙ h.head;
+  within = h.within;
+  has = has_same;
+  accounted = subst (λ ns. IsAccounted image root.head committed (joined each).places ns new.never.items) (sym keeps.gone) (subst (λ ns. IsAccounted image root.head committed (joined each).places old.gone.items ns) (sym keeps.never) h.accounted);
+}
+  where
+    places : places_of new ≡ places_of old
+    places = let level = keeps.level in let blocks = keeps.blocks in let top = keeps.top in (λ i. stubs (level i) (blocks i) (top i))
+
+    has_same : GroveHas image.readable new each
+    has_same = subst (λ n. HaveParts image.readable n new.level (places_of new) each) (sym keeps.order) (subst (λ n. HaveParts image.readable old.order n (places_of new) each) (sym keeps.level) (subst (λ ss. HaveParts image.readable old.order old.level ss each) (sym places) h.has))
 
 -- ---- over a later image
 

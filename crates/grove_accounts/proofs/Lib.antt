@@ -3,3 +3,4 @@ pub mod PartsLaws
 pub mod AccountLaws
 pub mod PlaceLaws
 pub mod HoldingLaws
+pub mod CertLaws

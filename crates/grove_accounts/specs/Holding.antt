@@ -1,5 +1,5 @@
 -- What a tree that is partly in memory is over an image.
-use Rattle.std.specs.Prelude.{◌≡◌, ◌≢◌, ◌<◌, ℕ, suc, List, All, AllPairs, length, slice_get}
+use Rattle.std.specs.Prelude.{◌≡◌, ◌≢◌, ◌<◌, ℕ, suc, List, [], All, AllPairs, length, slice_get}
 use Rattle.sdbt_base.specs.Traces.{DataOf}
 use Rattle.sdbt_base.specs.declared.lists.Unkept.{Unkept}
 use Rattle.platform.specs.Image.{Image, IsEarlier}
@@ -7,6 +7,7 @@ use Rattle.node_codec.specs.Record.{DataRecord}
 use Rattle.root_codec.specs.declared.root.Root.{Root}
 use Rattle.page_store.specs.Places.{IsRecordAt}
 use Rattle.page_store.specs.Tree.{Parts, Place, joined}
+use Rattle.btree_twigs.specs.declared.twigs.Child.TheVariants.{Kept}
 use Rattle.btree_twigs.specs.Stubs.{Stub}
 use Rattle.btree_update.specs.declared.groves.Grove.{Grove}
 use Rattle.btree_update.specs.Groves.{IsSound, Goes, places_of}
@@ -53,3 +54,18 @@ pub record IsSameSize (old new : Grove) : Type 0 where
   pub order : new.order ≡ old.order
   pub blocks : new.blocks ≡ old.blocks
   pub head : new.head ≡ old.head
+
+-- the root of a root record's tree as a place on the medium
+abbrev pub root_stub : Root → Stub
+root_stub root = record { level = root.level; low = 0; high = root.blocks; addr = root.addr; key = root.key }
+
+-- the tree of a root record, with no node in memory, and nothing let go of
+pub record IsTreeOf (root : Root) (grove : Grove) : Type 0 where
+  pub sound : IsSound grove
+  pub order : grove.order ≡ root.order
+  pub blocks : grove.blocks ≡ root.blocks
+  pub head : grove.head ≡ root.head
+  pub level : grove.level ≡ root.level
+  pub top : grove.top ≡ Kept 0 root.addr root.key
+  pub none_gone : grove.gone.items ≡ []
+  pub none_never : grove.never.items ≡ []

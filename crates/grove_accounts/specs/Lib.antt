@@ -1,3 +1,4 @@
 pub mod Below
 pub mod Accounts
 pub mod Holding
+pub mod Certs
