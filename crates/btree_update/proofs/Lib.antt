@@ -18,3 +18,4 @@ pub mod MappedLaws
 pub mod FoundLaws
 pub mod FoundMaps
 pub mod CountLaws
+pub mod FitsLaws

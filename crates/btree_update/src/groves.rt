@@ -179,6 +179,9 @@ impl Grove {
             IfOk result (λ mapped. (map : List Mapped) → GroveMaps (P.history platform.old).present.readable self.old map → OnTrue mapped (HasBlock block map) × OnFalse mapped (LacksBlock block map)) }
         ensures bad { P.tells → StandsOver (P.history platform.old).present.readable cache.old → (addr : ℕ) → IsErrOf result (ReadyRefusal.BadRecord addr) →
             IsWrongOnWay (P.history platform.old).present.readable block self.old addr }
+        // Where the tree maps anything at all, no node is refused.
+        ensures fits { P.tells → StandsOver (P.history platform.old).present.readable cache.old → (mapped : List Mapped) → GroveMaps (P.history platform.old).present.readable self.old mapped →
+            (addr : ℕ) → ¬ (IsErrOf result (ReadyRefusal.BadRecord addr)) }
         ensures sound { IsSound self.new }
         ensures tree { KeepsTree self.old self.new }
         ensures stands { P.tells → StandsOver (P.history platform.old).present.readable cache.old → StandsOver (P.history platform.old).present.readable cache.new }
