@@ -37,10 +37,19 @@ use Rattle.grove_accounts.proofs.PlaceLaws.{IsUnder, AreBelowRoot, IsPlaceOf, un
 
 -- ---- of a root record
 
+-- such a tree has one place on the medium, its root
+pub tree_place : (root : Root) (grove : Grove) → IsTreeOf root grove → places_of grove ≡ root_stub root ∷ []
+tree_place root grove of =
+    let one = above_it grove.level of.sound.one in
+    let level : suc (grove.level - 1) ≡ root.level = sym one ∙ of.level in
+    let blocks = of.blocks in
+    ap (λ n. stubs n grove.blocks grove.top) one ∙ ap (λ c. stubs (suc (grove.level - 1)) grove.blocks c) of.top ∙ kept_stub (grove.level - 1) grove.blocks 0 root.addr root.key
+    ∙ (λ i. record { level = level i; low = 0; high = blocks i; addr = root.addr; key = root.key } ∷ [])
+
 -- where the image stands, the tree of its root record, with no node in memory, is what the record says
 pub holds_start : (image : Image) (device : Device) (root : Root) (parts : Parts) (grove : Grove) → StandsBy image device root parts → image.synced ≤ length image.recorded → IsTreeOf root grove → HoldsTree image root parts.places grove (parts ∷ [])
 holds_start image device root parts grove stands whole of =
-    let places : places_of grove ≡ root_stub root ∷ [] = places_are in
+    let places = tree_place root grove of in
     let same : want_in grove.order grove.level (root_stub root) ≡ root_want root = want_same in
     let tree = subst (λ w. Subtree image.readable root.order root.level w root.key parts) (sym same) stands.tree in
     let has = subst (λ n. Subtree image.readable n root.level (want_in grove.order grove.level (root_stub root)) root.key parts) (sym of.order) tree in
@@ -62,13 +71,6 @@ holds_start image device root parts grove stands whole of =
           })));
     }
   where
-    places_are : places_of grove ≡ root_stub root ∷ []
-    places_are =
-        let one = above_it grove.level of.sound.one in
-        let level : suc (grove.level - 1) ≡ root.level = sym one ∙ of.level in
-        ap (λ n. stubs n grove.blocks grove.top) one ∙ ap (λ c. stubs (suc (grove.level - 1)) grove.blocks c) of.top ∙ kept_stub (grove.level - 1) grove.blocks 0 root.addr root.key
-        ∙ (λ i. record { level = level i; low = 0; high = of.blocks i; addr = root.addr; key = root.key } ∷ [])
-
     want_same : want_in grove.order grove.level (root_stub root) ≡ root_want root
     want_same =
         let order = of.order in

@@ -1,0 +1,4 @@
+pub mod SessionLaws
+pub mod ArrayLaws
+pub mod OrderLaws
+pub mod ReadLaws

@@ -1,0 +1,131 @@
+use Rattle.std.proofs.Common.{◌≡◌, ◌∙◌, ◌<◌, ◌≤◌, ◌^◌, ℕ, List, None, Some, inl, inr, refl, ap, sym, subst, arith}
+use Rattle.std.specs.Prelude.{replicate, OnOk}
+use Rattle.sdbt_base.specs.Arrays.{Device, Blocks}
+use Rattle.platform.specs.Image.{Image}
+use Rattle.node_codec.specs.declared.body.Entry.{Entry}
+use Rattle.node_codec.specs.Record.{DataRecord}
+use Rattle.page_store.specs.Places.{FitsAt, NothingFits, block_want}
+use Rattle.btree_walk.specs.Mapped.{IsMappedAs}
+use Rattle.btree_walk.specs.Sights.{StandsOver}
+use Rattle.btree_update.specs.Finding.{GroveFinds, GroveStops}
+use Rattle.device_session.specs.Sessions.{Session}
+use Rattle.device_session.specs.Holds.{Holds}
+use Rattle.device_session.proofs.ReadLaws.{IsArray, held_array, holds_looked, cached_looked, content_none, entry_read, entry_fits}
+use Rattle.device_session.specs.contracts.session.Session.{the_view}
+use Rattle.device_session.proofs.session.Session.read.Given.{Over}
+use Rattle.device_session.proofs.session.Session.read.Goals.{After-find, In-Some}
+use Rattle.device_session.proofs.session.Session.read.Goals as goal
+
+-- the session that was looked at
+held : (g : Over) (c : After-find g) → (device : Device) (contents : Blocks) → Holds c.args.self.now (g.P.Platform.history c.args.platform.now).present device contents → Holds (the_view c.self.inside) (g.P.Platform.history c.args.platform.now).present device contents
+held g c device contents h = subst (λ (s : Session). Holds s (g.P.Platform.history c.args.platform.now).present device contents) (sym c.self.view_is) h
+
+cached : (g : Over) (c : After-find g) → StandsOver (g.P.Platform.history c.args.platform.now).present.readable c.args.self.now.cache → StandsOver (g.P.Platform.history c.args.platform.now).present.readable (the_view c.self.inside).cache
+cached g c h = subst (λ (s : Session). StandsOver (g.P.Platform.history c.args.platform.now).present.readable s.cache) (sym c.self.view_is) h
+
+pub returns-in-Err-BadRecord-clause-array : goal.returns-in-Err-BadRecord-clause-array
+returns-in-Err-BadRecord-clause-array g c = λ told device contents h.
+    let k = held g (goal.at.returns-in-Err-BadRecord-clause-array g c).After-find device contents h in
+    let a = held_array (the_view c.self.inside) (g.P.Platform.history c.args.platform.now).present device contents k in
+    absurd (c.find.ensures.fits told k.cached a.mapped a.maps_are c.in-Err-BadRecord.addr (cc))
+
+pub returns-in-Err-BadRecord-clause-cached : goal.returns-in-Err-BadRecord-clause-cached
+returns-in-Err-BadRecord-clause-cached g c = λ told h. cached_looked _ _ (the_view c.self.inside).cache c.find.new.cache (c.find.ensures.looks.image told) (c.find.ensures.stands told) (cached g (goal.at.returns-in-Err-BadRecord-clause-cached g c).After-find h)
+
+pub returns-in-Err-PlatformFault-clause-array : goal.returns-in-Err-PlatformFault-clause-array
+returns-in-Err-PlatformFault-clause-array g c = λ told device contents h.
+    (holds_looked (the_view c.self.inside) c.find.new.cache c.find.new.buf _ _ device contents (c.find.ensures.looks.image told) (c.find.ensures.stands told) (held g (goal.at.returns-in-Err-PlatformFault-clause-array g c).After-find device contents h), tt)
+
+pub returns-in-Err-PlatformFault-clause-cached : goal.returns-in-Err-PlatformFault-clause-cached
+returns-in-Err-PlatformFault-clause-cached g c = λ told h. cached_looked _ _ (the_view c.self.inside).cache c.find.new.cache (c.find.ensures.looks.image told) (c.find.ensures.stands told) (cached g (goal.at.returns-in-Err-PlatformFault-clause-cached g c).After-find h)
+
+pub returns-in-Err-BadRecord-clause-misfit : goal.returns-in-Err-BadRecord-clause-misfit
+returns-in-Err-BadRecord-clause-misfit g c = λ told h addr is.
+    let stops = c.find.ensures.bad told (cached g (goal.at.returns-in-Err-BadRecord-clause-misfit g c).After-find h) addr (cc) in
+    inl (subst (λ (s : Session). GroveStops (g.P.Platform.history c.args.platform.now).present.readable c.args.block addr s.grove) c.self.view_is stops)
+
+-- a block that the tree lacks
+pub returns-in_default-clause-array : goal.returns-in_default-clause-array
+returns-in_default-clause-array g c = λ told device contents h.
+    let k = held g (goal.at.returns-in_default-clause-array g c).After-find device contents h in
+    let a = held_array (the_view c.self.inside) (g.P.Platform.history c.args.platform.now).present device contents k in
+    let none = subst (IsMappedAs a.mapped c.args.block) c.in_default.is (c.in-Ok.ensures.maps told k.cached a.mapped a.maps_are) in (
+      holds_looked (the_view c.self.inside) c.find.new.cache c.find.new.buf _ _ device contents (c.find.ensures.looks.image told) (c.find.ensures.stands told) k,
+      c.fill.ensures.after (λ y same. same) ∙ ap (λ (n : ℕ). replicate n 0) c.requires.size ∙ sym (content_none a.mapped contents c.args.block a.contents_are none),
+    )
+
+pub returns-in_default-clause-cached : goal.returns-in_default-clause-cached
+returns-in_default-clause-cached g c = λ told h. cached_looked _ _ (the_view c.self.inside).cache c.find.new.cache (c.find.ensures.looks.image told) (c.find.ensures.stands told) (cached g (goal.at.returns-in_default-clause-cached g c).After-find h)
+
+pub returns-in_default-clause-finds : goal.returns-in_default-clause-finds
+returns-in_default-clause-finds g c = λ told h.
+    let finds = c.in-Ok.ensures.found told (cached g (goal.at.returns-in_default-clause-finds g c).After-find h) in
+    record {
+      found = None;
+      finds = subst (λ (s : Session). GroveFinds (g.P.Platform.history c.args.platform.now).present.readable c.args.block s.grove None) c.self.view_is (subst (GroveFinds (g.P.Platform.history c.args.platform.now).present.readable c.args.block (the_view c.self.inside).grove) c.in_default.is finds);
+      reads = c.fill.ensures.after (λ y same. same) ∙ ap (λ (n : ℕ). replicate n 0) c.requires.size;
+    }
+
+-- the entry that was found
+found : (g : Over) (c : In-Some g) → g.P.Platform.tells → StandsOver (g.P.Platform.history c.args.platform.now).present.readable c.args.self.now.cache → GroveFinds (g.P.Platform.history c.args.platform.now).present.readable c.args.block c.args.self.now.grove (Some c.in-Some.entry)
+found g c told h =
+    let pages = (g.P.Platform.history c.args.platform.now).present.readable in
+    let over = subst (λ (s : Session). StandsOver pages s.cache) (sym c.self.view_is) h in
+    let finds = c.in-Ok.ensures.found told over in
+    subst (λ (s : Session). GroveFinds pages c.args.block s.grove (Some c.in-Some.entry)) c.self.view_is (subst (GroveFinds pages c.args.block (the_view c.self.inside).grove) c.in-Some.is finds)
+
+pub read_block-requires-clause-within : goal.read_block-requires-clause-within
+read_block-requires-clause-within g c = subst (λ n. c.in-Some.entry.addr < n) (sym c.find.ensures.looks.head) ((rw c.in-Some.is at c.in-Ok.ensures.entry).1)
+
+pub returns-clause-array : goal.returns-clause-array
+returns-clause-array g c = λ told device contents h.
+    let at = goal.at.returns-clause-array g c in
+    let old = g.P.Platform.history c.args.platform.now in
+    let looked = g.P.Platform.history c.find.new.platform in
+    let k = held g at.After-find device contents h in
+    let a = held_array (the_view c.self.inside) old.present device contents k in
+    let some = subst (IsMappedAs a.mapped c.args.block) c.in-Some.is (c.in-Ok.ensures.maps told k.cached a.mapped a.maps_are) in
+    let small = (rw c.in-Some.is at c.in-Ok.ensures.entry).1 in
+    let there = subst (λ (i : Image). FitsAt i.readable (block_want c.in-Some.entry.addr c.args.block) c.in-Some.entry.key (DataRecord c.args.block c.read_block.new.out)) (c.find.ensures.looks.image told) (c.in-Ok-read_block.ensures.fits told) in (
+      holds_looked (the_view c.self.inside) c.find.new.cache c.read_block.new.buffers old.present (g.P.Platform.history c.read_block.new.platform).present device contents (c.read_block.ensures.looks.image told ∙ c.find.ensures.looks.image told) (c.find.ensures.stands told) k,
+      entry_read old.present (the_view c.self.inside).grove contents c.args.block c.in-Some.entry c.read_block.new.out a some (omega (arith, small, g.met.P.Platform.has_room c.args.platform.now, g.met.P.Platform.is_limited c.args.platform.now)) there.0,
+    )
+
+pub returns-clause-cached : goal.returns-clause-cached
+returns-clause-cached g c = λ told h. cached_looked _ _ (the_view c.self.inside).cache c.find.new.cache (c.read_block.ensures.looks.image told ∙ c.find.ensures.looks.image told) (c.find.ensures.stands told) (cached g (goal.at.returns-clause-cached g c).After-find h)
+
+pub returns-clause-finds : goal.returns-clause-finds
+returns-clause-finds g c = λ told h. record {
+  found = Some c.in-Some.entry;
+  finds = found g (goal.at.returns-clause-finds g c).In-Some told h;
+  reads = subst (λ (i : Image). FitsAt i.readable (block_want c.in-Some.entry.addr c.args.block) c.in-Some.entry.key (DataRecord c.args.block c.read_block.new.out)) (c.find.ensures.looks.image told) (c.in-Ok-read_block.ensures.fits told);
+}
+
+pub returns-in-Err-BadRecord-read_block-clause-array : goal.returns-in-Err-BadRecord-read_block-clause-array
+returns-in-Err-BadRecord-read_block-clause-array g c = λ told device contents h.
+    let at = goal.at.returns-in-Err-BadRecord-read_block-clause-array g c in
+    let old = g.P.Platform.history c.args.platform.now in
+    let k = held g at.After-find device contents h in
+    let a = held_array (the_view c.self.inside) old.present device contents k in
+    let some = subst (IsMappedAs a.mapped c.args.block) c.in-Some.is (c.in-Ok.ensures.maps told k.cached a.mapped a.maps_are) in
+    let nothing = subst (λ (i : Image). NothingFits i.readable (block_want c.in-Some.entry.addr c.args.block) c.in-Some.entry.key) (c.find.ensures.looks.image told) (c.read_block.ensures.nothing_fits told c.in-Err-BadRecord-read_block.field-0-0 (cc)) in
+    absurd (entry_fits old.present (the_view c.self.inside).grove contents c.args.block c.in-Some.entry a some nothing)
+
+pub returns-in-Err-BadRecord-read_block-clause-cached : goal.returns-in-Err-BadRecord-read_block-clause-cached
+returns-in-Err-BadRecord-read_block-clause-cached g c = λ told h.
+    cached_looked _ _ (the_view c.self.inside).cache c.find.new.cache (c.read_block.ensures.looks.image told ∙ c.find.ensures.looks.image told) (c.find.ensures.stands told) (cached g (goal.at.returns-in-Err-BadRecord-read_block-clause-cached g c).After-find h)
+
+pub returns-in-Err-BadRecord-read_block-clause-misfit : goal.returns-in-Err-BadRecord-read_block-clause-misfit
+returns-in-Err-BadRecord-read_block-clause-misfit g c = λ told h addr is.
+    let named : addr ≡ c.in-Some.entry.addr = let same : c.in-Some.entry.addr ≡ addr = cc in sym same in
+    let nothing = subst (λ (i : Image). NothingFits i.readable (block_want c.in-Some.entry.addr c.args.block) c.in-Some.entry.key) (c.find.ensures.looks.image told) (c.read_block.ensures.nothing_fits told c.in-Err-BadRecord-read_block.field-0-0 (cc)) in
+    inr (c.in-Some.entry, found g (goal.at.returns-in-Err-BadRecord-read_block-clause-misfit g c).In-Some told h, named, nothing)
+
+pub returns-in-Err-PlatformFault-read_block-clause-array : goal.returns-in-Err-PlatformFault-read_block-clause-array
+returns-in-Err-PlatformFault-read_block-clause-array g c = λ told device contents h.
+    let k = held g (goal.at.returns-in-Err-PlatformFault-read_block-clause-array g c).After-find device contents h in
+    (holds_looked (the_view c.self.inside) c.find.new.cache c.read_block.new.buffers _ _ device contents (c.read_block.ensures.looks.image told ∙ c.find.ensures.looks.image told) (c.find.ensures.stands told) k, tt)
+
+pub returns-in-Err-PlatformFault-read_block-clause-cached : goal.returns-in-Err-PlatformFault-read_block-clause-cached
+returns-in-Err-PlatformFault-read_block-clause-cached g c = λ told h.
+    cached_looked _ _ (the_view c.self.inside).cache c.find.new.cache (c.read_block.ensures.looks.image told ∙ c.find.ensures.looks.image told) (c.find.ensures.stands told) (cached g (goal.at.returns-in-Err-PlatformFault-read_block-clause-cached g c).After-find h)

@@ -1,0 +1,7 @@
+pub mod Sessions
+pub mod Open
+pub mod Holds
+pub mod Reading
+pub mod Causes
+pub mod Changes
+pub mod Keys

@@ -1,0 +1,24 @@
+-- What a session reads, on any pages, forged ones too.
+use Rattle.std.specs.Prelude.{◌≡◌, ◌⊎◌, ℕ, List, Option, None, Some, replicate}
+use Rattle.node_codec.specs.declared.body.Entry.{Entry}
+use Rattle.node_codec.specs.Record.{DataRecord}
+use Rattle.page_store.specs.Places.{FitsAt, NothingFits, block_want}
+use Rattle.btree_update.specs.declared.groves.Grove.{Grove}
+use Rattle.btree_update.specs.Finding.{GroveFinds, GroveStops}
+
+-- a block has this content: without an entry zeros, and else that of its data record, which the page at the entry is under its key
+abbrev pub ReadsAs : List (List ℕ) → ℕ → Option Entry → List ℕ → Type 0
+ReadsAs pages block None content = content ≡ replicate 4096 0
+ReadsAs pages block (Some entry) content = FitsAt pages (block_want entry.addr block) entry.key (DataRecord block content)
+
+-- the tree has this of the block, and its content is what is there
+pub record FindsContent (pages : List (List ℕ)) (grove : Grove) (block : ℕ) (content : List ℕ) : Type 0 where
+  pub found : Option Entry
+  pub finds : GroveFinds pages block grove found
+  pub reads : ReadsAs pages block found content
+
+-- the first record on the way to the block that doesn't fit is at this address: a node, or the data record that the block's entry names
+abbrev pub IsFirstMisfit : List (List ℕ) → Grove → ℕ → ℕ → Type 0
+IsFirstMisfit pages grove block addr =
+    GroveStops pages block addr grove
+    ⊎ ((entry : Entry) × GroveFinds pages block grove (Some entry) × (addr ≡ entry.addr) × NothingFits pages (block_want entry.addr block) entry.key)

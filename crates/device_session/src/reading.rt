@@ -1,0 +1,102 @@
+ghost use Rattle.std.specs.Prelude.{◌≡◌, ◌<◌, ◌≤◌, ◌+◌, ℕ, List, OnOk, IsErrOf, length};
+ghost use Rattle.sdbt_base.specs.Faults.{Rose};
+ghost use Rattle.sdbt_base.specs.Arrays.{Device, Blocks};
+ghost use Rattle.platform.specs.Calls.{Looks};
+ghost use Rattle.node_codec.specs.Record.{Record, DataRecord};
+ghost use Rattle.page_store.specs.Places.{NothingFits, FitsAt, block_want};
+ghost use Rattle.btree_walk.specs.Sights.{StandsOver};
+ghost use Rattle.device_core.specs.Causes.{IsReadCause};
+ghost use Rattle.device_core.specs.Reading.{ReadsArray};
+
+use crate::session::Session;
+use device_core::ReadRefusal;
+use node_codec::Entry;
+use page_store::{Buffers, FetchRefusal, Want, fetch_block};
+use platform::Platform;
+
+impl Session {
+    ghost use Rattle.device_session.specs.Open.{IsOpen, blocks_of};
+    ghost use Rattle.device_session.specs.Holds.{Holds};
+    ghost use Rattle.device_session.specs.Reading.{FindsContent, IsFirstMisfit};
+
+    /// Puts the content of a block into the 4,096 bytes of `out`: zeros where it is not mapped.
+    ///
+    /// It allocates nothing, and reads one page for each level and one for the block at most. `Range`
+    /// comes exactly where the device has no such block.
+    #[tactic(auto, using(crate::proofs::SessionLaws::walk_looks, platform::proofs::CallLaws::looks_start, platform::proofs::CallLaws::looks_call, platform::proofs::CallLaws::looks_then))]
+    pub fn read<P: Platform>(
+        &mut self,
+        platform: &mut P,
+        block: u64,
+        out: &mut [u8],
+    ) -> Result<(), ReadRefusal>
+        requires size { length out.old ≡ 4096 }
+        requires open { IsOpen self.old (P.head platform.old) }
+        ensures array { P.tells → (device : Device) (contents : Blocks) → Holds self.old (P.history platform.old).present device contents
+            → Holds self.new (P.history platform.new).present device contents × ReadsArray contents block out.new result }
+        ensures cached { P.tells → StandsOver (P.history platform.old).present.readable self.old.cache → StandsOver (P.history platform.new).present.readable self.new.cache }
+        // On any pages: the content is what the tree and the block's data record say, and what is named is the first record that doesn't
+        // fit. No count is asked.
+        ensures finds { P.tells → StandsOver (P.history platform.old).present.readable self.old.cache
+            → OnOk result (FindsContent (P.history platform.old).present.readable self.old.grove block out.new) }
+        ensures misfit { P.tells → StandsOver (P.history platform.old).present.readable self.old.cache → (addr : ℕ)
+            → IsErrOf result (ReadRefusal.BadRecord addr) → IsFirstMisfit (P.history platform.old).present.readable self.old.grove block addr }
+        ensures open { IsOpen self.new (P.head platform.new) }
+        ensures same { (self.new.root ≡ self.old.root) × (self.new.mapped ≡ self.old.mapped) × (self.new.is_touched ≡ self.old.is_touched) × (self.new.grove ≡ self.old.grove) }
+        ensures looks { Looks P.Platform platform.old platform.new }
+        ensures reads { P.tells → P.reads platform.new ≤ P.reads platform.old + (self.old.grove.level + 1) }
+        ensures cause { IsReadCause block (blocks_of self.old) (Rose (P.faults platform.old) (P.faults platform.new)) result }
+    {
+        if block >= self.root.blocks {
+            return Err(ReadRefusal::Range);
+        }
+        let found = match self
+            .grove
+            .find(block, platform, &mut self.cache, &mut self.buffers)
+        {
+            Ok(found) => found,
+            Err(FetchRefusal::BadRecord { addr }) => return Err(ReadRefusal::BadRecord { addr }),
+            Err(FetchRefusal::PlatformFault) => return Err(ReadRefusal::PlatformFault),
+        };
+        let Some(entry) = found else {
+            out.fill(0);
+            return Ok(());
+        };
+        match read_block(platform, &entry, block, &mut self.buffers, out) {
+            Ok(()) => {}
+            Err(FetchRefusal::BadRecord { .. }) => {
+                return Err(ReadRefusal::BadRecord { addr: entry.addr });
+            }
+            Err(FetchRefusal::PlatformFault) => return Err(ReadRefusal::PlatformFault),
+        }
+        Ok(())
+    }
+}
+
+/// Reads the data record of a block, which an entry names, and puts its content into the 4,096 bytes of `out`.
+#[tactic(auto, using(platform::proofs::CallLaws::looks_start, platform::proofs::CallLaws::looks_call, platform::proofs::CallLaws::looks_then))]
+fn read_block<P: Platform>(
+    platform: &mut P,
+    entry: &Entry,
+    block: u64,
+    buffers: &mut Buffers,
+    out: &mut [u8],
+) -> Result<(), FetchRefusal>
+    requires size { length out.old ≡ 4096 }
+    requires within { entry.now.addr < P.head platform.old }
+    ensures fits { P.tells
+        → OnOk result (FitsAt (P.history platform.old).present.readable (block_want entry.now.addr block) entry.now.key (DataRecord block out.new)) }
+    ensures nothing_fits { P.tells → (addr : ℕ) → IsErrOf result (FetchRefusal.BadRecord addr)
+        → NothingFits (P.history platform.old).present.readable (block_want entry.now.addr block) entry.now.key }
+    ensures looks { Looks P.Platform platform.old platform.new }
+    ensures reads { P.tells → P.reads platform.new ≤ P.reads platform.old + 1 }
+    ensures cause { IsErrOf result FetchRefusal.PlatformFault → Rose (P.faults platform.old) (P.faults platform.new) }
+{
+    let want = Want::of_block(entry.addr, block);
+    match fetch_block(platform, &want, &entry.key, buffers) {
+        Ok(()) => {}
+        Err(refusal) => return Err(refusal),
+    }
+    out.copy_from_slice(buffers.content());
+    Ok(())
+}

@@ -1,0 +1,127 @@
+ghost use Rattle.std.specs.Prelude.{◌≡◌, ◌≤◌, ℕ, List, [], Some, false, IfOk, IfErr, IsErrOf};
+ghost use Rattle.sdbt_base.specs.Faults.{Rose};
+ghost use Rattle.sdbt_base.specs.Arrays.{Device};
+ghost use Rattle.platform.specs.Calls.{Looks};
+ghost use Rattle.root_codec.specs.RootRecord.{root_bytes};
+ghost use Rattle.page_store.specs.Stands.{Stands};
+ghost use Rattle.btree_walk.specs.Sights.{StandsOver};
+ghost use Rattle.device_session.specs.Causes.{IsMountCause};
+
+use btree_update::Grove;
+use device_core::MountRefusal;
+use node_cache::NodeCache;
+use page_store::{Buffers, CurrentRefusal, current};
+use platform::Platform;
+use root_codec::Root;
+use std::alloc::Global;
+use std::marker::Model;
+
+/// A session on a device: an array of blocks with changes that are the device's only with a commit.
+///
+/// Each call of a session wants a platform that has at least the pages that the one had on which it was
+/// mounted or last called. After a refused `read`, `write` or `trim` its array is unchanged.
+#[derive(Drop)]
+pub struct Session {
+    // the root record that the session was opened on, or that its last commit made
+    pub(crate) root: Root,
+    // how many blocks are mapped, by the root record and the changes since
+    pub(crate) mapped: u64,
+    pub(crate) is_touched: bool,
+    pub(crate) grove: Grove,
+    pub(crate) cache: NodeCache,
+    pub(crate) buffers: Buffers,
+    pub(crate) alloc: Global,
+}
+
+impl Model for Session {
+    ghost use Rattle.device_session.specs.Sessions as specs;
+    ghost use Rattle.btree_twigs.specs.contracts.twigs.Child as child;
+    ghost use Rattle.std.specs.Coded.{codes};
+
+    ghost Value = { specs.Session };
+
+    ghost coded = { Prim.hlevel (codes, child.the_row.coded) };
+
+    ghost view = { λ s. record {
+      root = s.root;
+      mapped = s.mapped;
+      is_touched = s.is_touched;
+      grove = s.grove;
+      cache = s.cache;
+      buffers = s.buffers;
+    } };
+}
+
+impl Session {
+    ghost use Rattle.device_session.specs.Open.{IsOpen, AreDataPages, blocks_of, number_of, is_touched};
+    ghost use Rattle.device_session.specs.Holds.{Holds};
+
+    /// Opens a session on the device. It reads no page.
+    ///
+    /// `cache` is how many nodes are kept, at most 4,096. `NoDevice` comes exactly where the cell is empty, `BadRoot` exactly
+    /// where it is full and holds no root record, or one that speaks of more pages than there are.
+    #[tactic(auto, using(platform::proofs::CallLaws::looks_start, platform::proofs::CallLaws::looks_call, platform::proofs::CallLaws::looks_then))]
+    pub fn mount<P: Platform>(
+        alloc: Global,
+        platform: &mut P,
+        cache: usize,
+    ) -> Result<Session, MountRefusal>
+        requires { cache ≤ 4096 }
+        ensures open { IfOk result (λ session. IsOpen session (P.head platform.new) × (is_touched session ≡ false) × AreDataPages session []) }
+        ensures holds { P.tells → (device : Device) → Stands (P.history platform.old).present (Some device)
+            → IfOk result (λ session. Holds session (P.history platform.new).present device device.contents) }
+        ensures cached { P.tells → IfOk result (λ session. StandsOver (P.history platform.new).present.readable session.cache) }
+        ensures found { P.tells → IfOk result (λ session. (P.history platform.old).present.cell ≡ Some (root_bytes session.root)) }
+        ensures refused { P.tells → IfErr result (λ refusal. IsMountCause (P.history platform.old).present.cell (P.head platform.old) refusal) }
+        ensures looks { Looks P.Platform platform.old platform.new }
+        ensures reads { P.tells → P.reads platform.new ≡ P.reads platform.old }
+        ensures cause { IsErrOf result MountRefusal.PlatformFault → Rose (P.faults platform.old) (P.faults platform.new) }
+    {
+        let found = match current(platform) {
+            Ok(found) => found,
+            Err(CurrentRefusal::BadRoot) => return Err(MountRefusal::BadRoot),
+            Err(CurrentRefusal::PlatformFault) => return Err(MountRefusal::PlatformFault),
+        };
+        let Some(root) = found else {
+            return Err(MountRefusal::NoDevice);
+        };
+        let Ok(buffers) = Buffers::new(alloc) else {
+            return Err(MountRefusal::Memory);
+        };
+        let Ok(cache) = NodeCache::new(alloc, cache) else {
+            return Err(MountRefusal::Memory);
+        };
+        let grove = Grove::of(alloc, &root);
+        let mapped = root.mapped;
+        Ok(Session {
+            root,
+            mapped,
+            is_touched: false,
+            grove,
+            cache,
+            buffers,
+            alloc,
+        })
+    }
+
+    /// The number of mapped blocks, uncommitted changes included.
+    pub fn mapped(&self) -> u64
+        ensures { result ≡ self.now.mapped }
+    {
+        self.mapped
+    }
+
+    /// The commit number of the mount or the last commit.
+    pub fn number(&self) -> u64
+        ensures { result ≡ number_of self.now }
+    {
+        self.root.commit
+    }
+
+    /// The device's number of blocks.
+    pub fn blocks(&self) -> u64
+        ensures { result ≡ blocks_of self.now }
+    {
+        self.root.blocks
+    }
+}
