@@ -23,7 +23,7 @@ use Rattle.btree_update.specs.Groves.{places_of}
 use Rattle.grove_accounts.specs.Below.{want_in, HaveParts}
 use Rattle.grove_accounts.specs.Accounts.{Accounts, IsOwn, LacksAddress, HasAddress}
 use Rattle.grove_accounts.specs.Holding.{HoldsTree}
-use Rattle.grove_accounts.specs.Certs.{told, told_stub, page_at, IsOwnStub, AreWritten, AddsNodes}
+use Rattle.grove_accounts.specs.Certs.{told, told_stub, page_at, IsOwnStub, AreWritten, AddsNodes, IsSealedTree}
 use Rattle.grove_accounts.proofs.ListLaws.{AreApart, all_left, all_right, apart_permutation}
 use Rattle.grove_accounts.proofs.PartsLaws.{IsInner}
 
@@ -73,7 +73,7 @@ known_in (q ∷ qs) p has = elim (cases_eq q.addr p.addr) [
 
 -- ---- a tree's own data records
 
-abbrev IsOldNode : ℕ → Place → Type 0
+abbrev pub IsOldNode : ℕ → Place → Type 0
 IsOldNode head p = IsInner p → p.addr < head
 
 -- what stands below a place that is no data record came before the root record
@@ -125,13 +125,7 @@ stub_place pages order top (t ∷ ss) (q ∷ qs) s h (suc i, within, is) level =
 
 -- ---- the two trees
 
--- the nodes of a tree with changes were put on new pages, and the new tree has these places
-pub record IsSealedTree (image : Image) (each : List Parts) (nodes after : List Place) : Type 0 where
-  pub new : All (λ p. length image.recorded ≤ p.addr) nodes
-  pub apart : AllPairs AreApart after
-  pub same : IsPermutation (nodes ++ (joined each).places) after
-
-old_nodes : (image : Image) (root : Root) (committed : List Place) (grove : Grove) (each : List Parts) → HoldsTree image root committed grove each → All (IsOldNode root.head) (joined each).places
+pub old_nodes : (image : Image) (root : Root) (committed : List Place) (grove : Grove) (each : List Parts) → HoldsTree image root committed grove each → All (IsOldNode root.head) (joined each).places
 old_nodes image root committed grove each h =
     All-weaker (λ p. Contains committed p ⊎ IsOwn root.head p) (IsOldNode root.head) one (joined each).places h.accounted.accounts.kept
   where

@@ -4,3 +4,4 @@ pub mod AccountLaws
 pub mod PlaceLaws
 pub mod HoldingLaws
 pub mod CertLaws
+pub mod OwnLaws

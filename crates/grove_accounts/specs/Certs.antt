@@ -1,8 +1,10 @@
 -- What a certificate is to say of a tree with changes, once its nodes in memory have pages.
-use Rattle.std.specs.Prelude.{◌≡◌, ◌≤◌, ◌⊎◌, ℕ, List, All, Contains}
+use Rattle.std.specs.Prelude.{◌≡◌, ◌≢◌, ◌≤◌, ◌⊎◌, ◌++◌, ℕ, List, All, AllPairs, Contains, length}
+use Rattle.std.specs.List.Sorted.{IsPermutation}
 use Rattle.sdbt_base.specs.Traces.{Traced, DataOf}
 use Rattle.sdbt_base.specs.declared.lists.Unkept.{Unkept}
-use Rattle.page_store.specs.Tree.{Place}
+use Rattle.platform.specs.Image.{Image}
+use Rattle.page_store.specs.Tree.{Parts, Place, joined}
 use Rattle.btree_twigs.specs.Stubs.{Stub}
 
 -- what a certificate says of a place
@@ -33,3 +35,9 @@ pub record AddsNodes (head : ℕ) (nodes : List Place) (stubs : List Stub) (adde
   pub nodes_are : All (λ p. Contains added (told p)) nodes
   pub own : (s : Stub) → Contains stubs s → IsOwnStub head s → Contains added (told_stub s)
   pub only : All (λ t. ((p : Place) × Contains nodes p × (t ≡ told p)) ⊎ ((s : Stub) × Contains stubs s × IsOwnStub head s × (t ≡ told_stub s))) added
+
+-- the nodes of a tree with changes were put on new pages, and the new tree has these places
+pub record IsSealedTree (image : Image) (each : List Parts) (nodes after : List Place) : Type 0 where
+  pub new : All (λ p. length image.recorded ≤ p.addr) nodes
+  pub apart : AllPairs (λ p q. p.addr ≢ q.addr) after
+  pub same : IsPermutation (nodes ++ (joined each).places) after
