@@ -221,6 +221,7 @@ impl Grove {
         requires can { CanInsert block self.old }
         requires small { self.old.level < 255 }
         ensures sound { IsSound self.new }
+        ensures top { IsTop self.new.order (self.new.level - 1) self.new.blocks self.new.top }
         ensures size { (self.new.order ≡ self.old.order) × (self.new.blocks ≡ self.old.blocks) × (self.new.head ≡ self.old.head) }
         ensures level { (self.new.level ≡ self.old.level) ⊎ (self.new.level ≡ self.old.level + 1) }
         ensures maps { (pages : List (List ℕ)) (mapped : List Mapped) (content : List ℕ) → IsReadFrom pages block self.old → GroveMaps pages self.old mapped
@@ -259,6 +260,7 @@ impl Grove {
     pub fn remove(&mut self, block: u64)
         requires can { CanRemove block self.old }
         ensures sound { IsSound self.new }
+        ensures top { IsTop self.new.order (self.new.level - 1) self.new.blocks self.new.top }
         ensures size { (self.new.order ≡ self.old.order) × (self.new.blocks ≡ self.old.blocks) × (self.new.head ≡ self.old.head) }
         ensures level { (self.new.level ≡ self.old.level) ⊎ (self.new.level + 1 ≡ self.old.level) }
         ensures maps { (pages : List (List ℕ)) (mapped : List Mapped) → IsReadFrom pages block self.old → IsReadBeside pages block self.old → GroveMaps pages self.old mapped

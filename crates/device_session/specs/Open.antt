@@ -1,10 +1,9 @@
 -- That a session is open on a medium of so many pages.
-use Rattle.std.specs.Prelude.{◌≡◌, ◌<◌, ◌≤◌, ℕ, Bool, true, false, List}
-use Rattle.std.specs.List.{AllByRecursion}
+use Rattle.std.specs.Prelude.{◌≡◌, ◌-◌, ◌≤◌, ℕ, Bool, true, false, List}
 use Rattle.sdbt_base.specs.declared.lists.Unkept.{Unkept}
 use Rattle.root_codec.specs.declared.root.Root.{Root}
 use Rattle.page_store.specs.Roots.{IsRootWithin}
-use Rattle.btree_twigs.specs.Stubs.{Stub}
+use Rattle.btree_twigs.specs.Top.{IsTop}
 use Rattle.btree_update.specs.declared.groves.Grove.{Grove}
 use Rattle.btree_update.specs.Held.{AreBelow}
 use Rattle.btree_update.specs.Groves.{IsSound, places_of}
@@ -28,13 +27,13 @@ is_touched session = session.is_touched
 abbrev pub root_of : Session → Root
 root_of session = session.root
 
--- a tree of a root record's size, of which at least the root is in memory
+-- a tree of a root record's size, whose root node is in memory
 pub record IsChangedTree (root : Root) (grove : Grove) : Type 0 where
   pub sound : IsSound grove
   pub order : grove.order ≡ root.order
   pub blocks : grove.blocks ≡ root.blocks
   pub head : grove.head ≡ root.head
-  pub under : AllByRecursion (λ s. s.level < grove.level) (places_of grove)
+  pub top : IsTop grove.order (grove.level - 1) grove.blocks grove.top
 
 -- the session's tree is its root record's, or one that was changed since
 abbrev pub IsTreeFor : Bool → Root → Grove → Type 0

@@ -5,7 +5,7 @@ use Rattle.btree_twigs.specs.declared.twigs.Child.{Child}
 use Rattle.btree_twigs.specs.Stubs.{Puts, datum, stubs, nodes}
 use Rattle.btree_twigs.specs.Updates.{IsOpen}
 use Rattle.btree_twigs.specs.Levels.{rows_at, Reshape}
-use Rattle.btree_twigs.specs.Top.{child_level, CanPutTop}
+use Rattle.btree_twigs.specs.Top.{IsTop, child_level, CanPutTop}
 use Rattle.btree_twigs.proofs.LevelLaws.{reshape_from}
 use Rattle.btree_twigs.proofs.Tops.{top_level}
 use Rattle.btree_update.specs.Tells.{Tells}
@@ -61,6 +61,12 @@ returns-clause-sound c =
       shaped = subst (λ m. IsRoot c.args.self.now.order m c.args.self.now.blocks c.put_top.new.top) (sym (one_less c.level_of-self.result p.new_level l)) (top_is_root c.args.self.now.order p.new_level c.args.self.now.blocks c.put_top.new.top p.shaped);
       spares = c.put_top.ensures.spares;
     }
+
+pub returns-clause-top : goal.returns-clause-top
+returns-clause-top c =
+    let p = c.put_top.ensures.put (can_put c.args.block c.args.self.now c.open_root.new.top c.requires.can c.requires.small (c.open_root.ensures.opened (can_open c.args.block c.args.self.now c.requires.can))) in
+    let l = c.level_of-self.ensures ∙ top_level c.args.self.now.order p.new_level c.args.self.now.blocks c.put_top.new.top p.shaped in
+    subst (λ n. IsTop c.args.self.now.order n c.args.self.now.blocks c.put_top.new.top) (sym (one_less c.level_of-self.result p.new_level l)) p.shaped
 
 level_by : (level new_level new : ℕ) → 1 ≤ level → (new_level ≡ level - 1) ⊎ (new_level ≡ suc (level - 1)) → new ≡ suc new_level → (new ≡ level) ⊎ (new ≡ level + 1)
 level_by level new_level new one (inl e) is = inl (omega (arith, one, e, is))

@@ -4,7 +4,7 @@ use Rattle.btree_twigs.specs.declared.twigs.Twig.{Twig}
 use Rattle.btree_twigs.specs.Stubs.{Stub, Takes, stubs, nodes}
 use Rattle.btree_twigs.specs.Updates.{IsOpen}
 use Rattle.btree_twigs.specs.Levels.{rows_at, ReshapeDown}
-use Rattle.btree_twigs.specs.Top.{child_level, CanTakeTop}
+use Rattle.btree_twigs.specs.Top.{IsTop, child_level, CanTakeTop}
 use Rattle.btree_twigs.proofs.SinkLaws.{down_from}
 use Rattle.btree_twigs.proofs.Tops.{top_level}
 use Rattle.btree_update.specs.declared.groves.Grove.{Grove}
@@ -99,6 +99,14 @@ returns-clause-sound c =
 level_by : (level new_level new : ℕ) → 1 ≤ level → (new_level ≡ level - 1) ⊎ (suc new_level ≡ level - 1) → new ≡ suc new_level → (new ≡ level) ⊎ (new + 1 ≡ level)
 level_by level new_level new one (inl e) is = inl (omega (arith, one, e, is))
 level_by level new_level new one (inr e) is = inr (omega (arith, one, e, is))
+
+pub returns-clause-top : goal.returns-clause-top
+returns-clause-top c =
+    let can = can_open c.args.block c.args.self.now c.requires.can in
+    let h = c.help_root.ensures.helped (can_help c.args.block c.args.self.now c.open_root.new.top c.open_root.new.held.items c.requires.can (c.open_root.ensures.opened can) (c.open_root.ensures.helps can Anywhere c.args.self.now.beside.items c.requires.can.loses c.requires.can.beside)) in
+    let p = c.take_top.ensures.taken (can_take c.args.block c.args.self.now c.open_root.new.top c.help_root.new.top _ _ c.requires.can h) in
+    let l = c.level_of-self.ensures ∙ top_level c.args.self.now.order p.new_level c.args.self.now.blocks c.take_top.new.top p.shaped in
+    subst (λ n. IsTop c.args.self.now.order n c.args.self.now.blocks c.take_top.new.top) (sym (one_less c.level_of-self.result p.new_level l)) p.shaped
 
 pub returns-clause-level : goal.returns-clause-level
 returns-clause-level c =
