@@ -149,21 +149,21 @@ cert_differs image root committed grove each nodes after added pages h more seal
     let tells : (p : Place) → Contains after p → entries_of after p.addr ≡ Some p.trace = λ p has. says after has.0 p sealed.apart has.1 has.2 in
     let unknown : (addr : ℕ) → root.head ≤ addr → entries_of committed addr ≡ None = λ addr high. silent committed addr (All-weaker (λ p. p.addr < root.head) (λ p. p.addr ≢ addr) (λ p less same. absurd (omega (arith, less, same, high))) committed h.within) in
     let gone_from : (addr : ℕ) → addr < length image.recorded → LacksAddress now addr → entries_of after addr ≡ None = λ addr low none.
-        silent after addr (All-weaker (Contains after) (λ p. p.addr ≢ addr) (λ p has. elim (Contains-append_cases nodes now p (from_after p has)) [
-          | inl fresh ↦ (λ same. absurd (let new = All-contains (λ p. length image.recorded ≤ p.addr) nodes p sealed.new fresh in omega (arith, new, same, low)))
-          | inr stays ↦ All-contains (λ p. p.addr ≢ addr) now p none stays
-        ]) after (All-contains_itself after)) in
+    silent after addr (All-weaker (Contains after) (λ p. p.addr ≢ addr) (λ p has. elim (Contains-append_cases nodes now p (from_after p has)) [
+      | inl fresh ↦ (λ same. absurd (let new = All-contains (λ p. length image.recorded ≤ p.addr) nodes p sealed.new fresh in omega (arith, new, same, low)))
+      | inr stays ↦ All-contains (λ p. p.addr ≢ addr) now p none stays
+    ]) after (All-contains_itself after)) in
     record {
       in_new = λ t. (
         λ has. elim (All-contains (λ t. ((p : Place) × Contains nodes p × (t ≡ told p)) ⊎ ((s : Stub) × Contains (places_of grove) s × IsOwnStub root.head s × (t ≡ told_stub s))) added t adds.only has) [
           | inl node ↦ subst (λ (u : Traced). (entries_of after u.addr ≡ Some u.trace) × (entries_of committed u.addr ≡ None)) (sym node.2)
               (tells node.0 (to_after node.0 (Contains-append_left nodes now node.0 node.1)), unknown node.0.addr (let new = All-contains (λ p. length image.recorded ≤ p.addr) nodes node.0 sealed.new node.1 in omega (arith, new, more)))
           | inr own ↦ (
-            let there = stub_place image.readable grove.order grove.level (places_of grove) each own.0 h.has own.1 own.2.level in
-            let same : t ≡ told there.0 = own.3 ∙ sym there.2 in
-            let at : there.0.addr ≡ own.0.addr = ap (λ (u : Traced). u.addr) there.2 in
-            subst (λ (u : Traced). (entries_of after u.addr ≡ Some u.trace) × (entries_of committed u.addr ≡ None)) (sym same)
-            (tells there.0 (to_after there.0 (Contains-append_right nodes now there.0 there.1)), unknown there.0.addr (let late = own.2.after in omega (arith, at, late))))
+              let there = stub_place image.readable grove.order grove.level (places_of grove) each own.0 h.has own.1 own.2.level in
+              let same : t ≡ told there.0 = own.3 ∙ sym there.2 in
+              let at : there.0.addr ≡ own.0.addr = ap (λ (u : Traced). u.addr) there.2 in
+              subst (λ (u : Traced). (entries_of after u.addr ≡ Some u.trace) × (entries_of committed u.addr ≡ None)) (sym same)
+              (tells there.0 (to_after there.0 (Contains-append_right nodes now there.0 there.1)), unknown there.0.addr (let late = own.2.after in omega (arith, at, late))))
         ],
         λ both.
             let p = said after t.addr t.trace both.0 in
@@ -200,9 +200,9 @@ cert_differs image root committed grove each nodes after added pages h more seal
         λ all. elim (All-contains (λ page. Contains grove.never.items page ⊎ ((s : Stub) × Contains (places_of grove) s × IsOwnStub root.head s × (page ≡ page_at s))) pages page written.only all.0) [
           | inl never ↦ never
           | inr own ↦ absurd (
-            let there = stub_place image.readable grove.order grove.level (places_of grove) each own.0 h.has own.1 own.2.level in
-            let at : there.0.addr ≡ page.addr = ap (λ (u : Traced). u.addr) there.2 ∙ sym (ap (λ (p : Unkept). p.addr) own.3) in
-            not_silent after there.0 (to_after there.0 (Contains-append_right nodes now there.0 there.1)) (ap (λ n. entries_of after n) at ∙ all.2))
+              let there = stub_place image.readable grove.order grove.level (places_of grove) each own.0 h.has own.1 own.2.level in
+              let at : there.0.addr ≡ page.addr = ap (λ (u : Traced). u.addr) there.2 ∙ sym (ap (λ (p : Unkept). p.addr) own.3) in
+              not_silent after there.0 (to_after there.0 (Contains-append_right nodes now there.0 there.1)) (ap (λ n. entries_of after n) at ∙ all.2))
         ],
       );
     }

@@ -175,20 +175,20 @@ accounted_let image head block committed left rest gone more never most (Some ad
     let all = subst (λ ps. IsAccounted image head committed (ps ++ rest) gone never) is a in
     elim (cases_lt addr head) [
       | inl low ↦ (
-        let went = goes.0 low in
-        let was : Contains committed p = committed_one low (All-head (λ q. Contains committed q ⊎ IsOwn head q) p rest all.accounts.kept) in
-        let after = accounted_gone image head committed (p ∷ []) rest gone never (All-cons (Contains committed) p [] was (All-nil (Contains committed))) all in
-        subst (λ ns. IsAccounted image head committed rest more ns) (sym went.1) (subst (λ ns. IsAccounted image head committed rest ns never) (ap (λ n. gone ++ n ∷ []) at ∙ sym went.0) after))
+          let went = goes.0 low in
+          let was : Contains committed p = committed_one low (All-head (λ q. Contains committed q ⊎ IsOwn head q) p rest all.accounts.kept) in
+          let after = accounted_gone image head committed (p ∷ []) rest gone never (All-cons (Contains committed) p [] was (All-nil (Contains committed))) all in
+          subst (λ ns. IsAccounted image head committed rest more ns) (sym went.1) (subst (λ ns. IsAccounted image head committed rest ns never) (ap (λ n. gone ++ n ∷ []) at ∙ sym went.0) after))
       | inr high ↦ (
-        let went = goes.1 high in
-        let after = accounts_never head (length image.recorded) block committed rest p gone never all.apart within (omega (arith, high, at)) (All-head (λ q. q.addr < length image.recorded) p rest all.below) all.accounts in
-        let right : IsAccounted image head committed rest gone (never ++ record { block = block; addr = p.addr } ∷ []) = record {
-          apart = apart_right (p ∷ []) rest all.apart;
-          below = all_right (λ p. p.addr < length image.recorded) (p ∷ []) rest all.below;
-          recorded = all_right (λ p. slice_get image.readable p.addr ≡ slice_get image.recorded p.addr) (p ∷ []) rest all.recorded;
-          accounts = after;
-        } in
-        subst (λ ns. IsAccounted image head committed rest ns most) (sym went.0) (subst (λ ns. IsAccounted image head committed rest gone ns) (ap (λ n. never ++ record { block = block; addr = n } ∷ []) at ∙ sym went.1) right))
+          let went = goes.1 high in
+          let after = accounts_never head (length image.recorded) block committed rest p gone never all.apart within (omega (arith, high, at)) (All-head (λ q. q.addr < length image.recorded) p rest all.below) all.accounts in
+          let right : IsAccounted image head committed rest gone (never ++ record { block = block; addr = p.addr } ∷ []) = record {
+            apart = apart_right (p ∷ []) rest all.apart;
+            below = all_right (λ p. p.addr < length image.recorded) (p ∷ []) rest all.below;
+            recorded = all_right (λ p. slice_get image.readable p.addr ≡ slice_get image.recorded p.addr) (p ∷ []) rest all.recorded;
+            accounts = after;
+          } in
+          subst (λ ns. IsAccounted image head committed rest ns most) (sym went.0) (subst (λ ns. IsAccounted image head committed rest gone ns) (ap (λ n. never ++ record { block = block; addr = n } ∷ []) at ∙ sym went.1) right))
     ]
   where
     committed_one : addr < head → Contains committed p ⊎ IsOwn head p → Contains committed p
@@ -327,7 +327,7 @@ insert_holds image later root committed old new each block addr key content May 
     let d = data_parts addr key block content in
     let after = l.before ++ (d ∷ l.behind) in
     let order_of : IsPermutation (data_place block addr key ∷ (Front ++ Back)) (joined after).places =
-        subst (IsPermutation (data_place block addr key ∷ (Front ++ Back))) (sym (places_between l.before (d ∷ []) l.behind)) (past (data_place block addr key ∷ []) Front Back) in
+    subst (IsPermutation (data_place block addr key ∷ (Front ++ Back))) (sym (places_between l.before (d ∷ []) l.behind)) (past (data_place block addr key ∷ []) Front Back) in
     let n = length image.recorded in
     let has_front = parts_later image.readable later.readable old.order old.level n p.front l.before arrives.earlier.readable (all_left (λ q. q.addr < n) Front Back rest.below) l.has_before in
     let has_back = parts_later image.readable later.readable old.order old.level n p.back l.behind arrives.earlier.readable (all_right (λ q. q.addr < n) Front Back rest.below) l.has_behind in

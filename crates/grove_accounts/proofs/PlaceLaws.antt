@@ -70,9 +70,10 @@ open_below top blocks block (s ∷ ss) one to under open_ = (less, open_below to
 
 pub tiles_in : (low high : ℕ) (ss : List Stub) → Tiles low high ss → AllByRecursion (λ s. (low ≤ s.low) × (s.low < s.high) × (s.high ≤ high)) ss
 tiles_in low high [] h = tt
-tiles_in low high (s ∷ ss) h =
-    ((h.0, h.1, tiles_le s.high high ss h.2),
-    each_weaker (λ (t : Stub). (s.high ≤ t.low) × (t.low < t.high) × (t.high ≤ high)) (λ (t : Stub). (low ≤ t.low) × (t.low < t.high) × (t.high ≤ high)) (λ t i. (omega (arith, i.0, h.0, h.1), i.1, i.2)) ss (tiles_in s.high high ss h.2))
+tiles_in low high (s ∷ ss) h = (
+  (h.0, h.1, tiles_le s.high high ss h.2),
+  each_weaker (λ (t : Stub). (s.high ≤ t.low) × (t.low < t.high) × (t.high ≤ high)) (λ (t : Stub). (low ≤ t.low) × (t.low < t.high) × (t.high ≤ high)) (λ t i. (omega (arith, i.0, h.0, h.1), i.1, i.2)) ss (tiles_in s.high high ss h.2),
+)
 
 -- where a data record was put, or taken, the tree has no root on the medium
 pub puts_no_root : (top blocks block addr : ℕ) (key : List ℕ) (old new : List Stub) → 1 ≤ top → Puts 0 blocks (datum block addr key) old new → AreBelowRoot top blocks new → AllByRecursion (λ s. s.level < top) new

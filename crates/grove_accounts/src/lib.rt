@@ -3,4 +3,6 @@
 
 mod laws;
 
-pub use laws::{holds_later, insertion_holds, ready_holds, removal_holds, root_holds, sealed_differs};
+pub use laws::{
+    holds_later, insertion_holds, ready_holds, removal_holds, root_holds, sealed_differs,
+};
