@@ -105,6 +105,14 @@ array_take block old new p = same_map nat_cmp_total nat_cmp-IsAntisymmetric (arr
 pub array_lacks : (block : ℕ) (ms : List Mapped) → LacksBlock block ms → maps.get (array_of ms) block ≡ None
 array_lacks block ms lacks = got ms block ∙ found_nowhere block ms lacks
 
+-- what isn't mapped is no less mapped without it
+pub remove_none : (contents : Blocks) (block : ℕ) → maps.get contents block ≡ None → contents ≡ maps.remove contents block
+remove_none contents block none = same_map nat_cmp_total nat_cmp-IsAntisymmetric contents (maps.remove contents block) (λ q.
+    elim (same q block) as (λ b. same q block ≡ b → maps.get contents q ≡ cond b None (maps.get contents q)) [
+      | true ↦ λ is. ap (maps.get contents) (same_means q block is) ∙ none
+      | false ↦ λ is. refl
+    ] refl ∙ sym (get-remove nat_cmp_total contents block q))
+
 -- ---- in order
 
 -- blocks ascend from a number on

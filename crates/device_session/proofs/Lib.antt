@@ -2,3 +2,4 @@ pub mod SessionLaws
 pub mod ArrayLaws
 pub mod OrderLaws
 pub mod ReadLaws
+pub mod UpdateLaws

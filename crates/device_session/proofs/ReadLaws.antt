@@ -146,16 +146,22 @@ pub record IsArray (image : Image) (grove : Grove) (contents : Blocks) : Type 0 
   pub records : AllByRecursion (HasRecord image.readable) mapped
   pub contents_are : contents ≡ array_of mapped
 
-pub held_array : (session : Session) (image : Image) (device : Device) (contents : Blocks) → Holds session image device contents → IsArray image session.grove contents
-held_array session image device contents h =
+pub held_maps : (session : Session) (image : Image) (device : Device) (contents : Blocks) → (h : Holds session image device contents) → GroveMaps image.readable session.grove (joined h.each).mapped
+held_maps session image device contents h = grove_maps image.readable session.grove h.each h.tree.sound h.tree.has
+
+pub held_up : (session : Session) (image : Image) (device : Device) (contents : Blocks) → (h : Holds session image device contents) → Ascends 0 (joined h.each).mapped
+held_up session image device contents h =
     let blocks : 1 ≤ session.grove.blocks = let least = h.stands.in_range.blocks_least in let same = h.tree.blocks in omega (arith, least, same) in
-    record {
-      mapped = (joined h.each).mapped;
-      maps_are = grove_maps image.readable session.grove h.each h.tree.sound h.tree.has;
-      up = places_up image.readable session.grove.order session.grove.level 0 session.grove.blocks (places_of session.grove) h.each (grove_tiles session.grove h.tree.sound blocks) h.tree.has;
-      records = parts_records image.readable session.grove.order session.grove.level (places_of session.grove) h.each h.tree.has;
-      contents_are = h.contents_are;
-    }
+    places_up image.readable session.grove.order session.grove.level 0 session.grove.blocks (places_of session.grove) h.each (grove_tiles session.grove h.tree.sound blocks) h.tree.has
+
+pub held_array : (session : Session) (image : Image) (device : Device) (contents : Blocks) → Holds session image device contents → IsArray image session.grove contents
+held_array session image device contents h = record {
+  mapped = (joined h.each).mapped;
+  maps_are = held_maps session image device contents h;
+  up = held_up session image device contents h;
+  records = parts_records image.readable session.grove.order session.grove.level (places_of session.grove) h.each h.tree.has;
+  contents_are = h.contents_are;
+}
 
 -- the data record that an entry of the tree names is there, with the content of its block
 pub entry_read : (image : Image) (grove : Grove) (contents : Blocks) (block : ℕ) (entry : Entry) (content : List ℕ) → (a : IsArray image grove contents) → IsMappedAs a.mapped block (Some entry) → entry.addr < 2 ^ 64 → IsRecordAt image.readable entry.addr entry.key (DataRecord block content) →

@@ -5,3 +5,4 @@ pub mod Reading
 pub mod Causes
 pub mod Changes
 pub mod Keys
+pub mod Ready

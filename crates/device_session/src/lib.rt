@@ -2,6 +2,8 @@
 #![tactic(auto)]
 
 mod reading;
+mod readying;
 mod session;
+mod writing;
 
 pub use session::Session;

@@ -1,0 +1,54 @@
+use Rattle.std.proofs.Common.{◌≡◌, ◌≤◌, ℕ, Bool, List, IsTrue, refl, sym, ap, subst, arith}
+use Rattle.std.specs.Prelude.{IfOk}
+use Rattle.std.specs.Bool.{OnTrue, OnFalse}
+use Rattle.platform.specs.Image.{Image}
+use Rattle.page_store.specs.Tree.{Mapped}
+use Rattle.btree_walk.specs.Sights.{StandsOver}
+use Rattle.btree_update.specs.Maps.{HasBlock, LacksBlock}
+use Rattle.btree_update.specs.Groves.{IsReadFrom, IsReadBeside, IsWrongOnWay, GroveMaps}
+use Rattle.device_session.specs.Sessions.{Session}
+use Rattle.device_session.specs.Holds.{Holds}
+use Rattle.device_session.specs.Keys.{HoldsListed}
+use Rattle.device_session.specs.Ready.{IsReadyFor}
+use Rattle.device_session.proofs.ReadLaws.{held_array, cached_looked}
+use Rattle.device_session.proofs.UpdateLaws.{ready_holds, ready_listed, ready_maps, both}
+use Rattle.device_session.specs.contracts.session.Session.{the_view}
+use Rattle.device_session.proofs.session.Session.ready.Goals as goal
+
+pub returns-clause-holds : goal.returns-clause-holds
+returns-clause-holds g c = λ told device contents h.
+    let image = (g.P.Platform.history c.args.platform.now).present in
+    let k = subst (λ (s : Session). Holds s image device contents) (sym c.self.view_is) h in
+    let a = held_array (the_view c.self.inside) image device contents k in (
+      ready_holds (the_view c.self.inside) c.ready.new.self c.ready.new.cache c.ready.new.buf image _ device contents (c.ready.ensures.looks.image told) c.ready.ensures.tree c.ready.ensures.sound (c.ready.ensures.stands told) k,
+      λ addr. c.ready.ensures.fits told k.cached a.mapped a.maps_are addr,
+    )
+
+pub returns-clause-listed : goal.returns-clause-listed
+returns-clause-listed g c = λ told keys h.
+    let image = (g.P.Platform.history c.args.platform.now).present in
+    let k = subst (λ (s : Session). HoldsListed s image keys) (sym c.self.view_is) h in
+    ready_listed (the_view c.self.inside) c.ready.new.self c.ready.new.cache c.ready.new.buf image _ keys (c.ready.ensures.looks.image told) c.ready.ensures.tree c.ready.ensures.sound (c.ready.ensures.stands told) k
+
+pub returns-clause-cached : goal.returns-clause-cached
+returns-clause-cached g c = λ told h.
+    let image = (g.P.Platform.history c.args.platform.now).present in
+    cached_looked image _ (the_view c.self.inside).cache c.ready.new.cache (c.ready.ensures.looks.image told) (c.ready.ensures.stands told) (subst (λ (s : Session). StandsOver image.readable s.cache) (sym c.self.view_is) h)
+
+pub returns-clause-ready : goal.returns-clause-ready
+returns-clause-ready g c = λ told h.
+    let image = (g.P.Platform.history c.args.platform.now).present in
+    let grove = c.ready.new.self in
+    let over = subst (λ (s : Session). StandsOver image.readable s.cache) (sym c.self.view_is) h in
+    let all = both (λ b. IsReadFrom image.readable c.args.block grove × (IsTrue b → IsReadBeside image.readable c.args.block grove))
+        (λ b. (map : List Mapped) → GroveMaps image.readable (the_view c.self.inside).grove map → OnTrue b (HasBlock c.args.block map) × OnFalse b (LacksBlock c.args.block map))
+        (IsReadyFor image.readable c.args.block grove)
+        (λ b reads mapped. record { way = reads.0; beside = reads.1; mapped = λ map m. mapped map (ready_maps image.readable (the_view c.self.inside).grove grove map c.ready.ensures.tree m) })
+        c.ready.result (c.ready.ensures.reads told over) (c.ready.ensures.mapped told over) in
+    subst (λ (i : Image). IfOk c.ready.result (IsReadyFor i.readable c.args.block grove)) (sym (c.ready.ensures.looks.image told)) all
+
+pub returns-clause-bad : goal.returns-clause-bad
+returns-clause-bad g c = λ told h addr is.
+    let image = (g.P.Platform.history c.args.platform.now).present in
+    let over = subst (λ (s : Session). StandsOver image.readable s.cache) (sym c.self.view_is) h in
+    subst (λ (s : Session). IsWrongOnWay image.readable c.args.block s.grove addr) c.self.view_is (c.ready.ensures.bad told over addr is)

@@ -1,0 +1,95 @@
+use Rattle.std.proofs.Common.{◌≡◌, ◌∙◌, ◌⊎◌, ◌||◌, ◌-◌, ◌+◌, ◌<◌, ◌≤◌, ℕ, suc, Bool, true, false, List, IsTrue, inl, inr, refl, sym, ap, subst, arith}
+use Rattle.std.specs.FinMap as maps
+use Rattle.std.specs.Prelude.{IfOk}
+use Rattle.sdbt_base.specs.Arrays.{Device, Blocks}
+use Rattle.platform.specs.Image.{Image}
+use Rattle.root_codec.specs.declared.root.Root.{Root}
+use Rattle.page_store.specs.Tree.{Mapped}
+use Rattle.btree_twigs.specs.Stubs.{Stub}
+use Rattle.btree_walk.specs.Sights.{StandsOver}
+use Rattle.btree_update.specs.Maps.{HasBlock, LacksBlock}
+use Rattle.btree_update.specs.Groves.{GroveMaps}
+use Rattle.grove_accounts.specs.Holding.{IsSameSize}
+use Rattle.device_session.specs.Sessions.{Session}
+use Rattle.device_session.specs.Open.{IsOpen}
+use Rattle.device_session.specs.Holds.{Holds}
+use Rattle.device_session.specs.Keys.{HoldsListed}
+use Rattle.device_session.specs.Ready.{IsReadyFor}
+use Rattle.device_session.proofs.UpdateLaws.{Removes, removed_open, removed_listed, trimmed, unmapped, counted, beside_anywhere, on_true, on_false}
+use Rattle.device_session.specs.contracts.session.Session.{the_view}
+use Rattle.device_session.proofs.session.Session.trim.Given.{Over}
+use Rattle.device_session.proofs.session.Session.trim.Goals.{After-remove}
+use Rattle.device_session.proofs.session.Session.trim.Goals as goal
+
+abbrev any : Stub → Bool
+any s = true
+
+pub returns-in-Err-BadRecord-clause-array : goal.returns-in-Err-BadRecord-clause-array
+returns-in-Err-BadRecord-clause-array g c = λ told device contents h. (c.ready.ensures.holds told device contents h).1 c.in-Err-BadRecord.addr (cc)
+
+pub returns-then-not-is_mapped-clause-array : goal.returns-then-not-is_mapped-clause-array
+returns-then-not-is_mapped-clause-array g c = λ told device contents h.
+    let image = (g.P.Platform.history c.ready.new.platform).present in
+    let k = (c.ready.ensures.holds told device contents h).0 in
+    let r = c.in-Ok.ensures.ready told h.cached in
+    let off : c.in-Ok.is_mapped ≡ false = grind (arith, c.if-not-is_mapped.true) in
+    let u = unmapped c.ready.new.self image device contents c.args.block (λ mapped m. on_false c.in-Ok.is_mapped (LacksBlock c.args.block mapped) off (r.mapped mapped m).1) k in
+    (u.0, subst (λ b. c.ready.new.self.is_touched ≡ (b || maps.contains_key contents c.args.block)) c.ready.ensures.same.2 u.1)
+
+pub returns-then-self-eq0-clause-array : goal.returns-then-self-eq0-clause-array
+returns-then-self-eq0-clause-array g c = λ told device contents h.
+    let image = (g.P.Platform.history c.ready.new.platform).present in
+    let k = (c.ready.ensures.holds told device contents h).0 in
+    let r = c.in-Ok.ensures.ready told h.cached in
+    let on : IsTrue c.in-Ok.is_mapped = grind (arith, c.if-not-is_mapped.false) in
+    let none : c.ready.new.self.mapped ≡ 0 = subst (λ (s : Session). s.mapped ≡ 0) c.self-2.view_is (grind (arith, c.if-self-eq0.true)) in
+    counted c.ready.new.self image device contents c.args.block (λ mapped m. on_true c.in-Ok.is_mapped (HasBlock c.args.block mapped) on (r.mapped mapped m).0) k none
+
+-- ---- where the block was mapped
+
+size : (g : Over) (c : After-remove g) → IsSameSize c.self-2.inside.grove c.remove.new.self
+size g c = record { sound = c.remove.ensures.sound; order = c.remove.ensures.size.0; blocks = c.remove.ensures.size.1; head = c.remove.ensures.size.2 }
+
+small : (g : Over) (c : After-remove g) → c.args.block < c.self-2.inside.root.blocks
+small g c =
+    let same : c.self-2.inside.root ≡ c.args.self.now.root = ap (λ (s : Session). s.root) c.self-2.view_is ∙ c.ready.ensures.same.0 in
+    let less = subst (λ (s : Session). c.args.block < s.root.blocks) c.self.view_is c.if-block-self.false in
+    subst (λ (r : Root). c.args.block < r.blocks) (sym same) less
+
+is_ready : (g : Over) (c : After-remove g) → g.P.Platform.tells → StandsOver (g.P.Platform.history c.args.platform.now).present.readable c.args.self.now.cache → IsReadyFor (g.P.Platform.history c.ready.new.platform).present.readable c.args.block c.self-2.inside.grove c.in-Ok.is_mapped
+is_ready g c told over = subst (λ (s : Session). IsReadyFor (g.P.Platform.history c.ready.new.platform).present.readable c.args.block s.grove c.in-Ok.is_mapped) (sym c.self-2.view_is) (c.in-Ok.ensures.ready told over)
+
+was_mapped : (g : Over) (c : After-remove g) → IsTrue c.in-Ok.is_mapped
+was_mapped g c = grind (arith, c.if-not-is_mapped.false)
+
+removes : (g : Over) (c : After-remove g) → g.P.Platform.tells → StandsOver (g.P.Platform.history c.args.platform.now).present.readable c.args.self.now.cache → Removes (g.P.Platform.history c.ready.new.platform).present c.args.block any c.self-2.inside.grove c.remove.new.self
+removes g c told over =
+    let r = is_ready g c told over in
+    c.remove.ensures.goes (g.P.Platform.history c.ready.new.platform).present.readable any r.way (beside_anywhere _ c.args.block c.self-2.inside.grove (r.beside (was_mapped g c)))
+
+has_block : (g : Over) (c : After-remove g) → g.P.Platform.tells → StandsOver (g.P.Platform.history c.args.platform.now).present.readable c.args.self.now.cache → (mapped : List Mapped) → GroveMaps (g.P.Platform.history c.ready.new.platform).present.readable c.self-2.inside.grove mapped → HasBlock c.args.block mapped
+has_block g c told over mapped m = on_true c.in-Ok.is_mapped (HasBlock c.args.block mapped) (was_mapped g c) ((is_ready g c told over).mapped mapped m).0
+
+pub returns-clause-array : goal.returns-clause-array
+returns-clause-array g c = λ told device contents h.
+    let at = goal.at.returns-clause-array g c in
+    let image = (g.P.Platform.history c.ready.new.platform).present in
+    let k = subst (λ (s : Session). Holds s image device contents) (sym c.self-2.view_is) (c.ready.ensures.holds told device contents h).0 in
+    trimmed (the_view c.self-2.inside) c.remove.new.self image device contents c.args.block any (size g at.After-remove) (small g at.After-remove) (removes g at.After-remove told h.cached) (has_block g at.After-remove told h.cached) k c.args.self.now.is_touched
+
+pub returns-clause-open : goal.returns-clause-open
+returns-clause-open g c =
+    let at = goal.at.returns-clause-open g c in
+    let o = subst (λ (s : Session). IsOpen s (g.P.Platform.head c.ready.new.platform)) (sym c.self-2.view_is) c.ready.ensures.open in
+    removed_open (the_view c.self-2.inside) c.remove.new.self (g.P.Platform.head c.ready.new.platform) (size g at.After-remove) c.remove.ensures.top (level c.self-2.inside.grove.level c.remove.new.self.level c.remove.ensures.level o.level) (c.remove.ensures.below (g.P.Platform.head c.ready.new.platform) o.below) o
+  where
+    level : (old new : ℕ) → (new ≡ old) ⊎ (new + 1 ≡ old) → old ≤ 20 → new ≤ 20
+    level old new (inl e) le = omega (arith, e, le)
+    level old new (inr e) le = omega (arith, e, le)
+
+pub returns-clause-listed : goal.returns-clause-listed
+returns-clause-listed g c = λ told keys h.
+    let at = goal.at.returns-clause-listed g c in
+    let image = (g.P.Platform.history c.ready.new.platform).present in
+    let k = subst (λ (s : Session). HoldsListed s image keys) (sym c.self-2.view_is) (c.ready.ensures.listed told keys h) in
+    removed_listed (the_view c.self-2.inside) c.remove.new.self image keys c.args.block any (size g at.After-remove) (small g at.After-remove) (removes g at.After-remove told h.holds.cached) (has_block g at.After-remove told h.holds.cached) k
