@@ -7,3 +7,6 @@ mod session;
 mod writing;
 
 pub use session::Session;
+
+#[cfg(test)]
+mod tests;

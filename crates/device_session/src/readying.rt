@@ -21,7 +21,11 @@ impl Session {
     /// Brings into memory, beside the tree, what an update of a block may need, and answers whether the block is mapped. The
     /// array is the same. `BadRecord` never comes on a sound device; on a forged one it names a node on the way to the block, or
     /// beside it, that does not fit.
-    pub(crate) fn ready<P: Platform>(&mut self, platform: &mut P, block: u64) -> Result<bool, ReadyRefusal>
+    pub(crate) fn ready<P: Platform>(
+        &mut self,
+        platform: &mut P,
+        block: u64,
+    ) -> Result<bool, ReadyRefusal>
         requires open { IsOpen self.old (P.head platform.old) }
         requires to { block < blocks_of self.old }
         ensures open { IsOpen self.new (P.head platform.new) }

@@ -41,10 +41,10 @@ returns-clause-ready g c = λ told h.
     let grove = c.ready.new.self in
     let over = subst (λ (s : Session). StandsOver image.readable s.cache) (sym c.self.view_is) h in
     let all = both (λ b. IsReadFrom image.readable c.args.block grove × (IsTrue b → IsReadBeside image.readable c.args.block grove))
-        (λ b. (map : List Mapped) → GroveMaps image.readable (the_view c.self.inside).grove map → OnTrue b (HasBlock c.args.block map) × OnFalse b (LacksBlock c.args.block map))
-        (IsReadyFor image.readable c.args.block grove)
-        (λ b reads mapped. record { way = reads.0; beside = reads.1; mapped = λ map m. mapped map (ready_maps image.readable (the_view c.self.inside).grove grove map c.ready.ensures.tree m) })
-        c.ready.result (c.ready.ensures.reads told over) (c.ready.ensures.mapped told over) in
+    (λ b. (map : List Mapped) → GroveMaps image.readable (the_view c.self.inside).grove map → OnTrue b (HasBlock c.args.block map) × OnFalse b (LacksBlock c.args.block map))
+    (IsReadyFor image.readable c.args.block grove)
+    (λ b reads mapped. record { way = reads.0; beside = reads.1; mapped = λ map m. mapped map (ready_maps image.readable (the_view c.self.inside).grove grove map c.ready.ensures.tree m) })
+    c.ready.result (c.ready.ensures.reads told over) (c.ready.ensures.mapped told over) in
     subst (λ (i : Image). IfOk c.ready.result (IsReadyFor i.readable c.args.block grove)) (sym (c.ready.ensures.looks.image told)) all
 
 pub returns-clause-bad : goal.returns-clause-bad
