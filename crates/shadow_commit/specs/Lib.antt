@@ -1,0 +1,5 @@
+pub mod Sealed
+pub mod Handing
+pub mod CanSeal
+pub mod NewTree
+pub mod Planned
