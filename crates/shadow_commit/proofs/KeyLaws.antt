@@ -5,7 +5,7 @@ use Rattle.std.specs.List.{AllByRecursion}
 use Rattle.std.proofs.lemmas.List.{map-append, length-map}
 use Rattle.std.proofs.lemmas.Option.{slice_get_within}
 use Rattle.std.proofs.lemmas.List.Elements.{All-contains, All-map, All-from_recursion, Contains-append_left, Contains-append_right, Contains-push, Contains-push_cases, Contains-append_cases}
-use Rattle.platform.specs.Image.{Image}
+use Rattle.platform.specs.Image.{Image, IsEither, all_synced}
 use Rattle.platform.specs.History.{History, CellStays, During, image_at}
 use Rattle.platform.proofs.Moments.{Extends-since, earlier-now}
 use Rattle.seal_record.specs.Sealing.{masked, Opens}
@@ -17,15 +17,15 @@ use Rattle.key_graph.specs.Opening.{Yields}
 use Rattle.key_graph.specs.OwnKeys.{HaveOwnKeys}
 use Rattle.key_graph.proofs.OwnLaws.{own_more, own_first, own_page}
 use Rattle.page_store.specs.Kept.{Kept}
-use Rattle.page_store.specs.Keeping.{DrewAll, IsSealedRecord, HandedOver, KeepsKeys}
+use Rattle.page_store.specs.Keeping.{DrewAll, IsSealedRecord, HandedOver, Keeps, KeepsKeys}
 use Rattle.page_store.proofs.RecordYields.{opens_record, node_yields}
 use Rattle.page_store.proofs.KeptLaws.{kept_later}
 use Rattle.btree_twigs.specs.declared.twigs.Child.{Child, Child-F, out-Child}
 use Rattle.btree_twigs.specs.declared.twigs.Child.TheOpen.{Kept as KeptChild, Grown}
 use Rattle.btree_twigs.specs.declared.twigs.Twig.{Twig}
 use Rattle.btree_twigs.specs.Stubs.{Stub, start_by, stubs_by, stubs_in, datum_in, low_of, children_of, stubs}
-use Rattle.shadow_commit.specs.Sealed.{Sealed, page_of, SealsEach, SealsDatum, SealsKept, SealsIn, Seals}
-use Rattle.shadow_commit.specs.Handing.{KnowsPlaces}
+use Rattle.shadow_commit.specs.Sealed.{Sealed, page_of, with_nodes, SealsEach, SealsNode, SealsDatum, SealsKept, SealsIn, Seals}
+use Rattle.shadow_commit.specs.Handing.{KnowsPlaces, MayHave, StopsFrom}
 use Rattle.shadow_commit.specs.NewTree.{Fits, AreFrom, AreInOrder, KeysAreFrom, keys_at, AreNodesOver}
 use Rattle.shadow_commit.proofs.ApartLaws.{get_behind}
 
@@ -156,6 +156,11 @@ child_known (suc level) first high c ns e h = here (λ first high c ns e h. chil
 pub children_keys : (level first high : ℕ) (cs : List Child) (ns : List Sealed) (es : List Entry) → SealsEach (Seals level) first cs ns es → KnowsChildren (keys_at (stubs_by low_of (stubs level) high cs)) ns es
 children_keys level first high cs ns es h = children_known level (child_known level) first high cs ns es h
 
+pub node_keys : (level first high : ℕ) (cs : List Child) (ns : List Sealed) (addr : ℕ) (key : List ℕ) → SealsNode (Seals level) level first cs ns addr key → KeysAreFrom (keys_at (stubs_by low_of (stubs level) high cs)) ns
+node_keys level first high cs ns addr key h =
+    let n : Sealed = record { addr = addr; key = key; level = suc level; entries = h.entries } in
+    (node_known (keys_at (stubs_by low_of (stubs level) high cs)) h.below ns n h.entries h.is refl (children_keys level first high cs h.below h.entries h.each)).0
+
 -- ---- what the medium keeps
 
 -- the page of a sealed node is a record of its address under its key
@@ -217,38 +222,127 @@ own_nodes keys pages (n ∷ ns) own from fits known small =
     subst (λ ks. HaveOwnKeys ks (pages ++ (page ∷ map page_of ns))) (append_assoc keys (n.key ∷ []) (keys_in ns))
     (subst (HaveOwnKeys ((keys ++ n.key ∷ []) ++ keys_in ns)) (append_assoc pages (page ∷ []) (map page_of ns)) rest)
 
-listed_at : (keys : List (List ℕ)) (places : List Stub) → AllByRecursion (λ s. Contains keys s.key) places → Within (keys_at places) keys
+pub listed_at : (keys : List (List ℕ)) (places : List Stub) → AllByRecursion (λ s. Contains keys s.key) places → Within (keys_at places) keys
 listed_at keys places h x c = All-contains (Contains keys) (keys_at places) x (All-map (Contains keys) (λ (s : Stub). s.key) places (All-from_recursion (λ (s : Stub). Contains keys s.key) places h)) c
+
+pub known_within : (keys : List (List ℕ)) (ns : List Sealed) → AllByRecursion (λ (n : Sealed). Contains keys n.key) ns → Within (keys_in ns) keys
+known_within keys ns h x c = All-contains (Contains keys) (keys_in ns) x (All-map (Contains keys) (λ (n : Sealed). n.key) ns (All-from_recursion (λ (n : Sealed). Contains keys n.key) ns h)) c
 
 all_in : (keys : List (List ℕ)) (ns : List Sealed) → Within (keys_in ns) keys → AllByRecursion (λ (n : Sealed). Contains keys n.key) ns
 all_in keys [] f = tt
 all_in keys (n ∷ ns) f = (f n.key (Contains-append_left (n.key ∷ []) (keys_in ns) n.key (Contains-push [] n.key)), all_in keys ns (λ x c. f x (Contains-append_right (n.key ∷ []) (keys_in ns) x c)))
 
--- the pages of nodes in order were handed over, and perhaps keys were drawn for which no page was
-pub keeps_nodes : (tells : Type 0) (drawn drawn_now : Option (List (List ℕ))) (old new : History) (head : ℕ) (places : List Stub) (ns : List Sealed) (more : List (List ℕ)) →
-    (tells → CellStays old new) → (tells → new.present.recorded ≡ old.present.recorded ++ map page_of ns) → (tells → length old.present.recorded ≡ head) → AreInOrder head ns → KeysAreFrom (keys_at places) ns → head + length ns ≤ 2 ^ 32 →
-    DrewAll drawn (keys_in ns ++ more) drawn_now → KeepsKeys tells drawn drawn_now old new (KnowsPlaces old.present places) (λ keys. AllByRecursion (λ (n : Sealed). Contains keys n.key) ns)
-keeps_nodes tells drawn drawn_now old new head places ns more cell pages size order known small drew =
-    let in_order : tells → AreInOrder (length old.present.recorded) ns = λ told. subst (λ n. AreInOrder n ns) (sym (size told)) order in
-    let room : tells → length old.present.recorded + length ns ≤ 2 ^ 32 = λ told. omega (arith, size told, small) in
+-- what was handed over, once that is told
+pub record HandsOver (grew : List (List ℕ)) (old new : History) (places : List Stub) (Done : List (List ℕ) → Type 0) : Type 0 where
+  pub handed : HandedOver grew old.present new.present
+  pub keeps : (keys : List (List ℕ)) → Kept keys old.present → KnowsPlaces old.present places keys → Keeps keys grew old new Done
+
+-- every node's key is listed
+abbrev pub AreKnown : List Sealed → List (List ℕ) → Type 0
+AreKnown ns keys = AllByRecursion (λ (n : Sealed). Contains keys n.key) ns
+
+-- the pages of nodes in order, and perhaps keys were drawn for which there is no page
+hands_over : (old new : History) (places : List Stub) (ns : List Sealed) (more : List (List ℕ)) → CellStays old new → new.present.recorded ≡ old.present.recorded ++ map page_of ns → length new.present.recorded ≤ 2 ^ 32 →
+    AreInOrder (length old.present.recorded) ns → KeysAreFrom (keys_at places) ns → HandsOver (keys_in ns ++ more) old new places (AreKnown ns)
+hands_over old new places ns more cell pages small order known =
+    let room : length old.present.recorded + length ns ≤ 2 ^ 32 = omega (arith, small, ap length pages, length-append old.present.recorded (map page_of ns), length-map ns page_of) in
     record {
-      grew = keys_in ns ++ more;
-      drew = drew;
-      extends = λ told. (cell told).extends;
-      handed = λ told. handed_nodes ns more old.present new.present (pages told) (in_order told) (room told);
-      keeps = λ told keys kept ready.
+      handed = handed_nodes ns more old.present new.present pages order room;
+      keeps = λ keys kept ready.
           let given = keys_more (keys_at places) keys ns (listed_at keys places ready.listed) known in
           let own : HaveOwnKeys (keys ++ (keys_in ns ++ more)) new.present.recorded =
-          subst (HaveOwnKeys (keys ++ (keys_in ns ++ more))) (sym (pages told))
+          subst (HaveOwnKeys (keys ++ (keys_in ns ++ more))) (sym pages)
           (subst (λ ks. HaveOwnKeys ks (old.present.recorded ++ map page_of ns)) (append_assoc keys (keys_in ns) more)
-          (own_more (keys ++ keys_in ns) more (old.present.recorded ++ map page_of ns)
-          (own_nodes keys old.present.recorded ns kept.pages (in_order told).from (in_order told).fits given (room told)))) in
+          (own_more (keys ++ keys_in ns) more (old.present.recorded ++ map page_of ns) (own_nodes keys old.present.recorded ns kept.pages order.from order.fits given room))) in
           record {
             kept = record {
-              extends = (cell told).extends;
-              each = λ i from to. kept_later keys (keys_in ns ++ more) old.present (image_at new i) ready.device ready.stands kept (Extends-since old new i (cell told).extends from) ((cell told).each i from to)
+              extends = cell.extends;
+              each = λ i from to. kept_later keys (keys_in ns ++ more) old.present (image_at new i) ready.device ready.stands kept (Extends-since old new i cell.extends from) (cell.each i from to)
                   (own_first (keys ++ (keys_in ns ++ more)) (image_at new i).recorded new.present.recorded (earlier-now new i to).recorded own);
             };
             done = all_in (keys ++ (keys_in ns ++ more)) ns (λ x c. Contains-append_right keys (keys_in ns ++ more) x (Contains-append_left (keys_in ns) more x c));
           };
     }
+
+-- a sealing that was done
+pub keeps_sealed : (tells : Type 0) (drawn drawn_now : Option (List (List ℕ))) (old new : History) (head : ℕ) (places : List Stub) (ns : List Sealed) → (tells → CellStays old new) →
+    (tells → new.present.recorded ≡ old.present.recorded ++ map page_of ns) → (tells → length old.present.recorded ≡ head) → (tells → length new.present.recorded ≤ 2 ^ 32) → AreNodesOver head places ns →
+    DrewAll drawn (keys_in ns) drawn_now → KeepsKeys tells drawn drawn_now old new (KnowsPlaces old.present places) (AreKnown ns)
+keeps_sealed tells drawn drawn_now old new head places ns cell pages size small over drew =
+    let all : tells → HandsOver (keys_in ns) old new places (AreKnown ns) = λ told.
+    subst (λ ks. HandsOver ks old new places (AreKnown ns)) (append-nil (keys_in ns))
+    (hands_over old new places ns [] (cell told) (pages told) (small told) (subst (λ n. AreInOrder n ns) (sym (size told)) over.order) over.keys) in
+    record {
+      grew = keys_in ns;
+      drew = drew;
+      extends = λ told. (cell told).extends;
+      handed = λ told. (all told).handed;
+      keeps = λ told. (all told).keeps;
+    }
+
+from_front : (first : ℕ) (xs ys : List Sealed) → AreFrom first (xs ++ ys) → AreFrom first xs
+from_front first [] ys h = tt
+from_front first (x ∷ xs) ys h = (h.0, from_front (suc first) xs ys h.1)
+
+fits_front : (xs ys : List Sealed) → AllByRecursion Fits (xs ++ ys) → AllByRecursion Fits xs
+fits_front [] ys h = tt
+fits_front (x ∷ xs) ys h = (h.0, fits_front xs ys h.1)
+
+keys_front : (keys : List (List ℕ)) (xs ys : List Sealed) → KeysAreFrom keys (xs ++ ys) → KeysAreFrom keys xs
+keys_front keys [] ys h = tt
+keys_front keys (x ∷ xs) ys h = (h.0, keys_front (keys ++ x.key ∷ []) xs ys h.1)
+
+-- the pages that there are after a fault: those of all nodes, or of all but the last
+data Pages (old new : Image) (nodes last : List Sealed) : Type 0 where
+  Without : new.recorded ≡ old.recorded ++ map page_of nodes → Pages old new nodes last
+  With : new.recorded ≡ old.recorded ++ map page_of (nodes ++ last) → Pages old new nodes last
+
+pages_are : (old new : Image) (nodes last : List Sealed) → MayHave (with_nodes old nodes) last new → Pages old new nodes last
+pages_are old new nodes [] is = Without (ap (λ (i : Image). i.recorded) is)
+pages_are old new nodes (n ∷ more) (inl is, none) = Without (ap (λ (i : Image). i.recorded) is)
+pages_are old new nodes (n ∷ more) (inr (reads, is), none) =
+    With (ap (λ (i : Image). i.recorded) is ∙ append_assoc old.recorded (map page_of nodes) (page_of n ∷ []) ∙ ap (λ xs. old.recorded ++ xs) (sym (map-append page_of nodes (n ∷ [])))
+    ∙ ap (λ ms. old.recorded ++ map page_of (nodes ++ n ∷ ms)) (sym none))
+
+-- a sealing that a fault cut off
+pub keeps_stopped : (tells : Type 0) (drawn drawn_now : Option (List (List ℕ))) (old new : History) (head : ℕ) (places : List Stub) → (tells → CellStays old new) → (tells → length old.present.recorded ≡ head) →
+    (tells → length new.present.recorded ≤ 2 ^ 32) → StopsFrom head places tells old.present new.present drawn drawn_now → KeepsKeys tells drawn drawn_now old new (KnowsPlaces old.present places) (λ keys. Unit {0})
+keeps_stopped tells drawn drawn_now old new head places cell size small stops =
+    let nodes = stops.stops.nodes in
+    let last = stops.stops.last in
+    let all : tells → HandsOver (keys_in (nodes ++ last)) old new places (λ keys. Unit {0}) = λ told. by told (pages_are old.present stops.written nodes last (stops.stops.image told)) in
+    record {
+      grew = keys_in (nodes ++ last);
+      drew = stops.stops.drew;
+      extends = λ told. (cell told).extends;
+      handed = λ told. (all told).handed;
+      keeps = λ told. (all told).keeps;
+    }
+  where
+    weaken : (grew : List (List ℕ)) (ns : List Sealed) → HandsOver grew old new places (AreKnown ns) → HandsOver grew old new places (λ keys. Unit {0})
+    weaken grew ns h = record { handed = h.handed; keeps = λ keys kept ready. let k = h.keeps keys kept ready in record { kept = k.kept; done = tt } }
+
+    same : (i : Image) → IsEither stops.written (all_synced stops.written) i → i.recorded ≡ stops.written.recorded
+    same i (inl is) = ap (λ (i : Image). i.recorded) is
+    same i (inr is) = ap (λ (i : Image). i.recorded) is
+
+    order : tells → AreInOrder (length old.present.recorded) (stops.stops.nodes ++ stops.stops.last)
+    order told = subst (λ n. AreInOrder n (stops.stops.nodes ++ stops.stops.last)) (sym (size told)) stops.stops.are.order
+
+    by : tells → Pages old.present stops.written stops.stops.nodes stops.stops.last → HandsOver (keys_in (stops.stops.nodes ++ stops.stops.last)) old new places (λ keys. Unit {0})
+    by told (Without is) =
+        let nodes = stops.stops.nodes in
+        let last = stops.stops.last in
+        let o = order told in
+        subst (λ ks. HandsOver ks old new places (λ keys. Unit {0})) (sym (map-append (λ (n : Sealed). n.key) nodes last))
+        (weaken (keys_in nodes ++ keys_in last) nodes
+        (hands_over old new places nodes (keys_in last) (cell told) (same new.present (stops.synced told) ∙ is) (small told)
+        (record { from = from_front (length old.present.recorded) nodes last o.from; fits = fits_front nodes last o.fits }) (keys_front (keys_at places) nodes last stops.stops.are.keys)))
+    by told (With is) =
+        let all = stops.stops.nodes ++ stops.stops.last in
+        subst (λ ks. HandsOver ks old new places (λ keys. Unit {0})) (append-nil (keys_in all))
+        (weaken (keys_in all ++ []) all (hands_over old new places all [] (cell told) (same new.present (stops.synced told) ∙ is) (small told) (order told) stops.stops.are.keys))
+
+pub places_more_keys : (keys more : List (List ℕ)) (places : List Stub) → AllByRecursion (λ s. Contains keys s.key) places → AllByRecursion (λ s. Contains (keys ++ more) s.key) places
+places_more_keys keys more [] h = tt
+places_more_keys keys more (s ∷ ss) h = (Contains-append_left keys more s.key h.0, places_more_keys keys more ss h.1)

@@ -1,8 +1,9 @@
 pub mod PageLaws
 pub mod TreeLaws
 pub mod SealLaws
-pub mod ApartLaws
-pub mod KeyLaws
 pub mod OrderLaws
+pub mod ApartLaws
 pub mod StepLaws
+pub mod KeyLaws
 pub mod PlanLaws
+pub mod ReadyLaws

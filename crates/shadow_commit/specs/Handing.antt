@@ -3,13 +3,14 @@ use Rattle.std.specs.Prelude.{◌≡◌, ◌≤◌, ◌+◌, ℕ, List, [], ◌�
 use Rattle.std.specs.List.{AllByRecursion}
 use Rattle.sdbt_base.specs.Arrays.{Device}
 use Rattle.sdbt_base.specs.declared.tapes.Tape.{Ghosts as TapeGhosts}
-use Rattle.platform.specs.Image.{Image, MayHavePage}
+use Rattle.platform.specs.Image.{Image, IsEither, MayHavePage, all_synced}
 use Rattle.platform.specs.History.{CellStays}
 use Rattle.platform.specs.declared.platforms.Platform.{Ghosts as PlatformGhosts}
 use Rattle.page_store.specs.Keeping.{DrewAll}
 use Rattle.page_store.specs.Stands.{Stands}
 use Rattle.btree_twigs.specs.Stubs.{Stub}
 use Rattle.shadow_commit.specs.Sealed.{Sealed, page_of, with_nodes}
+use Rattle.shadow_commit.specs.NewTree.{AreNodesOver}
 
 -- the medium has the pages of such nodes more, in their order, each under a key that was drawn for it
 pub record Adds (Are : List Sealed → Type 0) (tells : Type 0) (old new : Image) (old_head new_head : ℕ) (drawn drawn_now : Option (List (List ℕ))) : Type 0 where
@@ -31,6 +32,12 @@ pub record Stops (Are : List Sealed → Type 0) (tells : Type 0) (old new : Imag
   pub are : Are (nodes ++ last)
   pub image : tells → MayHave (with_nodes old nodes) last new
   pub drew : DrewAll drawn (map (λ n. n.key) (nodes ++ last)) drawn_now
+
+-- a fault came in a sealing from this address on over these places, or in the sync after it
+pub record StopsFrom (head : ℕ) (places : List Stub) (tells : Type 0) (old new : Image) (drawn drawn_now : Option (List (List ℕ))) : Type 0 where
+  pub written : Image
+  pub stops : Stops (AreNodesOver head places) tells old written drawn drawn_now
+  pub synced : tells → IsEither written (all_synced written) new
 
 -- beside its purpose a call only adds pages: at each moment the cell is the one from before, no page is read, and counts of faults don't fall
 pub record OnlyAdds {S R : Type 0} (P : PlatformGhosts S) (T : TapeGhosts R) (platform platform_now : S) (tape tape_now : R) : Type 0 where

@@ -3,3 +3,5 @@ pub mod Handing
 pub mod CanSeal
 pub mod NewTree
 pub mod Planned
+pub mod Ready
+pub mod Finishing

@@ -7,7 +7,14 @@
 //! the addresses and children of all new nodes follow from the shape alone.
 #![tactic(auto)]
 
+mod certifying;
 mod planning;
+mod prepared;
+mod preparing;
+mod refusals;
 mod sealing;
 
+pub use prepared::Prepared;
+pub use preparing::prepare;
+pub use refusals::CommitRefusal;
 
