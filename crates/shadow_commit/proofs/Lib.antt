@@ -7,3 +7,4 @@ pub mod StepLaws
 pub mod KeyLaws
 pub mod PlanLaws
 pub mod ReadyLaws
+pub mod AddedLaws

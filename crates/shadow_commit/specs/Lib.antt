@@ -5,3 +5,4 @@ pub mod NewTree
 pub mod Planned
 pub mod Ready
 pub mod Finishing
+pub mod Follows

@@ -8,12 +8,14 @@
 #![tactic(auto)]
 
 mod certifying;
+mod laws;
 mod planning;
 mod prepared;
 mod preparing;
 mod refusals;
 mod sealing;
 
+pub use laws::adds_what_is_new;
 pub use prepared::Prepared;
 pub use preparing::prepare;
 pub use refusals::CommitRefusal;
