@@ -3,10 +3,9 @@ use Rattle.std.proofs.Common.{◌≡◌, ◌⊎◌, inl, inr, ℕ, zero, suc, �
 use Rattle.std.specs.Prelude.{Option, Some, Contains, slice_get}
 use Rattle.std.specs.List.{AllByRecursion}
 use Rattle.std.proofs.lemmas.List.{map-append, length-map}
-use Rattle.std.proofs.lemmas.Option.{slice_get_within}
 use Rattle.std.proofs.lemmas.List.Elements.{All-contains, All-map, All-from_recursion, Contains-append_left, Contains-append_right, Contains-push, Contains-push_cases, Contains-append_cases}
 use Rattle.platform.specs.Image.{Image, IsEither, all_synced}
-use Rattle.platform.specs.History.{History, CellStays, During, image_at}
+use Rattle.platform.specs.History.{History, CellStays, image_at}
 use Rattle.platform.proofs.Moments.{Extends-since, earlier-now}
 use Rattle.seal_record.specs.Sealing.{masked, Opens}
 use Rattle.seal_record.proofs.SealingLaws.{masked-masked}
@@ -132,7 +131,7 @@ node_known : (keys : List (List ℕ)) (below ns : List Sealed) (n : Sealed) (es 
 node_known keys below ns n es is entries h = (
   subst (KeysAreFrom keys) (sym is) (keys_append keys below (n ∷ []) h.nodes (subst (AreListed (keys ++ keys_in below)) (sym entries) h.own, tt)),
   subst (λ ms. Contains (keys ++ keys_in ms) n.key) (sym is)
-  (Contains-append_right keys (keys_in (below ++ n ∷ [])) n.key (subst (λ ks. Contains ks n.key) (sym (map-append (λ (n : Sealed). n.key) below (n ∷ []))) (Contains-push (keys_in below) n.key))),
+      (Contains-append_right keys (keys_in (below ++ n ∷ [])) n.key (subst (λ ks. Contains ks n.key) (sym (map-append (λ (n : Sealed). n.key) below (n ∷ []))) (Contains-push (keys_in below) n.key))),
 )
 
 pub child_known : (level first high : ℕ) (c : Child) (ns : List Sealed) (e : Entry) → Seals level first c ns e → KnowsChild (keys_at (stubs level high c)) ns e

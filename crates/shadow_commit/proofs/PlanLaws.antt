@@ -1,5 +1,5 @@
 -- What is planned is what is sealed.
-use Rattle.std.proofs.Common.{◌≡◌, ℕ, zero, suc, ◌+◌, ◌≤◌, ◌<◌, Bool, true, false, List, [], ◌∷◌, ◌++◌, length, map, take, drop, get_or, refl, sym, ap, subst, ◌∙◌, arith, append_assoc, append-nil, length-append}
+use Rattle.std.proofs.Common.{◌≡◌, ℕ, zero, suc, ◌+◌, ◌≤◌, ◌<◌, Bool, false, List, [], ◌∷◌, ◌++◌, length, map, take, drop, get_or, refl, sym, ap, subst, ◌∙◌, arith, append_assoc, append-nil, length-append}
 use Rattle.std.specs.Prelude.{◌==◌, ◌&&◌, nat_le, if◌then◌else◌}
 use Rattle.std.proofs.lemmas.Bool.Decides.{nat_tests}
 use Rattle.std.specs.List.{filter}
@@ -12,7 +12,7 @@ use Rattle.node_codec.specs.declared.body.Entry.{Entry}
 use Rattle.btree_twigs.specs.declared.twigs.Child.{Child, out-Child}
 use Rattle.btree_twigs.specs.declared.twigs.Child.TheVariants as made
 use Rattle.btree_twigs.specs.declared.twigs.Twig.{Twig}
-use Rattle.btree_twigs.specs.Stubs.{Stub, datum, datum_in, start_by, stubs_by, stubs_in, low_of, children_of, stubs, stubs_below, nodes, nodes_in}
+use Rattle.btree_twigs.specs.Stubs.{Stub, datum, datum_in, start_by, stubs_by, stubs_in, low_of, children_of, stubs, nodes, nodes_in}
 use Rattle.shadow_commit.specs.Sealed.{Sealed, SealsEach, SealsNode, SealsKept, SealsDatum, SealsIn, Seals}
 use Rattle.shadow_commit.specs.Planned.{traced_of, is_new_record, traced_record, new_records, added_by, AddsOf}
 

@@ -24,7 +24,7 @@ use Rattle.btree_twigs.specs.Stubs.{Stub, addr_of, stubs, nodes}
 use Rattle.btree_twigs.specs.Top.{IsTop}
 use Rattle.btree_update.specs.GroveTree.{HasEach}
 use Rattle.btree_update.specs.Held.{AreBelow}
-use Rattle.btree_update.specs.Groves.{IsSound, places_of, grown_in}
+use Rattle.btree_update.specs.Groves.{IsSound, places_of}
 use Rattle.btree_update.specs.declared.groves.Grove.{Grove}
 use Rattle.shadow_commit.specs.Sealed.{Sealed, Seals}
 use Rattle.shadow_commit.specs.Handing.{Adds}

@@ -19,4 +19,3 @@ pub use laws::adds_what_is_new;
 pub use prepared::Prepared;
 pub use preparing::prepare;
 pub use refusals::CommitRefusal;
-

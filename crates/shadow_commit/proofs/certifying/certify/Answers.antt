@@ -1,4 +1,4 @@
-use Rattle.std.proofs.Common.{◌≡◌, ◌+◌, ◌++◌, sym, subst}
+use Rattle.std.proofs.Common.{◌+◌, ◌++◌, sym, subst}
 use Rattle.std.specs.List.Sorted.{IsPermutation}
 use Rattle.btree_twigs.specs.Stubs.{stubs_below}
 use Rattle.shadow_commit.specs.Planned.{added_by}

@@ -1,4 +1,4 @@
-use Rattle.std.proofs.Common.{◌≡◌, suc, ◌+◌, ◌≤◌, List, [], ◌∷◌, ◌++◌, map, take, refl, sym, ap, subst, ◌∙◌, arith, rules, append-nil}
+use Rattle.std.proofs.Common.{◌≡◌, suc, ◌+◌, ◌≤◌, [], ◌∷◌, ◌++◌, take, refl, sym, ap, subst, ◌∙◌, arith, rules}
 use Rattle.std.proofs.lemmas.List.{take_all}
 use Rattle.node_codec.specs.declared.body.Entry.{Entry}
 use Rattle.btree_twigs.specs.Stubs.{children_of, sum_by, nodes, stubs, stubs_by, stubs_below, low_of}
@@ -79,7 +79,7 @@ plan_twig-loop-child-preserved t c =
           let before = inv.planned at u.front u.entries u.each in (
             more_addrs c.loop-child.children c.push.new.self c.in_ok-addr.addr u.entries es u.entry u.entries_are before.0 c.in_ok-push.ensures one.0,
             adds_more c.args.base (places_so_far at.level at.high i cs) (stubs at.level can.high c.child-item.result) (places_so_far at.level at.high (i + 1) cs) c.args.added.now c.loop-child.added c.plan_child.new.added u.front u.here ns
-            (places_more at.level at.high i cs c.child-item.result c.loop-child-test.true c.child-item.is) u.nodes_are before.1 one.1,
+                (places_more at.level at.high i cs c.child-item.result c.loop-child-test.true c.child-item.is) u.nodes_are before.1 one.1,
           );
     }
 
@@ -95,6 +95,8 @@ plan_twig-returns-clause-planned t c at ns addr key h =
     let count = children_count at.level c.args.first (children_of c.args.twig.now) h.below h.entries h.each in
     let address : addr ≡ c.loop-child.next = omega (arith, h.addr_is, up, count, ap (sum_by (nodes at.level)) all) in
     let n : Sealed = record { addr = addr; key = key; level = suc at.level; entries = h.entries } in
-    let item = item_is c.loop-child.next c.loop-child.children n address before.0 in
-    (address, adds_node c.args.base (stubs_below at.level at.high c.args.twig.now) c.args.added.now c.loop-child.added c.push-2.new.self h.below ns n h.is
-    (subst (λ ss. AddsOf c.args.base ss h.below c.args.added.now c.loop-child.added) places before.1) (c.in_ok-push-2.ensures ∙ ap (λ x. c.loop-child.added ++ x ∷ []) item))
+    let item = item_is c.loop-child.next c.loop-child.children n address before.0 in (
+      address,
+      adds_node c.args.base (stubs_below at.level at.high c.args.twig.now) c.args.added.now c.loop-child.added c.push-2.new.self h.below ns n h.is
+          (subst (λ ss. AddsOf c.args.base ss h.below c.args.added.now c.loop-child.added) places before.1) (c.in_ok-push-2.ensures ∙ ap (λ x. c.loop-child.added ++ x ∷ []) item),
+    )

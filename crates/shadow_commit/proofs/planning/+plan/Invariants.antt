@@ -1,4 +1,4 @@
-use Rattle.std.proofs.Common.{◌≡◌, ◌+◌, ◌*◌, ◌++◌, List, take, map}
+use Rattle.std.proofs.Common.{◌≡◌, ◌+◌, ◌*◌, List, take, map}
 use Rattle.node_codec.specs.declared.body.Entry.{Entry}
 use Rattle.btree_twigs.specs.Stubs.{children_of, level_of, sum_by, nodes}
 use Rattle.btree_twigs.specs.Top.{child_level}

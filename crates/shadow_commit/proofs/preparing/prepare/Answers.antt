@@ -1,14 +1,9 @@
-use Rattle.std.proofs.Common.{◌≡◌, inl, ℕ, suc, ◌+◌, ◌-◌, ◌<◌, ◌≤◌, ◌^◌, List, [], ◌++◌, length, map, refl, sym, ap, subst, ◌∙◌, arith, rules}
-use Rattle.std.specs.Prelude.{Contains}
-use Rattle.std.specs.List.{AllByRecursion}
-use Rattle.std.proofs.lemmas.List.Elements.{Contains-append_left}
-use Rattle.platform.specs.Image.{Image}
+use Rattle.std.proofs.Common.{◌≡◌, suc, ◌+◌, ◌-◌, ◌≤◌, ◌^◌, ◌++◌, length, refl, sym, ap, subst, ◌∙◌, arith}
 use Rattle.platform.proofs.Moments.{During-start}
 use Rattle.page_store.proofs.KeepingLaws.{keeps_idle, keeps_from}
-use Rattle.btree_twigs.specs.Stubs.{children_of, stubs, stubs_below}
+use Rattle.btree_twigs.specs.Stubs.{children_of, stubs_below}
 use Rattle.btree_update.specs.Groves.{places_of, grown_in}
-use Rattle.shadow_commit.specs.Sealed.{page_of, SealsNode, Seals}
-use Rattle.shadow_commit.specs.NewTree.{AreNodesOver}
+use Rattle.shadow_commit.specs.Sealed.{SealsNode, Seals}
 use Rattle.shadow_commit.specs.Handing.{KnowsPlaces}
 use Rattle.shadow_commit.specs.Planned.{added_by}
 use Rattle.shadow_commit.specs.Ready.{ListsNewTree}

@@ -1,4 +1,4 @@
-use Rattle.std.proofs.Common.{◌≡◌, ◌+◌, ◌*◌, ◌≤◌, length, take}
+use Rattle.std.proofs.Common.{◌≡◌, ◌+◌, ◌*◌, length, take}
 use Rattle.btree_twigs.specs.Stubs.{children_of, level_of}
 use Rattle.btree_twigs.specs.Top.{child_level}
 use Rattle.shadow_commit.specs.Sealed.{Seals, SealsEach}
