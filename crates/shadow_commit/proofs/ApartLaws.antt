@@ -84,7 +84,7 @@ with_fresh first (n ∷ ns) kept from below h =
 
 -- ---- what reads the same
 
-get_before : (pages more : List (List ℕ)) (addr : ℕ) → addr < length pages → slice_get (pages ++ more) addr ≡ slice_get pages addr
+pub get_before : (pages more : List (List ℕ)) (addr : ℕ) → addr < length pages → slice_get (pages ++ more) addr ≡ slice_get pages addr
 get_before [] more addr lt = absurd (omega (arith, lt))
 get_before (p ∷ pages) more zero lt = refl
 get_before (p ∷ pages) more (suc addr) lt = get_before pages more addr (omega (arith, lt))

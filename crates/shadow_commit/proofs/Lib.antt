@@ -8,3 +8,4 @@ pub mod KeyLaws
 pub mod PlanLaws
 pub mod ReadyLaws
 pub mod AddedLaws
+pub mod StandLaws

@@ -6,3 +6,4 @@ pub mod Planned
 pub mod Ready
 pub mod Finishing
 pub mod Follows
+pub mod Changes
