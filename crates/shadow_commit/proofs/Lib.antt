@@ -1,0 +1,11 @@
+pub mod PageLaws
+pub mod TreeLaws
+pub mod SealLaws
+pub mod OrderLaws
+pub mod ApartLaws
+pub mod StepLaws
+pub mod KeyLaws
+pub mod PlanLaws
+pub mod ReadyLaws
+pub mod AddedLaws
+pub mod StandLaws

@@ -1,0 +1,275 @@
+use Rattle.std.proofs.Common.{◌≡◌, suc, ◌+◌, List, [], ◌∷◌, ◌++◌, take, refl, sym, ap, subst, ◌∙◌, arith, append-nil}
+use Rattle.std.proofs.lemmas.List.{take_all}
+use Rattle.std.proofs.lemmas.List.Elements.{All-from_recursion}
+use Rattle.node_codec.specs.declared.body.Entry.{Entry}
+use Rattle.node_codec.specs.Record.{NodeRecord, FitsNode, record_bytes}
+use Rattle.page_store.specs.declared.appending.Placed.{Placed}
+use Rattle.page_store.specs.Buffer.{Held}
+use Rattle.platform.specs.Image.{with_page}
+use Rattle.sdbt_base.specs.Bytes.{IsBytes}
+use Rattle.sdbt_base.specs.Told.{Drew}
+use Rattle.seal_record.specs.Sealing.{masked}
+use Rattle.std.specs.Prelude.{IfOk, OnOk}
+use Rattle.btree_twigs.specs.Stubs.{children_of, sum_by, nodes, stubs, stubs_by, stubs_below, low_of}
+use Rattle.btree_twigs.specs.Shape.{EachBy, IsChild}
+use Rattle.shadow_commit.specs.NewTree.{AreNodesOver}
+use Rattle.shadow_commit.proofs.OrderLaws.{over_append, over_node, so_far_over}
+use Rattle.shadow_commit.specs.Sealed.{Sealed, SealsEach, SealsNode, Seals}
+use Rattle.shadow_commit.specs.Handing.{Adds, Stops}
+use Rattle.btree_update.specs.Held.{AreBelow}
+use Rattle.shadow_commit.proofs.SealLaws.{entries_are, children_count, each_snoc, node_fits}
+use Rattle.shadow_commit.proofs.StepLaws.{adds_none, adds_as, adds_then, adds_page, grown_at, can_below, seals_grown, seals_kept, loop_child, can_child, end_at, beside_start, beside_call, beside_then, if_ok, fits_as, body_as, adds_stops, stops_as, stops_none, stops_one, fault_cases, grown_level, level_within}
+use Rattle.shadow_commit.proofs.sealing.+seal.Goals as goal
+
+pub seal_child-seal_twig-requires : goal.seal_child-seal_twig-requires
+seal_child-seal_twig-requires g t c =
+    let at = c.requires.can in
+    let head = g.P.Platform.head c.args.platform.now in
+    λ κs h. (omega (arith, c.decreases, grown_level c.args.child.now c.in-Grown.low c.in-Grown.twig c.in-Grown.is), (h.0, (h.1, can_below head (g.P.Platform.capacity c.args.platform.now) c.args.child.now c.in-Grown.low c.in-Grown.twig at (grown_at at.order at.level at.high head c.args.child.now c.in-Grown.low c.in-Grown.twig c.in-Grown.is at.shaped at.below))))
+
+pub seal_child-returns-in_err-placed-in-Grown-clause-within : goal.seal_child-returns-in_err-placed-in-Grown-clause-within
+seal_child-returns-in_err-placed-in-Grown-clause-within g t c at =
+    let head = g.P.Platform.head c.args.platform.now in
+    let s = grown_at at.order at.level at.high head c.args.child.now c.in-Grown.low c.in-Grown.twig c.in-Grown.is at.shaped at.below in
+    let w = c.seal_twig.ensures.within (can_below head (g.P.Platform.capacity c.args.platform.now) c.args.child.now c.in-Grown.low c.in-Grown.twig at s) in
+    omega (arith, w, s.count)
+
+pub seal_child-returns-in-Kept-clause-sealed : goal.seal_child-returns-in-Kept-clause-sealed
+seal_child-returns-in-Kept-clause-sealed g t c at =
+    adds_none (λ ns. Seals at.level (g.P.Platform.head c.args.platform.now) c.args.child.now ns c.kept_entry.result) g.P.Platform.tells (g.P.Platform.history c.args.platform.now).present (g.P.Platform.head c.args.platform.now) (g.T.Tape.drawn c.args.tape.now)
+    (seals_kept at.level (g.P.Platform.head c.args.platform.now) c.args.child.now c.in-Kept.low c.in-Kept.addr c.in-Kept.key [] c.kept_entry.result c.in-Kept.is
+    (record { none = refl; key_is = c.kept_entry.ensures.key; entry_is = c.kept_entry.ensures.entry }))
+
+pub seal_child-returns-in_ok-placed-in-Grown-clause-sealed : goal.seal_child-returns-in_ok-placed-in-Grown-clause-sealed
+seal_child-returns-in_ok-placed-in-Grown-clause-sealed g t c at =
+    let head = g.P.Platform.head c.args.platform.now in
+    let placed = c.in_ok-placed-in-Grown.placed in
+    let s = grown_at at.order at.level at.high head c.args.child.now c.in-Grown.low c.in-Grown.twig c.in-Grown.is at.shaped at.below in
+    adds_as _ _ _ _ _ _ _ _ _ (λ ns h. seals_grown at.level s.below head c.args.child.now c.in-Grown.low c.in-Grown.twig ns placed.addr placed.key c.in-Grown.is s.level_is h)
+    (c.in_ok-placed-in-Grown.ensures.sealed (can_below head (g.P.Platform.capacity c.args.platform.now) c.args.child.now c.in-Grown.low c.in-Grown.twig at s))
+
+pub seal_child-returns-in_ok-placed-in-Grown-clause-within : goal.seal_child-returns-in_ok-placed-in-Grown-clause-within
+seal_child-returns-in_ok-placed-in-Grown-clause-within g t c at =
+    let head = g.P.Platform.head c.args.platform.now in
+    let s = grown_at at.order at.level at.high head c.args.child.now c.in-Grown.low c.in-Grown.twig c.in-Grown.is at.shaped at.below in
+    let w = c.seal_twig.ensures.within (can_below head (g.P.Platform.capacity c.args.platform.now) c.args.child.now c.in-Grown.low c.in-Grown.twig at s) in
+    omega (arith, w, s.count)
+
+pub seal_twig-seal_child-requires : goal.seal_twig-seal_child-requires
+seal_twig-seal_child-requires g t c =
+    let at = c.requires.can in
+    let head = g.P.Platform.head c.args.platform.now in
+    let now = g.P.Platform.head c.loop-child.platform in
+    let cs = c.deref-child-items.result.now in
+    let i = c.loop-child.child-index in
+    let inv = c.loop-child.invariant in
+    let so_far = inv.sealed at in
+    let count = children_count at.level head (take i cs) so_far.nodes c.loop-child.entries.items so_far.is in
+    let s = loop_child head (g.P.Platform.capacity c.args.platform.now) c.args.twig.now cs i c.child-item.result at inv.same c.loop-child-test.true c.child-item.is in
+    let can = can_child head (g.P.Platform.capacity c.args.platform.now) now (g.P.Platform.capacity c.loop-child.platform) c.args.twig.now cs i c.child-item.result at s inv.same inv.beside.head (omega (arith, so_far.head, count)) inv.beside.capacity in
+    λ κs h. (omega (arith, c.decreases, at.shaped.level_is, level_within at.order at.level _ c.child-item.result s.shaped), (h.0, (h.1, can)))
+
+pub seal_twig-returns-in_err-entry-clause-within : goal.seal_twig-returns-in_err-entry-clause-within
+seal_twig-returns-in_err-entry-clause-within g t c at =
+    let head = g.P.Platform.head c.args.platform.now in
+    let now = g.P.Platform.head c.loop-child.platform in
+    let cs = c.deref-child-items.result.now in
+    let i = c.loop-child.child-index in
+    let inv = c.loop-child.invariant in
+    let so_far = inv.sealed at in
+    let count = children_count at.level head (take i cs) so_far.nodes c.loop-child.entries.items so_far.is in
+    let s = loop_child head (g.P.Platform.capacity c.args.platform.now) c.args.twig.now cs i c.child-item.result at inv.same c.loop-child-test.true c.child-item.is in
+    let can = can_child head (g.P.Platform.capacity c.args.platform.now) now (g.P.Platform.capacity c.loop-child.platform) c.args.twig.now cs i c.child-item.result at s inv.same inv.beside.head (omega (arith, so_far.head, count)) inv.beside.capacity in
+    omega (arith, c.seal_child.ensures.within can, so_far.head, count, s.count, ap (sum_by (nodes at.level)) inv.same)
+
+pub seal_twig-loop-child-preserved : goal.seal_twig-loop-child-preserved
+seal_twig-loop-child-preserved g t c =
+    let inv = c.loop-child.invariant in
+    record {
+      same = inv.same;
+      sealed = λ at.
+          let head = g.P.Platform.head c.args.platform.now in
+          let now = g.P.Platform.head c.loop-child.platform in
+          let cs = c.deref-child-items.result.now in
+          let i = c.loop-child.child-index in
+          let inv = c.loop-child.invariant in
+          let so_far = inv.sealed at in
+          let count = children_count at.level head (take i cs) so_far.nodes c.loop-child.entries.items so_far.is in
+          let s = loop_child head (g.P.Platform.capacity c.args.platform.now) c.args.twig.now cs i c.child-item.result at inv.same c.loop-child-test.true c.child-item.is in
+          let can = can_child head (g.P.Platform.capacity c.args.platform.now) now (g.P.Platform.capacity c.loop-child.platform) c.args.twig.now cs i c.child-item.result at s inv.same inv.beside.head (omega (arith, so_far.head, count)) inv.beside.capacity in
+          let es = c.loop-child.entries.items in
+          let entry = c.in_ok-entry.entry in
+          let history = g.P.Platform.history in
+          let drawn = g.T.Tape.drawn in
+          adds_then (λ ns. SealsEach (Seals at.level) head (take i cs) ns es) (λ ms. Seals at.level now c.child-item.result ms entry) (λ ns. SealsEach (Seals at.level) head (take (i + 1) cs) ns c.push.new.self.items)
+          g.P.Platform.tells (history c.args.platform.now).present (history c.loop-child.platform).present (history c.seal_child.new.platform).present head now (g.P.Platform.head c.seal_child.new.platform)
+          (drawn c.args.tape.now) (drawn c.loop-child.tape) (drawn c.seal_child.new.tape)
+          (λ ns ms up is one.
+          subst (λ xs. SealsEach (Seals at.level) head (take (i + 1) cs) (ns ++ ms) xs) (sym c.push.ensures.items)
+          (subst (λ ds. SealsEach (Seals at.level) head ds (ns ++ ms) (es ++ entry ∷ [])) (sym s.more)
+          (each_snoc (Seals at.level) head (take i cs) c.child-item.result ns ms es entry is (subst (λ n. Seals at.level n c.child-item.result ms entry) up one))))
+          so_far (c.in_ok-entry.ensures.sealed can);
+      count = omega (arith, inv.count, c.push.ensures.len);
+      beside = beside_then g.P.Platform g.T.Tape c.args.platform.now c.loop-child.platform c.seal_child.new.platform c.args.tape.now c.loop-child.tape c.seal_child.new.tape inv.beside c.seal_child.ensures.beside;
+    }
+
+pub seal_twig-put_node-requires : goal.seal_twig-put_node-requires
+seal_twig-put_node-requires g t c =
+    let at = c.requires.can in
+    let head = g.P.Platform.head c.args.platform.now in
+    let now = g.P.Platform.head c.loop-child.platform in
+    let cs = c.deref-child-items.result.now in
+    let i = c.loop-child.child-index in
+    let inv = c.loop-child.invariant in
+    let so_far = inv.sealed at in
+    let count = children_count at.level head (take i cs) so_far.nodes c.loop-child.entries.items so_far.is in
+    let all : take i cs ≡ children_of c.args.twig.now = take_all i cs (omega (arith, c.loop-child-test.false)) ∙ inv.same in
+    let each = subst (λ xs. SealsEach (Seals at.level) head xs so_far.nodes c.loop-child.entries.items) all so_far.is in
+    let fits = node_fits at.order at.level at.least at.low at.high head head c.args.twig.now so_far.nodes c.loop-child.entries.items at.shaped at.order_most at.level_most at.blocks at.below (omega arith) each in
+    fits_as _ _ _ _ _ _ (sym (c.head.ensures.value ∙ so_far.head)) (sym at.shaped.level_is) (sym c.deref.ensures.0) fits
+
+pub seal_twig-append-requires : goal.seal_twig-append-requires
+seal_twig-append-requires g t c =
+    let at = c.requires.can in
+    let head = g.P.Platform.head c.args.platform.now in
+    let now = g.P.Platform.head c.loop-child.platform in
+    let cs = c.deref-child-items.result.now in
+    let i = c.loop-child.child-index in
+    let inv = c.loop-child.invariant in
+    let so_far = inv.sealed at in
+    let count = children_count at.level head (take i cs) so_far.nodes c.loop-child.entries.items so_far.is in
+    let all : take i cs ≡ children_of c.args.twig.now = take_all i cs (omega (arith, c.loop-child-test.false)) ∙ inv.same in
+    omega (arith, at.room, inv.beside.capacity, so_far.head, count, ap (sum_by (nodes at.level)) all)
+
+pub seal_twig-returns-clause-sealed : goal.seal_twig-returns-clause-sealed
+seal_twig-returns-clause-sealed g t c at =
+    let head = g.P.Platform.head c.args.platform.now in
+    let now = g.P.Platform.head c.loop-child.platform in
+    let cs = c.deref-child-items.result.now in
+    let i = c.loop-child.child-index in
+    let inv = c.loop-child.invariant in
+    let so_far = inv.sealed at in
+    let count = children_count at.level head (take i cs) so_far.nodes c.loop-child.entries.items so_far.is in
+    let all : take i cs ≡ children_of c.args.twig.now = take_all i cs (omega (arith, c.loop-child-test.false)) ∙ inv.same in
+    let es = c.loop-child.entries.items in
+    let history = g.P.Platform.history in
+    let drawn = g.T.Tape.drawn in
+    let tells = g.P.Platform.tells in
+    let old = (history c.args.platform.now).present in
+    let mid = (history c.loop-child.platform).present in
+    let new = (history c.append.new.platform).present in
+    if_ok (λ placed. Adds (λ ns. SealsNode (Seals at.level) at.level head (children_of c.args.twig.now) ns placed.addr placed.key) tells old new head (g.P.Platform.head c.append.new.platform) (drawn c.args.tape.now) (drawn c.append.new.tape))
+    c.append.result (λ placed is.
+    let address : placed.addr ≡ now = subst (λ r. IfOk r (λ (placed : Placed). placed.addr ≡ now)) is c.append.ensures.address in
+    let key : IsBytes 32 placed.key = subst (λ r. IfOk r (λ (placed : Placed). IsBytes 32 placed.key)) is c.append.ensures.key in
+    let drew : Drew (drawn c.loop-child.tape) placed.key (drawn c.append.new.tape) = subst (λ r. IfOk r (λ (placed : Placed). Drew (drawn c.loop-child.tape) placed.key (drawn c.append.new.tape))) is c.append.ensures.drew in
+    let body = c.put_node.new.self.body in
+    let image : tells → new ≡ with_page mid (masked placed.key body) (masked placed.key body) = λ told. subst (λ r. IfOk r (λ (placed : Placed). new ≡ with_page mid (masked placed.key body) (masked placed.key body))) is (c.append.ensures.appended told) in
+    let up : g.P.Platform.head c.append.new.platform ≡ now + 1 = subst (λ r. OnOk r (g.P.Platform.head c.append.new.platform ≡ now + 1)) is c.append.ensures.head_ok in
+    let node : Sealed = record { addr = placed.addr; key = placed.key; level = suc at.level; entries = es } in
+    let body_is : body ≡ record_bytes placed.addr (NodeRecord (suc at.level) es) = ap (λ (b : Held). b.body) c.put_node.ensures ∙ body_as _ _ _ _ _ _ (c.head.ensures.value ∙ sym address) at.shaped.level_is c.deref.ensures.0 in
+    let each : Adds (λ ns. SealsEach (Seals at.level) head (children_of c.args.twig.now) ns es) tells old mid head now (drawn c.args.tape.now) (drawn c.loop-child.tape)
+    = adds_as (λ ns. SealsEach (Seals at.level) head (take i cs) ns es) (λ ns. SealsEach (Seals at.level) head (children_of c.args.twig.now) ns es) tells old mid head now (drawn c.args.tape.now) (drawn c.loop-child.tape)
+    (λ ns h. subst (λ xs. SealsEach (Seals at.level) head xs ns es) all h) so_far in
+    adds_then (λ ns. SealsEach (Seals at.level) head (children_of c.args.twig.now) ns es) (λ ms. ms ≡ node ∷ []) (λ ns. SealsNode (Seals at.level) at.level head (children_of c.args.twig.now) ns placed.addr placed.key)
+    tells old mid new head now (g.P.Platform.head c.append.new.platform) (drawn c.args.tape.now) (drawn c.loop-child.tape) (drawn c.append.new.tape)
+    (λ ns ms at_is each one. record { entries = es; below = ns; each = each; addr_is = address ∙ at_is; key_is = key; is = ap (λ xs. ns ++ xs) one })
+    each (adds_page tells mid new now (g.P.Platform.head c.append.new.platform) (drawn c.loop-child.tape) (drawn c.append.new.tape) node body body_is image up drew))
+
+pub seal_twig-returns-clause-within : goal.seal_twig-returns-clause-within
+seal_twig-returns-clause-within g t c at =
+    let head = g.P.Platform.head c.args.platform.now in
+    let now = g.P.Platform.head c.loop-child.platform in
+    let cs = c.deref-child-items.result.now in
+    let i = c.loop-child.child-index in
+    let inv = c.loop-child.invariant in
+    let so_far = inv.sealed at in
+    let count = children_count at.level head (take i cs) so_far.nodes c.loop-child.entries.items so_far.is in
+    let all : take i cs ≡ children_of c.args.twig.now = take_all i cs (omega (arith, c.loop-child-test.false)) ∙ inv.same in
+    omega (arith, c.append.ensures.head_by_one, so_far.head, count, ap (sum_by (nodes at.level)) all)
+
+pub seal_child-returns-in-Kept-clause-beside : goal.seal_child-returns-in-Kept-clause-beside
+seal_child-returns-in-Kept-clause-beside g t c = beside_start g.P.Platform g.T.Tape c.args.platform.now c.args.tape.now
+
+pub seal_child-returns-in_err-placed-in-Grown-clause-stops : goal.seal_child-returns-in_err-placed-in-Grown-clause-stops
+seal_child-returns-in_err-placed-in-Grown-clause-stops g t c at = λ err.
+    let head = g.P.Platform.head c.args.platform.now in
+    let s = grown_at at.order at.level at.high head c.args.child.now c.in-Grown.low c.in-Grown.twig c.in-Grown.is at.shaped at.below in
+    let places = stubs_below s.below at.high c.in-Grown.twig in
+    stops_as (AreNodesOver head places) (AreNodesOver head (stubs at.level at.high c.args.child.now)) _ _ _ _ _ (λ ms h. subst (λ ss. AreNodesOver head ss ms) (sym s.places) h)
+    (c.in_err-placed-in-Grown.ensures.stops (can_below head (g.P.Platform.capacity c.args.platform.now) c.args.child.now c.in-Grown.low c.in-Grown.twig at s) refl)
+
+pub seal_twig-returns-in_err-entry-clause-beside : goal.seal_twig-returns-in_err-entry-clause-beside
+seal_twig-returns-in_err-entry-clause-beside g t c =
+    beside_then g.P.Platform g.T.Tape c.args.platform.now c.loop-child.platform c.seal_child.new.platform c.args.tape.now c.loop-child.tape c.seal_child.new.tape c.loop-child.invariant.beside c.seal_child.ensures.beside
+
+pub seal_twig-returns-clause-beside : goal.seal_twig-returns-clause-beside
+seal_twig-returns-clause-beside g t c =
+    let E = c.append.ensures in
+    let last = beside_call g.P.Platform g.T.Tape c.loop-child.platform c.append.new.platform c.loop-child.tape c.append.new.tape E.time E.cell E.head_rises E.capacity E.reads E.platform_faults E.tape_faults in
+    beside_then g.P.Platform g.T.Tape c.args.platform.now c.loop-child.platform c.append.new.platform c.args.tape.now c.loop-child.tape c.append.new.tape c.loop-child.invariant.beside last
+
+pub seal_twig-returns-in_err-entry-clause-stops : goal.seal_twig-returns-in_err-entry-clause-stops
+seal_twig-returns-in_err-entry-clause-stops g t c at = λ err.
+    let head = g.P.Platform.head c.args.platform.now in
+    let now = g.P.Platform.head c.loop-child.platform in
+    let cs = c.deref-child-items.result.now in
+    let i = c.loop-child.child-index in
+    let inv = c.loop-child.invariant in
+    let so_far = inv.sealed at in
+    let es = c.loop-child.entries.items in
+    let history = g.P.Platform.history in
+    let drawn = g.T.Tape.drawn in
+    let tells = g.P.Platform.tells in
+    let places = stubs_by low_of (stubs at.level) at.high cs in
+    let same : places ≡ stubs_below at.level at.high c.args.twig.now = ap (stubs_by low_of (stubs at.level) at.high) inv.same in
+    let each = subst (EachBy low_of (IsChild at.order at.level) at.high) (sym inv.same) at.shaped.node.each in
+    let below = subst (AreBelow head) (sym same) at.below in
+    let done = so_far_over at.order at.level head at.high i cs so_far.nodes es so_far.is each at.order_most (omega (arith, at.level_most)) at.blocks below in
+    let count = children_count at.level head (take i cs) so_far.nodes es so_far.is in
+    let s = loop_child head (g.P.Platform.capacity c.args.platform.now) c.args.twig.now cs i c.child-item.result at inv.same c.loop-child-test.true c.child-item.is in
+    let can = can_child head (g.P.Platform.capacity c.args.platform.now) now (g.P.Platform.capacity c.loop-child.platform) c.args.twig.now cs i c.child-item.result at s inv.same inv.beside.head (omega (arith, so_far.head, count)) inv.beside.capacity in
+    let some = stubs at.level (end_at at.high i cs) c.child-item.result in
+    adds_stops (λ ns. SealsEach (Seals at.level) head (take i cs) ns es) (AreNodesOver now some) (AreNodesOver head (stubs_below at.level at.high c.args.twig.now)) tells (history c.args.platform.now).present (history c.loop-child.platform).present (history c.seal_child.new.platform).present
+    head now (drawn c.args.tape.now) (drawn c.loop-child.tape) (drawn c.seal_child.new.tape) so_far
+    (λ ms are. subst (λ ss. AreNodesOver head ss (so_far.nodes ++ ms)) same (over_append head places some so_far.nodes ms done.over (subst (λ n. AreNodesOver n some ms) so_far.head are) s.places))
+    (c.in_err-entry.ensures.stops can refl)
+
+pub seal_twig-returns-clause-stops : goal.seal_twig-returns-clause-stops
+seal_twig-returns-clause-stops g t c at = λ err.
+    let head = g.P.Platform.head c.args.platform.now in
+    let now = g.P.Platform.head c.loop-child.platform in
+    let cs = c.deref-child-items.result.now in
+    let i = c.loop-child.child-index in
+    let inv = c.loop-child.invariant in
+    let so_far = inv.sealed at in
+    let es = c.loop-child.entries.items in
+    let history = g.P.Platform.history in
+    let drawn = g.T.Tape.drawn in
+    let tells = g.P.Platform.tells in
+    let twig = c.args.twig.now in
+    let places = stubs_by low_of (stubs at.level) at.high cs in
+    let same : places ≡ stubs_below at.level at.high twig = ap (stubs_by low_of (stubs at.level) at.high) inv.same in
+    let each = subst (EachBy low_of (IsChild at.order at.level) at.high) (sym inv.same) at.shaped.node.each in
+    let below = subst (AreBelow head) (sym same) at.below in
+    let done = so_far_over at.order at.level head at.high i cs so_far.nodes es so_far.is each at.order_most (omega (arith, at.level_most)) at.blocks below in
+    let mid = (history c.loop-child.platform).present in
+    let new = (history c.append.new.platform).present in
+    let all : take i cs ≡ children_of twig = take_all i cs (omega (arith, c.loop-child-test.false)) ∙ inv.same in
+    let under = subst (λ xs. SealsEach (Seals at.level) head xs so_far.nodes es) all so_far.is in
+    let fits = subst (λ n. FitsNode n (suc at.level) es) (sym so_far.head) (node_fits at.order at.level at.least at.low at.high head head twig so_far.nodes es at.shaped at.order_most at.level_most at.blocks at.below (omega arith) under) in
+    let keys = (entries_are at.level head head at.high (children_of twig) so_far.nodes es under at.below (omega arith)).keys in
+    let Are : List Sealed → Type 0 = λ ms. AreNodesOver head (stubs_below at.level at.high twig) (so_far.nodes ++ ms) in
+    let before : Are [] = subst (AreNodesOver head (stubs_below at.level at.high twig)) (sym (append-nil so_far.nodes)) (subst (λ ss. AreNodesOver head ss so_far.nodes) same done.over) in
+    let stops : Stops Are tells mid new (drawn c.loop-child.tape) (drawn c.append.new.tape) =
+    fault_cases c.append.result (Stops Are tells mid new (drawn c.loop-child.tape) (drawn c.append.new.tape)) err
+    (λ is. stops_none Are tells mid new (drawn c.loop-child.tape) (drawn c.append.new.tape) before (λ told. c.append.ensures.unchanged told is) (c.append.ensures.undrawn is))
+    (λ is.
+    let spent = c.append.ensures.spent is in
+    let node : Sealed = record { addr = now; key = spent.0; level = suc at.level; entries = es } in
+    let body_is : c.put_node.new.self.body ≡ record_bytes now (NodeRecord (suc at.level) es) = ap (λ (b : Held). b.body) c.put_node.ensures ∙ body_as _ _ _ _ _ _ c.head.ensures.value at.shaped.level_is c.deref.ensures.0 in
+    stops_one Are tells mid new (drawn c.loop-child.tape) (drawn c.append.new.tape) node c.put_node.new.self.body
+    (subst (λ ss. AreNodesOver head ss (so_far.nodes ++ node ∷ [])) same (over_node head places so_far.nodes node done.over so_far.head (fits, All-from_recursion (λ (e : Entry). IsBytes 32 e.key) es keys) done.listed)) body_is spent.3 spent.2)
+    in
+    adds_stops (λ ns. SealsEach (Seals at.level) head (take i cs) ns es) Are (AreNodesOver head (stubs_below at.level at.high twig)) tells (history c.args.platform.now).present mid new
+    head now (drawn c.args.tape.now) (drawn c.loop-child.tape) (drawn c.append.new.tape) so_far (λ ms are. are) stops

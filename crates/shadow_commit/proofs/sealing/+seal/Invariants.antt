@@ -1,0 +1,24 @@
+use Rattle.std.proofs.Common.{◌≡◌, ◌+◌, ◌*◌, length, take}
+use Rattle.btree_twigs.specs.Stubs.{children_of, level_of}
+use Rattle.btree_twigs.specs.Top.{child_level}
+use Rattle.shadow_commit.specs.Sealed.{Seals, SealsEach}
+use Rattle.shadow_commit.specs.Handing.{Adds, OnlyAdds}
+use Rattle.shadow_commit.specs.CanSeal.{CanSeal}
+use Rattle.shadow_commit.proofs.sealing.+seal.Given as goal
+
+abbrev pub invariant-seal_twig-loop-child : goal.invariant-seal_twig-loop-child
+invariant-seal_twig-loop-child g l = record {
+  same : l.child-items ≡ children_of l.fn.twig;
+  sealed : (at : CanSeal (g.P.Platform.head l.fn.platform) (g.P.Platform.capacity l.fn.platform) l.fn.twig) →
+      Adds (λ nodes. SealsEach (Seals at.level) (g.P.Platform.head l.fn.platform) (take l.child-index l.child-items) nodes l.entries.items)
+      g.P.Platform.tells (g.P.Platform.history l.fn.platform).present (g.P.Platform.history l.platform).present
+      (g.P.Platform.head l.fn.platform) (g.P.Platform.head l.platform) (g.T.Tape.drawn l.fn.tape) (g.T.Tape.drawn l.tape);
+  count : length l.entries.items ≡ l.child-index;
+  beside : OnlyAdds g.P.Platform g.T.Tape l.fn.platform l.platform l.fn.tape l.tape;
+}
+
+abbrev pub decreases-seal_child : goal.decreases-seal_child
+decreases-seal_child g l = 2 * child_level l.child.now + 1
+
+abbrev pub decreases-seal_twig : goal.decreases-seal_twig
+decreases-seal_twig g l = 2 * level_of l.twig.now

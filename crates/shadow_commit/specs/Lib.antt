@@ -1,0 +1,9 @@
+pub mod Sealed
+pub mod Handing
+pub mod CanSeal
+pub mod NewTree
+pub mod Planned
+pub mod Ready
+pub mod Finishing
+pub mod Follows
+pub mod Changes

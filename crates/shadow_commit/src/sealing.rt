@@ -1,0 +1,95 @@
+//! How the nodes in memory are sealed.
+ghost use Rattle.std.specs.Prelude.{◌≡◌, ◌<◌, ◌≤◌, ◌+◌, suc, IfOk, IsErr, IsErrOf, All, ℕ, List};
+ghost use Rattle.sdbt_base.specs.Bytes.{IsBytes};
+ghost use Rattle.sdbt_base.specs.Faults.{Rose};
+ghost use Rattle.btree_twigs.specs.Stubs.{children_of, nodes, nodes_below, stubs, stubs_below};
+ghost use Rattle.shadow_commit.specs.Sealed.{Seals, SealsNode};
+ghost use Rattle.shadow_commit.specs.Handing.{Adds, Stops, OnlyAdds};
+ghost use Rattle.shadow_commit.specs.NewTree.{AreNodesOver};
+ghost use Rattle.shadow_commit.specs.CanSeal.{CanSeal, CanSealChild};
+
+use arrayvec::ArrayVec;
+use btree_twigs::{Child, Twig};
+use node_codec::Entry;
+use page_store::{AppendFault, Buffers, Placed};
+use platform::Platform;
+use sdbt_base::{Key, Tape};
+
+/// Seals the nodes in memory, each after all below it, and answers where the topmost is. After a fault each page that was
+/// handed over is one of theirs, in order.
+#[cycle(seal)]
+pub(crate) fn seal_twig<P: Platform, T: Tape>(
+    twig: &Twig,
+    buffers: &mut Buffers,
+    platform: &mut P,
+    tape: &mut T,
+) -> Result<Placed, AppendFault>
+    requires can { CanSeal (P.head platform.old) (P.capacity platform.old) twig.now }
+    ensures sealed { (at : CanSeal (P.head platform.old) (P.capacity platform.old) twig.now) → IfOk result (λ placed.
+        Adds (λ nodes. SealsNode (Seals at.level) at.level (P.head platform.old) (children_of twig.now) nodes placed.addr placed.key)
+        P.tells (P.history platform.old).present (P.history platform.new).present (P.head platform.old) (P.head platform.new) (T.drawn tape.old) (T.drawn tape.new)) }
+    ensures within { (at : CanSeal (P.head platform.old) (P.capacity platform.old) twig.now) → P.head platform.new ≤ P.head platform.old + suc (nodes_below at.level twig.now) }
+    ensures stops { (at : CanSeal (P.head platform.old) (P.capacity platform.old) twig.now) → IsErr result →
+        Stops (AreNodesOver (P.head platform.old) (stubs_below at.level at.high twig.now)) P.tells (P.history platform.old).present (P.history platform.new).present (T.drawn tape.old) (T.drawn tape.new) }
+    ensures beside { OnlyAdds P.Platform T.Tape platform.old platform.new tape.old tape.new }
+    ensures platform_cause { IsErrOf result AppendFault.PlatformFault → Rose (P.faults platform.old) (P.faults platform.new) }
+    ensures tape_cause { IsErrOf result AppendFault.TapeFault → Rose (T.faults tape.old) (T.faults tape.new) }
+{
+    let mut entries = ArrayVec::<Entry, 64>::new();
+    for child in twig.children.iter() {
+        let entry = seal_child(child, buffers, platform, tape)?;
+        entries.push(entry);
+    }
+    buffers.put_node(platform.head(), twig.level, &entries);
+    buffers.append(platform, tape)
+}
+
+/// The entry that names a child, which is sealed first where it is in memory.
+#[cycle(seal)]
+fn seal_child<P: Platform, T: Tape>(
+    child: &Child,
+    buffers: &mut Buffers,
+    platform: &mut P,
+    tape: &mut T,
+) -> Result<Entry, AppendFault>
+    requires can { CanSealChild (P.head platform.old) (P.capacity platform.old) child.now }
+    ensures sealed { (at : CanSealChild (P.head platform.old) (P.capacity platform.old) child.now) → IfOk result (λ entry.
+        Adds (λ nodes. Seals at.level (P.head platform.old) child.now nodes entry)
+        P.tells (P.history platform.old).present (P.history platform.new).present (P.head platform.old) (P.head platform.new) (T.drawn tape.old) (T.drawn tape.new)) }
+    ensures within { (at : CanSealChild (P.head platform.old) (P.capacity platform.old) child.now) → P.head platform.new ≤ P.head platform.old + nodes at.level child.now }
+    ensures stops { (at : CanSealChild (P.head platform.old) (P.capacity platform.old) child.now) → IsErr result →
+        Stops (AreNodesOver (P.head platform.old) (stubs at.level at.high child.now)) P.tells (P.history platform.old).present (P.history platform.new).present (T.drawn tape.old) (T.drawn tape.new) }
+    ensures beside { OnlyAdds P.Platform T.Tape platform.old platform.new tape.old tape.new }
+    ensures platform_cause { IsErrOf result AppendFault.PlatformFault → Rose (P.faults platform.old) (P.faults platform.new) }
+    ensures tape_cause { IsErrOf result AppendFault.TapeFault → Rose (T.faults tape.old) (T.faults tape.new) }
+{
+    match child {
+        Child::Kept { low, addr, key } => Ok(kept_entry(*low, *addr, key)),
+        Child::Grown { low, twig } => {
+            let placed = seal_twig(twig, buffers, platform, tape)?;
+            Ok(Entry {
+                low: *low,
+                addr: placed.addr,
+                key: placed.key,
+            })
+        }
+    }
+}
+
+/// The entry of a child on the medium.
+fn kept_entry(low: u64, addr: u64, key: &[u8; 32]) -> Entry
+    ensures entry { result ≡ record { low = low; addr = addr; key = key.now } }
+    ensures key { IsBytes 32 key.now }
+{
+    are_bytes(key);
+    Entry {
+        low,
+        addr,
+        key: Key::from_bytes(*key),
+    }
+}
+
+/// A fact: each is below 256.
+fn are_bytes(bytes: &[u8])
+    ensures { All (λ b. b < 256) bytes.now }
+{}
