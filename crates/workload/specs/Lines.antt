@@ -1,6 +1,5 @@
 -- The lines of commands.
 use Rattle.std.specs.Prelude.{ℕ, List, [], ◌∷◌, ◌++◌, codes}
-use Rattle.std.specs.List.{flat_map}
 use Rattle.std.specs.Fmt.{decimal}
 use Rattle.hex.specs.Hex.{encode_lower}
 use Rattle.script_lang.specs.Commands.{Command}
@@ -23,11 +22,6 @@ text_of Seize = codes "seize"
 -- a command's line, with its line feed
 abbrev pub line_of : Command → List ℕ
 line_of command = text_of command ++ 10 ∷ []
-
--- the lines of commands, one after the other
-unfoldable pub script_of : List Command → List ℕ
-script_of [] = []
-script_of (command ∷ commands) = line_of command ++ script_of commands
 
 -- each line spells the command at its place
 abbrev pub SpellEach : List (List ℕ) → List Command → Type 0

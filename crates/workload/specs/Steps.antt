@@ -1,5 +1,4 @@
 -- What a line of a generated script asks for.
-use Rattle.std.specs.Prelude.{ℕ, List}
 use Rattle.script_lang.specs.Commands.{Command}
 use Rattle.script_lang.specs.Commands as commands
 use Rattle.workload.specs.declared.steps.Step.{Step}

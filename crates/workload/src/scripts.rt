@@ -1,7 +1,7 @@
 //! The script of a seed.
-ghost use Rattle.std.specs.Prelude.{◌≡◌, ◌+◌, ◌*◌, ◌≤◌, ◌++◌, length, IfOk, OnOk};
+ghost use Rattle.std.specs.Prelude.{◌≡◌, ◌+◌, ◌*◌, ◌≤◌, ◌++◌, length, flat_map, IfOk, OnOk};
 ghost use Rattle.text_lines.specs.Lines.{lines_of};
-ghost use Rattle.workload.specs.Lines.{script_of, SpellEach};
+ghost use Rattle.workload.specs.Lines.{line_of, SpellEach};
 ghost use Rattle.workload.specs.Scripts.{commands_of, generated_commands};
 
 use crate::draws::Draws;
@@ -20,10 +20,10 @@ const ORDER: u64 = 16;
 pub fn script(alloc: Global, seed: u64, count: u64) -> Result<Line, Memory>
     requires some { 1 ≤ count }
     requires at_most { count ≤ MAX_COUNT }
-    ensures text { IfOk result (λ line. line ≡ script_of (commands_of seed count)) }
+    ensures text { IfOk result (λ line. line ≡ flat_map line_of (commands_of seed count)) }
     ensures spelled { IfOk result (λ line. SpellEach (lines_of line) (commands_of seed count)) }
     ensures lines { IfOk result (λ line. length (lines_of line) ≡ count + 5) }
-    ensures short { IfOk result (λ line. length line ≤ 20 * count + 39) }
+    ensures short { IfOk result (λ line. length line ≤ 20 * (count + 5)) }
 {
     let mut line = Line::new(alloc);
     append_step(
@@ -43,10 +43,10 @@ pub fn script(alloc: Global, seed: u64, count: u64) -> Result<Line, Memory>
 
 /// Adds so many generated lines.
 fn append_generated(line: &mut Line, seed: u64, count: u64) -> Result<(), Memory>
-    ensures { OnOk result (line.new ≡ line.old ++ script_of (generated_commands seed count)) }
+    ensures { OnOk result (line.new ≡ line.old ++ flat_map line_of (generated_commands seed count)) }
 {
     let mut draws = Draws::new(seed);
-    for _ in 0..count {
+    'lines: for _ in 0..count {
         append_step(line, &next_step(&mut draws))?;
     }
     Ok(())

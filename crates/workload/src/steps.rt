@@ -35,6 +35,7 @@ pub(crate) enum Step {
 }
 
 /// The next generated step.
+#[tactic(auto, unfolding(crate::specs::Scripts::generated))]
 pub(crate) fn next_step(draws: &mut Draws) -> Step
     ensures { (command_of result, draws.new) ≡ generated draws.old }
 {
@@ -71,6 +72,7 @@ pub(crate) fn append_step(line: &mut Line, step: &Step) -> Result<(), Memory>
 }
 
 /// Adds the line of a step, without its line feed.
+#[tactic(auto, unfolding(crate::specs::Lines::text_of))]
 fn append_words(line: &mut Line, step: &Step) -> Result<(), Memory>
     ensures { OnOk result (line.new ≡ line.old ++ text_of (command_of step.now)) }
 {
