@@ -8,7 +8,7 @@ use Rattle.script_lang.specs.Commands.{Command}
 use Rattle.script_lang.specs.Commands.{Read, Write, Trim, Commit}
 use Rattle.workload.specs.Draws.{next_state, draw_at}
 use Rattle.workload.specs.Lines.{line_of}
-use Rattle.workload.specs.Scripts.{generated, generated_commands}
+use Rattle.workload.specs.Scripts.{generated, generated_commands, IsOrdinary}
 use Rattle.workload.proofs.LineLaws.{IsPlain, read_is_plain, write_is_plain, trim_is_plain, commit_is_plain}
 
 -- the lines so far and those that are left, after one more
@@ -44,20 +44,30 @@ chosen P false true c write read trim commit p q r s = q
 chosen P false false true write read trim commit p q r s = r
 chosen P false false false write read trim commit p q r s = s
 
-pub generated_is_plain : (x : ℕ) → IsPlain (generated x).0
+-- what holds of each of the four kinds holds of a generated command
+generated_is : (P : Command → Type 0) → ((block n : ℕ) → block < 4096 → P (Write block (to_be_bytes w32 n))) → ((block : ℕ) → block < 4096 → P (Read block))
+    → ((block : ℕ) → block < 4096 → P (Trim block)) → P Commit → (x : ℕ) → P (generated x).0
 unfolding generated
-generated_is_plain x =
+generated_is P write read trim commit x =
     let first = next_state x in
     let second = next_state first in
     let third = next_state second in
     let kind = draw_at first % 10 in
     let block = draw_at second % 4096 in
     let below : block < 4096 = mod_below (draw_at second) 4096 (omega arith) in
-    chosen IsPlain (nat_lt kind 5) (nat_lt kind 7) (nat_lt kind 8)
+    chosen P (nat_lt kind 5) (nat_lt kind 7) (nat_lt kind 8)
     (Write block (to_be_bytes w32 (draw_at third)), third) (Read block, second) (Trim block, second) (Commit, first)
-    (write_is_plain block (draw_at third) below) (read_is_plain block below) (trim_is_plain block below) commit_is_plain
+    (write block (draw_at third) below) (read block below) (trim block below) commit
+
+-- and of all of them
+generated_are : (P : Command → Type 0) → ((x : ℕ) → P (generated x).0) → (x n : ℕ) → AllByRecursion P (generated_commands x n)
+unfolding generated_commands
+generated_are P each x zero = tt
+generated_are P each x (suc n) = (each x, generated_are P each (generated x).1 n)
 
 pub generated_are_plain : (x n : ℕ) → AllByRecursion IsPlain (generated_commands x n)
-unfolding generated_commands
-generated_are_plain x zero = tt
-generated_are_plain x (suc n) = (generated_is_plain x, generated_are_plain (generated x).1 n)
+generated_are_plain = generated_are IsPlain (generated_is IsPlain write_is_plain read_is_plain trim_is_plain commit_is_plain)
+
+pub generated_are_ordinary : (x n : ℕ) → AllByRecursion IsOrdinary (generated_commands x n)
+generated_are_ordinary =
+    generated_are IsOrdinary (generated_is IsOrdinary (λ block n below. (below, refl)) (λ block below. below) (λ block below. below) tt)

@@ -1,8 +1,8 @@
 -- The script of a seed.
-use Rattle.std.specs.Prelude.{ℕ, zero, suc, ◌%◌, nat_lt, if◌then◌else◌, List, [], ◌∷◌, ◌++◌}
+use Rattle.std.specs.Prelude.{◌≡◌, ℕ, zero, suc, ◌%◌, ◌<◌, nat_lt, if◌then◌else◌, List, [], ◌∷◌, ◌++◌, length}
 use Rattle.std.specs.Int.{w32, to_be_bytes}
 use Rattle.script_lang.specs.Commands.{Command}
-use Rattle.script_lang.specs.Commands.{Format, Mount, Read, Write, Trim, Commit, Stat, Seize}
+use Rattle.script_lang.specs.Commands.{Format, Mount, Read, Write, Trim, Commit, Drop, Erase, Stat, Seize}
 use Rattle.workload.specs.Draws.{next_state, draw_at}
 
 -- the command that the draws behind a state give, and the state behind them. The first draw modulo 10 says what kind of
@@ -29,3 +29,16 @@ generated_commands x (suc n) = (generated x).0 ∷ generated_commands (generated
 abbrev pub commands_of : ℕ → ℕ → List Command
 commands_of seed count =
     Format 4096 16 ∷ Mount ∷ (generated_commands seed count ++ Commit ∷ Stat ∷ Seize ∷ [])
+
+-- a command that a mounted device of 4,096 blocks serves: it reads a block, writes four bytes to one, trims one, or commits
+abbrev pub IsOrdinary : Command → Type 0
+IsOrdinary (Read block) = block < 4096
+IsOrdinary (Write block content) = (block < 4096) × (length content ≡ 4)
+IsOrdinary (Trim block) = block < 4096
+IsOrdinary Commit = Unit {0}
+IsOrdinary (Format blocks order) = ⊥
+IsOrdinary Mount = ⊥
+IsOrdinary Drop = ⊥
+IsOrdinary Erase = ⊥
+IsOrdinary Stat = ⊥
+IsOrdinary Seize = ⊥

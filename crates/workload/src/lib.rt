@@ -2,9 +2,11 @@
 #![tactic(auto)]
 
 mod draws;
+mod laws;
 mod scripts;
 mod steps;
 
+pub use laws::generated_commands_are_ordinary;
 pub use scripts::{MAX_COUNT, script};
 
 #[cfg(test)]
