@@ -1,6 +1,15 @@
-//! A script that was worked out by hand, and one that another program made.
+//! Draws and a script that were worked out by hand, and a script that another program made.
+use crate::draws::Draws;
 use crate::script;
 use std::test::Fail;
+
+#[test]
+fn draws_of_seed_1(rt: HostRuntime) {
+    let mut draws = Draws::new(1);
+    for want in [908_834_774, 1_093_944_153, 1_392_341_196] {
+        assert_eq!(rt; draws.draw(), want);
+    }
+}
 
 #[test]
 fn one_line(rt: HostRuntime) -> Result<(), Fail> {
