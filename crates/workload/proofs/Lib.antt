@@ -1,0 +1,3 @@
+pub mod GeneratedLaws
+pub mod LineLaws
+pub mod ScriptLaws

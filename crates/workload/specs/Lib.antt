@@ -1,0 +1,4 @@
+pub mod Draws
+pub mod Lines
+pub mod Scripts
+pub mod Steps
