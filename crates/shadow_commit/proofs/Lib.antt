@@ -7,5 +7,4 @@ pub mod StepLaws
 pub mod KeyLaws
 pub mod PlanLaws
 pub mod ReadyLaws
-pub mod AddedLaws
-pub mod StandLaws
+pub mod CommitLaws

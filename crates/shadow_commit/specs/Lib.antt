@@ -5,5 +5,3 @@ pub mod NewTree
 pub mod Planned
 pub mod Ready
 pub mod Finishing
-pub mod Follows
-pub mod Changes
