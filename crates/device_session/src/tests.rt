@@ -6,15 +6,20 @@ use sdbt_base::{BLOCK, ListTape, MemSink};
 use std::alloc::Global;
 use std::test::Fail;
 
-/// A device of eight blocks, of which block 3 is mapped; none where anything is refused.
-fn device(alloc: Global, platform: &mut MemPlatform) -> Option<()> {
-    let keys = [[1; 32], [2; 32], [3; 32]];
-    let mut tape = ListTape::new(alloc, &keys, &[]).ok()?;
-    let mut ledger = MemSink::new(alloc, &[]).ok()?;
-    format(alloc, platform, &mut tape, &mut ledger, 8, 64).ok()?;
+/// Maps block 3 by a session of one leaf, and commits; none where anything is refused.
+fn written(
+    alloc: Global,
+    platform: &mut MemPlatform,
+    tape: &mut ListTape,
+    ledger: &mut MemSink,
+    content: &[u8],
+) -> Option<()> {
+    if content.len() > BLOCK {
+        return None;
+    }
     let mut writer = Writer::mount(alloc, platform, 0).ok()?;
-    writer.write(platform, &mut tape, 3, b"hi").ok()?;
-    writer.commit(platform, &mut tape, &mut ledger).ok()?;
+    writer.write(platform, tape, 3, content).ok()?;
+    writer.commit(platform, tape, ledger).ok()?;
     Some(())
 }
 
@@ -23,7 +28,12 @@ fn reads_and_trims(rt: HostRuntime) -> Result<(), Fail> {
     let mut platform = MemPlatform::blank(rt.alloc(), 6);
     let absent = Session::mount(rt.alloc(), &mut platform, 4).err();
     assert!(rt; absent == Some(MountRefusal::NoDevice));
-    assert!(rt; device(rt.alloc(), &mut platform).is_some());
+    let keys = [[1; 32], [2; 32], [3; 32]];
+    let mut tape = ListTape::new(rt.alloc(), &keys, &[])?;
+    let mut ledger = MemSink::new(rt.alloc(), &[])?;
+    format(rt.alloc(), &mut platform, &mut tape, &mut ledger, 8, 64)?;
+    let done = written(rt.alloc(), &mut platform, &mut tape, &mut ledger, b"hi");
+    assert!(rt; done.is_some());
     let mut session = Session::mount(rt.alloc(), &mut platform, 4)?;
     assert!(rt; (session.number(), session.mapped(), session.blocks()) == (1, 1, 8));
     let mut content = [7; BLOCK];
