@@ -1,28 +1,27 @@
 -- What stands below the places of a tree while it is updated.
-use Rattle.std.proofs.Common.{◌≡◌, ◌⊎◌, inl, inr, ◌/◌, ℕ, zero, suc, ◌+◌, ◌<◌, ◌≤◌, ◌^◌, List, [], ◌∷◌, ◌++◌, length, map, take, drop, refl, sym, ap, subst, ◌∙◌, arith, append_assoc, append-nil}
+use Rattle.std.proofs.Common.{◌≡◌, ◌⊎◌, inl, inr, ◌/◌, ℕ, suc, ◌<◌, List, [], ◌∷◌, ◌++◌, length, map, take, drop, refl, sym, ap, subst, ◌∙◌, arith, append_assoc, append-nil}
 use Rattle.std.specs.Prelude.{◌≢◌, All, AllPairs, slice_get}
 use Rattle.std.specs.List.{AllByRecursion}
 use Rattle.std.specs.List.Sorted.{IsPermutation}
 use Rattle.std.proofs.lemmas.List.{map-append, take-append-drop}
 use Rattle.std.proofs.lemmas.List.Elements.{All-tail, All-cons, All-weaker, All-from_recursion, recursion_from_All}
 use Rattle.std.proofs.lemmas.List.Kept.{AllPairs-cons}
-use Rattle.std.proofs.lemmas.List.Sorted.{IsPermutation-refl, IsPermutation-sym, IsPermutation-trans, IsPermutation-append_left, IsPermutation-append_right, IsPermutation-append_comm, IsPermutation-to_front, All-permutation}
+use Rattle.std.proofs.lemmas.List.Sorted.{IsPermutation-refl, IsPermutation-sym, IsPermutation-trans, IsPermutation-append_left, IsPermutation-append_right, IsPermutation-append_comm, All-permutation}
 use Rattle.platform.specs.Image.{Image, IsWhole, IsEarlier}
 use Rattle.sdbt_base.specs.Arrays.{Device}
 use Rattle.root_codec.specs.declared.root.Root.{Root as RootRecord}
 use Rattle.page_store.specs.Stands.{StandsBy}
 use Rattle.platform.specs.Logged.{AllPairs-rest}
-use Rattle.sdbt_base.specs.Traces.{DataOf, NodeOver}
+use Rattle.sdbt_base.specs.Traces.{NodeOver}
 use Rattle.node_codec.specs.declared.body.Entry.{Entry}
 use Rattle.node_codec.specs.Record.{DataRecord, NodeRecord}
 use Rattle.page_store.specs.Places.{IsRecordAt, root_want}
-use Rattle.page_store.specs.Tree.{Parts, Place, Mapped, Subtree, EachChild, joined, data_parts, node_parts}
+use Rattle.page_store.specs.Tree.{Parts, Place, Mapped, Subtree, EachChild, joined, data_parts}
 use Rattle.page_store.proofs.RecordLaws.{one_record}
 use Rattle.btree_twigs.specs.declared.twigs.Twig.{Twig}
 use Rattle.btree_twigs.specs.Stubs.{Stub, Puts, Takes, datum, stubs_below}
 use Rattle.btree_update.specs.GroveTree.{HasEach, want_at}
 use Rattle.btree_update.specs.Held.{stub_at, IsReadAs}
-use Rattle.btree_update.specs.Maps.{MapPuts, MapTakes}
 use Rattle.btree_update.specs.Opens.{Opens, Same, Here, Within, Then}
 use Rattle.btree_update.proofs.Places.{IsIn, weaker, in_maps, entries_have}
 use Rattle.btree_update.proofs.Readings.{read_same}
@@ -243,8 +242,11 @@ root_stand image device root parts gone new whole stands opens = go (root_opens 
     go (inr o) =
         let one : parts.places ≡ parts.places ++ [] = sym (append-nil parts.places) in
         let below = All-weaker (λ (p : Place). p.addr < root.head) (λ (p : Place). p.addr < length image.recorded) (λ p lt. omega (arith, lt, stands.head, whole.synced)) parts.places stands.below in
-        inr (o, opened_stand image root.order root.mapped gone new (parts ∷ []) o (subst (AllPairs AreApart) one stands.apart) (subst (All (λ (p : Place). p.addr < length image.recorded)) one below)
-        (subst (All (λ (p : Place). slice_get image.readable p.addr ≡ slice_get image.recorded p.addr)) one stands.recorded) (ap length (append-nil parts.mapped) ∙ stands.count))
+        inr (
+          o,
+          opened_stand image root.order root.mapped gone new (parts ∷ []) o (subst (AllPairs AreApart) one stands.apart) (subst (All (λ (p : Place). p.addr < length image.recorded)) one below)
+              (subst (All (λ (p : Place). slice_get image.readable p.addr ≡ slice_get image.recorded p.addr)) one stands.recorded) (ap length (append-nil parts.mapped) ∙ stands.count),
+        )
 
 -- ---- pages that are added
 

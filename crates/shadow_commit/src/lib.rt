@@ -15,7 +15,14 @@ mod preparing;
 mod refusals;
 mod sealing;
 
-pub use laws::{adds_what_is_new, opened_stands, put_stands, root_stands, stands_later, taken_stands};
+pub use laws::{
+    adds_what_is_new, opened_stands, put_stands, root_stands, stands_later, taken_stands,
+};
 pub use prepared::Prepared;
 pub use preparing::prepare;
 pub use refusals::CommitRefusal;
+
+#[cfg(test)]
+mod test_bed;
+#[cfg(test)]
+mod tests;
