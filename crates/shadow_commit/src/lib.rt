@@ -19,3 +19,8 @@ pub use laws::{changes_stand, commit_differs};
 pub use prepared::Prepared;
 pub use preparing::prepare;
 pub use refusals::CommitRefusal;
+
+#[cfg(test)]
+mod test_bed;
+#[cfg(test)]
+mod tests;

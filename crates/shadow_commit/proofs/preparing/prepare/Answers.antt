@@ -1,7 +1,7 @@
 use Rattle.std.proofs.Common.{◌≡◌, suc, ◌+◌, ◌-◌, ◌≤◌, ◌^◌, ◌++◌, length, refl, sym, ap, subst, ◌∙◌, arith}
 use Rattle.platform.proofs.Moments.{During-start}
 use Rattle.page_store.proofs.KeepingLaws.{keeps_idle, keeps_from}
-use Rattle.btree_twigs.specs.Stubs.{children_of, stubs_below}
+use Rattle.btree_twigs.specs.Stubs.{children_of}
 use Rattle.btree_update.specs.Groves.{places_of, grown_in}
 use Rattle.shadow_commit.specs.Sealed.{SealsNode, Seals}
 use Rattle.shadow_commit.specs.Handing.{KnowsPlaces}
@@ -64,10 +64,10 @@ returns-in-Ok-seal_all-clause-ready g c =
     let top_is = c.top-2.ensures ∙ sym c.top.ensures ∙ c.in-Grown.is in
     let node = grown_is (suc level) level head c.top-2.result.now c.in-Grown.low twig ns (record { low = 0; addr = next.addr; key = next.key }) top_is refl S.adds.is in
     let C = c.in-Ok.ensures.cert at ns next.addr next.key (subst (λ n. SealsNode (Seals level) level n (children_of twig) ns next.addr next.key) (sym c.head-head.ensures.value) node) in
-    let places : stubs_below level root.blocks twig ≡ places_of grove = sym s.places ∙ same_places head root c.args.mapped grove c.top.result.now can c.top.ensures in
+    let places = sym s.places ∙ same_places head root c.args.mapped grove c.top.result.now can c.top.ensures in
     record {
       is = sealed_as _ _ _ _ _ _ _ root c.args.mapped grove c.top-2.result.now next can c.top-2.ensures S;
-      cert = certifies_same (root.commit + 1) next.commit root.head (next.addr + 1) next.head next.addr (added_by root.head (stubs_below level root.blocks twig) ns) (added_by root.head (places_of grove) ns) c.gone.result.now grove.gone.items c.never.result.now grove.never.items c.in-Ok.made.cert
+      cert = certifies_same (root.commit + 1) next.commit root.head (next.addr + 1) next.head next.addr _ (added_by root.head (places_of grove) ns) c.gone.result.now grove.gone.items c.never.result.now grove.never.items c.in-Ok.made.cert
           (sym S.next_is.commit) (S.next_is.addr ∙ sym S.next_is.head_is) (ap (λ ss. added_by root.head ss ns) places) c.gone.ensures c.never.ensures C;
       in_text = c.in-Ok.ensures.line.1;
       line = c.in-Ok.ensures.line.0;
