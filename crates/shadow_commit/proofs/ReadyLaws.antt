@@ -40,7 +40,8 @@ use Rattle.shadow_commit.proofs.KeyLaws.{AreKnown, keys_in, append_within, known
 use Rattle.shadow_commit.specs.Ready.{CanPrepare, CanSealTop, Stand, IsNextRoot, StandsWith, CertifiesBy, IsSealed, ListsNewTree}
 use Rattle.shadow_commit.proofs.TreeLaws.{node_tree, has_stays, all_append}
 use Rattle.shadow_commit.proofs.OrderLaws.{node_in_order, records_at}
-use Rattle.shadow_commit.proofs.ApartLaws.{IsWithin, ReadsAs, apart_permutation, with_fresh, fresh_within, kept_reads, fresh_reads}
+use Rattle.grove_accounts.proofs.ListLaws.{apart_permutation}
+use Rattle.shadow_commit.proofs.ApartLaws.{IsWithin, ReadsAs, with_fresh, fresh_within, kept_reads, fresh_reads}
 
 -- the root node in memory
 pub record IsRootTwig (order blocks level head : ℕ) (top : Child) (twig : Twig) : Type 0 where

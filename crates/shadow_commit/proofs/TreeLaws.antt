@@ -18,6 +18,7 @@ use Rattle.btree_twigs.specs.Stubs.{Stub, start_by, stubs_by, stubs_in, datum_in
 use Rattle.btree_twigs.specs.Shape.{EachBy, Begins, IsChildBy, IsChild, IsTwig}
 use Rattle.btree_twigs.proofs.Children.{begins_le}
 use Rattle.btree_update.specs.GroveTree.{want_of, HasEach}
+use Rattle.grove_accounts.proofs.PartsLaws.{joined_places, joined_mapped}
 use Rattle.shadow_commit.specs.Sealed.{Sealed, SealsEach, SealsNode, SealsDatum, SealsIn, Seals}
 use Rattle.shadow_commit.specs.NewTree.{IsNodeAt, place_of, AreParts}
 use Rattle.shadow_commit.proofs.SealLaws.{count_is, lows_all, lows_below}
@@ -42,14 +43,6 @@ crossed a b c d =
     let one : a ++ ((b ++ c) ++ d) ≡ (a ++ b) ++ (c ++ d) = ap (λ xs. a ++ xs) (append_assoc b c d) ∙ sym (append_assoc a b (c ++ d)) in
     let two : a ++ ((c ++ b) ++ d) ≡ (a ++ c) ++ (b ++ d) = ap (λ xs. a ++ xs) (append_assoc c b d) ∙ sym (append_assoc a c (b ++ d)) in
     subst (λ xs. IsPermutation xs ((a ++ c) ++ (b ++ d))) one (subst (IsPermutation (a ++ ((b ++ c) ++ d))) two mid)
-
-pub joined_places : (ps qs : List Parts) → (joined (ps ++ qs)).places ≡ (joined ps).places ++ (joined qs).places
-joined_places [] qs = refl
-joined_places (p ∷ ps) qs = ap (λ xs. p.places ++ xs) (joined_places ps qs) ∙ sym (append_assoc p.places (joined ps).places (joined qs).places)
-
-pub joined_mapped : (ps qs : List Parts) → (joined (ps ++ qs)).mapped ≡ (joined ps).mapped ++ (joined qs).mapped
-joined_mapped [] qs = refl
-joined_mapped (p ∷ ps) qs = ap (λ xs. p.mapped ++ xs) (joined_mapped ps qs) ∙ sym (append_assoc p.mapped (joined ps).mapped (joined qs).mapped)
 
 -- ---- what is below two lists of places
 
