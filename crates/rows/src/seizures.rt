@@ -43,11 +43,7 @@ const ZEROS: &str = "000000000000000000000000000000000000000000000000\
 const AGAIN: &str = "mount\nwrite 3 00ff\ncommit\n";
 
 /// Runs these words, with a script that is none of a seizure's business.
-fn with_words(
-    alloc: Global,
-    platform: &mut MemPlatform,
-    texts: &[&str],
-) -> Result<Ran, Memory> {
+fn with_words(alloc: Global, platform: &mut MemPlatform, texts: &[&str]) -> Result<Ran, Memory> {
     let mut words = Vec::new(alloc);
     for text in texts {
         words.push(String::from_str(alloc, text)?)?;
@@ -95,14 +91,19 @@ fn seize_word(rt: HostRuntime) -> Result<(), Fail> {
 
 #[test]
 fn seized_roots(rt: HostRuntime) -> Result<(), Fail> {
-    let both = "open 1 block 3\nopen 2 node\nopen 3 block 3\nopen 4 node\nseized pages 5 nodes 2 blocks 2\n";
+    let both =
+        "open 1 block 3\nopen 2 node\nopen 3 block 3\nopen 4 node\nseized pages 5 nodes 2 blocks 2\n";
     let mut overwritten = device(rt.alloc(), &[ONE_BLOCK, AGAIN])?;
     for word in [ONE, ONE_IN_CAPITALS] {
         answers(&rt, &mut overwritten, &["seize", word], both, 0)?;
         answers(&rt, &mut overwritten, &["seize", word, ONE], both, 0)?;
     }
-    let between = "open 1 block 3\nopen 2 node\nopen 5 block 3\nopen 6 node\nseized pages 7 nodes 2 blocks 2\n";
-    let mut later = device(rt.alloc(), &[ONE_BLOCK, AGAIN, "mount\nwrite 3 aa\ncommit\n"])?;
+    let between =
+        "open 1 block 3\nopen 2 node\nopen 5 block 3\nopen 6 node\nseized pages 7 nodes 2 blocks 2\n";
+    let mut later = device(
+        rt.alloc(),
+        &[ONE_BLOCK, AGAIN, "mount\nwrite 3 aa\ncommit\n"],
+    )?;
     answers(&rt, &mut later, &["seize", ONE], between, 0)?;
     let first = "open 1 block 3\nopen 2 node\nseized pages 5 nodes 1 blocks 1\n";
     let mut erased = device(rt.alloc(), &[ONE_BLOCK, AGAIN, "erase\n"])?;
@@ -243,9 +244,20 @@ fn hostile_pages(rt: HostRuntime) -> Result<(), Fail> {
     let want = "open 0 block 4\nopen 2 node\nseized pages 3 nodes 1 blocks 1\n";
     answers(&rt, &mut forged(alloc, &twice)?, &["seize"], want, 0)?;
     answers(&rt, &mut forged(alloc, &twice)?, &["seize", ONE], want, 0)?;
-    let elsewhere = [node(20, 7, 1, (0, 3)), body(3, 1, 255, 0), body(3, 2, 1, u64::MAX)];
+    let elsewhere = [
+        node(20, 7, 1, (0, 3)),
+        body(3, 1, 255, 0),
+        body(3, 2, 1, u64::MAX),
+    ];
     let want = "seized pages 3 nodes 0 blocks 0\n";
     answers(&rt, &mut forged(alloc, &elsewhere)?, &["seize"], want, 0)?;
-    let want = "open 1 kind 255\nopen 2 block 18446744073709551615\nseized pages 3 nodes 0 blocks 1\n";
-    answers(&rt, &mut forged(alloc, &elsewhere)?, &["seize", ONE], want, 0)
+    let want =
+        "open 1 kind 255\nopen 2 block 18446744073709551615\nseized pages 3 nodes 0 blocks 1\n";
+    answers(
+        &rt,
+        &mut forged(alloc, &elsewhere)?,
+        &["seize", ONE],
+        want,
+        0,
+    )
 }

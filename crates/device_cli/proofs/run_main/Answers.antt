@@ -333,7 +333,7 @@ returns-in-Ok-seize_word-clause-seizing g c words =
     (T.faults c.args.tape.now) (I.faults c.args.input.now) (L.faults c.args.ledger.now) ending c.in-Ok-seize_word.ensures.blame in
     let records = records_of (map string_bytes c.args.words.now) in
     let seizes : Seizes P.tells (P.head c.args.platform.now) image records (O.written c.args.output.now) (O.written c.seize_word.new.output) ending =
-        subst (λ (records : List (List ℕ)). Seizes P.tells (P.head c.args.platform.now) image records (O.written c.args.output.now) (O.written c.seize_word.new.output) ending) c.records_of.ensures c.in-Ok-seize_word.ensures.seizes in
+    subst (λ (records : List (List ℕ)). Seizes P.tells (P.head c.args.platform.now) image records (O.written c.args.output.now) (O.written c.seize_word.new.output) ending) c.records_of.ensures c.in-Ok-seize_word.ensures.seizes in
     record {
       undrawn = refl;
       untaken = refl;
@@ -387,7 +387,7 @@ returns-in-Err-seize_word-clause-seizing g c words =
     (T.faults c.args.tape.now) (I.faults c.args.input.now) (L.faults c.args.ledger.now) ending c.in-Err-seize_word.ensures.blame in
     let records = records_of (map string_bytes c.args.words.now) in
     let seizes : Seizes P.tells (P.head c.args.platform.now) image records (O.written c.args.output.now) (O.written c.seize_word.new.output) ending =
-        subst (λ (records : List (List ℕ)). Seizes P.tells (P.head c.args.platform.now) image records (O.written c.args.output.now) (O.written c.seize_word.new.output) ending) c.records_of.ensures c.in-Err-seize_word.ensures.seizes in
+    subst (λ (records : List (List ℕ)). Seizes P.tells (P.head c.args.platform.now) image records (O.written c.args.output.now) (O.written c.seize_word.new.output) ending) c.records_of.ensures c.in-Err-seize_word.ensures.seizes in
     record {
       undrawn = refl;
       untaken = refl;
