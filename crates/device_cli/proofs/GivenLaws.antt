@@ -66,15 +66,6 @@ given_more f xs head keys i x root given within is of =
     subst (λ (front : List (List ℕ)). AreGiven head front (keys ++ root.key ∷ [])) (sym (front_more f xs i x within is))
     (AllZip-push (IsGiven head) (take i (map f xs)) keys (f x) root.key given (record { root = root; is_record = of; key_is = refl }))
 
--- one that is none
-pub bad_at : {X : Type 0} (f : X → List ℕ) (xs : List X) (head i : ℕ) (x : X) → i < length xs → x ≡ get_or xs i x → ((root : Root) → IsRecordOf head (f x) root → ⊥) → HasBadRecord head (map f xs)
-bad_at f xs head i x within is none = record { word = f x; there = (i, omega (arith, within, length-map xs f), word_at f xs i x (f x) within is); bad = none }
-
--- all of them
-pub given_all : {X : Type 0} (f : X → List ℕ) (xs : List X) (head : ℕ) (keys : List (List ℕ)) (i : ℕ) → AreGiven head (take i (map f xs)) keys → length xs ≤ i → AreGiven head (map f xs) keys
-given_all f xs head keys i given end =
-    subst (λ (words : List (List ℕ)). AreGiven head words keys) (take_all i (map f xs) (omega (arith, end, length-map xs f))) given
-
 -- where each word is one, none is bad
 pub given_not_bad : (head : ℕ) (words keys : List (List ℕ)) → AreGiven head words keys → HasBadRecord head words → ⊥
 given_not_bad head words keys given bad =

@@ -1,7 +1,7 @@
 use Rattle.std.proofs.Common.{◌+◌, arith, sym, subst, ℕ, List, take}
 use Rattle.std.specs.Prelude.{map, string_bytes}
 use Rattle.device_cli.specs.Given.{AreGiven}
-use Rattle.device_cli.proofs.GivenLaws.{given_more, given_all, bad_at}
+use Rattle.device_cli.proofs.GivenLaws.{given_more}
 use Rattle.device_cli.proofs.given.keys_given.Goals as goal
 
 pub loop-word-preserved : goal.loop-word-preserved

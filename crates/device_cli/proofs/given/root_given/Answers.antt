@@ -1,4 +1,3 @@
-use Rattle.std.proofs.Common.{sym}
 use Rattle.device_cli.proofs.GivenLaws.{record_word, if_none}
 use Rattle.device_cli.proofs.given.root_given.Goals as goal
 

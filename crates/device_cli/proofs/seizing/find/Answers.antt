@@ -1,4 +1,4 @@
-use Rattle.std.proofs.Common.{◌≡◌, ℕ, List, inl, inr, ap, sym, ◌∙◌, subst}
+use Rattle.std.proofs.Common.{◌≡◌, ℕ, List, inl, inr, ◌∙◌, subst}
 use Rattle.std.specs.Prelude.{map, string_bytes}
 use Rattle.device_cli.specs.Given.{AreGiven}
 use Rattle.device_cli.specs.Seizing.{IsRefused}

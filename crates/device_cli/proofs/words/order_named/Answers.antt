@@ -1,4 +1,4 @@
-use Rattle.std.proofs.Common.{◌≡◌, ℕ, List, [], ◌∷◌, length, sym, ◌∙◌, arith, rules, eqb-true}
+use Rattle.std.proofs.Common.{◌≡◌, ℕ, List, [], ◌∷◌, length, sym, arith, rules, eqb-true}
 use Rattle.std.specs.Prelude.{codes, map, string_bytes}
 use Rattle.device_cli.specs.Words.{AreRunWords, AreCheckWords}
 use Rattle.device_cli.proofs.words.order_named.Goals as goal
