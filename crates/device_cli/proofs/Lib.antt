@@ -14,6 +14,7 @@ pub mod CompleteLaws
 pub mod ServedLaws
 pub mod ServingLaws
 pub mod SeizingLaws
+pub mod GivenLaws
 pub mod SeizeWordLaws
 pub mod MappedLaws
 pub mod ReachingLaws

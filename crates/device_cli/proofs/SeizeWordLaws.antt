@@ -5,16 +5,18 @@ use Rattle.sdbt_base.specs.Told.{Got, GotPart}
 use Rattle.sdbt_base.proofs.ToldLaws.{Got-then, GotPart-then}
 use Rattle.platform.specs.Image.{Image}
 use Rattle.page_store.specs.Roots.{IsBadCell}
-use Rattle.seizure.specs.Report.{Begins}
+use Rattle.seizure.specs.Report.{Begins, Seized}
 use Rattle.device_core.specs.Leaf.{IsServedCell}
 use Rattle.seizure.specs.declared.opened.Opened.{Opened}
 use Rattle.device_cli.specs.Replied.{Ending, HasPut, IsSound, damage_line}
 use Rattle.device_cli.specs.Run.{Counts, counts, NoneRose, HasCause, IsBlamedOn}
-use Rattle.device_cli.specs.Seizing.{Seizes, status_at, opened_line}
+use Rattle.device_cli.specs.Given.{HasBadRecord}
+use Rattle.device_cli.specs.Seizing.{IsReportOf, IsRefused, Seizes, status_at, opened_line}
 use Rattle.device_cli.specs.declared.stop.DeviceStop.{DeviceStop}
 use Rattle.device_cli.specs.declared.stop.DeviceStop.TheVariants as device
 use Rattle.device_cli.specs.declared.stop.Stop.TheVariants as stops
 use Rattle.device_cli.specs.declared.stop.Stop.{Stop}
+use Rattle.device_cli.proofs.GivenLaws.{given_not_bad}
 
 -- ---- the cell
 
@@ -27,6 +29,16 @@ not_bad (Some bytes) pages (root, served, is) bad = bad.bad root (record { in_ra
 begun_not_bad : (head : ℕ) (cell : Option (List ℕ)) (keys roots : List (List ℕ)) → Begins head cell keys roots → IsBadCell head cell → ⊥
 begun_not_bad head cell keys roots (None, holds, is) bad = bad.full holds
 begun_not_bad head cell keys roots (Some root, holds, is) bad = bad.bad root holds.0 holds.1
+
+-- a cell that can be served is not what a seizure is refused for, but for a word
+pub only_word : (head : ℕ) (image : Image) (records : List (List ℕ)) → IsServedCell image.cell head → IsRefused head image records → HasBadRecord head records
+only_word head image records served (inl bad) = absurd (not_bad image.cell head served bad)
+only_word head image records served (inr bad) = bad
+
+-- what is reported is not refused
+reported_not_refused : (tells : Type 0) (head : ℕ) (image : Image) (records : List (List ℕ)) (seized : Seized) → IsReportOf tells head image records seized → tells → IsRefused head image records → ⊥
+reported_not_refused tells head image records seized (keys, given, report) told (inl bad) = begun_not_bad head image.cell keys (report told).0 (report told).1 bad
+reported_not_refused tells head image records seized (keys, given, report) told (inr bad) = given_not_bad head records keys given bad
 
 -- ---- faults
 
@@ -56,47 +68,47 @@ blame_of_two p p_now o o_now t i l ending blame = record {
 
 -- ---- the exit status
 
--- at 8 the cell is bad, and the line that says so was put
-pub at_eight : (tells : Type 0) (head : ℕ) (image : Image) (written written_now : Option (List ℕ)) (ending : Ending) → Seizes tells head image written written_now ending → status_at ending ≡ 8
-    → (tells → IsBadCell head image.cell) × Got written (damage_line device.BadRoot) written_now
-at_eight tells head image written now (Ok done) h e = absurd (omega (arith, e))
-at_eight tells head image written now (Err stops.Source) h e = absurd h
-at_eight tells head image written now (Err stops.Sink) h e = absurd (omega (arith, e))
-at_eight tells head image written now (Err stops.Limit) h e = absurd h
-at_eight tells head image written now (Err (stops.Device device.Platform)) h e = absurd (omega (arith, e))
-at_eight tells head image written now (Err (stops.Device device.Tape)) h e = absurd h
-at_eight tells head image written now (Err (stops.Device device.Ledger)) h e = absurd h
-at_eight tells head image written now (Err (stops.Device device.BadRoot)) h e = h
-at_eight tells head image written now (Err (stops.Device (device.BadRecord addr))) h e = absurd h
-at_eight tells head image written now (Err (stops.Device device.Memory)) h e = absurd (omega (arith, e))
+-- at 8 it is refused, and the line that says so was put
+pub at_eight : (tells : Type 0) (head : ℕ) (image : Image) (records : List (List ℕ)) (written written_now : Option (List ℕ)) (ending : Ending) → Seizes tells head image records written written_now ending → status_at ending ≡ 8
+    → (tells → IsRefused head image records) × Got written (damage_line device.BadRoot) written_now
+at_eight tells head image records written now (Ok done) h e = absurd (omega (arith, e))
+at_eight tells head image records written now (Err stops.Source) h e = absurd h
+at_eight tells head image records written now (Err stops.Sink) h e = absurd (omega (arith, e))
+at_eight tells head image records written now (Err stops.Limit) h e = absurd h
+at_eight tells head image records written now (Err (stops.Device device.Platform)) h e = absurd (omega (arith, e))
+at_eight tells head image records written now (Err (stops.Device device.Tape)) h e = absurd h
+at_eight tells head image records written now (Err (stops.Device device.Ledger)) h e = absurd h
+at_eight tells head image records written now (Err (stops.Device device.BadRoot)) h e = h
+at_eight tells head image records written now (Err (stops.Device (device.BadRecord addr))) h e = absurd h
+at_eight tells head image records written now (Err (stops.Device device.Memory)) h e = absurd (omega (arith, e))
 
--- over a bad cell it is 8, unless that could not be told or not be said
-pub bad_status : (tells : Type 0) (head : ℕ) (image : Image) (written written_now : Option (List ℕ)) (ending : Ending) → Seizes tells head image written written_now ending
-    → tells → IsBadCell head image.cell → (status_at ending ≡ 8) ⊎ (status_at ending ≡ 4) ⊎ (status_at ending ≡ 5)
-bad_status tells head image written now (Ok done) h told bad = absurd (begun_not_bad head image.cell [] (h.1 told).0 (h.1 told).1 bad)
-bad_status tells head image written now (Err stops.Source) h told bad = absurd h
-bad_status tells head image written now (Err stops.Sink) h told bad = inr (inl refl)
-bad_status tells head image written now (Err stops.Limit) h told bad = absurd h
-bad_status tells head image written now (Err (stops.Device device.Platform)) h told bad = inr (inr refl)
-bad_status tells head image written now (Err (stops.Device device.Tape)) h told bad = absurd h
-bad_status tells head image written now (Err (stops.Device device.Ledger)) h told bad = absurd h
-bad_status tells head image written now (Err (stops.Device device.BadRoot)) h told bad = inl refl
-bad_status tells head image written now (Err (stops.Device (device.BadRecord addr))) h told bad = absurd h
-bad_status tells head image written now (Err (stops.Device device.Memory)) h told bad = absurd (h.0 told bad)
+-- where it is refused it is 8, unless that could not be told or not be said
+pub bad_status : (tells : Type 0) (head : ℕ) (image : Image) (records : List (List ℕ)) (written written_now : Option (List ℕ)) (ending : Ending) → Seizes tells head image records written written_now ending
+    → tells → IsRefused head image records → (status_at ending ≡ 8) ⊎ (status_at ending ≡ 4) ⊎ (status_at ending ≡ 5)
+bad_status tells head image records written now (Ok done) h told bad = absurd (reported_not_refused tells head image records h.0 h.1 told bad)
+bad_status tells head image records written now (Err stops.Source) h told bad = absurd h
+bad_status tells head image records written now (Err stops.Sink) h told bad = inr (inl refl)
+bad_status tells head image records written now (Err stops.Limit) h told bad = absurd h
+bad_status tells head image records written now (Err (stops.Device device.Platform)) h told bad = inr (inr refl)
+bad_status tells head image records written now (Err (stops.Device device.Tape)) h told bad = absurd h
+bad_status tells head image records written now (Err (stops.Device device.Ledger)) h told bad = absurd h
+bad_status tells head image records written now (Err (stops.Device device.BadRoot)) h told bad = inl refl
+bad_status tells head image records written now (Err (stops.Device (device.BadRecord addr))) h told bad = absurd h
+bad_status tells head image records written now (Err (stops.Device device.Memory)) h told bad = absurd (h.0 told bad)
 
--- over any other it is 0, unless something failed or no memory was given
-pub complete_seizure : (tells : Type 0) (head : ℕ) (image : Image) (before now : Counts) (written written_now : Option (List ℕ)) (ending : Ending) → Seizes tells head image written written_now ending
-    → IfErr ending (HasCause before now) → tells → (IsBadCell head image.cell → ⊥) → NoneRose before now → (status_at ending ≡ 0) ⊎ (status_at ending ≡ 11)
-complete_seizure tells head image before now written written_now (Ok done) h cause told good quiet = inl refl
-complete_seizure tells head image before now written written_now (Err stops.Source) h cause told good quiet = absurd h
-complete_seizure tells head image before now written written_now (Err stops.Sink) h cause told good quiet = absurd (quiet.output cause)
-complete_seizure tells head image before now written written_now (Err stops.Limit) h cause told good quiet = absurd h
-complete_seizure tells head image before now written written_now (Err (stops.Device device.Platform)) h cause told good quiet = absurd (quiet.platform cause)
-complete_seizure tells head image before now written written_now (Err (stops.Device device.Tape)) h cause told good quiet = absurd h
-complete_seizure tells head image before now written written_now (Err (stops.Device device.Ledger)) h cause told good quiet = absurd h
-complete_seizure tells head image before now written written_now (Err (stops.Device device.BadRoot)) h cause told good quiet = absurd (good (h.0 told))
-complete_seizure tells head image before now written written_now (Err (stops.Device (device.BadRecord addr))) h cause told good quiet = absurd h
-complete_seizure tells head image before now written written_now (Err (stops.Device device.Memory)) h cause told good quiet = inr refl
+-- else it is 0, unless something failed or no memory was given
+pub complete_seizure : (tells : Type 0) (head : ℕ) (image : Image) (records : List (List ℕ)) (before now : Counts) (written written_now : Option (List ℕ)) (ending : Ending) → Seizes tells head image records written written_now ending
+    → IfErr ending (HasCause before now) → tells → (IsRefused head image records → ⊥) → NoneRose before now → (status_at ending ≡ 0) ⊎ (status_at ending ≡ 11)
+complete_seizure tells head image records before now written written_now (Ok done) h cause told good quiet = inl refl
+complete_seizure tells head image records before now written written_now (Err stops.Source) h cause told good quiet = absurd h
+complete_seizure tells head image records before now written written_now (Err stops.Sink) h cause told good quiet = absurd (quiet.output cause)
+complete_seizure tells head image records before now written written_now (Err stops.Limit) h cause told good quiet = absurd h
+complete_seizure tells head image records before now written written_now (Err (stops.Device device.Platform)) h cause told good quiet = absurd (quiet.platform cause)
+complete_seizure tells head image records before now written written_now (Err (stops.Device device.Tape)) h cause told good quiet = absurd h
+complete_seizure tells head image records before now written written_now (Err (stops.Device device.Ledger)) h cause told good quiet = absurd h
+complete_seizure tells head image records before now written written_now (Err (stops.Device device.BadRoot)) h cause told good quiet = absurd (good (h.0 told))
+complete_seizure tells head image records before now written written_now (Err (stops.Device (device.BadRecord addr))) h cause told good quiet = absurd h
+complete_seizure tells head image records before now written written_now (Err (stops.Device device.Memory)) h cause told good quiet = inr refl
 
 -- ---- what was put
 
@@ -169,24 +181,24 @@ no_record R addr (inr (inl e)) = cc
 no_record R addr (inr (inr (e, r))) = cc
 
 -- its last line was put, if it has one
-pub stopped_whole : (tells : Type 0) (head : ℕ) (image : Image) (written written_now : Option (List ℕ)) (stop : DeviceStop) (R : Type 0)
-    → (tells → stop ≡ device.BadRoot → IsBadCell head image.cell) → (tells → stop ≡ device.Memory → IsBadCell head image.cell → ⊥) → IsWhy stop R
-    → Got written (damage_line stop) written_now → Seizes tells head image written written_now (Err (stops.Device stop))
+pub stopped_whole : (tells : Type 0) (head : ℕ) (image : Image) (records : List (List ℕ)) (written written_now : Option (List ℕ)) (stop : DeviceStop) (R : Type 0)
+    → (tells → stop ≡ device.BadRoot → IsRefused head image records) → (tells → stop ≡ device.Memory → IsRefused head image records → ⊥) → IsWhy stop R
+    → Got written (damage_line stop) written_now → Seizes tells head image records written written_now (Err (stops.Device stop))
 unfolding damage_line
-stopped_whole tells head image written now device.BadRoot R bad memory why got = (λ told. bad told refl, got)
-stopped_whole tells head image written now device.Memory R bad memory why got = (λ told cell. memory told refl cell, got_none written now got)
-stopped_whole tells head image written now device.Platform R bad memory why got = got_none written now got
-stopped_whole tells head image written now device.Tape R bad memory why got = absurd (no_tape R why)
-stopped_whole tells head image written now device.Ledger R bad memory why got = absurd (no_ledger R why)
-stopped_whole tells head image written now (device.BadRecord addr) R bad memory why got = absurd (no_record R addr why)
+stopped_whole tells head image records written now device.BadRoot R bad memory why got = (λ told. bad told refl, got)
+stopped_whole tells head image records written now device.Memory R bad memory why got = (λ told cell. memory told refl cell, got_none written now got)
+stopped_whole tells head image records written now device.Platform R bad memory why got = got_none written now got
+stopped_whole tells head image records written now device.Tape R bad memory why got = absurd (no_tape R why)
+stopped_whole tells head image records written now device.Ledger R bad memory why got = absurd (no_ledger R why)
+stopped_whole tells head image records written now (device.BadRecord addr) R bad memory why got = absurd (no_record R addr why)
 
 -- or not whole
-pub stopped_part : (tells : Type 0) (head : ℕ) (image : Image) (written written_now : Option (List ℕ)) (stop : DeviceStop) (R : Type 0)
-    → (tells → stop ≡ device.BadRoot → IsBadCell head image.cell) → IsWhy stop R → (IsSound stop → ⊥)
-    → GotPart written (damage_line stop) written_now → Seizes tells head image written written_now (Err stops.Sink)
-stopped_part tells head image written now device.BadRoot R bad why unsound part = inr (λ told. bad told refl, part)
-stopped_part tells head image written now device.Memory R bad why unsound part = absurd (unsound tt)
-stopped_part tells head image written now device.Platform R bad why unsound part = absurd (unsound tt)
-stopped_part tells head image written now device.Tape R bad why unsound part = absurd (unsound tt)
-stopped_part tells head image written now device.Ledger R bad why unsound part = absurd (unsound tt)
-stopped_part tells head image written now (device.BadRecord addr) R bad why unsound part = absurd (no_record R addr why)
+pub stopped_part : (tells : Type 0) (head : ℕ) (image : Image) (records : List (List ℕ)) (written written_now : Option (List ℕ)) (stop : DeviceStop) (R : Type 0)
+    → (tells → stop ≡ device.BadRoot → IsRefused head image records) → IsWhy stop R → (IsSound stop → ⊥)
+    → GotPart written (damage_line stop) written_now → Seizes tells head image records written written_now (Err stops.Sink)
+stopped_part tells head image records written now device.BadRoot R bad why unsound part = inr (λ told. bad told refl, part)
+stopped_part tells head image records written now device.Memory R bad why unsound part = absurd (unsound tt)
+stopped_part tells head image records written now device.Platform R bad why unsound part = absurd (unsound tt)
+stopped_part tells head image records written now device.Tape R bad why unsound part = absurd (unsound tt)
+stopped_part tells head image records written now device.Ledger R bad why unsound part = absurd (unsound tt)
+stopped_part tells head image records written now (device.BadRecord addr) R bad why unsound part = absurd (no_record R addr why)

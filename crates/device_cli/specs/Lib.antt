@@ -1,3 +1,4 @@
+pub mod Given
 pub mod Words
 pub mod Checks
 pub mod Seizing

@@ -8,6 +8,7 @@ use Rattle.page_store.specs.Roots.{IsBadCell}
 use Rattle.seizure.specs.declared.opened.Opened.{Opened}
 use Rattle.seizure.specs.Opened.{count_of_kind}
 use Rattle.seizure.specs.Report.{Seized, IsSeizure, Begins}
+use Rattle.device_cli.specs.Given.{AreGiven, HasBadRecord}
 use Rattle.device_cli.specs.Replied.{Ending, damage_line}
 use Rattle.device_cli.specs.Run.{Counts, NoneRose, status_of}
 use Rattle.device_cli.specs.declared.stop.DeviceStop.TheVariants as device
@@ -39,30 +40,39 @@ abbrev pub IsReport : ℕ → Image → List (List ℕ) → Seized → Type 0
 IsReport head image keys seized =
     (roots : List (List ℕ)) × Begins head image.cell keys roots × IsSeizure roots image.readable seized
 
--- the text of the report was put; or the cell can't be seized, and the line that says so was put; or, where the output failed, a first part of
--- the one or the other; or nothing was, and without memory only where the cell can be seized
-abbrev pub Seizes : Type 0 → ℕ → Image → Option (List ℕ) → Option (List ℕ) → Ending → Type 0
-Seizes tells head image written written_now (Ok done) =
-    (seized : Seized) × (tells → IsReport head image [] seized) × Got written (report_text seized) written_now
-Seizes tells head image written written_now (Err (stops.Device device.BadRoot)) =
-    (tells → IsBadCell head image.cell) × Got written (damage_line device.BadRoot) written_now
-Seizes tells head image written written_now (Err stops.Sink) =
-    ((seized : Seized) × (tells → IsReport head image [] seized) × GotPart written (report_text seized) written_now)
-    ⊎ ((tells → IsBadCell head image.cell) × GotPart written (damage_line device.BadRoot) written_now)
-Seizes tells head image written written_now (Err (stops.Device device.Platform)) = written_now ≡ written
-Seizes tells head image written written_now (Err (stops.Device device.Memory)) =
-    (tells → IsBadCell head image.cell → ⊥) × (written_now ≡ written)
-Seizes tells head image written written_now (Err _) = ⊥
+-- the same with the keys of the root records that these words are
+abbrev pub IsReportOf : Type 0 → ℕ → Image → List (List ℕ) → Seized → Type 0
+IsReportOf tells head image records seized =
+    (keys : List (List ℕ)) × AreGiven head records keys × (tells → IsReport head image keys seized)
+
+-- the cell can't be seized, or one of these words is no root record of a root within the pages that there are
+abbrev pub IsRefused : ℕ → Image → List (List ℕ) → Type 0
+IsRefused head image records = IsBadCell head image.cell ⊎ HasBadRecord head records
+
+-- the text of the report was put; or the seizure is refused, and the line that says so was put; or, where the output failed, a first part of
+-- the one or the other; or nothing was, and without memory only where it isn't refused
+abbrev pub Seizes : Type 0 → ℕ → Image → List (List ℕ) → Option (List ℕ) → Option (List ℕ) → Ending → Type 0
+Seizes tells head image records written written_now (Ok done) =
+    (seized : Seized) × IsReportOf tells head image records seized × Got written (report_text seized) written_now
+Seizes tells head image records written written_now (Err (stops.Device device.BadRoot)) =
+    (tells → IsRefused head image records) × Got written (damage_line device.BadRoot) written_now
+Seizes tells head image records written written_now (Err stops.Sink) =
+    ((seized : Seized) × IsReportOf tells head image records seized × GotPart written (report_text seized) written_now)
+    ⊎ ((tells → IsRefused head image records) × GotPart written (damage_line device.BadRoot) written_now)
+Seizes tells head image records written written_now (Err (stops.Device device.Platform)) = written_now ≡ written
+Seizes tells head image records written written_now (Err (stops.Device device.Memory)) =
+    (tells → IsRefused head image records → ⊥) × (written_now ≡ written)
+Seizes tells head image records written written_now (Err _) = ⊥
 
 -- its exit status
 abbrev pub status_at : Ending → ℕ
 status_at (Ok done) = 0
 status_at (Err stop) = status_of stop
 
--- a seizure: no key is drawn, nothing taken, no entry put, no page added, and the image is as it was at each moment; it ends so, with this status: 8
--- exactly where the cell is full, and not with the root record of a root within the pages, unless that could not be told or not be said; and else 0,
--- unless something failed or no memory was given
-pub record Seizing {T I L : Type 0} (tells : Type 0) (tape tape_now : T) (input input_now : I) (ledger ledger_now : L) (head head_now : ℕ) (old new : History) (before now : Counts) (status : ℕ) (written written_now : Option (List ℕ)) : Type 0 where
+-- a seizure with the root records that these words are: no key is drawn, nothing taken, no entry put, no page added, and the image is as it was at
+-- each moment; it ends so, with this status: 8 exactly where the cell is full, and not with the root record of a root within the pages, or a
+-- word is none, unless that could not be told or not be said; and else 0, unless something failed or no memory was given
+pub record Seizing {T I L : Type 0} (tells : Type 0) (records : List (List ℕ)) (tape tape_now : T) (input input_now : I) (ledger ledger_now : L) (head head_now : ℕ) (old new : History) (before now : Counts) (status : ℕ) (written written_now : Option (List ℕ)) : Type 0 where
   pub undrawn : tape_now ≡ tape
   pub untaken : input_now ≡ input
   pub unput : ledger_now ≡ ledger
@@ -70,6 +80,6 @@ pub record Seizing {T I L : Type 0} (tells : Type 0) (tape tape_now : T) (input 
   pub image : tells → During old new (λ image. image ≡ old.present)
   pub ending : Ending
   pub status_is : status ≡ status_at ending
-  pub seizes : Seizes tells head old.present written written_now ending
-  pub bad_root : tells → IsBadCell head old.present.cell → (status ≡ 8) ⊎ (status ≡ 4) ⊎ (status ≡ 5)
-  pub complete : tells → (IsBadCell head old.present.cell → ⊥) → NoneRose before now → (status ≡ 0) ⊎ (status ≡ 11)
+  pub seizes : Seizes tells head old.present records written written_now ending
+  pub bad_root : tells → IsRefused head old.present records → (status ≡ 8) ⊎ (status ≡ 4) ⊎ (status ≡ 5)
+  pub complete : tells → (IsRefused head old.present records → ⊥) → NoneRose before now → (status ≡ 0) ⊎ (status ≡ 11)

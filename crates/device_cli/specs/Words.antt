@@ -1,5 +1,6 @@
 -- The words of a command line.
-use Rattle.std.specs.Prelude.{◌≡◌, ◌⊎◌, ℕ, List, [], ◌∷◌, codes, Option, None, Some}
+use Rattle.std.specs.Prelude.{◌≡◌, ◌⊎◌, ℕ, List, [], ◌∷◌, codes, drop, Option, None, Some}
+use Rattle.device_cli.specs.Given.{AreRecordWords}
 use Rattle.device_cli.specs.declared.words.Order.{Order}
 use Rattle.device_cli.specs.declared.words.Order.TheVariants as orders
 
@@ -15,11 +16,14 @@ AreCheckWords [] = ⊥
 AreCheckWords (word ∷ []) = word ≡ codes "check"
 AreCheckWords (word ∷ next ∷ words) = ⊥
 
--- the one word `seize`
+-- the word `seize`, and behind it at most 64 words of 256 hex digits each
 abbrev pub AreSeizeWords : List (List ℕ) → Type 0
 AreSeizeWords [] = ⊥
-AreSeizeWords (word ∷ []) = word ≡ codes "seize"
-AreSeizeWords (word ∷ next ∷ words) = ⊥
+AreSeizeWords (word ∷ records) = (word ≡ codes "seize") × AreRecordWords records
+
+-- the words behind the first one: root records behind `seize`, and none behind `run` and `check`
+abbrev pub records_of : List (List ℕ) → List (List ℕ)
+records_of words = drop 1 words
 
 -- a form whose work is over a device that is served
 abbrev pub AreServingWords : List (List ℕ) → Type 0

@@ -6,7 +6,8 @@
 ghost use Rattle.std.specs.Prelude.{◌≡◌, ◌≤◌, ℕ, List, Option, None, ◌↔◌, ◌⊎◌, map, string_bytes};
 ghost use Rattle.sdbt_base.specs.Faults.{Rose};
 ghost use Rattle.sdbt_base.specs.Told.{Gave};
-ghost use Rattle.device_cli.specs.Words.{AreRunWords, AreCheckWords, AreSeizeWords, AreServingWords, AreWords};
+ghost use Rattle.device_cli.specs.Words.{AreRunWords, AreCheckWords, AreSeizeWords, AreServingWords, AreWords, records_of};
+ghost use Rattle.device_cli.specs.Given.{HasBadRecord};
 ghost use Rattle.device_cli.specs.Checks.{Checked};
 ghost use Rattle.device_cli.specs.Seizing.{Seizing};
 ghost use Rattle.platform.specs.History.{During};
@@ -25,6 +26,7 @@ ghost use Rattle.device_cli.specs.Run.{IsStatus, Took, NoneFell, NoneRose, count
 mod checking;
 mod desk;
 mod entry;
+mod given;
 mod pending;
 mod run;
 mod seizing;
@@ -38,7 +40,7 @@ use run::run;
 use sdbt_base::{Sink, Source, Tape};
 use seizing::seize_word;
 use std::alloc::Global;
-use words::{Order, order_of};
+use words::{Order, order_of, records_of};
 
 /// Serves what the words ask for, and answers the exit status.
 ///
@@ -46,9 +48,10 @@ use words::{Order, order_of};
 /// taken, and one reply put to `output` for each line. `ledger` gets an entry before each format and each commit of changes is done:
 /// a certificate, which says what it adds and what it deletes. With `check` it judges the ledger that `input` gives for the root record
 /// in the cell, and puts one line. With `seize` it takes nothing, and puts a line for each body that the root record in the cell opens,
-/// and one with their numbers. Statuses: 0, the input was served to its end, the ledger is accepted, or the seizure is told; 2, other words; 3 to 7, `input`,
-/// `output`, the platform, the tape or `ledger` failed; 8, the root cell is full and its root record can't be served; 9, a record was
-/// not what the tree wants there; 10, the ledger is refused, or there is no device to check it for; 11, no memory; 12, the limit of 2^32
+/// and one with their numbers; behind that word come up to 64 earlier root records of 256 hex digits each, and what they open is told too.
+/// Statuses: 0, the input was served to its end, the ledger is accepted, or the seizure is told; 2, other words; 3 to 7, `input`,
+/// `output`, the platform, the tape or `ledger` failed; 8, the root cell is full and its root record can't be served, or one in the words
+/// is none of a device with at most the pages that there are; 9, a record was not what the tree wants there; 10, the ledger is refused, or there is no device to check it for; 11, no memory; 12, the limit of 2^32
 /// bytes of input was reached.
 pub fn run_main<P: Platform, T: Tape, I: Source, O: Sink, L: Sink>(
     alloc: Global,
@@ -73,8 +76,9 @@ pub fn run_main<P: Platform, T: Tape, I: Source, O: Sink, L: Sink>(
         (counts (P.faults platform.old) (T.faults tape.old) (I.faults input.old) (O.faults output.old) (L.faults ledger.old))
         (counts (P.faults platform.new) (T.faults tape.new) (I.faults input.new) (O.faults output.new) (L.faults ledger.new)) }
 
-    // 8 only where the cell at the start is full and can't be served; for a run and a check exactly there, unless that could not be told or not be said.
-    ensures bad_root_only { P.tells → result ≡ 8 → IsServedImage (P.history platform.old).present → ⊥ }
+    // 8 only where the cell at the start is full and can't be served, or a root record in the words behind the first is none; for a run and a check exactly
+    // at such a cell, unless that could not be told or not be said.
+    ensures bad_root_only { P.tells → result ≡ 8 → IsServedImage (P.history platform.old).present → HasBadRecord (P.head platform.old) (records_of (map string_bytes words.now)) }
     ensures bad_root { P.tells → (IsServedImage (P.history platform.old).present → ⊥) → AreServingWords (map string_bytes words.now)
         → (result ≡ 8) ⊎ (result ≡ 4) ⊎ (result ≡ 5) }
     // At 8 all is as it was but for the line that says so, and at 2 all is.
@@ -129,9 +133,10 @@ pub fn run_main<P: Platform, T: Tape, I: Source, O: Sink, L: Sink>(
         (counts (P.faults platform.new) (T.faults tape.new) (I.faults input.new) (O.faults output.new) (L.faults ledger.new))
         result (I.left input.old) (I.left input.new) (O.written output.old) (O.written output.new) }
 
-    // With the word `seize`, 0 only with exactly the bodies at which a chain of opening from the key in the cell ends, over what a read gives of each page;
-    // 8 exactly where the cell is full, and not with the root record of a root within the pages, unless that could not be told or not be said.
-    ensures seizing { AreSeizeWords (map string_bytes words.now) → Seizing P.tells tape.old tape.new input.old input.new ledger.old ledger.new
+    // With the word `seize`, 0 only with exactly the bodies at which a chain of opening from the key in the cell, or from that of a root record in the words
+    // behind, ends, over what a read gives of each page; 8 exactly where the cell is full, and not with the root record of a root within the pages, or a
+    // word behind is none, unless that could not be told or not be said.
+    ensures seizing { AreSeizeWords (map string_bytes words.now) → Seizing P.tells (records_of (map string_bytes words.now)) tape.old tape.new input.old input.new ledger.old ledger.new
         (P.head platform.old) (P.head platform.new) (P.history platform.old) (P.history platform.new)
         (counts (P.faults platform.old) (T.faults tape.old) (I.faults input.old) (O.faults output.old) (L.faults ledger.old))
         (counts (P.faults platform.new) (T.faults tape.new) (I.faults input.new) (O.faults output.new) (L.faults ledger.new))
@@ -146,7 +151,7 @@ pub fn run_main<P: Platform, T: Tape, I: Source, O: Sink, L: Sink>(
             Ok(finding) => finding.status(),
             Err(stop) => stop.status(),
         },
-        Some(Order::Seize) => match seize_word(alloc, platform, output) {
+        Some(Order::Seize) => match seize_word(alloc, records_of(words), platform, output) {
             Ok(()) => 0,
             Err(stop) => stop.status(),
         },

@@ -1,21 +1,23 @@
 //! The word `seize`: tells what an adversary would open now.
-ghost use Rattle.std.specs.Prelude.{◌≡◌, ◌≤◌, ◌⊎◌, [], IfErr, IfOk, OnOk, IsErrOf, flat_map};
+ghost use Rattle.std.specs.Prelude.{◌≡◌, ◌≤◌, ◌⊎◌, IfErr, IfOk, OnOk, IsErrOf, flat_map, length, map, string_bytes};
 ghost use Rattle.sdbt_base.specs.Faults.{Rose};
 ghost use Rattle.platform.specs.History.{Steps};
 ghost use Rattle.page_store.specs.Roots.{IsBadCell};
 ghost use Rattle.seizure.specs.Looks.{Looks};
 ghost use Rattle.device_cli.specs.Run.{counts, IsBlamedOn};
 ghost use Rattle.device_cli.specs.Replied.{HasPut};
-ghost use Rattle.device_cli.specs.Seizing.{IsReport, Seizes, opened_line, counts_line, report_text};
+ghost use Rattle.device_cli.specs.Seizing.{IsReport, IsReportOf, IsRefused, Seizes, opened_line, counts_line, report_text};
 
+use crate::given::keys_given;
 use crate::run::last_line;
 use crate::stop::{DeviceStop, Stop};
 use crate::texts::push_text;
 use arrayvec::ArrayVec;
+use key_graph::KeyList;
 use page_store::{CurrentRefusal, current};
 use platform::Platform;
-use sdbt_base::Sink;
-use seizure::{Opened, Report, SeizeRefusal, seize};
+use sdbt_base::{Key, Memory, Sink};
+use seizure::{Opened, Report, SeizeRefusal, seize_all};
 use std::alloc::Global;
 
 /// The kind byte of a data record.
@@ -24,14 +26,17 @@ const DATA: u8 = 1;
 /// The kind byte of a node.
 const NODE: u8 = 2;
 
-/// Puts what the root record in the cell opens now: a line for each body, and one with their numbers. Where the cell is
-/// full, and not with the root record of a root within the pages that there are, one line says so.
+/// Puts what the root record in the cell and those that the words are open now: a line for each body, and one with their
+/// numbers. Where the cell is full, and not with the root record of a root within the pages that there are, or a word is
+/// none, one line says so.
 pub(crate) fn seize_word<P: Platform, O: Sink>(
     alloc: Global,
+    records: &[String],
     platform: &mut P,
     output: &mut O,
 ) -> Result<(), Stop>
-    ensures seizes { Seizes P.tells (P.head platform.old) (P.history platform.old).present (O.written output.old) (O.written output.new) result }
+    requires { length records.now ≤ 64 }
+    ensures seizes { Seizes P.tells (P.head platform.old) (P.history platform.old).present (map string_bytes records.now) (O.written output.old) (O.written output.new) result }
     ensures blame { IsBlamedOn (counts (P.faults platform.old) 0 0 (O.faults output.old) 0)
         (counts (P.faults platform.new) 0 0 (O.faults output.new) 0) result }
     ensures image { P.tells → (P.history platform.new).present ≡ (P.history platform.old).present }
@@ -39,30 +44,69 @@ pub(crate) fn seize_word<P: Platform, O: Sink>(
     ensures head { P.head platform.new ≡ P.head platform.old }
     ensures capacity { P.capacity platform.new ≡ P.capacity platform.old }
 {
-    match find(alloc, platform) {
+    match find(alloc, records, platform) {
         Ok(report) => put_report(&report, output),
         Err(stop) => Err(last_line(stop, output)),
     }
 }
 
-/// What the root record in the cell opens now.
-fn find<P: Platform>(alloc: Global, platform: &mut P) -> Result<Report, DeviceStop>
-    ensures found { P.tells → IfOk result (IsReport (P.head platform.old) (P.history platform.old).present []) }
+/// What the root record in the cell and those that the words are open now. The cell is looked at first, and no page is
+/// read where it or a word is refused.
+fn find<P: Platform>(
+    alloc: Global,
+    records: &[String],
+    platform: &mut P,
+) -> Result<Report, DeviceStop>
+    requires { length records.now ≤ 64 }
+    ensures found { IfOk result (IsReportOf P.tells (P.head platform.old) (P.history platform.old).present (map string_bytes records.now)) }
     ensures bad_root { P.tells → IsErrOf result DeviceStop.BadRoot →
-        IsBadCell (P.head platform.old) (P.history platform.old).present.cell }
+        IsRefused (P.head platform.old) (P.history platform.old).present (map string_bytes records.now) }
     ensures memory { P.tells → IsErrOf result DeviceStop.Memory →
-        IsBadCell (P.head platform.old) (P.history platform.old).present.cell → ⊥ }
+        IsRefused (P.head platform.old) (P.history platform.old).present (map string_bytes records.now) → ⊥ }
     ensures stops { IfErr result (λ stop. (stop ≡ DeviceStop.BadRoot) ⊎ (stop ≡ DeviceStop.Memory)
         ⊎ ((stop ≡ DeviceStop.Platform) × Rose (P.faults platform.old) (P.faults platform.new))) }
     ensures looks { Looks P.Platform platform.old platform.new }
 {
     check_root(platform)?;
-    match seize(alloc, platform) {
+    match keys_given(records, platform.head()) {
+        Some(keys) => open_all(alloc, keys.as_slice(), platform),
+        None => Err(DeviceStop::BadRoot),
+    }
+}
+
+/// What the root record in the cell and these keys open now.
+fn open_all<P: Platform>(
+    alloc: Global,
+    keys: &[Key],
+    platform: &mut P,
+) -> Result<Report, DeviceStop>
+    ensures found { P.tells → IfOk result (IsReport (P.head platform.old) (P.history platform.old).present keys.now) }
+    ensures bad_root { P.tells → IsErrOf result DeviceStop.BadRoot →
+        IsBadCell (P.head platform.old) (P.history platform.old).present.cell }
+    ensures stops { IfErr result (λ stop. (stop ≡ DeviceStop.BadRoot) ⊎ (stop ≡ DeviceStop.Memory)
+        ⊎ ((stop ≡ DeviceStop.Platform) × Rose (P.faults platform.old) (P.faults platform.new))) }
+    ensures looks { Looks P.Platform platform.old platform.new }
+{
+    let Ok(keys) = listed(alloc, keys) else {
+        return Err(DeviceStop::Memory);
+    };
+    match seize_all(alloc, platform, &keys) {
         Ok(report) => Ok(report),
         Err(SeizeRefusal::BadRoot) => Err(DeviceStop::BadRoot),
         Err(SeizeRefusal::PlatformFault) => Err(DeviceStop::Platform),
         Err(SeizeRefusal::Memory) => Err(DeviceStop::Memory),
     }
+}
+
+/// A list of these keys.
+fn listed(alloc: Global, keys: &[Key]) -> Result<KeyList, Memory>
+    ensures { IfOk result (λ list. list ≡ keys.now) }
+{
+    let mut list = KeyList::new(alloc);
+    for key in keys {
+        list.push(*key)?;
+    }
+    Ok(list)
 }
 
 /// Refuses a cell that is full, and not with the root record of a root within the pages that there are.

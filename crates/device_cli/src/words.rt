@@ -1,6 +1,8 @@
 //! The words of the command line.
-ghost use Rattle.std.specs.Prelude.{◌∷◌, [], map, string_bytes};
-ghost use Rattle.device_cli.specs.Words.{Asks};
+ghost use Rattle.std.specs.Prelude.{◌≡◌, ◌∷◌, map, string_bytes};
+ghost use Rattle.device_cli.specs.Words.{Asks, records_of};
+
+use crate::given::are_record_words;
 
 /// What the words of a command line ask for.
 #[derive(Clone, Copy, Debug, PartialEq, Eq)]
@@ -9,7 +11,7 @@ pub(crate) enum Order {
     Run,
     /// To judge the ledger that the input gives.
     Check,
-    /// To tell what the root record in the cell opens.
+    /// To tell what the root record in the cell opens, and those given in the words behind the first.
     Seize,
 }
 
@@ -19,24 +21,40 @@ pub(crate) fn order_of(words: &[String]) -> Option<Order>
 {
     match words {
         [] => Some(Order::Run),
-        [word] => order_named(word),
-        _ => None,
+        [word, behind @ ..] => order_named(word, behind),
     }
 }
 
-/// What one word asks for.
-fn order_named(word: &String) -> Option<Order>
-    ensures { Asks (string_bytes word.now ∷ []) result }
+/// What a word asks for, with these words behind it.
+fn order_named(word: &String, behind: &[String]) -> Option<Order>
+    ensures { Asks (string_bytes word.now ∷ map string_bytes behind.now) result }
 {
     let word = word.as_bytes();
+    if word == b"seize".as_slice() {
+        return if are_record_words(behind) {
+            Some(Order::Seize)
+        } else {
+            None
+        };
+    }
+    if !behind.is_empty() {
+        return None;
+    }
     if word == b"run".as_slice() {
         return Some(Order::Run);
     }
     if word == b"check".as_slice() {
         return Some(Order::Check);
     }
-    if word == b"seize".as_slice() {
-        return Some(Order::Seize);
-    }
     None
+}
+
+/// The words behind the first one.
+pub(crate) fn records_of(words: &[String]) -> &[String]
+    ensures { map string_bytes result.now ≡ records_of (map string_bytes words.now) }
+{
+    match words {
+        [] => words,
+        [_, behind @ ..] => behind,
+    }
 }

@@ -18,4 +18,6 @@ mod reached_pages;
 #[cfg(test)]
 mod run;
 #[cfg(test)]
+mod seizures;
+#[cfg(test)]
 mod several_runs;

@@ -7,14 +7,17 @@
 mod ledger;
 mod not_ready;
 mod texts;
+mod watched;
 
 use crate::not_ready::{NotReady, RANDOM};
 use crate::texts::{HELP, USAGE, VERSION, failure_of};
+use crate::watched::Watched;
 use device_cli::run_main;
 use key_tape::{SeedTape, SourceTape};
 use platform::{FilePlatform, LockFile, MemPlatform};
 use sdbt_base::{MemSink, ReadSource, Sink, WriteSink};
 use std::alloc::Global;
+use std::io::IsTerminal;
 use std::process::ExitCode;
 use std::rt::{Env, Files};
 use std::{env, fs, io};
@@ -35,15 +38,15 @@ const OUTPUT_FAULT: u8 = 4;
 const NO_MEMORY: u8 = 11;
 
 fn main(rt: HostRuntime) -> ExitCode {
-    let status = serve(&rt);
+    let status = serve(&rt, rt.stderr().is_terminal());
     if let Some(failure) = failure_of(status) {
         let _ = eprint!(rt; "{failure}");
     }
     ExitCode::from(status)
 }
 
-/// Does what the command line asks for. The answer is the exit status.
-fn serve<R>(rt: &R) -> u8
+/// Does what the command line asks for, with standard error at a terminal or not. The answer is the exit status.
+fn serve<R>(rt: &R, at_terminal: bool) -> u8
 where
     R: Env + Files + Alloc<A = Global> + Input + Print + Eprint + Clone + Drop,
     R::File: LockFile,
@@ -61,11 +64,11 @@ where
             "--version" => print(rt, &[VERSION]),
             "--root" => match others {
                 [cell, folder, others @ ..] if folder.as_str() != "-" => {
-                    serve_folders(rt, cell.as_str(), folder.as_str(), others)
+                    serve_folders(rt, at_terminal, cell.as_str(), folder.as_str(), others)
                 }
                 _ => FAULTY,
             },
-            folder => serve_folders(rt, folder, folder, others),
+            folder => serve_folders(rt, at_terminal, folder, folder, others),
         },
     }
 }
@@ -114,12 +117,12 @@ fn serve_memory(rt: &(impl Alloc<A = Global> + Input + Print), words: &[String])
 
 /// Serves the script on standard input over a device whose root record is in the folder `cell`, and its medium in
 /// `folder`. What is not ready is said on standard error.
-fn serve_folders<R>(rt: &R, cell: &str, folder: &str, words: &[String]) -> u8
+fn serve_folders<R>(rt: &R, at_terminal: bool, cell: &str, folder: &str, words: &[String]) -> u8
 where
     R: Files + Alloc<A = Global> + Input + Print + Eprint + Clone + Drop,
     R::File: LockFile,
 {
-    match run_in_folders(rt, cell, folder, words) {
+    match run_in_folders(rt, at_terminal, cell, folder, words) {
         Ok(status) => status,
         Err(not_ready) if not_ready.is_memory() => NO_MEMORY,
         Err(not_ready) => {
@@ -131,12 +134,20 @@ where
 
 /// Serves the script over folders. It is refused before the words are looked at where a folder, a file in it or the
 /// random source can't be made ready. The platform has its locks from before anything is changed until the run has ended.
-fn run_in_folders<R>(rt: &R, cell: &str, folder: &str, words: &[String]) -> Result<u8, NotReady>
+fn run_in_folders<R>(
+    rt: &R,
+    at_terminal: bool,
+    cell: &str,
+    folder: &str,
+    words: &[String],
+) -> Result<u8, NotReady>
 where
-    R: Files + Alloc<A = Global> + Input + Print + Clone + Drop,
+    R: Files + Alloc<A = Global> + Input + Print + Eprint + Clone + Drop,
     R::File: LockFile,
 {
-    let mut platform = FilePlatform::open_apart(rt.clone()?, cell, folder)?;
+    let platform = FilePlatform::open_apart(rt.clone()?, cell, folder)?;
+    let is_seizure = words.first().is_some_and(|word| word.as_str() == "seize");
+    let mut platform = Watched::new(platform, rt, at_terminal && is_seizure);
     let random = fs::open(rt, RANDOM).map_err(NotReady::Keys)?;
     let mut tape = SourceTape::new(ReadSource::new(random));
     let ledger = ledger::open(rt, folder).map_err(NotReady::Ledger)?;

@@ -1,7 +1,7 @@
 //! The texts that the program prints beside the replies of a script. The manual page is made from the help.
 
 /// How the program is called, in one line.
-pub const USAGE: &str = "usage: sdbt [(- | [--root CELL] FOLDER) [run | check | seize]]\n";
+pub const USAGE: &str = "usage: sdbt [(- | [--root CELL] FOLDER) [run | check | seize [HEX..]]]\n";
 
 /// The help behind the usage. Headings stand alone in capitals, and a line of a list has its term, two spaces or
 /// more, and what is said of it.
@@ -21,6 +21,8 @@ WORDS
                accepted commit C live L deleted D, or refused rule N value V, or refused no device
   seize        shows what whoever has the root record and all pages can open now: open A block N or
                open A node, a line for each page, and then seized pages P nodes X blocks Y
+  seize HEX..  shows what can be opened with earlier root records too: at most 64, each of 256 hex
+               digits, of either case
   -h, --help   prints this text
   --version    prints the version
 
@@ -48,7 +50,7 @@ STATUS
   5   the medium failed, or the store of the root record
   6   the source of keys failed
   7   the ledger failed
-  8   the root record is none that can be served
+  8   the root record, or one behind seize, is none that can be served
   9   a page does not hold the record that is wanted there
   10  the ledger is refused, or there is no device
   11  no memory was given

@@ -1,4 +1,4 @@
-use Rattle.std.proofs.Common.{◌≡◌, ◌⊎◌, [], Result, Ok, Err, None, ℕ, refl, sym, subst, arith, ◌∙◌}
+use Rattle.std.proofs.Common.{◌≡◌, ◌≤◌, ◌⊎◌, length, [], Result, Ok, Err, None, ℕ, refl, sym, subst, arith, ◌∙◌}
 use Rattle.sdbt_base.specs.Arrays.{closed}
 use Rattle.device_cli.specs.World.{World, world, world_of}
 use Rattle.device_cli.specs.Ran.{AnswersScript}
@@ -23,11 +23,15 @@ use Rattle.device_course.proofs.MadeLaws.{shut, made_start}
 use Rattle.std.proofs.Common.{List, Option}
 use Rattle.sdbt_base.specs.Told.{Got}
 use Rattle.platform.specs.Image.{Image}
-use Rattle.page_store.specs.Roots.{IsBadCell}
 use Rattle.device_core.specs.Leaf.{IsServedCell}
 use Rattle.device_cli.specs.Replied.{Ending, damage_line}
-use Rattle.device_cli.specs.Seizing.{Seizes}
-use Rattle.device_cli.proofs.SeizeWordLaws.{not_bad, blame_of_two, at_eight, bad_status, complete_seizure}
+use Rattle.device_cli.specs.Seizing.{IsRefused, Seizes}
+use Rattle.device_cli.specs.Given.{HasBadRecord}
+use Rattle.device_cli.specs.Words.{AreSeizeWords, records_of}
+use Rattle.std.specs.Prelude.{map, string_bytes}
+use Rattle.std.proofs.lemmas.List.{length-map}
+use Rattle.device_cli.proofs.GivenLaws.{few_records}
+use Rattle.device_cli.proofs.SeizeWordLaws.{only_word, blame_of_two, at_eight, bad_status, complete_seizure}
 use Rattle.device_cli.proofs.run_main.Goals as goal
 
 -- a run that was stopped has another status than 0
@@ -286,6 +290,12 @@ returns-in-Err-check-clause-seizes g c = seizes_maps _ _ _ _ _ (returns-in-Err-c
 
 -- ---- a seizure
 
+pub seize_word-requires : goal.seize_word-requires
+seize_word-requires g c =
+    let asked : AreSeizeWords (map string_bytes c.args.words.now) = rw c.in-Some-Seize.field-0-is at c.in-Some-Seize.ensures in
+    let few = subst (λ (words : List (List ℕ)). length words ≤ 64) (sym c.records_of.ensures) (few_records (map string_bytes c.args.words.now) asked) in
+    subst (λ (count : ℕ). count ≤ 64) (length-map c.records_of.result.now string_bytes) few
+
 pub returns-in-Ok-seize_word-clause-certified : goal.returns-in-Ok-seize_word-clause-certified
 returns-in-Ok-seize_word-clause-certified g c = certified_stays _ _ _ _ _ (λ told. one_look _ _ (c.seize_word.ensures.time told) (c.seize_word.ensures.image told))
 
@@ -321,6 +331,9 @@ returns-in-Ok-seize_word-clause-seizing g c words =
     let image = (P.history c.args.platform.now).present in
     let blame = blame_of_two (P.faults c.args.platform.now) (P.faults c.seize_word.new.platform) (O.faults c.args.output.now) (O.faults c.seize_word.new.output)
     (T.faults c.args.tape.now) (I.faults c.args.input.now) (L.faults c.args.ledger.now) ending c.in-Ok-seize_word.ensures.blame in
+    let records = records_of (map string_bytes c.args.words.now) in
+    let seizes : Seizes P.tells (P.head c.args.platform.now) image records (O.written c.args.output.now) (O.written c.seize_word.new.output) ending =
+    subst (λ (records : List (List ℕ)). Seizes P.tells (P.head c.args.platform.now) image records (O.written c.args.output.now) (O.written c.seize_word.new.output) ending) c.records_of.ensures c.in-Ok-seize_word.ensures.seizes in
     record {
       undrawn = refl;
       untaken = refl;
@@ -329,12 +342,12 @@ returns-in-Ok-seize_word-clause-seizing g c words =
       image = λ told. image_stays _ _ (c.seize_word.ensures.time told) (c.seize_word.ensures.image told);
       ending = ending;
       status_is = refl;
-      seizes = c.in-Ok-seize_word.ensures.seizes;
-      bad_root = λ told bad. bad_status P.tells (P.head c.args.platform.now) image (O.written c.args.output.now) (O.written c.seize_word.new.output) ending c.in-Ok-seize_word.ensures.seizes told bad;
-      complete = λ told good quiet. complete_seizure P.tells (P.head c.args.platform.now) image
+      seizes = seizes;
+      bad_root = λ told bad. bad_status P.tells (P.head c.args.platform.now) image records (O.written c.args.output.now) (O.written c.seize_word.new.output) ending seizes told bad;
+      complete = λ told good quiet. complete_seizure P.tells (P.head c.args.platform.now) image records
           (counts (P.faults c.args.platform.now) (T.faults c.args.tape.now) (I.faults c.args.input.now) (O.faults c.args.output.now) (L.faults c.args.ledger.now))
           (counts (P.faults c.seize_word.new.platform) (T.faults c.args.tape.now) (I.faults c.args.input.now) (O.faults c.seize_word.new.output) (L.faults c.args.ledger.now))
-          (O.written c.args.output.now) (O.written c.seize_word.new.output) ending c.in-Ok-seize_word.ensures.seizes blame.cause told good quiet;
+          (O.written c.args.output.now) (O.written c.seize_word.new.output) ending seizes blame.cause told good quiet;
     }
 
 pub returns-in-Err-seize_word-clause-certified : goal.returns-in-Err-seize_word-clause-certified
@@ -372,6 +385,9 @@ returns-in-Err-seize_word-clause-seizing g c words =
     let image = (P.history c.args.platform.now).present in
     let blame = blame_of_two (P.faults c.args.platform.now) (P.faults c.seize_word.new.platform) (O.faults c.args.output.now) (O.faults c.seize_word.new.output)
     (T.faults c.args.tape.now) (I.faults c.args.input.now) (L.faults c.args.ledger.now) ending c.in-Err-seize_word.ensures.blame in
+    let records = records_of (map string_bytes c.args.words.now) in
+    let seizes : Seizes P.tells (P.head c.args.platform.now) image records (O.written c.args.output.now) (O.written c.seize_word.new.output) ending =
+    subst (λ (records : List (List ℕ)). Seizes P.tells (P.head c.args.platform.now) image records (O.written c.args.output.now) (O.written c.seize_word.new.output) ending) c.records_of.ensures c.in-Err-seize_word.ensures.seizes in
     record {
       undrawn = refl;
       untaken = refl;
@@ -380,37 +396,41 @@ returns-in-Err-seize_word-clause-seizing g c words =
       image = λ told. image_stays _ _ (c.seize_word.ensures.time told) (c.seize_word.ensures.image told);
       ending = ending;
       status_is = c.status-in-Err-seize_word.ensures;
-      seizes = c.in-Err-seize_word.ensures.seizes;
+      seizes = seizes;
       bad_root = λ told bad. subst (λ (status : ℕ). (status ≡ 8) ⊎ (status ≡ 4) ⊎ (status ≡ 5)) (sym c.status-in-Err-seize_word.ensures)
-          (bad_status P.tells (P.head c.args.platform.now) image (O.written c.args.output.now) (O.written c.seize_word.new.output) ending c.in-Err-seize_word.ensures.seizes told bad);
+          (bad_status P.tells (P.head c.args.platform.now) image records (O.written c.args.output.now) (O.written c.seize_word.new.output) ending seizes told bad);
       complete = λ told good quiet. subst (λ (status : ℕ). (status ≡ 0) ⊎ (status ≡ 11)) (sym c.status-in-Err-seize_word.ensures)
-          (complete_seizure P.tells (P.head c.args.platform.now) image
+          (complete_seizure P.tells (P.head c.args.platform.now) image records
           (counts (P.faults c.args.platform.now) (T.faults c.args.tape.now) (I.faults c.args.input.now) (O.faults c.args.output.now) (L.faults c.args.ledger.now))
           (counts (P.faults c.seize_word.new.platform) (T.faults c.args.tape.now) (I.faults c.args.input.now) (O.faults c.seize_word.new.output) (L.faults c.args.ledger.now))
-          (O.written c.args.output.now) (O.written c.seize_word.new.output) ending c.in-Err-seize_word.ensures.seizes blame.cause told good quiet);
+          (O.written c.args.output.now) (O.written c.seize_word.new.output) ending seizes blame.cause told good quiet);
     }
 
--- at 8 the cell is one that a seizure refuses, and the line says so
-bad_there : (tells : Type 0) (head status : ℕ) (image : Image) (written written_now : Option (List ℕ)) (stop : Stop) → Seizes tells head image written written_now (Err stop) → status ≡ status_of stop → status ≡ 8
-    → (tells → IsBadCell head image.cell) × Got written (damage_line device.BadRoot) written_now
-bad_there tells head status image written now stop seizes is e = at_eight tells head image written now (Err stop) seizes (sym is ∙ e)
+-- at 8 the seizure is refused, and the line says so
+refused_there : (tells : Type 0) (head status : ℕ) (image : Image) (records : List (List ℕ)) (written written_now : Option (List ℕ)) (stop : Stop) → Seizes tells head image records written written_now (Err stop)
+    → status ≡ status_of stop → status ≡ 8 → (tells → IsRefused head image records) × Got written (damage_line device.BadRoot) written_now
+refused_there tells head status image records written now stop seizes is e = at_eight tells head image records written now (Err stop) seizes (sym is ∙ e)
 
 pub returns-in-Err-seize_word-clause-bad_root_only : goal.returns-in-Err-seize_word-clause-bad_root_only
 returns-in-Err-seize_word-clause-bad_root_only g c told e served =
     let P = g.P.Platform in
+    let head = P.head c.args.platform.now in
     let image = (P.history c.args.platform.now).present in
-    let bad = bad_there P.tells (P.head c.args.platform.now) _ image (g.O.Sink.written c.args.output.now) (g.O.Sink.written c.seize_word.new.output) c.in-Err-seize_word.stop c.in-Err-seize_word.ensures.seizes c.status-in-Err-seize_word.ensures e in
-    not_bad image.cell (P.head c.args.platform.now) (subst (λ (n : ℕ). IsServedCell image.cell n) (g.met.P.Platform.counts_pages told c.args.platform.now) served) (bad.0 told)
+    let records : List (List ℕ) = map string_bytes c.records_of.result.now in
+    let refused = refused_there P.tells head _ image records (g.O.Sink.written c.args.output.now) (g.O.Sink.written c.seize_word.new.output) c.in-Err-seize_word.stop c.in-Err-seize_word.ensures.seizes c.status-in-Err-seize_word.ensures e in
+    let served_there = subst (λ (n : ℕ). IsServedCell image.cell n) (g.met.P.Platform.counts_pages told c.args.platform.now) served in
+    subst (λ (records : List (List ℕ)). HasBadRecord head records) c.records_of.ensures (only_word head image records served_there (refused.0 told))
 
 pub returns-in-Err-seize_word-clause-unserved : goal.returns-in-Err-seize_word-clause-unserved
 returns-in-Err-seize_word-clause-unserved g c told e =
     let P = g.P.Platform in
-    let bad = bad_there P.tells (P.head c.args.platform.now) _ (P.history c.args.platform.now).present (g.O.Sink.written c.args.output.now) (g.O.Sink.written c.seize_word.new.output) c.in-Err-seize_word.stop c.in-Err-seize_word.ensures.seizes c.status-in-Err-seize_word.ensures e in
+    let records : List (List ℕ) = map string_bytes c.records_of.result.now in
+    let refused = refused_there P.tells (P.head c.args.platform.now) _ (P.history c.args.platform.now).present records (g.O.Sink.written c.args.output.now) (g.O.Sink.written c.seize_word.new.output) c.in-Err-seize_word.stop c.in-Err-seize_word.ensures.seizes c.status-in-Err-seize_word.ensures e in
     record {
       undrawn = refl;
       untaken = refl;
       unput = refl;
       pages = c.seize_word.ensures.head;
-      line = bad.1;
+      line = refused.1;
       image = image_stays _ _ (c.seize_word.ensures.time told) (c.seize_word.ensures.image told);
     }

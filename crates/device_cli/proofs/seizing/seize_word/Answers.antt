@@ -1,7 +1,7 @@
-use Rattle.std.proofs.Common.{◌≡◌, Err, inl, inr, ap, sym, subst}
+use Rattle.std.proofs.Common.{◌≡◌, ℕ, List, Err, inl, inr, ap, sym, subst}
 use Rattle.sdbt_base.specs.Faults.{Rose}
-use Rattle.page_store.specs.Roots.{IsBadCell}
-use Rattle.device_cli.specs.Seizing.{Seizes}
+use Rattle.std.specs.Prelude.{map, string_bytes}
+use Rattle.device_cli.specs.Seizing.{IsRefused, Seizes}
 use Rattle.device_cli.specs.declared.stop.DeviceStop.{DeviceStop}
 use Rattle.device_cli.specs.declared.stop.DeviceStop.TheVariants as device
 use Rattle.device_cli.specs.declared.stop.Stop.{Stop}
@@ -13,13 +13,14 @@ returns-in-Err-clause-seizes g c =
     let P = g.P.Platform in
     let head = P.head c.args.platform.now in
     let image = (P.history c.args.platform.now).present in
+    let records : List (List ℕ) = map string_bytes c.args.records.now in
     let written = g.O.Sink.written c.args.output.now in
     let now = g.O.Sink.written c.last_line.new.output in
     let rose = Rose (P.faults c.args.platform.now) (P.faults c.find.new.platform) in
-    let Ends : Stop → Type 0 = λ last. Seizes P.tells head image written now (Err last) in
-    let bad : P.tells → c.in-Err.stop ≡ device.BadRoot → IsBadCell head image.cell = λ told e. c.in-Err.ensures.bad_root told (ap (λ (stop : DeviceStop). Err stop) e) in
-    let memory : P.tells → c.in-Err.stop ≡ device.Memory → IsBadCell head image.cell → ⊥ = λ told e. c.in-Err.ensures.memory told (ap (λ (stop : DeviceStop). Err stop) e) in
+    let Ends : Stop → Type 0 = λ last. Seizes P.tells head image records written now (Err last) in
+    let bad : P.tells → c.in-Err.stop ≡ device.BadRoot → IsRefused head image records = λ told e. c.in-Err.ensures.bad_root told (ap (λ (stop : DeviceStop). Err stop) e) in
+    let memory : P.tells → c.in-Err.stop ≡ device.Memory → IsRefused head image records → ⊥ = λ told e. c.in-Err.ensures.memory told (ap (λ (stop : DeviceStop). Err stop) e) in
     elim c.last_line.ensures.stop as (λ s. Ends c.last_line.result) [
-      | inl whole ↦ subst Ends (sym whole.0) (stopped_whole P.tells head image written now c.in-Err.stop rose bad memory c.in-Err.ensures.stops whole.1)
-      | inr part ↦ subst Ends (sym part.0) (stopped_part P.tells head image written now c.in-Err.stop rose bad c.in-Err.ensures.stops part.3 part.2)
+      | inl whole ↦ subst Ends (sym whole.0) (stopped_whole P.tells head image records written now c.in-Err.stop rose bad memory c.in-Err.ensures.stops whole.1)
+      | inr part ↦ subst Ends (sym part.0) (stopped_part P.tells head image records written now c.in-Err.stop rose bad c.in-Err.ensures.stops part.3 part.2)
     ]
