@@ -21,11 +21,12 @@ use Rattle.btree_update.specs.Beside.{IsReadWhere}
 use Rattle.btree_update.proofs.HelpingLaws.{from_weaker}
 use Rattle.node_cache.specs.Kept.{Cached}
 use Rattle.grove_accounts.specs.Holding.{HoldsTree, Turns, IsSameSize, IsTreeOf}
-use Rattle.grove_accounts.specs.Certs.{IsOwnStub}
+use Rattle.sdbt_base.specs.declared.lists.Unkept.{Unkept}
+use Rattle.grove_accounts.specs.Certs.{IsOwnStub, AreWritten}
 use Rattle.grove_accounts.proofs.HoldingLaws.{holds_ready, remove_holds}
-use Rattle.grove_accounts.proofs.OwnLaws.{removal_own}
+use Rattle.grove_accounts.proofs.OwnLaws.{removal_own, removal_written}
 use Rattle.device_session.specs.Sessions.{Session}
-use Rattle.device_session.specs.Open.{IsOpen, IsChangedTree, IsTreeFor}
+use Rattle.device_session.specs.Open.{IsOpen, IsChangedTree, IsTreeFor, AreDataPages}
 use Rattle.device_session.specs.Holds.{Holds}
 use Rattle.device_session.specs.Keys.{HoldsListed}
 use Rattle.device_session.proofs.ArrayLaws.{array_of, array_take, array_has, array_lacks, count_less, remove_none}
@@ -215,3 +216,16 @@ on_true false P is h = absurd cc
 pub on_false : (b : Bool) (P : Type 0) → b ≡ false → OnFalse b P → P
 on_false false P is h = h
 on_false true P is h = absurd cc
+
+-- ---- the pages that a session wrote
+
+pub ready_pages : (old new : Session) (pages : List Unkept) → new.root ≡ old.root → KeepsTree old.grove new.grove → AreDataPages old pages → AreDataPages new pages
+ready_pages old new pages root k are =
+    let never = subst (λ ns. AreWritten old.root.head (places_of old.grove) ns pages) (sym k.never) are in
+    let places = subst (λ ss. AreWritten old.root.head ss new.grove.never.items pages) (sym (places_same old.grove new.grove k)) never in
+    subst (λ (r : Root). AreWritten r.head (places_of new.grove) new.grove.never.items pages) (sym root) places
+
+pub removed_pages : (session : Session) (grove : Grove) (image : Image) (device : Device) (contents : Blocks) (block : ℕ) (may : Stub → Bool) (pages : List Unkept) → Removes image block may session.grove grove → Holds session image device contents →
+    AreDataPages session pages → AreDataPages (with_removed session grove) pages
+removed_pages session grove image device contents block may pages turns h are =
+    removal_written image session.root h.committed.places session.grove grove h.each block (λ s. HasWay block s ⊎ IsTrue (may s)) pages h.tree turns are

@@ -1,6 +1,7 @@
 ghost use Rattle.std.specs.Prelude.{◌≡◌, ◌⊎◌, ◌<◌, ◌≤◌, ◌+◌, ℕ, List, true, All, OnOk, OnErr, IsErrOf, length};
 ghost use Rattle.sdbt_base.specs.Faults.{Rose};
 ghost use Rattle.sdbt_base.specs.Arrays.{Device, Blocks};
+ghost use Rattle.sdbt_base.specs.declared.lists.Unkept.{Unkept};
 ghost use Rattle.platform.specs.Calls.{Looks};
 ghost use Rattle.btree_walk.specs.Sights.{StandsOver};
 ghost use Rattle.btree_update.specs.Groves.{IsWrongOnWay};
@@ -13,7 +14,7 @@ use device_core::TrimRefusal;
 use platform::Platform;
 
 impl Session {
-    ghost use Rattle.device_session.specs.Open.{IsOpen, blocks_of, is_touched};
+    ghost use Rattle.device_session.specs.Open.{IsOpen, AreDataPages, blocks_of, is_touched};
     ghost use Rattle.device_session.specs.Holds.{Holds};
     ghost use Rattle.device_session.specs.Keys.{HoldsListed};
 
@@ -35,6 +36,9 @@ impl Session {
         ensures same { (self.new.root ≡ self.old.root) × OnErr result (is_touched self.new ≡ is_touched self.old) }
         ensures listed { P.tells → (keys : List (List ℕ)) → HoldsListed self.old (P.history platform.old).present keys
             → HoldsListed self.new (P.history platform.new).present keys }
+        // The pages that the session wrote are those before, also where their blocks are mapped no more.
+        ensures pages { P.tells → (device : Device) (contents : Blocks) → Holds self.old (P.history platform.old).present device contents
+            → (pages : List Unkept) → AreDataPages self.old pages → AreDataPages self.new pages }
         ensures looks { Looks P.Platform platform.old platform.new }
         ensures cause { IsTrimCause block (blocks_of self.old) (Rose (P.faults platform.old) (P.faults platform.new)) result }
     {

@@ -1,8 +1,10 @@
 -- The data records that a tree wrote itself, over an update.
-use Rattle.std.proofs.Common.{◌≡◌, ◌⊎◌, inl, inr, ℕ, zero, suc, ◌<◌, ◌≤◌, List, [], ◌∷◌, ◌++◌, All, refl, sym, ap, subst, ◌∙◌, arith}
-use Rattle.std.specs.Prelude.{Contains}
+use Rattle.std.proofs.Common.{◌≡◌, ◌⊎◌, inl, inr, ℕ, zero, suc, ◌<◌, ◌≤◌, List, [], ◌∷◌, ◌++◌, All, map, refl, sym, ap, subst, ◌∙◌, arith}
+use Rattle.std.specs.Prelude.{Contains, Option, None, Some}
 use Rattle.std.specs.List.{AllByRecursion}
-use Rattle.std.proofs.lemmas.List.Elements.{All-head, All-tail, Contains-append_left, Contains-append_right, Contains-append_cases}
+use Rattle.std.proofs.lemmas.Bool.{cases_lt}
+use Rattle.std.proofs.lemmas.List.Elements.{All-head, All-tail, All-weaker, All-contains, All-contains_itself, Contains-append_left, Contains-append_right, Contains-append_cases}
+use Rattle.sdbt_base.specs.declared.lists.Unkept.{Unkept}
 use Rattle.platform.specs.Image.{Image}
 use Rattle.node_codec.specs.declared.body.Entry.{Entry}
 use Rattle.root_codec.specs.declared.root.Root.{Root}
@@ -12,13 +14,14 @@ use Rattle.btree_update.specs.declared.groves.Grove.{Grove}
 use Rattle.btree_update.specs.GroveTree.{stubs_at}
 use Rattle.btree_update.specs.Held.{stub_at, IsReadAs}
 use Rattle.btree_update.specs.Opens.{Opens, Same, Here, Within, Then}
-use Rattle.btree_update.specs.Groves.{places_of}
+use Rattle.btree_update.specs.Groves.{LetsGo, places_of}
 use Rattle.btree_update.proofs.Readings.{read_same}
 use Rattle.grove_accounts.specs.Below.{want_in, HaveParts}
 use Rattle.grove_accounts.specs.Holding.{HoldsTree, Turns}
-use Rattle.grove_accounts.specs.Certs.{IsOwnStub}
+use Rattle.grove_accounts.specs.Certs.{IsOwnStub, page_at, AreWritten}
 use Rattle.grove_accounts.proofs.ListLaws.{all_left, all_right, each_left, each_right, each_append}
 use Rattle.grove_accounts.proofs.CertLaws.{IsOldNode, old_nodes}
+use Rattle.grove_accounts.proofs.PlaceLaws.{IsPlaceOf, mid_at}
 
 -- a place that is no data record came before the root record
 abbrev pub IsOldStub : ℕ → Stub → Type 0
@@ -112,3 +115,96 @@ removal_own image root committed old new each block May h g s own has =
       | inl front ↦ back (Contains-append_left p.front (p.mid ++ p.back) s front)
       | inr behind ↦ back (Contains-append_right p.front (p.mid ++ p.back) s (Contains-append_right p.mid p.back s behind))
     ]
+
+-- ---- the pages that were written
+
+-- a data record of the tree's own is there after an opening too
+opens_keep : (pages : List (List ℕ)) (order head : ℕ) (places old new : List Stub) (s : Stub) → Opens pages order places old new → IsOwnStub head s → Contains old s → Contains new s
+opens_keep pages order head places old new s Same own has = has
+opens_keep pages order head places old new s (Here {below = below} {low = low} {high = high} {addr = addr} {key = key} {twig = twig} r) own has = absurd (one has)
+  where
+    one : Contains (stub_at (suc below) low high addr key ∷ []) s → ⊥
+    one (zero, within, is) = let level = ap (λ (t : Stub). t.level) is in omega (arith, level, own.level)
+    one (suc i, within, is) = omega (arith, within)
+opens_keep pages order head places old new s (Within {places = first} {old = xs} {new = ys} fs bs o) own has = elim (Contains-append_cases fs (xs ++ bs) s has) [
+  | inl front ↦ Contains-append_left fs (ys ++ bs) s front
+  | inr rest ↦ elim (Contains-append_cases xs bs s rest) [
+    | inl mid ↦ Contains-append_right fs (ys ++ bs) s (Contains-append_left ys bs s (opens_keep pages order head first xs ys s o own mid))
+    | inr back ↦ Contains-append_right fs (ys ++ bs) s (Contains-append_right ys bs s back)
+  ]
+]
+opens_keep pages order head places old new s (Then {first = first} {second = second} {old = xs} {mid = mid} {new = ys} o p) own has =
+    opens_keep pages order head second mid ys s p own (opens_keep pages order head first xs mid s o own has)
+
+-- of what is let go the pages of own data records come to those that were never kept, and no others
+record LetsOwn (head : ℕ) (mid : List Stub) (never most : List Unkept) : Type 0 where
+  own : (s : Stub) → Contains mid s → IsOwnStub head s → Contains most (page_at s)
+  more : (page : Unkept) → Contains never page → Contains most page
+  only : (page : Unkept) → Contains most page → Contains never page ⊎ ((s : Stub) × Contains mid s × IsOwnStub head s × (page ≡ page_at s))
+
+one_datum : (block addr : ℕ) (key : List ℕ) (mid : List Stub) (s : Stub) → mid ≡ datum block addr key ∷ [] → Contains mid s → s ≡ datum block addr key
+one_datum block addr key mid s is has = only (subst (λ ss. Contains ss s) is has)
+  where
+    only : Contains (datum block addr key ∷ []) s → s ≡ datum block addr key
+    only (zero, within, same) = sym same
+    only (suc i, within, same) = absurd (omega (arith, within))
+
+lets_own : (head block : ℕ) (replaced : Option ℕ) (mid : List Stub) (gone more : List ℕ) (never most : List Unkept) → IsPlaceOf block replaced mid → LetsGo head block replaced gone more never most → LetsOwn head mid never most
+lets_own head block None mid gone more never most is goes = record {
+  own = λ s has own. absurd (let within = (subst (λ ss. Contains ss s) is has).1 in omega (arith, within));
+  more = λ page has. subst (λ ns. Contains ns page) (sym goes.1) has;
+  only = λ page has. inl (subst (λ ns. Contains ns page) goes.1 has);
+}
+lets_own head block (Some addr) mid gone more never most (key, is) goes = elim (cases_lt addr head) [
+  | inl low ↦ (let went = goes.0 low in record {
+    own = λ s has own. absurd (let at = ap (λ (t : Stub). t.addr) (one_datum block addr key mid s is has) in let late = own.after in omega (arith, at, late, low));
+    more = λ page has. subst (λ ns. Contains ns page) (sym went.1) has;
+    only = λ page has. inl (subst (λ ns. Contains ns page) went.1 has);
+  })
+  | inr high ↦ (let went = goes.1 high in let page : Unkept = record { block = block; addr = addr } in record {
+    own = λ s has own. subst (Contains most) (ap page_at (sym (one_datum block addr key mid s is has))) (subst (λ ns. Contains ns page) (sym went.1) (Contains-append_right never (page ∷ []) page (0, omega arith, refl)));
+    more = λ other has. subst (λ ns. Contains ns other) (sym went.1) (Contains-append_left never (page ∷ []) other has);
+    only = λ other has. elim (Contains-append_cases never (page ∷ []) other (subst (λ ns. Contains ns other) went.1 has)) [
+      | inl was ↦ inl was
+      | inr here ↦ inr (datum block addr key, subst (λ ss. Contains ss (datum block addr key)) (sym is) (0, omega arith, refl), record { level = refl; after = high }, last other here)
+    ];
+  })
+]
+  where
+    last : (other : Unkept) → Contains (record { block = block; addr = addr } ∷ []) other → other ≡ record { block = block; addr = addr }
+    last other (zero, within, same) = sym same
+    last other (suc i, within, same) = absurd (omega (arith, within))
+
+-- after a removal the pages that were written are those before
+pub removal_written : (image : Image) (root : Root) (committed : List Place) (old new : Grove) (each : List Parts) (block : ℕ) (May : Stub → Type 0) (pages : List Unkept) → HoldsTree image root committed old each →
+    Turns image.readable block May (λ opened. Takes 0 old.blocks block opened (places_of new)) old new → AreWritten root.head (places_of old) old.never.items pages → AreWritten root.head (places_of new) new.never.items pages
+removal_written image root committed old new each block May pages h g w =
+    let p = g.makes in
+    let goes = subst (λ n. LetsGo n block g.replaced (old.gone.items ++ map (λ (s : Stub). s.addr) g.places) new.gone.items old.never.items new.never.items) h.head g.goes in
+    let lets = lets_own root.head block g.replaced p.mid (old.gone.items ++ map (λ (s : Stub). s.addr) g.places) new.gone.items old.never.items new.never.items (mid_at 0 old.blocks block g.opened p.front p.mid p.back g.replaced p.was p.before p.here p.after g.was) goes in
+    let were : (s : Stub) → IsOwnStub root.head s → Contains g.opened s → Contains (places_of old) s = λ s own has. opens_own image.readable old.order root.head g.places (places_of old) g.opened s g.opens (tree_old image root committed old each h) own has in
+    let in_mid : (s : Stub) → Contains p.mid s → Contains g.opened s = λ s has. subst (λ ss. Contains ss s) (sym p.was) (Contains-append_right p.front (p.mid ++ p.back) s (Contains-append_left p.mid p.back s has)) in
+    record {
+      named = λ s has own. w.named s (removal_own image root committed old new each block May h g s own has) own;
+      unnamed = All-weaker (Contains new.never.items) (Contains pages) (λ page has. elim (lets.only page has) [
+        | inl never ↦ All-contains (Contains pages) old.never.items page w.unnamed never
+        | inr own ↦ subst (Contains pages) (sym own.3) (w.named own.0 (were own.0 own.2 (in_mid own.0 own.1)) own.2)
+      ]) new.never.items (All-contains_itself new.never.items);
+      only = All-weaker (λ page. Contains old.never.items page ⊎ ((s : Stub) × Contains (places_of old) s × IsOwnStub root.head s × (page ≡ page_at s)))
+          (λ page. Contains new.never.items page ⊎ ((s : Stub) × Contains (places_of new) s × IsOwnStub root.head s × (page ≡ page_at s))) (λ page is. elim is [
+            | inl never ↦ inl (lets.more page never)
+            | inr own ↦ stays page own.0 own.2 own.3 (subst (λ ss. Contains ss own.0) p.was (opens_keep image.readable old.order root.head g.places (places_of old) g.opened own.0 g.opens own.2 own.1)) lets
+          ]) pages w.only;
+    }
+  where
+    stays : (page : Unkept) (s : Stub) → IsOwnStub root.head s → page ≡ page_at s → Contains (g.makes.front ++ (g.makes.mid ++ g.makes.back)) s → LetsOwn root.head g.makes.mid old.never.items new.never.items →
+        Contains new.never.items page ⊎ ((s : Stub) × Contains (places_of new) s × IsOwnStub root.head s × (page ≡ page_at s))
+    stays page s own is has lets =
+        let there : Contains (g.makes.front ++ g.makes.back) s → Contains (places_of new) s = λ k. subst (λ ss. Contains ss s) (sym g.makes.now) k in
+        elim (Contains-append_cases g.makes.front (g.makes.mid ++ g.makes.back) s has) [
+          | inl front ↦ inr (s, there (Contains-append_left g.makes.front g.makes.back s front), own, is)
+          | inr rest ↦ elim (Contains-append_cases g.makes.mid g.makes.back s rest) [
+            | inl mid ↦ inl (subst (Contains new.never.items) (sym is) (lets.own s mid own))
+            | inr back ↦ inr (s, there (Contains-append_right g.makes.front g.makes.back s back), own, is)
+          ]
+        ]

@@ -56,6 +56,9 @@ pub fn removal_holds()
     ensures own { (image : Image) (root : Root) (committed : List Place) (old new : Grove) (each : List Parts) (block : ℕ) (may : Stub → Bool) →
         HoldsTree image root committed old each → Turns image.readable block (λ s. HasWay block s ⊎ IsTrue (may s)) (λ opened. Takes 0 old.blocks block opened (places_of new)) old new →
         (s : Stub) → IsOwnStub root.head s → Contains (places_of new) s → Contains (places_of old) s }
+    ensures written { (image : Image) (root : Root) (committed : List Place) (old new : Grove) (each : List Parts) (block : ℕ) (may : Stub → Bool) (pages : List Unkept) →
+        HoldsTree image root committed old each → Turns image.readable block (λ s. HasWay block s ⊎ IsTrue (may s)) (λ opened. Takes 0 old.blocks block opened (places_of new)) old new →
+        AreWritten root.head (places_of old) old.never.items pages → AreWritten root.head (places_of new) new.never.items pages }
 {}
 
 /// Once its nodes in memory have pages, what a tree let go of, and what it adds, is what the two trees differ by: the lists of the commit's certificate.

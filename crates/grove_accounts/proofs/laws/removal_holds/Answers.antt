@@ -10,3 +10,6 @@ returns-clause-holds c = λ image root committed old new each block may h size t
 
 pub returns-clause-own : goal.returns-clause-own
 returns-clause-own c = λ image root committed old new each block may h turns s is has. own.removal_own image root committed old new each block (λ s. HasWay block s ⊎ IsTrue (may s)) h turns s is has
+
+pub returns-clause-written : goal.returns-clause-written
+returns-clause-written c = λ image root committed old new each block may pages h turns w. own.removal_written image root committed old new each block (λ s. HasWay block s ⊎ IsTrue (may s)) pages h turns w

@@ -11,11 +11,11 @@ use Rattle.btree_update.specs.Maps.{HasBlock, LacksBlock}
 use Rattle.btree_update.specs.Groves.{GroveMaps}
 use Rattle.grove_accounts.specs.Holding.{IsSameSize}
 use Rattle.device_session.specs.Sessions.{Session}
-use Rattle.device_session.specs.Open.{IsOpen}
+use Rattle.device_session.specs.Open.{IsOpen, AreDataPages}
 use Rattle.device_session.specs.Holds.{Holds}
 use Rattle.device_session.specs.Keys.{HoldsListed}
 use Rattle.device_session.specs.Ready.{IsReadyFor}
-use Rattle.device_session.proofs.UpdateLaws.{Removes, removed_open, removed_listed, trimmed, unmapped, counted, beside_anywhere, on_true, on_false}
+use Rattle.device_session.proofs.UpdateLaws.{Removes, ready_pages, removed_pages, removed_open, removed_listed, trimmed, unmapped, counted, beside_anywhere, on_true, on_false}
 use Rattle.device_session.specs.contracts.session.Session.{the_view}
 use Rattle.device_session.proofs.session.Session.trim.Given.{Over}
 use Rattle.device_session.proofs.session.Session.trim.Goals.{After-remove}
@@ -93,3 +93,26 @@ returns-clause-listed g c = λ told keys h.
     let image = (g.P.Platform.history c.ready.new.platform).present in
     let k = subst (λ (s : Session). HoldsListed s image keys) (sym c.self-2.view_is) (c.ready.ensures.listed told keys h) in
     removed_listed (the_view c.self-2.inside) c.remove.new.self image keys c.args.block any (size g at.After-remove) (small g at.After-remove) (removes g at.After-remove told h.holds.cached) (has_block g at.After-remove told h.holds.cached) k
+
+pub returns-in-Err-BadRecord-clause-pages : goal.returns-in-Err-BadRecord-clause-pages
+returns-in-Err-BadRecord-clause-pages g c = λ told device contents h pages are. ready_pages c.args.self.now c.ready.new.self pages c.ready.ensures.same.0 c.ready.ensures.same.3 are
+
+pub returns-in-Err-PlatformFault-clause-pages : goal.returns-in-Err-PlatformFault-clause-pages
+returns-in-Err-PlatformFault-clause-pages g c = λ told device contents h pages are. ready_pages c.args.self.now c.ready.new.self pages c.ready.ensures.same.0 c.ready.ensures.same.3 are
+
+pub returns-in-Err-Memory-clause-pages : goal.returns-in-Err-Memory-clause-pages
+returns-in-Err-Memory-clause-pages g c = λ told device contents h pages are. ready_pages c.args.self.now c.ready.new.self pages c.ready.ensures.same.0 c.ready.ensures.same.3 are
+
+pub returns-then-not-is_mapped-clause-pages : goal.returns-then-not-is_mapped-clause-pages
+returns-then-not-is_mapped-clause-pages g c = λ told device contents h pages are. ready_pages c.args.self.now c.ready.new.self pages c.ready.ensures.same.0 c.ready.ensures.same.3 are
+
+pub returns-then-self-eq0-clause-pages : goal.returns-then-self-eq0-clause-pages
+returns-then-self-eq0-clause-pages g c = λ told device contents h pages are. ready_pages c.args.self.now c.ready.new.self pages c.ready.ensures.same.0 c.ready.ensures.same.3 are
+
+pub returns-clause-pages : goal.returns-clause-pages
+returns-clause-pages g c = λ told device contents h pages are.
+    let at = goal.at.returns-clause-pages g c in
+    let image = (g.P.Platform.history c.ready.new.platform).present in
+    let k = subst (λ (s : Session). Holds s image device contents) (sym c.self-2.view_is) (c.ready.ensures.holds told device contents h).0 in
+    let ready = subst (λ (s : Session). AreDataPages s pages) (sym c.self-2.view_is) (ready_pages c.args.self.now c.ready.new.self pages c.ready.ensures.same.0 c.ready.ensures.same.3 are) in
+    removed_pages (the_view c.self-2.inside) c.remove.new.self image device contents c.args.block any pages (removes g at.After-remove told h.cached) k ready
