@@ -1,8 +1,13 @@
 pub mod Sessions
+pub mod Served
 pub mod Open
 pub mod Holds
 pub mod Reading
+pub mod Drawing
 pub mod Causes
 pub mod Changes
 pub mod Keys
 pub mod Ready
+pub mod Replies
+pub mod Certifying
+pub mod Publishing

@@ -6,7 +6,7 @@ use Rattle.page_store.specs.Roots.{IsRootWithin}
 use Rattle.btree_twigs.specs.Top.{IsTop}
 use Rattle.btree_update.specs.declared.groves.Grove.{Grove}
 use Rattle.btree_update.specs.Held.{AreBelow}
-use Rattle.btree_update.specs.Groves.{IsSound, places_of}
+use Rattle.btree_update.specs.Groves.{IsSound, places_of, grown_in}
 use Rattle.grove_accounts.specs.Holding.{IsTreeOf}
 use Rattle.grove_accounts.specs.Certs.{AreWritten}
 use Rattle.device_session.specs.Sessions.{Session}
@@ -52,3 +52,7 @@ pub record IsOpen (session : Session) (pages : ℕ) : Type 0 where
 -- these are the pages of the data records that a session wrote since its mount or its last commit, whether they are mapped still or not
 abbrev pub AreDataPages : Session → List Unkept → Type 0
 AreDataPages session pages = AreWritten session.root.head (places_of session.grove) session.grove.never.items pages
+
+-- how many pages a commit of the session's changes needs: one for each node in memory
+abbrev pub needed_by : Session → ℕ
+needed_by session = grown_in session.grove

@@ -1,10 +1,13 @@
 -- What a session reads, on any pages, forged ones too.
-use Rattle.std.specs.Prelude.{◌≡◌, ◌⊎◌, ℕ, List, Option, None, Some, replicate}
+use Rattle.std.specs.Prelude.{◌≡◌, ◌⊎◌, ℕ, List, Option, None, Some, Result, Ok, Err, replicate}
+use Rattle.sdbt_base.specs.Arrays.{Blocks, content_of}
 use Rattle.node_codec.specs.declared.body.Entry.{Entry}
 use Rattle.node_codec.specs.Record.{DataRecord}
 use Rattle.page_store.specs.Places.{FitsAt, NothingFits, block_want}
 use Rattle.btree_update.specs.declared.groves.Grove.{Grove}
 use Rattle.btree_update.specs.Finding.{GroveFinds, GroveStops}
+use Rattle.device_session.specs.declared.refusals.ReadRefusal.{ReadRefusal}
+use Rattle.device_session.specs.declared.refusals.ReadRefusal.TheVariants as refusals
 
 -- a block has this content: without an entry zeros, and else that of its data record, which the page at the entry is under its key
 abbrev pub ReadsAs : List (List ℕ) → ℕ → Option Entry → List ℕ → Type 0
@@ -22,3 +25,10 @@ abbrev pub IsFirstMisfit : List (List ℕ) → Grove → ℕ → ℕ → Type 0
 IsFirstMisfit pages grove block addr =
     GroveStops pages block addr grove
     ⊎ ((entry : Entry) × GroveFinds pages block grove (Some entry) × (addr ≡ entry.addr) × NothingFits pages (block_want entry.addr block) entry.key)
+
+-- what was read of an array: the content of the block; a record that doesn't fit is never met
+abbrev pub ReadsArray : Blocks → ℕ → List ℕ → Result (Unit {0}) ReadRefusal → Type 0
+ReadsArray contents block content (Ok done) = content ≡ content_of contents block
+ReadsArray contents block content (Err (refusals.BadRecord addr)) = ⊥
+ReadsArray contents block content (Err refusals.Range) = Unit {0}
+ReadsArray contents block content (Err refusals.PlatformFault) = Unit {0}

@@ -1,11 +1,17 @@
 //! A session on a device of any number of levels: an array of blocks with changes that are the device's only with a commit.
 #![tactic(auto)]
 
+mod committing;
 mod reading;
 mod readying;
+mod refusals;
 mod session;
+mod trimming;
 mod writing;
 
+pub use refusals::{
+    CommitFault, CommitReply, MountRefusal, ReadRefusal, TrimRefusal, WriteRefusal,
+};
 pub use session::Session;
 
 #[cfg(test)]

@@ -5,11 +5,10 @@ ghost use Rattle.platform.specs.Calls.{Looks};
 ghost use Rattle.node_codec.specs.Record.{Record, DataRecord};
 ghost use Rattle.page_store.specs.Places.{NothingFits, FitsAt, block_want};
 ghost use Rattle.btree_walk.specs.Sights.{StandsOver};
-ghost use Rattle.device_core.specs.Causes.{IsReadCause};
-ghost use Rattle.device_core.specs.Reading.{ReadsArray};
+ghost use Rattle.device_session.specs.Causes.{IsReadCause};
 
+use crate::refusals::ReadRefusal;
 use crate::session::Session;
-use device_core::ReadRefusal;
 use node_codec::Entry;
 use page_store::{Buffers, FetchRefusal, Want, fetch_block};
 use platform::Platform;
@@ -17,7 +16,7 @@ use platform::Platform;
 impl Session {
     ghost use Rattle.device_session.specs.Open.{IsOpen, blocks_of};
     ghost use Rattle.device_session.specs.Holds.{Holds};
-    ghost use Rattle.device_session.specs.Reading.{FindsContent, IsFirstMisfit};
+    ghost use Rattle.device_session.specs.Reading.{ReadsArray, FindsContent, IsFirstMisfit};
 
     /// Puts the content of a block into the 4,096 bytes of `out`: zeros where it is not mapped.
     ///

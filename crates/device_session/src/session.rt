@@ -3,12 +3,13 @@ ghost use Rattle.sdbt_base.specs.Faults.{Rose};
 ghost use Rattle.sdbt_base.specs.Arrays.{Device};
 ghost use Rattle.platform.specs.Calls.{Looks};
 ghost use Rattle.root_codec.specs.RootRecord.{root_bytes};
+ghost use Rattle.page_store.specs.Buffer.{IsBlank};
 ghost use Rattle.page_store.specs.Stands.{Stands};
 ghost use Rattle.btree_walk.specs.Sights.{StandsOver};
 ghost use Rattle.device_session.specs.Causes.{IsMountCause};
 
+use crate::refusals::MountRefusal;
 use btree_update::Grove;
-use device_core::MountRefusal;
 use node_cache::NodeCache;
 use page_store::{Buffers, CurrentRefusal, current};
 use platform::Platform;
@@ -123,5 +124,13 @@ impl Session {
         ensures { result ≡ blocks_of self.now }
     {
         self.root.blocks
+    }
+
+    /// Leaves nothing of what was read or sealed in the session's buffers: for a session that is given up.
+    pub fn wipe(&mut self)
+        ensures wiped { IsBlank self.new.buffers }
+        ensures same { self.new ≡ record self.old { buffers = self.new.buffers } }
+    {
+        self.buffers.wipe();
     }
 }

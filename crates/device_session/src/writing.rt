@@ -1,67 +1,142 @@
-ghost use Rattle.std.specs.Prelude.{◌≡◌, ◌⊎◌, ◌<◌, ◌≤◌, ◌+◌, ℕ, List, true, All, OnOk, OnErr, IsErrOf, length};
+ghost use Rattle.std.specs.Prelude.{◌≡◌, ◌⊎◌, ◌<◌, ◌≤◌, ◌+◌, ◌++◌, ◌∷◌, [], ℕ, List, true, All, IsTrue, OnOk, OnErr, IfErr, length};
+ghost use Rattle.std.specs.Bool.{OnFalse};
 ghost use Rattle.sdbt_base.specs.Faults.{Rose};
-ghost use Rattle.sdbt_base.specs.Arrays.{Device, Blocks};
+ghost use Rattle.sdbt_base.specs.Arrays.{padded, Device, Blocks};
 ghost use Rattle.sdbt_base.specs.declared.lists.Unkept.{Unkept};
-ghost use Rattle.platform.specs.Calls.{Looks};
+ghost use Rattle.platform.specs.Calls.{Grows};
+ghost use Rattle.platform.specs.History.{CellStays};
+ghost use Rattle.page_store.specs.Keeping.{KeepsKeys};
 ghost use Rattle.btree_walk.specs.Sights.{StandsOver};
-ghost use Rattle.btree_update.specs.Groves.{IsWrongOnWay};
-ghost use Rattle.device_core.specs.Causes.{IsTrimCause};
-ghost use Rattle.device_session.specs.Changes.{TrimsArray};
+ghost use Rattle.btree_update.specs.Groves.{CanInsert, CanRemove, places_of};
+ghost use Rattle.device_session.specs.Causes.{IsWriteCause, IsPutCause};
+ghost use Rattle.device_session.specs.Changes.{WritesArray, WriteAdds};
+ghost use Rattle.device_session.specs.Ready.{IsReadyFor};
 
+use crate::refusals::WriteRefusal;
 use crate::session::Session;
 use btree_update::ReadyRefusal;
-use device_core::TrimRefusal;
+use page_store::AppendFault;
 use platform::Platform;
+use sdbt_base::Tape;
 
 impl Session {
-    ghost use Rattle.device_session.specs.Open.{IsOpen, AreDataPages, blocks_of, is_touched};
+    ghost use Rattle.device_session.specs.Open.{IsOpen, AreDataPages, blocks_of, is_touched, needed_by};
     ghost use Rattle.device_session.specs.Holds.{Holds};
     ghost use Rattle.device_session.specs.Keys.{HoldsListed};
 
-    /// Unmaps a block, which then reads as zeros. One that is not mapped stays so, and nothing is touched.
+    /// Writes a block: at most 4,096 bytes, and zeros up to its end. It is the session's alone until a commit.
     ///
-    /// `Range` comes exactly where the device has no such block. `BadRecord` never comes on a sound device;
-    /// on a forged one it names a node on the way to the block, or beside it, that does not fit, or the root
-    /// node where the root record says that no block is mapped.
-    #[tactic(auto, using(crate::proofs::SessionLaws::walk_looks, platform::proofs::CallLaws::looks_start, platform::proofs::CallLaws::looks_call, platform::proofs::CallLaws::looks_then))]
-    pub fn trim<P: Platform>(&mut self, platform: &mut P, block: u64) -> Result<(), TrimRefusal>
-        requires { IsOpen self.old (P.head platform.old) }
+    /// `Range` comes exactly where the device has no such block, and else `Full` exactly where no page is
+    /// free. `BadRecord` never comes on a sound device; on a forged one it names a node on the way to the block, or
+    /// beside it, that does not fit, or the root node where a block more would be mapped than there are or than its
+    /// level allows.
+    pub fn write<P: Platform, T: Tape>(
+        &mut self,
+        platform: &mut P,
+        tape: &mut T,
+        block: u64,
+        content: &[u8],
+    ) -> Result<(), WriteRefusal>
+        requires size { length content.now ≤ 4096 }
+        requires open { IsOpen self.old (P.head platform.old) }
         ensures array { P.tells → (device : Device) (contents : Blocks) → Holds self.old (P.history platform.old).present device contents
-            → TrimsArray self.new (P.history platform.new).present device contents block (is_touched self.old) result }
+            → WritesArray self.new (P.history platform.new).present device contents block (padded content.now) result }
         ensures cached { P.tells → StandsOver (P.history platform.old).present.readable self.old.cache → StandsOver (P.history platform.new).present.readable self.new.cache }
-        // On any pages: what is named is a place that doesn't fit, or the root node, where a block is mapped and none is counted.
-        ensures bad { P.tells → StandsOver (P.history platform.old).present.readable self.old.cache → (addr : ℕ) → IsErrOf result (TrimRefusal.BadRecord addr)
-            → IsWrongOnWay (P.history platform.old).present.readable block self.old.grove addr ⊎ ((addr ≡ self.old.root.addr) × (self.old.mapped ≡ 0)) }
         ensures open { IsOpen self.new (P.head platform.new) }
-        ensures same { (self.new.root ≡ self.old.root) × OnErr result (is_touched self.new ≡ is_touched self.old) }
-        ensures listed { P.tells → (keys : List (List ℕ)) → HoldsListed self.old (P.history platform.old).present keys
-            → HoldsListed self.new (P.history platform.new).present keys }
-        // The pages that the session wrote are those before, also where their blocks are mapped no more.
+        ensures same { (self.new.root ≡ self.old.root) × OnOk result (is_touched self.new ≡ true) × OnErr result (is_touched self.new ≡ is_touched self.old) }
+        // Each moment keeps the keys that the image kept before, with the one that was drawn.
+        ensures keeps { KeepsKeys P.tells (T.drawn tape.old) (T.drawn tape.new) (P.history platform.old) (P.history platform.new)
+            (HoldsListed self.old (P.history platform.old).present) (HoldsListed self.new (P.history platform.new).present) }
+        ensures adds { WriteAdds P.Platform T.Tape platform.old platform.new tape.old tape.new (places_of self.new.grove) block result }
+        // The page that was written is the session's, until a certificate told of it.
         ensures pages { P.tells → (device : Device) (contents : Blocks) → Holds self.old (P.history platform.old).present device contents
-            → (pages : List Unkept) → AreDataPages self.old pages → AreDataPages self.new pages }
-        ensures looks { Looks P.Platform platform.old platform.new }
-        ensures cause { IsTrimCause block (blocks_of self.old) (Rose (P.faults platform.old) (P.faults platform.new)) result }
+            → (pages : List Unkept) → AreDataPages self.old pages → OnErr result (AreDataPages self.new pages)
+            × OnOk result (AreDataPages self.new (pages ++ record { block = block; addr = P.head platform.old } ∷ [])) }
+        ensures needs { needed_by self.new ≤ needed_by self.old + 41 }
+        ensures cause { IsWriteCause block (blocks_of self.old) (P.head platform.old) (P.capacity platform.old)
+            (Rose (P.faults platform.old) (P.faults platform.new)) (Rose (T.faults tape.old) (T.faults tape.new)) result }
+        ensures time { P.tells → CellStays (P.history platform.old) (P.history platform.new) }
+        ensures grows { Grows P.Platform platform.old platform.new × (T.faults tape.old ≤ T.faults tape.new) }
     {
         if block >= self.root.blocks {
-            return Err(TrimRefusal::Range);
+            return Err(WriteRefusal::Range);
+        }
+        if platform.head() == platform.capacity() {
+            return Err(WriteRefusal::Full);
         }
         let is_mapped = match self.ready(platform, block) {
             Ok(is_mapped) => is_mapped,
-            Err(ReadyRefusal::BadRecord { addr }) => return Err(TrimRefusal::BadRecord { addr }),
-            Err(ReadyRefusal::PlatformFault) => return Err(TrimRefusal::PlatformFault),
-            Err(ReadyRefusal::Memory) => return Err(TrimRefusal::Memory),
+            Err(ReadyRefusal::BadRecord { addr }) => return Err(WriteRefusal::BadRecord { addr }),
+            Err(ReadyRefusal::PlatformFault) => return Err(WriteRefusal::PlatformFault),
+            Err(ReadyRefusal::Memory) => return Err(WriteRefusal::Memory),
         };
-        if !is_mapped {
-            return Ok(());
-        }
-        if self.mapped == 0 {
-            return Err(TrimRefusal::BadRecord {
+        if !is_mapped && self.is_at_limit() {
+            return Err(WriteRefusal::BadRecord {
                 addr: self.root.addr,
             });
         }
-        self.grove.remove(block);
-        self.mapped -= 1;
+        self.put(platform, tape, block, content, is_mapped)
+    }
+
+    /// Whether no block more can be mapped: there are as many as the device has, or the tree has as many levels as it may.
+    fn is_at_limit(&self) -> bool
+        ensures full { IsTrue result → (blocks_of self.now ≤ self.now.mapped) ⊎ (20 ≤ self.now.grove.level) }
+        ensures room { OnFalse result ((self.now.mapped < blocks_of self.now) × (self.now.grove.level < 20)) }
+    {
+        self.mapped >= self.root.blocks || self.grove.level() >= 20
+    }
+
+    /// Appends a block's data record and puts it into the tree, where all is at hand that this may need.
+    fn put<P: Platform, T: Tape>(
+        &mut self,
+        platform: &mut P,
+        tape: &mut T,
+        block: u64,
+        content: &[u8],
+        is_mapped: bool,
+    ) -> Result<(), WriteRefusal>
+        requires size { length content.now ≤ 4096 }
+        requires open { IsOpen self.old (P.head platform.old) }
+        requires room { (block < blocks_of self.old) × (P.head platform.old < P.capacity platform.old) }
+        requires can { CanInsert block self.old.grove × (IsTrue is_mapped → CanRemove block self.old.grove) }
+        requires limit { OnFalse is_mapped ((self.old.mapped < blocks_of self.old) × (self.old.grove.level < 20)) }
+        ensures array { P.tells → (device : Device) (contents : Blocks) → Holds self.old (P.history platform.old).present device contents
+            → IsReadyFor (P.history platform.old).present.readable block self.old.grove is_mapped
+            → WritesArray self.new (P.history platform.new).present device contents block (padded content.now) result }
+        ensures cached { P.tells → StandsOver (P.history platform.old).present.readable self.old.cache → StandsOver (P.history platform.new).present.readable self.new.cache }
+        ensures open { IsOpen self.new (P.head platform.new) }
+        ensures same { (self.new.root ≡ self.old.root) × OnOk result (is_touched self.new ≡ true) × OnErr result (is_touched self.new ≡ is_touched self.old) }
+        ensures keeps { KeepsKeys P.tells (T.drawn tape.old) (T.drawn tape.new) (P.history platform.old) (P.history platform.new)
+            (λ keys. HoldsListed self.old (P.history platform.old).present keys × IsReadyFor (P.history platform.old).present.readable block self.old.grove is_mapped)
+            (HoldsListed self.new (P.history platform.new).present) }
+        ensures adds { WriteAdds P.Platform T.Tape platform.old platform.new tape.old tape.new (places_of self.new.grove) block result }
+        ensures pages { P.tells → (device : Device) (contents : Blocks) → Holds self.old (P.history platform.old).present device contents
+            → IsReadyFor (P.history platform.old).present.readable block self.old.grove is_mapped
+            → (pages : List Unkept) → AreDataPages self.old pages → OnErr result (AreDataPages self.new pages)
+            × OnOk result (AreDataPages self.new (pages ++ record { block = block; addr = P.head platform.old } ∷ [])) }
+        ensures needs { needed_by self.new ≤ needed_by self.old + 41 }
+        ensures cause { IfErr result (IsPutCause (Rose (P.faults platform.old) (P.faults platform.new)) (Rose (T.faults tape.old) (T.faults tape.new))) }
+        ensures beside { P.tells → CellStays (P.history platform.old) (P.history platform.new) }
+        ensures grows { Grows P.Platform platform.old platform.new × (T.faults tape.old ≤ T.faults tape.new) }
+    {
+        are_bytes(content);
+        let addr = platform.head();
+        self.buffers.put_block(addr, block, content);
+        let placed = match self.buffers.append(platform, tape) {
+            Ok(placed) => placed,
+            Err(AppendFault::TapeFault) => return Err(WriteRefusal::TapeFault),
+            Err(AppendFault::PlatformFault) => return Err(WriteRefusal::PlatformFault),
+        };
+        self.grove.insert(block, placed.addr, placed.key);
+        if !is_mapped {
+            self.mapped += 1;
+        }
         self.is_touched = true;
         Ok(())
     }
 }
+
+/// A fact: each is below 256.
+fn are_bytes(bytes: &[u8])
+    ensures { All (λ b. b < 256) bytes.now }
+{}

@@ -1,0 +1,89 @@
+-- What a commit says: how it makes a session's changes the device's.
+use Rattle.std.specs.Prelude.{◌≡◌, ◌≢◌, ◌+◌, ◌≤◌, ℕ, false, [], List, Option, Some, Result, Ok, Err, IfOk, OnOk, IfErr, IsOk, All}
+use Rattle.sdbt_base.specs.Faults.{Rose}
+use Rattle.sdbt_base.specs.Arrays.{Device, Blocks, committed_with}
+use Rattle.sdbt_base.specs.declared.sinks.Sink.{Ghosts as SinkGhosts}
+use Rattle.sdbt_base.specs.declared.tapes.Tape.{Ghosts as TapeGhosts}
+use Rattle.platform.specs.declared.platforms.Platform.{Ghosts as PlatformGhosts}
+use Rattle.platform.specs.Image.{LeavesOnly}
+use Rattle.platform.specs.History.{History, During, Turns, CellStays, CellTurns}
+use Rattle.root_codec.specs.RootRecord.{root_bytes}
+use Rattle.page_store.specs.Buffer.{IsBlank}
+use Rattle.page_store.specs.Keeping.{KeepsKeys}
+use Rattle.page_store.specs.Floors.{Forgets}
+use Rattle.page_store.specs.Stands.{Stands}
+use Rattle.grove_accounts.specs.Holding.{IsTreeOf}
+use Rattle.device_session.specs.declared.refusals.CommitReply.{CommitReply}
+use Rattle.device_session.specs.declared.refusals.CommitReply.TheVariants.{Committed}
+use Rattle.device_session.specs.declared.refusals.CommitFault.{CommitFault}
+use Rattle.device_session.specs.declared.refusals.CommitFault.TheVariants as commit
+use Rattle.device_session.specs.Certifying.{Certifies, IsOfCommit}
+use Rattle.device_session.specs.Changes.{AddsNothing}
+use Rattle.device_session.specs.Drawing.{NamesLast}
+use Rattle.device_session.specs.Holds.{Holds}
+use Rattle.device_session.specs.Keys.{HoldsListed}
+use Rattle.device_session.specs.Open.{IsOpen, AreDataPages, blocks_of, number_of, root_of, is_touched, needed_by}
+use Rattle.device_session.specs.Replies.{device_after}
+use Rattle.device_session.specs.Served.{IsServedImage}
+use Rattle.device_session.specs.Sessions.{Session}
+
+-- what a call discloses, whatever its answer: each page that it handed over is sealed under a key that it drew; the cell changes at most once, and
+-- one that can be served is one at each moment; and over an image that is ready for the keys that it keeps, each moment keeps those with the keys
+-- that were drawn, and what was deleted before stays deleted
+pub record Discloses (tells : Type 0) (drawn drawn_now : Option (List (List ℕ))) (old new : History) (Ready Done : List (List ℕ) → Type 0) : Type 0 where
+  pub keys : KeepsKeys tells drawn drawn_now old new Ready Done
+  pub turns : tells → CellTurns old new
+  pub serves : tells → IsServedImage old.present → During old new IsServedImage
+  pub forgets : tells → (keys : List (List ℕ)) → Ready keys → Forgets old new
+
+-- a commit that raised the number: as many pages were added as there were nodes in memory, and the root record in the cell names the last of them with
+-- the key that was drawn last; the session has no data pages that weren't told of, and its tree is the new one, with no node in memory. No node that is gone
+-- is left in its cache, and nothing of what was read or sealed in its buffers
+pub record HasRaised {S R : Type 0} (P : PlatformGhosts S) (T : TapeGhosts R) (platform platform_now : S) (tape tape_now : R) (session now : Session) (reply : CommitReply) : Type 0 where
+  pub replied : reply ≡ Committed (number_of session + 1)
+  pub number : number_of now ≡ number_of session + 1
+  pub untouched : is_touched now ≡ false
+  pub pages : AreDataPages now []
+  pub tree : IsTreeOf now.root now.grove
+  pub wiped : IsBlank now.buffers
+  pub forgot : All (λ addr. All (λ node. node.addr ≢ addr) now.cache.kept) session.grove.gone.items
+  pub head : P.head platform_now ≡ P.head platform + needed_by session
+  pub names : NamesLast (T.drawn tape) (T.drawn tape_now) (P.head platform_now) (root_of now)
+  pub cell : P.tells → (P.history platform_now).present.cell ≡ Some (root_bytes (root_of now))
+
+-- a commit fails where the platform, the tape or the ledger failed, or no memory was given, for which nothing was handed over. But for a fault of the platform
+-- the cell is as it was at each moment
+abbrev pub IsCommitCause : {S R : Type 0} → PlatformGhosts S → TapeGhosts R → S → S → R → R → Type 0 → Type 0 → Type 0 → CommitFault → Type 0
+IsCommitCause P T platform platform_now tape tape_now Failed Undrawn Unput commit.PlatformFault = Failed
+IsCommitCause P T platform platform_now tape tape_now Failed Undrawn Unput commit.TapeFault =
+    Undrawn × (P.tells → CellStays (P.history platform) (P.history platform_now))
+IsCommitCause P T platform platform_now tape tape_now Failed Undrawn Unput commit.LedgerFault =
+    Unput × (P.tells → CellStays (P.history platform) (P.history platform_now))
+IsCommitCause P T platform platform_now tape tape_now Failed Undrawn Unput commit.Memory =
+    AddsNothing P T platform platform_now tape tape_now × (P.tells → CellStays (P.history platform) (P.history platform_now))
+
+-- beside its purpose a call adds at most so many pages, and counts of faults don't fall
+pub record GrowsBy {S R W : Type 0} (P : PlatformGhosts S) (T : TapeGhosts R) (L : SinkGhosts W) (most : ℕ) (platform platform_now : S) (tape tape_now : R) (ledger ledger_now : W) : Type 0 where
+  pub rises : P.head platform ≤ P.head platform_now
+  pub at_most : P.head platform_now ≤ P.head platform + most
+  pub capacity : P.capacity platform_now ≡ P.capacity platform
+  pub platform_faults : P.faults platform ≤ P.faults platform_now
+  pub tape_faults : T.faults tape ≤ T.faults tape_now
+  pub ledger_faults : L.faults ledger ≤ L.faults ledger_now
+
+-- a commit, whatever its answer: a session that goes on has its array still, and is open on the device that the answer tells of
+pub record Commits {S R W : Type 0} (P : PlatformGhosts S) (T : TapeGhosts R) (L : SinkGhosts W) (platform platform_now : S) (tape tape_now : R) (ledger ledger_now : W) (session now : Session) (result : Result CommitReply CommitFault) : Type 0 where
+  pub array : P.tells → (device : Device) (contents : Blocks) → Holds session (P.history platform).present device contents
+      → IfOk result (λ reply. Holds now (P.history platform_now).present (device_after reply device contents) contents)
+  pub goes_on : OnOk result (IsOpen now (P.head platform_now) × (blocks_of now ≡ blocks_of session) × (now.mapped ≡ session.mapped))
+  -- at each moment a loss of power leaves the device, until one from which on it leaves the one with the session's array
+  pub time : P.tells → (device : Device) (contents : Blocks) → Holds session (P.history platform).present device contents
+      → Turns (P.history platform) (P.history platform_now) (LeavesOnly (λ left. Stands left (Some device)))
+      (LeavesOnly (λ left. Stands left (Some (committed_with device contents))))
+  pub discloses : Discloses P.tells (T.drawn tape) (T.drawn tape_now) (P.history platform) (P.history platform_now)
+      (HoldsListed session (P.history platform).present) (λ keys. OnOk result (HoldsListed now (P.history platform_now).present keys))
+  pub certifies : Certifies P.tells (L.written ledger) (L.written ledger_now) (P.history platform) (P.history platform_now)
+      session.root.head (number_of session + 1) (IsOfCommit session (P.history platform).present (P.history platform_now).present) (IsOk result)
+  pub cause : IfErr result (IsCommitCause P T platform platform_now tape tape_now (Rose (P.faults platform) (P.faults platform_now))
+      (Rose (T.faults tape) (T.faults tape_now)) (Rose (L.faults ledger) (L.faults ledger_now)))
+  pub grows : GrowsBy P T L (needed_by session) platform platform_now tape tape_now ledger ledger_now

@@ -1,0 +1,67 @@
+ghost use Rattle.std.specs.Prelude.{◌≡◌, ◌⊎◌, ◌<◌, ◌≤◌, ◌+◌, ℕ, List, true, All, OnOk, OnErr, IsErrOf, length};
+ghost use Rattle.sdbt_base.specs.Faults.{Rose};
+ghost use Rattle.sdbt_base.specs.Arrays.{Device, Blocks};
+ghost use Rattle.sdbt_base.specs.declared.lists.Unkept.{Unkept};
+ghost use Rattle.platform.specs.Calls.{Looks};
+ghost use Rattle.btree_walk.specs.Sights.{StandsOver};
+ghost use Rattle.btree_update.specs.Groves.{IsWrongOnWay};
+ghost use Rattle.device_session.specs.Causes.{IsTrimCause};
+ghost use Rattle.device_session.specs.Changes.{TrimsArray};
+
+use crate::refusals::TrimRefusal;
+use crate::session::Session;
+use btree_update::ReadyRefusal;
+use platform::Platform;
+
+impl Session {
+    ghost use Rattle.device_session.specs.Open.{IsOpen, AreDataPages, blocks_of, is_touched};
+    ghost use Rattle.device_session.specs.Holds.{Holds};
+    ghost use Rattle.device_session.specs.Keys.{HoldsListed};
+
+    /// Unmaps a block, which then reads as zeros. One that is not mapped stays so, and nothing is touched.
+    ///
+    /// `Range` comes exactly where the device has no such block. `BadRecord` never comes on a sound device;
+    /// on a forged one it names a node on the way to the block, or beside it, that does not fit, or the root
+    /// node where the root record says that no block is mapped.
+    #[tactic(auto, using(crate::proofs::SessionLaws::walk_looks, platform::proofs::CallLaws::looks_start, platform::proofs::CallLaws::looks_call, platform::proofs::CallLaws::looks_then))]
+    pub fn trim<P: Platform>(&mut self, platform: &mut P, block: u64) -> Result<(), TrimRefusal>
+        requires { IsOpen self.old (P.head platform.old) }
+        ensures array { P.tells → (device : Device) (contents : Blocks) → Holds self.old (P.history platform.old).present device contents
+            → TrimsArray self.new (P.history platform.new).present device contents block (is_touched self.old) result }
+        ensures cached { P.tells → StandsOver (P.history platform.old).present.readable self.old.cache → StandsOver (P.history platform.new).present.readable self.new.cache }
+        // On any pages: what is named is a place that doesn't fit, or the root node, where a block is mapped and none is counted.
+        ensures bad { P.tells → StandsOver (P.history platform.old).present.readable self.old.cache → (addr : ℕ) → IsErrOf result (TrimRefusal.BadRecord addr)
+            → IsWrongOnWay (P.history platform.old).present.readable block self.old.grove addr ⊎ ((addr ≡ self.old.root.addr) × (self.old.mapped ≡ 0)) }
+        ensures open { IsOpen self.new (P.head platform.new) }
+        ensures same { (self.new.root ≡ self.old.root) × OnErr result (is_touched self.new ≡ is_touched self.old) }
+        ensures listed { P.tells → (keys : List (List ℕ)) → HoldsListed self.old (P.history platform.old).present keys
+            → HoldsListed self.new (P.history platform.new).present keys }
+        // The pages that the session wrote are those before, also where their blocks are mapped no more.
+        ensures pages { P.tells → (device : Device) (contents : Blocks) → Holds self.old (P.history platform.old).present device contents
+            → (pages : List Unkept) → AreDataPages self.old pages → AreDataPages self.new pages }
+        ensures looks { Looks P.Platform platform.old platform.new }
+        ensures cause { IsTrimCause block (blocks_of self.old) (Rose (P.faults platform.old) (P.faults platform.new)) result }
+    {
+        if block >= self.root.blocks {
+            return Err(TrimRefusal::Range);
+        }
+        let is_mapped = match self.ready(platform, block) {
+            Ok(is_mapped) => is_mapped,
+            Err(ReadyRefusal::BadRecord { addr }) => return Err(TrimRefusal::BadRecord { addr }),
+            Err(ReadyRefusal::PlatformFault) => return Err(TrimRefusal::PlatformFault),
+            Err(ReadyRefusal::Memory) => return Err(TrimRefusal::Memory),
+        };
+        if !is_mapped {
+            return Ok(());
+        }
+        if self.mapped == 0 {
+            return Err(TrimRefusal::BadRecord {
+                addr: self.root.addr,
+            });
+        }
+        self.grove.remove(block);
+        self.mapped -= 1;
+        self.is_touched = true;
+        Ok(())
+    }
+}
