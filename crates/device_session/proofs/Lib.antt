@@ -3,3 +3,4 @@ pub mod ArrayLaws
 pub mod OrderLaws
 pub mod ReadLaws
 pub mod UpdateLaws
+pub mod InsertLaws

@@ -6,6 +6,7 @@ use Rattle.sdbt_base.specs.declared.tapes.Tape.{Ghosts as TapeGhosts}
 use Rattle.platform.specs.declared.platforms.Platform.{Ghosts as PlatformGhosts}
 use Rattle.platform.specs.Image.{Image}
 use Rattle.btree_twigs.specs.Stubs.{Stub}
+use Rattle.device_terms.specs.Effects.{AddsNothing}
 use Rattle.device_session.specs.declared.refusals.WriteRefusal.{WriteRefusal}
 use Rattle.device_session.specs.declared.refusals.WriteRefusal.TheVariants as write
 use Rattle.device_session.specs.declared.refusals.TrimRefusal.{TrimRefusal}
@@ -33,12 +34,6 @@ TrimsArray session image device contents block touched (Err (trim.BadRecord addr
 TrimsArray session image device contents block touched (Err trim.Range) = Holds session image device contents
 TrimsArray session image device contents block touched (Err trim.Memory) = Holds session image device contents
 TrimsArray session image device contents block touched (Err trim.PlatformFault) = Holds session image device contents
-
--- nothing was handed over, and no key was drawn
-pub record AddsNothing {S R : Type 0} (P : PlatformGhosts S) (T : TapeGhosts R) (platform platform_now : S) (tape tape_now : R) : Type 0 where
-  pub head : P.head platform_now ≡ P.head platform
-  pub image : P.tells → (P.history platform_now).present ≡ (P.history platform).present
-  pub drawn : T.drawn tape_now ≡ T.drawn tape
 
 -- a write adds a page, which the tree names for the block with the key that was drawn; but for a fault of the platform a refusal adds nothing
 abbrev pub WriteAdds : {S R : Type 0} → PlatformGhosts S → TapeGhosts R → S → S → R → R → List Stub → ℕ → Result (Unit {0}) WriteRefusal → Type 0

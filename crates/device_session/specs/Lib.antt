@@ -1,5 +1,4 @@
 pub mod Sessions
-pub mod Served
 pub mod Open
 pub mod Holds
 pub mod Reading

@@ -6,35 +6,23 @@ use Rattle.sdbt_base.specs.declared.sinks.Sink.{Ghosts as SinkGhosts}
 use Rattle.sdbt_base.specs.declared.tapes.Tape.{Ghosts as TapeGhosts}
 use Rattle.platform.specs.declared.platforms.Platform.{Ghosts as PlatformGhosts}
 use Rattle.platform.specs.Image.{LeavesOnly}
-use Rattle.platform.specs.History.{History, During, Turns, CellStays, CellTurns}
+use Rattle.platform.specs.History.{Turns, CellStays}
 use Rattle.root_codec.specs.RootRecord.{root_bytes}
 use Rattle.page_store.specs.Buffer.{IsBlank}
-use Rattle.page_store.specs.Keeping.{KeepsKeys}
-use Rattle.page_store.specs.Floors.{Forgets}
 use Rattle.page_store.specs.Stands.{Stands}
 use Rattle.grove_accounts.specs.Holding.{IsTreeOf}
 use Rattle.device_session.specs.declared.refusals.CommitReply.{CommitReply}
 use Rattle.device_session.specs.declared.refusals.CommitReply.TheVariants.{Committed}
 use Rattle.device_session.specs.declared.refusals.CommitFault.{CommitFault}
 use Rattle.device_session.specs.declared.refusals.CommitFault.TheVariants as commit
-use Rattle.device_session.specs.Certifying.{Certifies, IsOfCommit}
-use Rattle.device_session.specs.Changes.{AddsNothing}
-use Rattle.device_session.specs.Drawing.{NamesLast}
+use Rattle.device_terms.specs.Certifying.{Certifies}
+use Rattle.device_terms.specs.Effects.{Discloses, AddsNothing, GrowsBy, NamesLast}
+use Rattle.device_session.specs.Certifying.{IsOfCommit}
 use Rattle.device_session.specs.Holds.{Holds}
 use Rattle.device_session.specs.Keys.{HoldsListed}
 use Rattle.device_session.specs.Open.{IsOpen, AreDataPages, blocks_of, number_of, root_of, is_touched, needed_by}
 use Rattle.device_session.specs.Replies.{device_after}
-use Rattle.device_session.specs.Served.{IsServedImage}
 use Rattle.device_session.specs.Sessions.{Session}
-
--- what a call discloses, whatever its answer: each page that it handed over is sealed under a key that it drew; the cell changes at most once, and
--- one that can be served is one at each moment; and over an image that is ready for the keys that it keeps, each moment keeps those with the keys
--- that were drawn, and what was deleted before stays deleted
-pub record Discloses (tells : Type 0) (drawn drawn_now : Option (List (List ℕ))) (old new : History) (Ready Done : List (List ℕ) → Type 0) : Type 0 where
-  pub keys : KeepsKeys tells drawn drawn_now old new Ready Done
-  pub turns : tells → CellTurns old new
-  pub serves : tells → IsServedImage old.present → During old new IsServedImage
-  pub forgets : tells → (keys : List (List ℕ)) → Ready keys → Forgets old new
 
 -- a commit that raised the number: as many pages were added as there were nodes in memory, and the root record in the cell names the last of them with
 -- the key that was drawn last; the session has no data pages that weren't told of, and its tree is the new one, with no node in memory. No node that is gone
@@ -61,15 +49,6 @@ IsCommitCause P T platform platform_now tape tape_now Failed Undrawn Unput commi
     Unput × (P.tells → CellStays (P.history platform) (P.history platform_now))
 IsCommitCause P T platform platform_now tape tape_now Failed Undrawn Unput commit.Memory =
     AddsNothing P T platform platform_now tape tape_now × (P.tells → CellStays (P.history platform) (P.history platform_now))
-
--- beside its purpose a call adds at most so many pages, and counts of faults don't fall
-pub record GrowsBy {S R W : Type 0} (P : PlatformGhosts S) (T : TapeGhosts R) (L : SinkGhosts W) (most : ℕ) (platform platform_now : S) (tape tape_now : R) (ledger ledger_now : W) : Type 0 where
-  pub rises : P.head platform ≤ P.head platform_now
-  pub at_most : P.head platform_now ≤ P.head platform + most
-  pub capacity : P.capacity platform_now ≡ P.capacity platform
-  pub platform_faults : P.faults platform ≤ P.faults platform_now
-  pub tape_faults : T.faults tape ≤ T.faults tape_now
-  pub ledger_faults : L.faults ledger ≤ L.faults ledger_now
 
 -- a commit, whatever its answer: a session that goes on has its array still, and is open on the device that the answer tells of
 pub record Commits {S R W : Type 0} (P : PlatformGhosts S) (T : TapeGhosts R) (L : SinkGhosts W) (platform platform_now : S) (tape tape_now : R) (ledger ledger_now : W) (session now : Session) (result : Result CommitReply CommitFault) : Type 0 where

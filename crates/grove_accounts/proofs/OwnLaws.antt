@@ -3,7 +3,7 @@ use Rattle.std.proofs.Common.{◌≡◌, ◌⊎◌, inl, inr, ℕ, zero, suc, �
 use Rattle.std.specs.Prelude.{Contains, Option, None, Some}
 use Rattle.std.specs.List.{AllByRecursion}
 use Rattle.std.proofs.lemmas.Bool.{cases_lt}
-use Rattle.std.proofs.lemmas.List.Elements.{All-head, All-tail, All-weaker, All-contains, All-contains_itself, Contains-append_left, Contains-append_right, Contains-append_cases}
+use Rattle.std.proofs.lemmas.List.Elements.{All-nil, All-cons, All-append, All-head, All-tail, All-weaker, All-contains, All-contains_itself, Contains-append_left, Contains-append_right, Contains-append_cases}
 use Rattle.sdbt_base.specs.declared.lists.Unkept.{Unkept}
 use Rattle.platform.specs.Image.{Image}
 use Rattle.node_codec.specs.declared.body.Entry.{Entry}
@@ -208,3 +208,50 @@ removal_written image root committed old new each block May pages h g w =
             | inr back ↦ inr (s, there (Contains-append_right g.makes.front g.makes.back s back), own, is)
           ]
         ]
+
+-- after an insertion they are those before, and the new one
+pub insertion_written : (image : Image) (root : Root) (committed : List Place) (old new : Grove) (each : List Parts) (block addr : ℕ) (key : List ℕ) (May : Stub → Type 0) (pages : List Unkept) → HoldsTree image root committed old each → root.head ≤ addr →
+    Turns image.readable block May (λ opened. Puts 0 old.blocks (datum block addr key) opened (places_of new)) old new → AreWritten root.head (places_of old) old.never.items pages →
+    AreWritten root.head (places_of new) new.never.items (pages ++ record { block = block; addr = addr } ∷ [])
+insertion_written image root committed old new each block addr key May pages h late g w =
+    let p = g.makes in
+    let page : Unkept = record { block = block; addr = addr } in
+    let more : (other : Unkept) → Contains pages other → Contains (pages ++ page ∷ []) other = λ other has. Contains-append_left pages (page ∷ []) other has in
+    let last : Contains (pages ++ page ∷ []) page = Contains-append_right pages (page ∷ []) page (0, omega arith, refl) in
+    let goes = subst (λ n. LetsGo n block g.replaced (old.gone.items ++ map (λ (s : Stub). s.addr) g.places) new.gone.items old.never.items new.never.items) h.head g.goes in
+    let lets = lets_own root.head block g.replaced p.mid (old.gone.items ++ map (λ (s : Stub). s.addr) g.places) new.gone.items old.never.items new.never.items (mid_at 0 old.blocks block g.opened p.front p.mid p.back g.replaced p.was p.before p.here p.after g.was) goes in
+    let were : (s : Stub) → IsOwnStub root.head s → Contains g.opened s → Contains (places_of old) s = λ s own has. opens_own image.readable old.order root.head g.places (places_of old) g.opened s g.opens (tree_old image root committed old each h) own has in
+    let in_mid : (s : Stub) → Contains p.mid s → Contains g.opened s = λ s has. subst (λ ss. Contains ss s) (sym p.was) (Contains-append_right p.front (p.mid ++ p.back) s (Contains-append_left p.mid p.back s has)) in
+    record {
+      named = λ s has own. elim (insertion_own image root committed old new each block addr key May h g s own has) [
+        | inl is ↦ subst (Contains (pages ++ page ∷ [])) (ap page_at (sym is)) last
+        | inr was ↦ more (page_at s) (w.named s was own)
+      ];
+      unnamed = All-weaker (Contains new.never.items) (Contains (pages ++ page ∷ [])) (λ other has. elim (lets.only other has) [
+        | inl never ↦ more other (All-contains (Contains pages) old.never.items other w.unnamed never)
+        | inr own ↦ more other (subst (Contains pages) (sym own.3) (w.named own.0 (were own.0 own.2 (in_mid own.0 own.1)) own.2))
+      ]) new.never.items (All-contains_itself new.never.items);
+      only = all_and_last pages (All-weaker (λ other. Contains old.never.items other ⊎ ((s : Stub) × Contains (places_of old) s × IsOwnStub root.head s × (other ≡ page_at s))) IsOf (λ other is. elim is [
+          | inl never ↦ inl (lets.more other never)
+          | inr own ↦ stays other own.0 own.2 own.3 (subst (λ ss. Contains ss own.0) p.was (opens_keep image.readable old.order root.head g.places (places_of old) g.opened own.0 g.opens own.2 own.1)) lets
+        ]) pages w.only);
+    }
+  where
+    IsOf : Unkept → Type 0
+    IsOf other = Contains new.never.items other ⊎ ((s : Stub) × Contains (places_of new) s × IsOwnStub root.head s × (other ≡ page_at s))
+
+    there : (s : Stub) → Contains (g.makes.front ++ (datum block addr key ∷ g.makes.back)) s → Contains (places_of new) s
+    there s k = subst (λ ss. Contains ss s) (sym g.makes.now) k
+
+    all_and_last : (pages : List Unkept) → All IsOf pages → All IsOf (pages ++ record { block = block; addr = addr } ∷ [])
+    all_and_last pages each_is = All-append IsOf pages (record { block = block; addr = addr } ∷ []) each_is
+        (All-cons IsOf (record { block = block; addr = addr }) [] (inr (datum block addr key, there (datum block addr key) (Contains-append_right g.makes.front (datum block addr key ∷ g.makes.back) (datum block addr key) (0, omega arith, refl)), record { level = refl; after = late }, refl)) (All-nil IsOf))
+
+    stays : (other : Unkept) (s : Stub) → IsOwnStub root.head s → other ≡ page_at s → Contains (g.makes.front ++ (g.makes.mid ++ g.makes.back)) s → LetsOwn root.head g.makes.mid old.never.items new.never.items → IsOf other
+    stays other s own is has lets = elim (Contains-append_cases g.makes.front (g.makes.mid ++ g.makes.back) s has) [
+      | inl front ↦ inr (s, there s (Contains-append_left g.makes.front (datum block addr key ∷ g.makes.back) s front), own, is)
+      | inr rest ↦ elim (Contains-append_cases g.makes.mid g.makes.back s rest) [
+        | inl mid ↦ inl (subst (Contains new.never.items) (sym is) (lets.own s mid own))
+        | inr back ↦ inr (s, there s (Contains-append_right g.makes.front (datum block addr key ∷ g.makes.back) s (Contains-append_right (datum block addr key ∷ []) g.makes.back s back)), own, is)
+      ]
+    ]

@@ -1,5 +1,5 @@
 //! Laws of trees with changes. The functions do nothing: each has its law as its contract.
-ghost use Rattle.std.specs.Prelude.{◌≡◌, ◌<◌, ◌≤◌, ◌⊎◌, ℕ, Bool, IsTrue, List, [], ◌∷◌, Contains, length};
+ghost use Rattle.std.specs.Prelude.{◌≡◌, ◌<◌, ◌≤◌, ◌⊎◌, ◌++◌, ℕ, Bool, IsTrue, List, [], ◌∷◌, Contains, length};
 ghost use Rattle.sdbt_base.specs.Arrays.{Device};
 ghost use Rattle.sdbt_base.specs.Traces.{Traced};
 ghost use Rattle.sdbt_base.specs.declared.lists.Unkept.{Unkept};
@@ -45,6 +45,9 @@ pub fn insertion_holds()
     ensures own { (image : Image) (root : Root) (committed : List Place) (old new : Grove) (each : List Parts) (block addr : ℕ) (key : List ℕ) →
         HoldsTree image root committed old each → Turns image.readable block (HasWay block) (λ opened. Puts 0 old.blocks (datum block addr key) opened (places_of new)) old new →
         (s : Stub) → IsOwnStub root.head s → Contains (places_of new) s → (s ≡ datum block addr key) ⊎ Contains (places_of old) s }
+    ensures written { (image : Image) (root : Root) (committed : List Place) (old new : Grove) (each : List Parts) (block addr : ℕ) (key : List ℕ) (pages : List Unkept) →
+        HoldsTree image root committed old each → root.head ≤ addr → Turns image.readable block (HasWay block) (λ opened. Puts 0 old.blocks (datum block addr key) opened (places_of new)) old new →
+        AreWritten root.head (places_of old) old.never.items pages → AreWritten root.head (places_of new) new.never.items (pages ++ record { block = block; addr = addr } ∷ []) }
 {}
 
 /// With a removal the tree is without the block's record, and keeps account of what it let go of.

@@ -9,3 +9,6 @@ returns-clause-holds c = λ image later root committed old new each block addr k
 
 pub returns-clause-own : goal.returns-clause-own
 returns-clause-own c = λ image root committed old new each block addr key h turns s is has. own.insertion_own image root committed old new each block addr key (HasWay block) h turns s is has
+
+pub returns-clause-written : goal.returns-clause-written
+returns-clause-written c = λ image root committed old new each block addr key pages h late turns w. own.insertion_written image root committed old new each block addr key (HasWay block) pages h late turns w
