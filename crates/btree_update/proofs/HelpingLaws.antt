@@ -420,7 +420,7 @@ unfolding HelpsBelow Helps
 leaf_out order zero least low high block loses twig held beside gone is shaped is_open h = record {
   shaped = shaped;
   is_open = is_open;
-  helps = omega (arith, h);
+  helps = omega (arith, h.0);
   wide = refl;
   below = λ head k. k;
   few = omega arith;

@@ -19,3 +19,4 @@ pub mod FoundLaws
 pub mod FoundMaps
 pub mod CountLaws
 pub mod FitsLaws
+pub mod DatumLaws

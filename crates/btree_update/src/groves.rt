@@ -224,6 +224,8 @@ impl Grove {
         ensures top { IsTop self.new.order (self.new.level - 1) self.new.blocks self.new.top }
         ensures size { (self.new.order ≡ self.old.order) × (self.new.blocks ≡ self.old.blocks) × (self.new.head ≡ self.old.head) }
         ensures level { (self.new.level ≡ self.old.level) ⊎ (self.new.level ≡ self.old.level + 1) }
+        // Where the block is mapped, its record only gives way to another.
+        ensures stays { CanRemove block self.old → self.new.level ≡ self.old.level }
         ensures maps { (pages : List (List ℕ)) (mapped : List Mapped) (content : List ℕ) → IsReadFrom pages block self.old → GroveMaps pages self.old mapped
             → IsRecordAt pages addr key (DataRecord block content)
             → (after : List Mapped) × GroveMaps pages self.new after × MapPuts (record { block = block; addr = addr; key = key; content = content }) mapped after }

@@ -12,11 +12,13 @@ use Rattle.btree_update.specs.Tells.{Tells}
 use Rattle.btree_update.proofs.RowLaws.{tells_opened, tells_puts}
 use Rattle.btree_update.specs.declared.groves.Grove.{Grove}
 use Rattle.btree_update.specs.GroveTree.{Maps}
-use Rattle.btree_update.specs.Held.{AreBelow}
+use Rattle.btree_update.specs.Held.{AreBelow, AnyRead}
 use Rattle.btree_update.specs.Roots.{IsRoot, RootMaps, CanOpenRoot, IsRootOpened}
 use Rattle.btree_update.specs.Groves.{CanInsert, IsAddressOf, LetsGo}
 use Rattle.btree_update.proofs.Places.{puts_maps}
 use Rattle.btree_update.proofs.GroveLaws.{top_is_root, top_maps, above_it, puts_below}
+use Rattle.btree_update.specs.Beside.{Anywhere}
+use Rattle.btree_update.proofs.DatumLaws.{root_has}
 use Rattle.btree_update.proofs.groves.Grove.insert.Goals as goal
 
 abbrev can_open : (block : ℕ) (grove : Grove) → CanInsert block grove → CanOpenRoot grove.level block grove.held.items grove.top
@@ -76,6 +78,16 @@ pub returns-clause-level : goal.returns-clause-level
 returns-clause-level c =
     let p = c.put_top.ensures.put (can_put c.args.block c.args.self.now c.open_root.new.top c.requires.can c.requires.small (c.open_root.ensures.opened (can_open c.args.block c.args.self.now c.requires.can))) in
     level_by c.args.self.now.level p.new_level c.level_of-self.result c.requires.can.sound.one p.level_is (c.level_of-self.ensures ∙ top_level c.args.self.now.order p.new_level c.args.self.now.blocks c.put_top.new.top p.shaped)
+
+pub returns-clause-stays : goal.returns-clause-stays
+returns-clause-stays c remove =
+    let grove = c.args.self.now in
+    let can = can_open c.args.block grove c.requires.can in
+    let o = c.open_root.ensures.opened can in
+    let mid = c.open_root.new.top in
+    let helps = c.open_root.ensures.helps can Anywhere grove.beside.items remove.loses remove.beside in
+    let has = root_has AnyRead grove.order c.args.block (grove.level - 1) grove.blocks mid c.open_root.new.held.items grove.beside.items remove.loses o.shaped c.requires.can.to o.is_open helps in
+    c.level_of-self.ensures ∙ c.put_top.ensures.stays (can_put c.args.block grove mid c.requires.can c.requires.small o) has ∙ top_level grove.order (grove.level - 1) grove.blocks mid o.shaped ∙ sym can.level_is
 
 pub returns-clause-maps : goal.returns-clause-maps
 returns-clause-maps c pages mapped content held m there =
