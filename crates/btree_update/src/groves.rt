@@ -1,4 +1,4 @@
-ghost use Rattle.std.specs.Prelude.{◌≡◌, ◌⊎◌, ◌<◌, ◌≤◌, ◌+◌, ◌-◌, ◌*◌, ℕ, List, [], suc, vec_len, vec_capacity, IfOk, IfSome, IsErrOf, IsTrue, Bool};
+ghost use Rattle.std.specs.Prelude.{◌≡◌, ◌⊎◌, ◌<◌, ◌≤◌, ◌+◌, ◌-◌, ◌*◌, ℕ, List, [], suc, vec_len, vec_capacity, IfOk, IfSome, IsErrOf, IsTrue, Bool, Contains};
 ghost use Rattle.root_codec.specs.RootRecord.{FitsRoot};
 ghost use Rattle.node_codec.specs.Record.{DataRecord};
 ghost use Rattle.page_store.specs.Places.{IsRecordAt};
@@ -225,6 +225,7 @@ impl Grove {
         ensures size { (self.new.order ≡ self.old.order) × (self.new.blocks ≡ self.old.blocks) × (self.new.head ≡ self.old.head) }
         ensures level { (self.new.level ≡ self.old.level) ⊎ (self.new.level ≡ self.old.level + 1) }
         // Where the block is mapped, its record only gives way to another.
+        ensures has { Contains (places_of self.new) (datum block addr key) }
         ensures stays { CanRemove block self.old → self.new.level ≡ self.old.level }
         ensures maps { (pages : List (List ℕ)) (mapped : List Mapped) (content : List ℕ) → IsReadFrom pages block self.old → GroveMaps pages self.old mapped
             → IsRecordAt pages addr key (DataRecord block content)

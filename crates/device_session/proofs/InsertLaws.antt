@@ -1,16 +1,22 @@
 -- What a write makes of a session.
-use Rattle.std.proofs.Common.{◌≡◌, ◌⊎◌, inl, inr, ℕ, zero, suc, ◌+◌, ◌-◌, ◌<◌, ◌≤◌, ◌^◌, Bool, true, false, cond, List, [], ◌∷◌, ◌++◌, All, IsTrue, length, take, refl, sym, ap, subst, ◌∙◌, arith}
-use Rattle.std.specs.Prelude.{Contains, Option, Some, slice_get}
+use Rattle.std.proofs.Common.{◌≡◌, ◌⊎◌, inl, inr, ℕ, zero, suc, ◌+◌, ◌-◌, ◌<◌, ◌≤◌, ◌^◌, Bool, true, false, cond, List, [], ◌∷◌, ◌++◌, All, IsTrue, length, take, refl, sym, ap, subst, ◌∙◌, arith, length-append}
+use Rattle.std.specs.Prelude.{Contains, Option, Some, replicate, slice_get}
 use Rattle.std.specs.FinMap as maps
 use Rattle.std.specs.Bool.{OnTrue, OnFalse}
-use Rattle.std.proofs.lemmas.List.Elements.{All-weaker, Contains-append_left, Contains-append_right}
-use Rattle.sdbt_base.specs.Arrays.{Device, Blocks}
+use Rattle.std.proofs.lemmas.List.{length-replicate}
+use Rattle.std.proofs.lemmas.List.Elements.{All-weaker, All-append, All-replicate, Contains-append_left}
+use Rattle.sdbt_base.specs.Arrays.{Device, Blocks, padded}
 use Rattle.sdbt_base.specs.declared.lists.Unkept.{Unkept}
-use Rattle.platform.specs.Image.{Image, IsEarlier, IsWhole}
+use Rattle.sdbt_base.specs.Bytes.{IsBytes}
+use Rattle.platform.specs.Image.{Image, IsEarlier, IsWhole, with_page}
+use Rattle.seal_record.specs.Sealing.{masked}
+use Rattle.node_codec.specs.Record.{DataRecord, record_bytes}
 use Rattle.root_codec.specs.declared.root.Root.{Root}
 use Rattle.page_store.specs.Buffer.{Held}
+use Rattle.page_store.specs.Places.{IsRecordAt}
 use Rattle.page_store.specs.Stands.{StandsBy}
 use Rattle.page_store.specs.Tree.{Parts, Place, Mapped, joined}
+use Rattle.page_store.proofs.RecordLaws.{record_appended, slice_get-end}
 use Rattle.page_store.proofs.StandsLaws.{stands_kept}
 use Rattle.node_cache.specs.declared.slots.Kept.{Kept}
 use Rattle.node_cache.specs.Kept.{Cached}
@@ -30,7 +36,7 @@ use Rattle.device_session.specs.Sessions.{Session}
 use Rattle.device_session.specs.Open.{IsOpen, AreDataPages}
 use Rattle.device_session.specs.Holds.{Holds}
 use Rattle.device_session.specs.Keys.{HoldsListed}
-use Rattle.device_session.specs.Ready.{IsReadyFor}
+use Rattle.device_session.specs.Ready.{IsReadyFor, counted_with}
 use Rattle.device_session.proofs.ArrayLaws.{Ascends, array_put, count_more, count_same}
 use Rattle.device_session.proofs.ReadLaws.{held_maps, held_up}
 use Rattle.device_session.proofs.UpdateLaws.{open_sound, open_size}
@@ -111,10 +117,6 @@ with_inserted session grove mapped buffers = record session { grove = grove; map
 abbrev pub Inserts : Image → ℕ → ℕ → List ℕ → Grove → Grove → Type 0
 Inserts image block addr key old new = Turns image.readable block (HasWay block) (λ opened. Puts 0 old.blocks (datum block addr key) opened (places_of new)) old new
 
--- how many blocks are mapped then
-abbrev pub counted_with : Bool → ℕ → ℕ
-counted_with is_mapped mapped = cond is_mapped mapped (mapped + 1)
-
 pub inserted_open : (session : Session) (grove : Grove) (mapped : ℕ) (buffers : Held) (pages now : ℕ) → IsSameSize session.grove grove → IsTop grove.order (grove.level - 1) grove.blocks grove.top → grove.level ≤ 20 → AreBelow now (places_of grove) →
     mapped ≤ session.root.blocks → pages ≤ now → IsOpen session pages → IsOpen (with_inserted session grove mapped buffers) now
 inserted_open session grove mapped buffers pages now size top level below few le o =
@@ -180,3 +182,51 @@ pub inserted_pages : (session : Session) (image later : Image) (device : Device)
     AreDataPages session pages → AreDataPages (with_inserted session grove (counted_with is_mapped session.mapped) buffers) (pages ++ record { block = block; addr = addr } ∷ [])
 inserted_pages session image later device contents block addr key content is_mapped grove buffers pages i h are =
     insertion_written image session.root h.committed.places session.grove grove h.each block addr key (HasWay block) pages h.tree (omega (arith, i.within, i.arrives.new)) i.turns are
+
+-- ---- a page that came
+
+pub padded_bytes : (content : List ℕ) → length content ≤ 4096 → All (λ b. b < 256) content → IsBytes 4096 (padded content)
+padded_bytes content most bytes = (
+  omega (arith, length-append content (replicate (4096 - length content) 0), length-replicate {A = ℕ} (4096 - length content) 0),
+  All-append (λ (b : ℕ). b < 256) content (replicate (4096 - length content) 0) bytes (All-replicate (λ (b : ℕ). b < 256) (4096 - length content) 0 (omega arith)),
+)
+
+-- a block's data record that was appended arrives
+pub arrived : (image later : Image) (block addr : ℕ) (key content : List ℕ) → IsWhole image → IsEarlier image later → addr ≡ length image.recorded → addr < 2 ^ 64 → block < 1048576 → IsBytes 4096 content →
+    later ≡ with_page image (masked key (record_bytes addr (DataRecord block content))) (masked key (record_bytes addr (DataRecord block content))) → Arrives image later block addr key content
+arrived image later block addr key content whole earlier at small low sized is =
+    let page = masked key (record_bytes addr (DataRecord block content)) in
+    record {
+      earlier = earlier;
+      one = ap (λ (i : Image). length i.recorded) is ∙ length-append image.recorded (page ∷ []) ∙ omega arith;
+      new = at;
+      there = subst (λ (i : Image). IsRecordAt i.readable addr key (DataRecord block content)) (sym is) (record_appended image.readable addr key (DataRecord block content) small (at ∙ sym whole.as_many) (low, sized));
+      same = subst (λ (i : Image). slice_get i.readable addr ≡ slice_get i.recorded addr) (sym is) (slice_get-end image.readable page addr (at ∙ sym whole.as_many) ∙ sym (slice_get-end image.recorded page addr at));
+    }
+
+-- ---- on any pages
+
+pub below_more : (pages now : ℕ) (grove : Grove) → pages ≤ now → AreBelow pages (places_of grove) → AreBelow now (places_of grove)
+below_more pages now grove le h = below_later pages now (places_of grove) le h
+
+pub level_stays : (is_mapped : Bool) (old new : ℕ) → (IsTrue is_mapped → new ≡ old) → (new ≡ old) ⊎ (new ≡ old + 1) → OnFalse is_mapped (old < 20) → old ≤ 20 → new ≤ 20
+level_stays true old new stays either limit le = let same = stays refl in omega (arith, same, le)
+level_stays false old new stays (inl same) limit le = omega (arith, same, le)
+level_stays false old new stays (inr more) limit le = omega (arith, more, limit)
+
+pub count_few : (is_mapped : Bool) (mapped blocks : ℕ) → OnFalse is_mapped (mapped < blocks) → mapped ≤ blocks → counted_with is_mapped mapped ≤ blocks
+count_few true mapped blocks limit le = le
+count_few false mapped blocks limit le = omega (arith, limit)
+
+pub at_false : (b : Bool) (P Q : Type 0) → (P → Q) → OnFalse b P → OnFalse b Q
+at_false true P Q f h = tt
+at_false false P Q f h = f h
+
+-- keys that were drawn are listed with those before
+pub more_listed : (session : Session) (image : Image) (keys more : List (List ℕ)) → HoldsListed session image keys → HoldsListed session image (keys ++ more)
+more_listed session image keys more h = record {
+  device = h.device;
+  contents = h.contents;
+  holds = h.holds;
+  listed = λ s has own. Contains-append_left keys more s.key (h.listed s has own);
+}

@@ -4,3 +4,4 @@ pub mod OrderLaws
 pub mod ReadLaws
 pub mod UpdateLaws
 pub mod InsertLaws
+pub mod CountLaws

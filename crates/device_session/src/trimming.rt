@@ -14,7 +14,7 @@ use btree_update::ReadyRefusal;
 use platform::Platform;
 
 impl Session {
-    ghost use Rattle.device_session.specs.Open.{IsOpen, AreDataPages, blocks_of, is_touched};
+    ghost use Rattle.device_session.specs.Open.{IsOpen, AreDataPages, blocks_of, is_touched, needed_by};
     ghost use Rattle.device_session.specs.Holds.{Holds};
     ghost use Rattle.device_session.specs.Keys.{HoldsListed};
 
@@ -39,6 +39,7 @@ impl Session {
         // The pages that the session wrote are those before, also where their blocks are mapped no more.
         ensures pages { P.tells → (device : Device) (contents : Blocks) → Holds self.old (P.history platform.old).present device contents
             → (pages : List Unkept) → AreDataPages self.old pages → AreDataPages self.new pages }
+        ensures needs { needed_by self.new ≤ needed_by self.old + 41 }
         ensures looks { Looks P.Platform platform.old platform.new }
         ensures cause { IsTrimCause block (blocks_of self.old) (Rose (P.faults platform.old) (P.faults platform.new)) result }
     {

@@ -10,7 +10,7 @@ ghost use Rattle.btree_walk.specs.Sights.{StandsOver};
 ghost use Rattle.btree_update.specs.Groves.{CanInsert, CanRemove, places_of};
 ghost use Rattle.device_session.specs.Causes.{IsWriteCause, IsPutCause};
 ghost use Rattle.device_session.specs.Changes.{WritesArray, WriteAdds};
-ghost use Rattle.device_session.specs.Ready.{IsReadyFor};
+ghost use Rattle.device_session.specs.Ready.{IsReadyFor, counted_with};
 
 use crate::refusals::WriteRefusal;
 use crate::session::Session;
@@ -128,12 +128,18 @@ impl Session {
             Err(AppendFault::PlatformFault) => return Err(WriteRefusal::PlatformFault),
         };
         self.grove.insert(block, placed.addr, placed.key);
-        if !is_mapped {
-            self.mapped += 1;
-        }
+        self.mapped = count_with(self.mapped, is_mapped);
         self.is_touched = true;
         Ok(())
     }
+}
+
+/// How many blocks are mapped with one that was mapped, or wasn't.
+fn count_with(mapped: u64, is_mapped: bool) -> u64
+    requires { OnFalse is_mapped (mapped < 1048576) }
+    ensures { result ≡ counted_with is_mapped mapped }
+{
+    if is_mapped { mapped } else { mapped + 1 }
 }
 
 /// A fact: each is below 256.

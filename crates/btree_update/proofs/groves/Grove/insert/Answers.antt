@@ -1,4 +1,6 @@
 use Rattle.std.proofs.Common.{◌≡◌, ◌⊎◌, ℕ, suc, ◌+◌, ◌-◌, ◌*◌, ◌<◌, ◌≤◌, inl, inr, refl, sym, subst, ◌∙◌, arith}
+use Rattle.std.specs.Prelude.{Contains, ◌∷◌}
+use Rattle.std.proofs.lemmas.List.Elements.{Contains-append_right}
 use Rattle.node_codec.specs.Record.{DataRecord}
 use Rattle.page_store.specs.Places.{IsRecordAt}
 use Rattle.btree_twigs.specs.declared.twigs.Child.{Child}
@@ -78,6 +80,18 @@ pub returns-clause-level : goal.returns-clause-level
 returns-clause-level c =
     let p = c.put_top.ensures.put (can_put c.args.block c.args.self.now c.open_root.new.top c.requires.can c.requires.small (c.open_root.ensures.opened (can_open c.args.block c.args.self.now c.requires.can))) in
     level_by c.args.self.now.level p.new_level c.level_of-self.result c.requires.can.sound.one p.level_is (c.level_of-self.ensures ∙ top_level c.args.self.now.order p.new_level c.args.self.now.blocks c.put_top.new.top p.shaped)
+
+pub returns-clause-has : goal.returns-clause-has
+returns-clause-has c =
+    let can = can_open c.args.block c.args.self.now c.requires.can in
+    let blocks = c.args.self.now.blocks in
+    let new = c.put_top.new.top in
+    let p = c.put_top.ensures.put (can_put c.args.block c.args.self.now c.open_root.new.top c.requires.can c.requires.small (c.open_root.ensures.opened can)) in
+    let l = c.level_of-self.ensures ∙ top_level c.args.self.now.order p.new_level blocks new p.shaped in
+    let stub = datum c.args.block c.args.addr c.bytes.result in
+    let has : Contains (stubs (suc p.new_level) blocks new) stub = subst (λ ss. Contains ss stub) (sym p.puts.now) (Contains-append_right p.puts.front (stub ∷ p.puts.back) stub (0, omega arith, refl)) in
+    let at = subst (λ k. Contains (stubs k blocks new) stub) (sym l) has in
+    subst (λ k. Contains (stubs c.level_of-self.result blocks new) (datum c.args.block c.args.addr k)) c.bytes.ensures.value at
 
 pub returns-clause-stays : goal.returns-clause-stays
 returns-clause-stays c remove =
