@@ -20,3 +20,5 @@ pub mod FoundMaps
 pub mod CountLaws
 pub mod FitsLaws
 pub mod DatumLaws
+pub mod ManyLaws
+pub mod AscendLaws
