@@ -149,3 +149,9 @@ pub grove_all : (pages : List (List ℕ)) (grove : Grove) (mapped : List Mapped)
 grove_all pages grove mapped block sound m two few to =
     let up = root_up pages grove.order (grove.level - 1) grove.blocks (out-Child grove.top) mapped sound.shaped m in
     all_there 0 grove.blocks block mapped up.0 up.1 (omega (arith, few, grove_many pages grove mapped sound m two)) (omega arith) to
+
+-- as many blocks as the device has are all of them
+pub grove_filled : (pages : List (List ℕ)) (grove : Grove) (mapped : List Mapped) (block : ℕ) → IsSound grove → GroveMaps pages grove mapped → grove.blocks ≤ length mapped → block < grove.blocks → HasBlock block mapped
+grove_filled pages grove mapped block sound m many to =
+    let up = root_up pages grove.order (grove.level - 1) grove.blocks (out-Child grove.top) mapped sound.shaped m in
+    all_there 0 grove.blocks block mapped up.0 up.1 (omega (arith, many)) (omega arith) to

@@ -57,8 +57,11 @@ pub fn grove_maps_ascend()
         IsStrictlyIncreasing (map (λ m. m.block) mapped) × All (λ m. m.block < grove.blocks) mapped }
 {}
 
-/// A tree maps every block of its device, where that has no more of them than two to the power of the tree's level.
+/// A tree maps every block of its device, where it maps as many as that has, or where that has no more of them than two to the power of the
+/// tree's level.
 pub fn grove_maps_all()
-    ensures { (pages : List (List ℕ)) (grove : Grove) (mapped : List Mapped) (block : ℕ) → IsSound grove → GroveMaps pages grove mapped →
+    ensures filled { (pages : List (List ℕ)) (grove : Grove) (mapped : List Mapped) (block : ℕ) → IsSound grove → GroveMaps pages grove mapped →
+        grove.blocks ≤ length mapped → block < grove.blocks → HasBlock block mapped }
+    ensures high { (pages : List (List ℕ)) (grove : Grove) (mapped : List Mapped) (block : ℕ) → IsSound grove → GroveMaps pages grove mapped →
         2 ≤ grove.level → grove.blocks ≤ 2 ^ grove.level → block < grove.blocks → HasBlock block mapped }
 {}

@@ -27,7 +27,8 @@ use Rattle.btree_update.specs.declared.groves.Grove.{Grove}
 use Rattle.btree_update.specs.Held.{AreBelow}
 use Rattle.btree_update.specs.Maps.{MapPuts, HasBlock, LacksBlock}
 use Rattle.btree_update.specs.Opens.{HasWay}
-use Rattle.btree_update.specs.Groves.{places_of}
+use Rattle.btree_update.specs.Groves.{GroveMaps, places_of}
+use Rattle.btree_update.proofs.AscendLaws.{grove_all, grove_filled}
 use Rattle.grove_accounts.specs.Holding.{HoldsTree, Arrives, Turns, IsSameSize}
 use Rattle.grove_accounts.specs.Certs.{IsOwnStub, AreWritten}
 use Rattle.grove_accounts.proofs.HoldingLaws.{holds_later, insert_holds}
@@ -230,3 +231,25 @@ more_listed session image keys more h = record {
   holds = h.holds;
   listed = λ s has own. Contains-append_left keys more s.key (h.listed s has own);
 }
+
+-- ---- no block more
+
+lacks_it : (block : ℕ) (ms : List Mapped) (m : Mapped) → LacksBlock block ms → Contains ms m → m.block ≡ block → ⊥
+lacks_it block [] m lacks (i, within, is) same = omega (arith, within)
+lacks_it block (x ∷ ms) m lacks (zero, within, is) same = lacks.0 (ap (λ (k : Mapped). k.block) is ∙ same)
+lacks_it block (x ∷ ms) m lacks (suc i, within, is) same = lacks_it block ms m lacks.1 (i, omega (arith, within), is) same
+
+-- where as many blocks are mapped as there are, or the tree has as many levels as it may, every block is mapped
+pub all_mapped : (session : Session) (image : Image) (device : Device) (contents : Blocks) (block pages : ℕ) → IsOpen session pages → Holds session image device contents → block < session.root.blocks →
+    (session.root.blocks ≤ session.mapped) ⊎ (20 ≤ session.grove.level) → ((mapped : List Mapped) → GroveMaps image.readable session.grove mapped → LacksBlock block mapped) → ⊥
+all_mapped session image device contents block pages o h to limit lacks =
+    let ms = (joined h.each).mapped in
+    let m = held_maps session image device contents h in
+    let same = h.tree.blocks in
+    let has : HasBlock block ms = elim limit [
+      | inl many ↦ grove_filled image.readable session.grove ms block h.tree.sound m (let count = h.count in omega (arith, many, count, same)) (omega (arith, to, same))
+      | inr high ↦
+          let top : session.grove.level ≡ 20 = omega (arith, high, o.level) in
+          grove_all image.readable session.grove ms block h.tree.sound m (omega (arith, high)) (subst (λ n. session.grove.blocks ≤ 2 ^ n) (sym top) (let most = o.served.in_range.blocks_most in omega (arith, most, same))) (omega (arith, to, same))
+    ] in
+    lacks_it block ms has.0 (lacks ms m) has.1 has.2

@@ -1,6 +1,7 @@
 use Rattle.std.proofs.Common.{◌≡◌, ◌∙◌, ◌⊎◌, inl, inr, ℕ, [], ◌∷◌, ◌++◌, ◌+◌, ◌-◌, ◌<◌, ◌≤◌, ◌^◌, Bool, true, false, List, IsTrue, refl, sym, ap, subst, arith}
-use Rattle.std.specs.Prelude.{Contains}
+use Rattle.std.specs.Prelude.{Contains, Some}
 use Rattle.std.specs.Bool.{OnTrue, OnFalse}
+use Rattle.std.specs.FinMap as maps
 use Rattle.sdbt_base.specs.Arrays.{Device, Blocks, padded}
 use Rattle.platform.specs.Image.{Image, with_page}
 use Rattle.platform.proofs.Moments.{Extends-earlier, whole-now}
@@ -62,9 +63,9 @@ arrives g c told =
     (c.in-Ok.ensures.appended told ∙ ap (λ (b : List ℕ). with_page image (masked key b) (masked key b)) body)
 
 -- the insertion, over a tree that is ready for it
-insertion : (g : Over) (c : After-insert g) → g.P.Platform.tells → IsReadyFor (g.P.Platform.history c.args.platform.now).present.readable c.args.block c.args.self.now.grove c.args.is_mapped →
+insertion : (g : Over) (c : After-insert g) → (g.P.Platform.tells → Arrives (g.P.Platform.history c.args.platform.now).present (g.P.Platform.history c.append.new.platform).present c.args.block c.in-Ok.placed.addr c.in-Ok.placed.key (padded c.args.content.now)) → g.P.Platform.tells → IsReadyFor (g.P.Platform.history c.args.platform.now).present.readable c.args.block c.args.self.now.grove c.args.is_mapped →
     IsInsertion (the_view c.self.inside) (g.P.Platform.history c.args.platform.now).present (g.P.Platform.history c.append.new.platform).present c.args.block c.in-Ok.placed.addr c.in-Ok.placed.key (padded c.args.content.now) c.args.is_mapped c.insert.new.self
-insertion g c told r =
+insertion g c come told r =
     let image = (g.P.Platform.history c.args.platform.now).present in
     let o = subst (λ (s : Session). IsOpen s (g.P.Platform.head c.args.platform.now)) (sym c.self.view_is) c.requires.open in
     let ready = subst (λ (s : Session). IsReadyFor image.readable c.args.block s.grove c.args.is_mapped) (sym c.self.view_is) r in
@@ -73,7 +74,7 @@ insertion g c told r =
       cell = c.append.ensures.cell told;
       size = size g c;
       to = subst (λ (s : Session). c.args.block < s.root.blocks) (sym c.self.view_is) c.requires.room.0;
-      arrives = arrives g c.In-Ok told;
+      arrives = come told;
       within = let pages = g.met.P.Platform.counts_pages told c.args.platform.now in omega (arith, pages, o.served.within);
       turns = c.insert.ensures.goes image.readable ready.way;
       ready = ready;
@@ -107,7 +108,7 @@ appends g c Done done =
     let value = DataRecord c.args.block (padded c.args.content.now) in
     keeps_from _ _ _ old _ (IsNextRecord old.present value) _ _ Done
     (c.append.ensures.keeps value (few g c, padded_bytes c.args.content.now c.requires.size c.are_bytes.ensures) (body_is g c))
-    (λ told keys h. record { device = _; stands = (c.args.self.now.root, h.0.holds.committed, h.0.holds.stands); listed = tt })
+    (λ told keys h. record { device = Some h.0.device; stands = (c.args.self.now.root, h.0.holds.committed, h.0.holds.stands); listed = tt })
     (λ told keys more h then. done told keys more (subst (λ (s : Session). HoldsListed s old.present keys) (sym c.self.view_is) h.0) h.1)
 
 pub returns-in-Err-TapeFault-clause-keeps : goal.returns-in-Err-TapeFault-clause-keeps
@@ -124,8 +125,8 @@ pub returns-clause-array : goal.returns-clause-array
 returns-clause-array g c = λ told device contents h r.
     let at = goal.at.returns-clause-array g c in
     let k = subst (λ (s : Session). Holds s (g.P.Platform.history c.args.platform.now).present device contents) (sym c.self.view_is) h in
-    subst (λ n. Holds (with_inserted (the_view c.self.inside) c.insert.new.self n c.append.new.self) (g.P.Platform.history c.append.new.platform).present device _) (sym c.count_with.ensures)
-    (inserted_holds (the_view c.self.inside) _ _ device contents c.args.block c.in-Ok.placed.addr c.in-Ok.placed.key (padded c.args.content.now) c.args.is_mapped c.insert.new.self c.append.new.self (insertion g at.After-insert told r) k)
+    subst (λ n. Holds (with_inserted (the_view c.self.inside) c.insert.new.self n c.append.new.self) (g.P.Platform.history c.append.new.platform).present device (maps.insert contents c.args.block (padded c.args.content.now))) (sym c.count_with-self-inside.ensures)
+    (inserted_holds (the_view c.self.inside) _ _ device contents c.args.block c.in-Ok.placed.addr c.in-Ok.placed.key (padded c.args.content.now) c.args.is_mapped c.insert.new.self c.append.new.self (insertion g at.After-insert (arrives g at.In-Ok) told r) k)
 
 pub returns-clause-cached : goal.returns-clause-cached
 returns-clause-cached g c = λ told h.
@@ -142,7 +143,7 @@ returns-clause-open g c =
     let below = c.insert.ensures.below now (below_more head now c.self.inside.grove (omega (arith, grown)) o.below) (omega (arith, c.in-Ok.ensures.address, grown)) in
     let limit = subst (λ (s : Session). OnFalse c.args.is_mapped ((s.mapped < s.root.blocks) × (s.grove.level < 20))) (sym c.self.view_is) c.requires.limit in
     let can = subst (λ (s : Session). CanInsert c.args.block s.grove × (IsTrue c.args.is_mapped → CanRemove c.args.block s.grove)) (sym c.self.view_is) c.requires.can in
-    subst (λ n. IsOpen (with_inserted (the_view c.self.inside) c.insert.new.self n c.append.new.self) now) (sym c.count_with.ensures)
+    subst (λ n. IsOpen (with_inserted (the_view c.self.inside) c.insert.new.self n c.append.new.self) now) (sym c.count_with-self-inside.ensures)
     (inserted_open (the_view c.self.inside) c.insert.new.self (counted_with c.args.is_mapped c.self.inside.mapped) c.append.new.self head now (size g at.After-insert) c.insert.ensures.top
     (level_stays c.args.is_mapped c.self.inside.grove.level c.insert.new.self.level (λ yes. c.insert.ensures.stays (can.1 yes)) c.insert.ensures.level (at_false c.args.is_mapped _ _ (λ l. l.1) limit) o.level)
     below (count_few c.args.is_mapped c.self.inside.mapped c.self.inside.root.blocks (at_false c.args.is_mapped _ _ (λ l. l.0) limit) o.mapped) (omega (arith, grown)) o)
@@ -154,12 +155,12 @@ returns-clause-keeps g c =
     let value = DataRecord c.args.block (padded c.args.content.now) in
     keeps_from _ _ _ old _ (IsNextRecord old.present value) _ _ _
     (c.append.ensures.keeps value (few g at.After-append, padded_bytes c.args.content.now c.requires.size c.are_bytes.ensures) (body_is g at.After-append))
-    (λ told keys h. record { device = _; stands = (c.args.self.now.root, h.0.holds.committed, h.0.holds.stands); listed = tt })
+    (λ told keys h. record { device = Some h.0.device; stands = (c.args.self.now.root, h.0.holds.committed, h.0.holds.stands); listed = tt })
     (λ told keys more h then.
     let k = subst (λ (s : Session). HoldsListed s old.present keys) (sym c.self.view_is) h.0 in
     let has : Contains (keys ++ more) c.in-Ok.placed.key = rw c.in-Ok.is at then in
-    subst (λ n. HoldsListed (with_inserted (the_view c.self.inside) c.insert.new.self n c.append.new.self) (g.P.Platform.history c.append.new.platform).present (keys ++ more)) (sym c.count_with.ensures)
-    (inserted_listed (the_view c.self.inside) _ _ keys more c.args.block c.in-Ok.placed.addr c.in-Ok.placed.key (padded c.args.content.now) c.args.is_mapped c.insert.new.self c.append.new.self (insertion g at.After-insert told h.1) k has))
+    subst (λ n. HoldsListed (with_inserted (the_view c.self.inside) c.insert.new.self n c.append.new.self) (g.P.Platform.history c.append.new.platform).present (keys ++ more)) (sym c.count_with-self-inside.ensures)
+    (inserted_listed (the_view c.self.inside) _ _ keys more c.args.block c.in-Ok.placed.addr c.in-Ok.placed.key (padded c.args.content.now) c.args.is_mapped c.insert.new.self c.append.new.self (insertion g at.After-insert (arrives g at.In-Ok) told h.1) k has))
 
 pub returns-clause-adds : goal.returns-clause-adds
 returns-clause-adds g c =
@@ -180,5 +181,5 @@ returns-clause-pages g c = λ told device contents h r pages are.
     let address : c.in-Ok.placed.addr ≡ g.P.Platform.head c.args.platform.now = c.in-Ok.ensures.address in (
       tt,
       subst (λ n. AreDataPages (with_inserted (the_view c.self.inside) c.insert.new.self (counted_with c.args.is_mapped c.self.inside.mapped) c.append.new.self) (pages ++ record { block = c.args.block; addr = n } ∷ [])) address
-          (inserted_pages (the_view c.self.inside) _ _ device contents c.args.block c.in-Ok.placed.addr c.in-Ok.placed.key (padded c.args.content.now) c.args.is_mapped c.insert.new.self c.append.new.self pages (insertion g at.After-insert told r) k were),
+          (inserted_pages (the_view c.self.inside) _ _ device contents c.args.block c.in-Ok.placed.addr c.in-Ok.placed.key (padded c.args.content.now) c.args.is_mapped c.insert.new.self c.append.new.self pages (insertion g at.After-insert (arrives g at.In-Ok) told r) k were),
     )

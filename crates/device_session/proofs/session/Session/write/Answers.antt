@@ -1,57 +1,78 @@
-use Rattle.std.proofs.Common.{rules, ◌≡◌, ◌⊎◌, ◌<◌, ◌≤◌, ◌+◌, ◌++◌, ◌∷◌, [], ℕ, List, true, All, IsTrue, OnOk, OnErr, IfErr, length, ◌-◌, ◌*◌, ◌/◌, ◌%◌, Bool, false, nat_eq, nat_lt, slice_index_or, slice_set, bit_and, bit_or, Fits, w8, w32, w64, Bor, MutBor}
-use Rattle.std.specs.Bool.{OnFalse}
-use Rattle.sdbt_base.specs.Faults.{Rose}
-use Rattle.sdbt_base.specs.Arrays.{padded, Device, Blocks}
-use Rattle.sdbt_base.specs.declared.lists.Unkept.{Unkept}
-use Rattle.platform.specs.Calls.{Grows}
-use Rattle.platform.specs.History.{CellStays}
+use Rattle.std.proofs.Common.{◌≡◌, ◌∙◌, ◌⊎◌, inl, inr, ℕ, [], ◌∷◌, ◌++◌, ◌<◌, ◌≤◌, Bool, true, false, List, IsTrue, refl, sym, ap, subst, arith}
+use Rattle.std.specs.Prelude.{OnOk}
+use Rattle.sdbt_base.specs.Arrays.{Device, Blocks}
+use Rattle.root_codec.specs.declared.root.Root.{Root}
+use Rattle.platform.specs.Image.{Image}
+use Rattle.platform.proofs.Moments.{During-start, During-step}
+use Rattle.page_store.specs.Tree.{Mapped}
 use Rattle.page_store.specs.Keeping.{KeepsKeys}
-use Rattle.btree_walk.specs.Sights.{StandsOver}
-use Rattle.btree_update.specs.Groves.{CanInsert, CanRemove, places_of}
-use Rattle.device_session.specs.Causes.{IsWriteCause, IsPutCause}
-use Rattle.device_session.specs.Changes.{WritesArray, WriteAdds}
-use Rattle.device_session.specs.Ready.{IsReadyFor}
-use Rattle.device_session.specs.Open.{IsOpen, AreDataPages, blocks_of, is_touched, needed_by}
+use Rattle.page_store.proofs.KeepingLaws.{keeps_idle, keeps_then}
+use Rattle.btree_update.specs.Maps.{HasBlock, LacksBlock}
+use Rattle.device_session.specs.Sessions.{Session}
+use Rattle.device_session.specs.Open.{AreDataPages}
 use Rattle.device_session.specs.Holds.{Holds}
 use Rattle.device_session.specs.Keys.{HoldsListed}
+use Rattle.device_session.specs.Ready.{IsReadyFor}
+use Rattle.device_session.proofs.UpdateLaws.{ready_pages, on_false}
+use Rattle.device_session.proofs.InsertLaws.{all_mapped}
+use Rattle.device_session.specs.contracts.session.Session.{the_view}
+use Rattle.device_session.proofs.session.Session.write.Given.{Over}
+use Rattle.device_session.proofs.session.Session.write.Goals.{After-ready}
 use Rattle.device_session.proofs.session.Session.write.Goals as goal
 
--- src/writing.rt:62:13
 pub returns-then-block-self-clause-keeps : goal.returns-then-block-self-clause-keeps
-returns-then-block-self-clause-keeps g c = ?
+returns-then-block-self-clause-keeps g c =
+    let old = g.P.Platform.history c.args.platform.now in
+    keeps_idle _ _ _ old old (HoldsListed c.args.self.now old.present) _ refl (λ told. During-start old (λ image. image ≡ old.present) refl) (λ told keys kept h. h)
 
--- src/writing.rt:65:13
 pub returns-then-head-capacity-clause-keeps : goal.returns-then-head-capacity-clause-keeps
-returns-then-head-capacity-clause-keeps g c = ?
+returns-then-head-capacity-clause-keeps g c =
+    let old = g.P.Platform.history c.args.platform.now in
+    keeps_idle _ _ _ old old (HoldsListed c.args.self.now old.present) _ refl (λ told. During-start old (λ image. image ≡ old.present) refl) (λ told keys kept h. h)
 
--- src/writing.rt:69:54
+-- a look keeps the keys
+looked : (g : Over) (c : After-ready g) → KeepsKeys g.P.Platform.tells (g.T.Tape.drawn c.args.tape.now) (g.T.Tape.drawn c.args.tape.now) (g.P.Platform.history c.args.platform.now) (g.P.Platform.history c.ready.new.platform)
+    (HoldsListed c.args.self.now (g.P.Platform.history c.args.platform.now).present) (HoldsListed c.ready.new.self (g.P.Platform.history c.ready.new.platform).present)
+looked g c =
+    keeps_idle _ _ _ (g.P.Platform.history c.args.platform.now) (g.P.Platform.history c.ready.new.platform) (HoldsListed c.args.self.now (g.P.Platform.history c.args.platform.now).present) _ refl
+    (λ told. During-step _ _ (λ image. image ≡ (g.P.Platform.history c.args.platform.now).present) (c.ready.ensures.looks.time told) refl (c.ready.ensures.looks.image told)) (λ told keys kept h. c.ready.ensures.listed told keys h)
+
 pub returns-in-Err-BadRecord-clause-array : goal.returns-in-Err-BadRecord-clause-array
-returns-in-Err-BadRecord-clause-array g c = ?
+returns-in-Err-BadRecord-clause-array g c = λ told device contents h. (c.ready.ensures.holds told device contents h).1 c.in-Err-BadRecord.addr (cc)
 
--- src/writing.rt:69:54
 pub returns-in-Err-BadRecord-clause-keeps : goal.returns-in-Err-BadRecord-clause-keeps
-returns-in-Err-BadRecord-clause-keeps g c = ?
+returns-in-Err-BadRecord-clause-keeps g c = looked g (goal.at.returns-in-Err-BadRecord-clause-keeps g c).After-ready
 
--- src/writing.rt:70:49
 pub returns-in-Err-PlatformFault-clause-keeps : goal.returns-in-Err-PlatformFault-clause-keeps
-returns-in-Err-PlatformFault-clause-keeps g c = ?
+returns-in-Err-PlatformFault-clause-keeps g c = looked g (goal.at.returns-in-Err-PlatformFault-clause-keeps g c).After-ready
 
--- src/writing.rt:71:42
 pub returns-in-Err-Memory-clause-keeps : goal.returns-in-Err-Memory-clause-keeps
-returns-in-Err-Memory-clause-keeps g c = ?
+returns-in-Err-Memory-clause-keeps g c = looked g (goal.at.returns-in-Err-Memory-clause-keeps g c).After-ready
 
--- src/writing.rt:74:13
 pub returns-then-is_at_limit-clause-array : goal.returns-then-is_at_limit-clause-array
-returns-then-is_at_limit-clause-array g c = ?
+returns-then-is_at_limit-clause-array g c = λ told device contents h.
+    let image = (g.P.Platform.history c.ready.new.platform).present in
+    let k = (c.ready.ensures.holds told device contents h).0 in
+    let r = c.in-Ok.ensures.ready told h.cached in
+    all_mapped c.ready.new.self image device contents c.args.block (g.P.Platform.head c.ready.new.platform) c.ready.ensures.open k
+    (subst (λ (n : Root). c.args.block < n.blocks) (sym c.ready.ensures.same.0) (subst (λ (s : Session). c.args.block < s.root.blocks) c.self.view_is c.if-block-self.false))
+    (c.is_at_limit.ensures.full c.if-is_at_limit.true) (λ mapped m. on_false c.in-Ok.is_mapped (LacksBlock c.args.block mapped) c.if-not-is_mapped.true (r.mapped mapped m).1)
 
--- src/writing.rt:74:13
 pub returns-then-is_at_limit-clause-keeps : goal.returns-then-is_at_limit-clause-keeps
-returns-then-is_at_limit-clause-keeps g c = ?
+returns-then-is_at_limit-clause-keeps g c = looked g (goal.at.returns-then-is_at_limit-clause-keeps g c).After-ready
 
--- src/writing.rt:33:5
 pub returns-clause-keeps : goal.returns-clause-keeps
-returns-clause-keeps g c = ?
+returns-clause-keeps g c =
+    let at = goal.at.returns-clause-keeps g c in
+    let image = (g.P.Platform.history c.ready.new.platform).present in
+    let over : KeepsKeys g.P.Platform.tells (g.T.Tape.drawn c.args.tape.now) (g.T.Tape.drawn c.args.tape.now) (g.P.Platform.history c.args.platform.now) (g.P.Platform.history c.ready.new.platform)
+    (HoldsListed c.args.self.now (g.P.Platform.history c.args.platform.now).present) (λ keys. HoldsListed c.ready.new.self image keys × IsReadyFor image.readable c.args.block c.ready.new.self.grove c.in-Ok.is_mapped) =
+    keeps_idle _ _ _ (g.P.Platform.history c.args.platform.now) (g.P.Platform.history c.ready.new.platform) (HoldsListed c.args.self.now (g.P.Platform.history c.args.platform.now).present) _ refl
+    (λ told. During-step _ _ (λ image. image ≡ (g.P.Platform.history c.args.platform.now).present) (c.ready.ensures.looks.time told) refl (c.ready.ensures.looks.image told)) (λ told keys kept h. (c.ready.ensures.listed told keys h, c.in-Ok.ensures.ready told h.holds.cached)) in
+    keeps_then _ _ _ _ _ (g.P.Platform.history c.ready.new.platform) _ _ _ _ _ _ over c.put.ensures.keeps (λ told keys kept h. h) (λ told keys more h done. done)
 
--- src/writing.rt:33:5
 pub returns-clause-pages : goal.returns-clause-pages
-returns-clause-pages g c = ?
+returns-clause-pages g c = λ told device contents h pages are.
+    let k = (c.ready.ensures.holds told device contents h).0 in
+    let written = c.put.ensures.pages told device contents k (c.in-Ok.ensures.ready told h.cached) pages (ready_pages c.args.self.now c.ready.new.self pages c.ready.ensures.same.0 c.ready.ensures.same.3 are) in
+    (written.0, subst (λ n. OnOk c.put.result (AreDataPages c.put.new.self (pages ++ record { block = c.args.block; addr = n } ∷ []))) c.ready.ensures.looks.head written.1)
