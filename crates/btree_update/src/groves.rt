@@ -231,7 +231,7 @@ impl Grove {
             → IsRecordAt pages addr key (DataRecord block content)
             → (after : List Mapped) × GroveMaps pages self.new after × MapPuts (record { block = block; addr = addr; key = key; content = content }) mapped after }
         ensures goes { (pages : List (List ℕ)) → IsReadFrom pages block self.old
-            → Goes pages self.old.order self.old.head block (HasWay block) (λ opened. Puts 0 self.old.blocks (datum block addr key) opened (places_of self.new))
+            → Goes pages self.old.order self.old.level self.old.head block (HasWay block) (λ opened. Puts 0 self.old.blocks (datum block addr key) opened (places_of self.new))
             (places_of self.old) self.old.gone.items self.new.gone.items self.old.never.items self.new.never.items }
         ensures levels { (pages : List (List ℕ)) (levels : ℕ → List Node) → IsReadFrom pages block self.old → HasLevels pages self.old levels
             → (after : ℕ → List Node) × HasLevels pages self.new after × Reshape self.old.order block self.old.level self.new.level levels after }
@@ -270,7 +270,7 @@ impl Grove {
             → (after : List Mapped) × GroveMaps pages self.new after × MapTakes block mapped after }
         // Beside the way no place is opened but those for which a neighbour's node is held.
         ensures goes { (pages : List (List ℕ)) (may : Stub → Bool) → IsReadFrom pages block self.old → IsReadBesideAt pages may block self.old
-            → Goes pages self.old.order self.old.head block (λ s. HasWay block s ⊎ IsTrue (may s)) (λ opened. Takes 0 self.old.blocks block opened (places_of self.new))
+            → Goes pages self.old.order self.old.level self.old.head block (λ s. HasWay block s ⊎ IsTrue (may s)) (λ opened. Takes 0 self.old.blocks block opened (places_of self.new))
             (places_of self.old) self.old.gone.items self.new.gone.items self.old.never.items self.new.never.items }
         ensures levels { (pages : List (List ℕ)) (levels : ℕ → List Node) → IsReadFrom pages block self.old → IsReadBeside pages block self.old → HasLevels pages self.old levels
             → (after : ℕ → List Node) × HasLevels pages self.new after × ReshapeDown self.old.order block self.old.level self.new.level levels after }

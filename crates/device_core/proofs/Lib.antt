@@ -1,15 +1,4 @@
-pub mod Ascending
-pub mod EntryLaws
-pub mod ArrayLaws
-pub mod DataPageLaws
 pub mod CertifyingLaws
-pub mod AccountLaws
-pub mod HoldLaws
-pub mod MomentLaws
-pub mod FollowLaws
-pub mod ServedLaws
-pub mod CountLaws
-pub mod KeyLaws
-pub mod ReadingLaws
-pub mod CommitLaws
+pub mod FirstLaws
 pub mod FormatLaws
+pub mod EraseLaws

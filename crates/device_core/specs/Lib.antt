@@ -1,15 +1,2 @@
-pub mod Sessions
-pub mod Accounts
-pub mod Leaf
-pub mod Holding
-pub mod Damage
-pub mod Open
-pub mod Holds
 pub mod Certifying
-pub mod Causes
-pub mod Replies
-pub mod Drawing
-pub mod Reading
-pub mod Knowing
-pub mod Changes
 pub mod Publishing

@@ -1,93 +1,21 @@
--- What the calls say that may replace the root record: a format, a commit and an erasure.
-use Rattle.std.specs.Prelude.{◌≡◌, ◌≢◌, ◌+◌, ◌≤◌, ℕ, false, [], List, Option, Some, None, Result, Ok, Err, IfOk, OnOk, IfErr, IsOk}
-use Rattle.sdbt_base.specs.Faults.{Rose}
-use Rattle.sdbt_base.specs.Arrays.{Device, Blocks, committed_with}
-use Rattle.sdbt_base.specs.declared.sinks.Sink.{Ghosts as SinkGhosts}
+-- The cause of each answer of a format and of an erasure: which comes where, and that a fault comes only where the count of that object rose.
+use Rattle.std.specs.Prelude.{◌≡◌, ◌≢◌, ◌+◌, None, Result, Ok, Err}
 use Rattle.sdbt_base.specs.declared.tapes.Tape.{Ghosts as TapeGhosts}
 use Rattle.platform.specs.declared.platforms.Platform.{Ghosts as PlatformGhosts}
-use Rattle.platform.specs.Calls.{Grows}
-use Rattle.platform.specs.Image.{LeavesOnly}
-use Rattle.platform.specs.History.{History, During, Turns, CellStays, CellTurns}
-use Rattle.root_codec.specs.RootRecord.{root_bytes}
-use Rattle.page_store.specs.Buffer.{IsBlank}
-use Rattle.page_store.specs.Keeping.{KeepsKeys}
-use Rattle.page_store.specs.Floors.{Forgets}
+use Rattle.platform.specs.History.{CellStays}
 use Rattle.page_store.specs.Stands.{Stands}
-use Rattle.device_core.specs.Certifying.{AreDataPages, Certifies, IsOfCommit}
-use Rattle.device_core.specs.Changes.{AddsNothing}
-use Rattle.device_core.specs.Drawing.{NamesLast, KeepsTree}
-use Rattle.device_core.specs.Holds.{Holds}
-use Rattle.device_core.specs.Knowing.{HoldsListed}
-use Rattle.device_core.specs.Leaf.{IsServedImage}
-use Rattle.device_core.specs.Open.{IsOpen, blocks_of, number_of, root_of, is_touched}
-use Rattle.device_core.specs.Replies.{device_after}
-use Rattle.device_core.specs.Sessions.{Session}
+use Rattle.device_terms.specs.Effects.{AddsNothing}
 use Rattle.device_core.specs.declared.publishing.PublishFault.{PublishFault}
 use Rattle.device_core.specs.declared.publishing.PublishFault.TheVariants as publish
-use Rattle.device_core.specs.declared.refusals.CommitReply.{CommitReply}
-use Rattle.device_core.specs.declared.refusals.CommitReply.TheVariants.{Committed}
-use Rattle.device_core.specs.declared.refusals.CommitFault.{CommitFault}
-use Rattle.device_core.specs.declared.refusals.CommitFault.TheVariants as commit
 use Rattle.device_core.specs.declared.refusals.FormatRefusal.{FormatRefusal}
 use Rattle.device_core.specs.declared.refusals.FormatRefusal.TheVariants as format
 use Rattle.device_core.specs.declared.refusals.EraseRefusal.{EraseRefusal}
 use Rattle.device_core.specs.declared.refusals.EraseRefusal.TheVariants as erase
 
--- what a call discloses, whatever its answer: each page that it handed over is sealed under a key that it drew; the cell changes at most once, and
--- one that can be served is one at each moment; and over an image that is ready for the keys that it keeps, each moment keeps those with the keys
--- that were drawn, and what was deleted before stays deleted
-pub record Discloses (tells : Type 0) (drawn drawn_now : Option (List (List ℕ))) (old new : History) (Ready Done : List (List ℕ) → Type 0) : Type 0 where
-  pub keys : KeepsKeys tells drawn drawn_now old new Ready Done
-  pub turns : tells → CellTurns old new
-  pub serves : tells → IsServedImage old.present → During old new IsServedImage
-  pub forgets : tells → (keys : List (List ℕ)) → Ready keys → Forgets old new
-
--- a commit that raised the number: one page was added, which the root record in the cell names with the key that was drawn last; the session has no
--- data pages that weren't told of, every key that it has is one of the new tree, and nothing of what was read or sealed is left in its buffers
-pub record HasRaised {S R : Type 0} (P : PlatformGhosts S) (T : TapeGhosts R) (platform platform_now : S) (tape tape_now : R) (session now : Session) (reply : CommitReply) : Type 0 where
-  pub replied : reply ≡ Committed (number_of session + 1)
-  pub number : number_of now ≡ number_of session + 1
-  pub untouched : is_touched now ≡ false
-  pub pages : AreDataPages now []
-  pub wiped : IsBlank now.buffers
-  pub head : P.head platform_now ≡ P.head platform + 1
-  pub names : NamesLast (T.drawn tape) (T.drawn tape_now) (P.head platform_now) (root_of now)
-  pub cell : P.tells → (P.history platform_now).present.cell ≡ Some (root_bytes (root_of now))
-  pub knows : P.tells → (device : Device) (contents : Blocks) → Holds session (P.history platform).present device contents
-      → KeepsTree (root_of now) now.entries (P.history platform_now).present
-
 -- a root record was not published since the platform failed, or the ledger
 abbrev pub IsPublishCause : Type 0 → Type 0 → PublishFault → Type 0
 IsPublishCause Failed Unput publish.Platform = Failed
 IsPublishCause Failed Unput publish.Ledger = Unput
-
--- a commit fails where the platform, the tape or the ledger failed, or no memory was given. Where no key was drawn nothing was handed over; but for a
--- fault of the platform the cell is as it was at each moment
-abbrev pub IsCommitCause : {S R : Type 0} → PlatformGhosts S → TapeGhosts R → S → S → R → R → Type 0 → Type 0 → Type 0 → CommitFault → Type 0
-IsCommitCause P T platform platform_now tape tape_now Failed Undrawn Unput commit.PlatformFault = Failed
-IsCommitCause P T platform platform_now tape tape_now Failed Undrawn Unput commit.TapeFault =
-    Undrawn × AddsNothing P T platform platform_now tape tape_now × (P.tells → CellStays (P.history platform) (P.history platform_now))
-IsCommitCause P T platform platform_now tape tape_now Failed Undrawn Unput commit.LedgerFault =
-    Unput × (P.tells → CellStays (P.history platform) (P.history platform_now))
-IsCommitCause P T platform platform_now tape tape_now Failed Undrawn Unput commit.Memory =
-    AddsNothing P T platform platform_now tape tape_now × (P.tells → CellStays (P.history platform) (P.history platform_now))
-
--- a commit, whatever its answer: a session that goes on has its array still, and is open on the device that the answer tells of
-pub record Commits {S R W : Type 0} (P : PlatformGhosts S) (T : TapeGhosts R) (L : SinkGhosts W) (platform platform_now : S) (tape tape_now : R) (ledger ledger_now : W) (session now : Session) (result : Result CommitReply CommitFault) : Type 0 where
-  pub array : P.tells → (device : Device) (contents : Blocks) → Holds session (P.history platform).present device contents
-      → IfOk result (λ reply. Holds now (P.history platform_now).present (device_after reply device contents) contents)
-  pub goes_on : OnOk result (IsOpen now (P.head platform_now) × (blocks_of now ≡ blocks_of session) × (now.mapped ≡ session.mapped))
-  -- at each moment a loss of power leaves the device, until one from which on it leaves the one with the session's array
-  pub time : P.tells → (device : Device) (contents : Blocks) → Holds session (P.history platform).present device contents
-      → Turns (P.history platform) (P.history platform_now) (LeavesOnly (λ left. Stands left (Some device)))
-      (LeavesOnly (λ left. Stands left (Some (committed_with device contents))))
-  pub discloses : Discloses P.tells (T.drawn tape) (T.drawn tape_now) (P.history platform) (P.history platform_now)
-      (HoldsListed session (P.history platform).present) (λ keys. OnOk result (HoldsListed now (P.history platform_now).present keys))
-  pub certifies : Certifies P.tells (L.written ledger) (L.written ledger_now) (P.history platform) (P.history platform_now)
-      session.root.head (number_of session + 1) (IsOfCommit session (P.history platform).present (P.history platform_now).present) (IsOk result)
-  pub cause : IfErr result (IsCommitCause P T platform platform_now tape tape_now (Rose (P.faults platform) (P.faults platform_now))
-      (Rose (T.faults tape) (T.faults tape_now)) (Rose (L.faults ledger) (L.faults ledger_now)))
-  pub grows : Grows P platform platform_now × (T.faults tape ≤ T.faults tape_now) × (L.faults ledger ≤ L.faults ledger_now)
 
 -- nothing came of a format: no page, no key, and at each moment the cell as it was
 abbrev pub IsUnmade : {S R : Type 0} → PlatformGhosts S → TapeGhosts R → S → S → R → R → Type 0

@@ -7,7 +7,7 @@ ghost use Rattle.page_store.specs.Stands.{Stands};
 ghost use Rattle.page_store.specs.Kept.{Kept};
 ghost use Rattle.page_store.specs.Stands.{IsSound};
 ghost use Rattle.page_store.specs.Floors.{Forgets};
-ghost use Rattle.device_core.specs.Leaf.{IsServedImage};
+ghost use Rattle.device_terms.specs.Served.{IsServedImage};
 ghost use Rattle.device_core.specs.Publishing.{IsEraseCause};
 
 use crate::refusals::EraseRefusal;

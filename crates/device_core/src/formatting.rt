@@ -1,18 +1,19 @@
-ghost use Rattle.std.specs.Prelude.{◌≡◌, ◌≢◌, ◌≤◌, ◌⊎◌, [], Option, None, Some, OnOk, OnErr, IsOk, IsErrOf, ⊤};
+ghost use Rattle.std.specs.Prelude.{◌≡◌, ◌≢◌, ◌≤◌, ◌⊎◌, ◌%◌, Option, None, Some, OnOk, OnErr, IsOk, IsErrOf, ⊤};
 ghost use Rattle.sdbt_base.specs.Faults.{Rose};
 ghost use Rattle.platform.specs.Image.{LeavesOnly};
 ghost use Rattle.platform.specs.Calls.{Grows};
 ghost use Rattle.platform.specs.History.{Turns, CellStays};
 ghost use Rattle.sdbt_base.specs.Arrays.{Device, new_device};
 ghost use Rattle.page_store.specs.Stands.{Stands, IsSound};
-ghost use Rattle.device_core.specs.Leaf.{IsServedImage};
 ghost use Rattle.root_codec.specs.declared.root.Root.{Root};
 ghost use Rattle.root_codec.specs.RootRecord.{root_bytes};
-ghost use Rattle.device_core.specs.Drawing.{NamesLast};
-ghost use Rattle.device_core.specs.Certifying.{Certifies, IsOfFormat};
-ghost use Rattle.device_core.specs.Publishing.{Discloses, IsFormatCause};
+ghost use Rattle.device_terms.specs.Served.{IsServedImage};
+ghost use Rattle.device_terms.specs.Effects.{Discloses, NamesLast};
+ghost use Rattle.device_terms.specs.Certifying.{Certifies};
+ghost use Rattle.device_core.specs.Certifying.{IsOfFormat};
+ghost use Rattle.device_core.specs.Publishing.{IsFormatCause};
 
-use crate::certifying::entry_of;
+use crate::certifying::first_entry;
 use crate::publishing::{PublishFault, publish};
 use crate::refusals::FormatRefusal;
 use page_store::{AppendFault, Buffers};
@@ -24,9 +25,8 @@ use std::alloc::Global;
 /// Makes a device of `blocks` blocks, none of them mapped, where the cell is empty: one empty leaf, and
 /// then the root record that names it.
 ///
-/// As long as a device is one leaf, the order is 64 and there are 1 to 64 blocks. `NotEmpty` comes exactly
-/// where the cell is full, and else `Full` exactly where no page is free. The ledger gets one entry, in one put,
-/// before the root record is written.
+/// `NotEmpty` comes exactly where the cell is full, and else `Full` exactly where no page is free. The ledger gets one entry,
+/// in one put, before the root record is written.
 pub fn format<P: Platform, T: Tape, L: Sink>(
     alloc: Global,
     platform: &mut P,
@@ -35,9 +35,8 @@ pub fn format<P: Platform, T: Tape, L: Sink>(
     blocks: u64,
     order: u16,
 ) -> Result<(), FormatRefusal>
-    requires least { 1 ≤ blocks }
-    requires most { blocks ≤ 64 }
-    requires order { order ≡ 64 }
+    requires sized { (1 ≤ blocks) × (blocks ≤ 1048576) }
+    requires ordered { (4 ≤ order) × (order ≤ 64) × (order % 2 ≡ 0) }
 
     // The new root record names the page and the key of this call.
     ensures made { P.tells → OnOk result (Stands (P.history platform.new).present (Some (new_device blocks order))
@@ -77,7 +76,7 @@ pub fn format<P: Platform, T: Tape, L: Sink>(
         return Err(FormatRefusal::Memory);
     };
     let addr = platform.head();
-    let Ok(entry) = entry_of(alloc, 0, addr, addr, &[], &[], &[]) else {
+    let Ok(entry) = first_entry(alloc, addr) else {
         return Err(FormatRefusal::Memory);
     };
     buffers.put_node(addr, 1, &[]);

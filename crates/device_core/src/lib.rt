@@ -1,31 +1,18 @@
-//! A block device that forgets, over a medium that keeps every page: sessions on it, its making and its erasure.
+//! The making and the erasing of a block device that forgets, over a medium that keeps every page.
 //!
-//! A session is an array of blocks with changes that no one else sees. A commit makes them the device's by
-//! one replacement of the root record, so that a loss of power at any moment leaves the device from before
-//! or the one after. Until there are trees of many levels, a device is one leaf: order 64, at most 64 blocks.
+//! A device of any order and number of blocks is made as one empty leaf and the root record that names it, and erased by clearing
+//! the root cell. Each is one step: a loss of power at any moment leaves what there was before, or what the call makes.
 #![tactic(auto)]
 
 mod certifying;
-mod committing;
 mod erasing;
 mod formatting;
-mod laws;
-mod leaves;
 mod publishing;
-mod reading;
 mod refusals;
-mod released;
-mod session;
-mod writing;
 
 pub use erasing::erase;
 pub use formatting::format;
-pub use laws::stands_under_session;
-pub use refusals::{
-    CommitFault, CommitReply, EraseRefusal, FormatRefusal, MountRefusal, ReadRefusal, TrimRefusal,
-    WriteRefusal,
-};
-pub use session::Session;
+pub use refusals::{EraseRefusal, FormatRefusal};
 
 #[cfg(test)]
 mod tests;

@@ -1,4 +1,4 @@
-//! The last three steps of a format and of a commit.
+//! The last three steps of a format.
 ghost use Rattle.std.specs.Prelude.{◌≡◌, ◌≤◌, ◌⊎◌, Some, OnOk, IfErr, IsOk};
 ghost use Rattle.sdbt_base.specs.Faults.{Rose};
 ghost use Rattle.sdbt_base.specs.Told.{Got, GotPart};

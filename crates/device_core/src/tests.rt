@@ -1,89 +1,43 @@
-use crate::{CommitReply, EraseRefusal, FormatRefusal, MountRefusal, Session, erase, format};
+//! Devices that are made and erased, on a medium in memory.
+use crate::{EraseRefusal, FormatRefusal, erase, format};
 use platform::{MemPlatform, Platform};
-use sdbt_base::{BLOCK, ListTape, MemSink};
-use std::alloc::Global;
+use sdbt_base::{ListTape, MemSink};
 use std::test::Fail;
 
-/// The first two bytes of a block and the number of mapped blocks, by a session that is opened anew.
-fn look(alloc: Global, platform: &mut MemPlatform, block: u64) -> Option<([u8; 2], u64)> {
-    let mut session = Session::mount(alloc, platform, 0).ok()?;
-    let mut content = [7; BLOCK];
-    session.read(platform, block, &mut content).ok()?;
-    Some(([content[0], content[1]], session.mapped()))
-}
-
-/// Writes a block and commits; none where anything is refused.
-fn written(
-    alloc: Global,
-    platform: &mut MemPlatform,
-    tape: &mut ListTape,
-    ledger: &mut MemSink,
-    block: u64,
-    content: &[u8],
-) -> Option<CommitReply> {
-    if content.len() > BLOCK {
-        return None;
-    }
-    let mut session = Session::mount(alloc, platform, 0).ok()?;
-    session.write(platform, tape, block, content).ok()?;
-    let reply = session.commit(platform, tape, ledger).ok()?;
-    Some(reply)
-}
-
-/// Trims a block and commits; none where anything is refused.
-fn trimmed(
-    alloc: Global,
-    platform: &mut MemPlatform,
-    tape: &mut ListTape,
-    ledger: &mut MemSink,
-    block: u64,
-) -> Option<CommitReply> {
-    let mut session = Session::mount(alloc, platform, 0).ok()?;
-    session.trim(platform, block).ok()?;
-    let reply = session.commit(platform, tape, ledger).ok()?;
-    Some(reply)
+/// The order and the number of blocks in a root cell, as their bytes.
+fn shape(platform: &MemPlatform) -> Option<([u8; 2], [u8; 8])> {
+    let cell = platform.cell()?;
+    let mut order = [0; 2];
+    order.copy_from_slice(&cell[10..12]);
+    let mut blocks = [0; 8];
+    blocks.copy_from_slice(&cell[16..24]);
+    Some((order, blocks))
 }
 
 #[test]
-fn changes_outlast_a_remount(rt: HostRuntime) -> Result<(), Fail> {
-    let mut platform = MemPlatform::blank(rt.alloc(), 6);
-    let keys = [[1; 32], [2; 32], [3; 32], [4; 32], [5; 32], [6; 32]];
-    let mut tape = ListTape::new(rt.alloc(), &keys, &[])?;
-    let mut ledger = MemSink::new(rt.alloc(), &[])?;
-    let absent = Session::mount(rt.alloc(), &mut platform, 0).err();
-    assert!(rt; absent == Some(MountRefusal::NoDevice));
+fn devices_are_made_and_erased(rt: HostRuntime) -> Result<(), Fail> {
+    let alloc = rt.alloc();
+    let mut platform = MemPlatform::blank(alloc, 2);
+    let mut tape = ListTape::new(alloc, &[[1; 32], [2; 32]], &[])?;
+    let mut ledger = MemSink::new(alloc, &[])?;
     assert!(rt; erase(&mut platform) == Err(EraseRefusal::NoDevice));
-    format(rt.alloc(), &mut platform, &mut tape, &mut ledger, 8, 64)?;
-    let again = format(rt.alloc(), &mut platform, &mut tape, &mut ledger, 8, 64);
+    format(alloc, &mut platform, &mut tape, &mut ledger, 1_048_576, 4)?;
+    assert!(rt; shape(&platform) == Some(([0, 4], [0, 0, 0, 0, 0, 16, 0, 0])));
+    let again = format(alloc, &mut platform, &mut tape, &mut ledger, 8, 64);
     assert!(rt; again == Err(FormatRefusal::NotEmpty));
-    assert!(rt; look(rt.alloc(), &mut platform, 3) == Some(([0, 0], 0)));
-    assert!(rt; look(rt.alloc(), &mut platform, 8) == None);
-    for (block, content, number, found) in [
-        (3, "hi", 1, (*b"hi", 1)),
-        (3, "", 2, ([0, 0], 0)),
-        (3, "", 2, ([0, 0], 0)),
-        (7, "a", 3, ([97, 0], 1)),
-    ] {
-        let reply = if content.is_empty() {
-            trimmed(rt.alloc(), &mut platform, &mut tape, &mut ledger, block)
-        } else {
-            let bytes = content.as_bytes();
-            written(
-                rt.alloc(),
-                &mut platform,
-                &mut tape,
-                &mut ledger,
-                block,
-                bytes,
-            )
-        };
-        assert!(rt; reply == Some(CommitReply::Committed { number }));
-        assert!(rt; look(rt.alloc(), &mut platform, block) == Some(found));
-    }
-    assert!(rt; platform.head() == 6);
-    let full = written(rt.alloc(), &mut platform, &mut tape, &mut ledger, 7, b"b");
-    assert!(rt; full == None);
-    assert!(rt; erase(&mut platform) == Ok(()));
-    assert!(rt; look(rt.alloc(), &mut platform, 7) == None);
+    assert!(rt; platform.head() == 1);
+    erase(&mut platform)?;
+    assert!(rt; shape(&platform) == None);
+    format(alloc, &mut platform, &mut tape, &mut ledger, 1, 64)?;
+    assert!(rt; shape(&platform) == Some(([0, 64], [0, 0, 0, 0, 0, 0, 0, 1])));
+    erase(&mut platform)?;
+    let full = format(alloc, &mut platform, &mut tape, &mut ledger, 1, 64);
+    assert!(rt; full == Err(FormatRefusal::Full));
+    let first =
+        "\n{\"added\":[[0,1]],\"base\":0,\"commit\":0,\"gone\":[],\"head\":1,\"never\":[],\"root\":0}\n";
+    let second =
+        "\n{\"added\":[[1,1]],\"base\":1,\"commit\":0,\"gone\":[],\"head\":2,\"never\":[],\"root\":1}\n";
+    let entries = format!(in alloc; "{first}{second}")?;
+    assert!(rt; ledger.bytes() == entries.as_bytes());
     Ok(())
 }

@@ -13,16 +13,16 @@ use Rattle.page_store.proofs.StandsLaws.{stands_during}
 use Rattle.page_store.proofs.KeptLaws.{same_during}
 use Rattle.page_store.proofs.KeepingLaws.{keeps_idle, keeps_still, keeps_from}
 use Rattle.page_store.proofs.FloorLaws.{deleted_call, forgets_still}
-use Rattle.device_core.specs.Holds.{Holds}
-use Rattle.device_core.specs.Open.{is_touched, number_of}
+use Rattle.device_session.specs.Holds.{Holds}
+use Rattle.device_session.specs.Open.{is_touched, number_of}
 use Rattle.std.proofs.lemmas.Bool.Decides.{eqb_tells}
-use Rattle.device_core.specs.declared.refusals.CommitReply.TheVariants.{Committed, Full}
-use Rattle.device_core.specs.Knowing.{HoldsListed}
-use Rattle.device_core.specs.Leaf.{IsServedImage}
-use Rattle.device_core.specs.Replies.{device_after}
-use Rattle.device_core.specs.declared.refusals.CommitReply.{CommitReply}
-use Rattle.device_core.specs.Sessions.{Session}
-use Rattle.device_core.proofs.ServedLaws.{serves_still}
+use Rattle.device_session.specs.declared.refusals.CommitReply.TheVariants.{Committed, Full}
+use Rattle.device_session.specs.Keys.{HoldsListed}
+use Rattle.device_terms.specs.Served.{IsServedImage}
+use Rattle.device_session.specs.Replies.{device_after}
+use Rattle.device_session.specs.declared.refusals.CommitReply.{CommitReply}
+use Rattle.device_session.specs.Sessions.{Session}
+use Rattle.device_terms.proofs.ServedLaws.{serves_still}
 use Rattle.device_course.specs.Certified.{Certified}
 use Rattle.device_course.specs.Fitting.{KeepsFitting}
 use Rattle.device_course.specs.Marks.{Leaves}
@@ -32,7 +32,6 @@ use Rattle.device_course.proofs.CertifiedLaws.{certified_stays}
 use Rattle.device_course.proofs.FitsLaws.{fitting_still}
 use Rattle.device_course.proofs.KeysLaws.{sound_of}
 use Rattle.device_course.proofs.MadeLaws.{made_none, made_one, stayed}
-use Rattle.device_core.proofs.HoldLaws.{held_stands}
 
 -- what a call tells beside the devices that a loss of power leaves
 pub record Calls (tells Going : Type 0) (old new : Outside) (before after : Option Session) (entry : State) : Type 0 where

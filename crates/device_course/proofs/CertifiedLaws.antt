@@ -15,8 +15,8 @@ use Rattle.root_codec.specs.RootRecord.{FitsRoot, root_bytes}
 use Rattle.root_codec.specs.Laws.{one_root}
 use Rattle.cert_maker.specs.Cert.{Cert}
 use Rattle.cert_codec.specs.Text.{entry}
-use Rattle.device_core.specs.Sessions.{Session}
-use Rattle.device_core.specs.Certifying.{Certifies, PutsEntry, SpeaksOf}
+use Rattle.device_session.specs.Sessions.{Session}
+use Rattle.device_terms.specs.Certifying.{Certifies, PutsEntry, SpeaksOf}
 use Rattle.device_course.specs.Certified.{Came, CameBetween, Certificate, Certified}
 
 -- ---- what came into the cell

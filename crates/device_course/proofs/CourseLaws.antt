@@ -5,8 +5,8 @@ use Rattle.page_store.specs.Stands.{Stands}
 use Rattle.page_store.specs.Kept.{Kept}
 use Rattle.page_store.specs.Disclosing.{DisclosesBy}
 use Rattle.page_store.proofs.DisclosingLaws.{discloses as run_discloses}
-use Rattle.device_core.specs.Leaf.{IsServedImage}
-use Rattle.device_core.specs.Sessions.{Session}
+use Rattle.device_terms.specs.Served.{IsServedImage}
+use Rattle.device_session.specs.Sessions.{Session}
 use Rattle.device_course.specs.States.{Outside, IsAt, IsLater, IsListed}
 use Rattle.device_course.specs.Keys.{KeepsOn}
 use Rattle.device_course.specs.Course.{Made, Course, Part, Ended, Promised}

@@ -45,13 +45,14 @@ use Rattle.cert_codec.proofs.LedgerLaws.{entry_adds, part_adds}
 use Rattle.cert_checker.specs.Chain.{Fits}
 use Rattle.cert_checker.specs.Succession.{Succeeds}
 use Rattle.cert_checker.proofs.FitsLaws.{fits_next, fits_waits, fits_first}
-use Rattle.device_core.specs.Accounts.{IsUnnamed}
-use Rattle.device_core.specs.Holds.{Holds}
-use Rattle.device_core.specs.Sessions.{Session}
-use Rattle.device_core.specs.Certifying.{AreDataPages, Certifies, PutsEntry, IsOfCommit, IsOfFormat, page_of}
-use Rattle.device_core.proofs.CertifyingLaws.{entry_has, has_entry, nothing_said}
-use Rattle.device_core.specs.Drawing.{data_place}
-use Rattle.device_core.specs.Knowing.{HoldsListed}
+use Rattle.device_session.specs.Holds.{Holds}
+use Rattle.device_session.specs.Sessions.{Session}
+use Rattle.device_session.specs.Open.{AreDataPages}
+use Rattle.device_session.specs.Certifying.{IsOfCommit}
+use Rattle.device_terms.specs.Certifying.{Certifies, PutsEntry}
+use Rattle.device_core.specs.Certifying.{IsOfFormat}
+use Rattle.device_course.proofs.SaidLaws.{entry_has, has_entry}
+use Rattle.device_session.specs.Keys.{HoldsListed}
 use Rattle.device_course.specs.States.{IsAt, IsSessionOf}
 use Rattle.device_course.specs.Fitting.{FitsCell, FitsImage, KeepsFitting, LeavesFitting}
 

@@ -12,11 +12,10 @@ use Rattle.page_store.specs.Floors.{Forgets}
 use Rattle.page_store.proofs.KeptLaws.{same_during}
 use Rattle.page_store.proofs.KeepingLaws.{keeps_idle, keeps_then, keeps_from, keeps_still}
 use Rattle.page_store.proofs.FloorLaws.{deleted_start, deleted_call, deleted_then, forgets_still}
-use Rattle.device_core.specs.Knowing.{HoldsListed}
-use Rattle.device_core.specs.Sessions.{Session}
-use Rattle.device_core.specs.Leaf.{IsServedImage}
-use Rattle.device_core.proofs.ServedLaws.{serves_still}
-use Rattle.device_core.proofs.KeyLaws.{listed_sound, listed_same, listed_grown}
+use Rattle.device_session.specs.Keys.{HoldsListed}
+use Rattle.device_session.specs.Sessions.{Session}
+use Rattle.device_terms.specs.Served.{IsServedImage}
+use Rattle.device_terms.proofs.ServedLaws.{serves_still}
 use Rattle.device_course.specs.Fitting.{KeepsFitting}
 use Rattle.device_course.specs.States.{IsListed, IsAt}
 use Rattle.device_course.specs.Certified.{Certified}

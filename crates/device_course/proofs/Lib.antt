@@ -1,3 +1,4 @@
+pub mod SaidLaws
 pub mod CertifiedLaws
 pub mod MarkLaws
 pub mod MadeLaws

@@ -9,8 +9,8 @@ use Rattle.platform.proofs.Moments.{During-now, During-turns, LeavesOnly-now, Tu
 use Rattle.platform.proofs.RunLaws.{Passes-start, Passes-during, Passes-turns, Passes-then, Turns-cases}
 use Rattle.page_store.specs.Stands.{Stands}
 use Rattle.page_store.proofs.StandsLaws.{one_device, stands_leaves}
-use Rattle.device_core.specs.Leaf.{IsServedImage}
-use Rattle.device_core.specs.Sessions.{Session}
+use Rattle.device_terms.specs.Served.{IsServedImage}
+use Rattle.device_session.specs.Sessions.{Session}
 use Rattle.device_course.specs.Marks.{Leaves, HasMark, mark_at, last_mark}
 use Rattle.device_course.specs.States.{IsAt}
 use Rattle.device_course.specs.Course.{Made}

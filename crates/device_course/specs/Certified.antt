@@ -7,7 +7,7 @@ use Rattle.root_codec.specs.declared.root.Root.{Root}
 use Rattle.root_codec.specs.RootRecord.{FitsRoot, root_bytes}
 use Rattle.cert_maker.specs.Cert.{Cert}
 use Rattle.cert_codec.specs.Text.{entry}
-use Rattle.device_core.specs.Certifying.{SpeaksOf}
+use Rattle.device_terms.specs.Certifying.{SpeaksOf}
 
 -- these root records came into the cell in the k moments after one, in their order: with each moment the cell stayed, or was emptied, or got the next of them
 abbrev pub Came : History → ℕ → ℕ → List (List ℕ) → Type 0

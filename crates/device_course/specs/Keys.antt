@@ -5,8 +5,8 @@ use Rattle.page_store.specs.Kept.{Kept}
 use Rattle.page_store.specs.Keeping.{KeepsKeys}
 use Rattle.page_store.specs.Floors.{KeepsDeleted}
 use Rattle.sdbt_base.specs.Arrays.{State}
-use Rattle.device_core.specs.Leaf.{IsServedImage}
-use Rattle.device_core.specs.Sessions.{Session}
+use Rattle.device_terms.specs.Served.{IsServedImage}
+use Rattle.device_session.specs.Sessions.{Session}
 use Rattle.device_course.specs.Certified.{Certified}
 use Rattle.device_course.specs.Fitting.{KeepsFitting}
 use Rattle.device_course.specs.States.{IsListed, IsAt}

@@ -7,11 +7,11 @@ use Rattle.platform.specs.declared.platforms.Platform.{Ghosts as PlatformGhosts}
 use Rattle.platform.specs.Image.{Image}
 use Rattle.platform.specs.History.{History}
 use Rattle.page_store.specs.Stands.{Stands, IsSound}
-use Rattle.device_core.specs.Holds.{Holds}
-use Rattle.device_core.specs.Open.{is_touched}
-use Rattle.device_core.specs.Knowing.{HoldsListed}
-use Rattle.device_core.specs.Leaf.{IsServedImage}
-use Rattle.device_core.specs.Sessions.{Session}
+use Rattle.device_session.specs.Holds.{Holds}
+use Rattle.device_session.specs.Open.{is_touched}
+use Rattle.device_session.specs.Keys.{HoldsListed}
+use Rattle.device_terms.specs.Served.{IsServedImage}
+use Rattle.device_session.specs.Sessions.{Session}
 
 -- what there is beside a session: the moments of the platform, how many pages it has and can have, the keys that were drawn, and what the ledger has got
 pub record Outside : Type 0 where

@@ -5,7 +5,7 @@
 ghost use Rattle.std.specs.Prelude.{◌≤◌, ◌++◌, List, ℕ, [], None, Option};
 ghost use Rattle.sdbt_base.specs.Arrays.{Device, State, closed};
 ghost use Rattle.page_store.specs.Kept.{Kept};
-ghost use Rattle.device_core.specs.Sessions.{Session};
+ghost use Rattle.device_session.specs.Sessions.{Session};
 ghost use Rattle.device_course.specs.States.{Outside, IsAt, IsListed};
 ghost use Rattle.page_store.specs.Disclosing.{DisclosesBy};
 ghost use Rattle.device_course.specs.Course.{Course, Ended};

@@ -10,7 +10,8 @@ use Rattle.page_store.specs.Tree.{Parts, Mapped, Subtree, EachChild, joined, bou
 use Rattle.btree_twigs.specs.Stubs.{Stub, Tiles}
 use Rattle.btree_update.proofs.Places.{IsIn, end_of, maps_within}
 use Rattle.btree_update.proofs.Readings.{tail_ascends, bound_above}
-use Rattle.grove_accounts.specs.Below.{want_in, HaveParts}
+use Rattle.btree_update.specs.GroveTree.{want_in}
+use Rattle.grove_accounts.specs.Below.{HaveParts}
 use Rattle.device_session.proofs.ArrayLaws.{Ascends, ascends_from, ascends_append}
 
 -- what lies within bounds lies below a later one

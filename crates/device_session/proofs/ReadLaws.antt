@@ -25,14 +25,14 @@ use Rattle.btree_twigs.proofs.Children.{tiles_child}
 use Rattle.btree_walk.specs.Mapped.{mapped_as, IsMappedAs}
 use Rattle.btree_walk.specs.Sights.{StandsOver}
 use Rattle.btree_update.specs.declared.groves.Grove.{Grove}
-use Rattle.btree_update.specs.GroveTree.{Maps, MapsIn, MapsFrom, want_at}
+use Rattle.btree_update.specs.GroveTree.{Maps, MapsIn, MapsFrom, want_at, least_at, want_in}
 use Rattle.btree_update.specs.Maps.{LacksBlock}
 use Rattle.btree_update.specs.Roots.{IsRoot, IsRootBy}
 use Rattle.btree_update.specs.Groves.{IsSound, GroveMaps, places_of}
 use Rattle.btree_update.proofs.FoundLaws.{up_twig}
 use Rattle.btree_update.proofs.GroveLaws.{above_it}
 use Rattle.node_cache.specs.Kept.{Cached}
-use Rattle.grove_accounts.specs.Below.{least_at, want_in, HaveParts}
+use Rattle.grove_accounts.specs.Below.{HaveParts}
 use Rattle.grove_accounts.proofs.ListLaws.{each_append, each_weaker}
 use Rattle.grove_accounts.proofs.PartsLaws.{parts_each}
 use Rattle.grove_accounts.specs.Holding.{HoldsTree}

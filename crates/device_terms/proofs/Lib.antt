@@ -1,2 +1,4 @@
 pub mod MomentLaws
 pub mod ServedLaws
+pub mod StandingLaws
+pub mod PuttingLaws

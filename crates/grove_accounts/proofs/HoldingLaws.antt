@@ -22,12 +22,12 @@ use Rattle.btree_twigs.proofs.Finds.{kept_stub}
 use Rattle.btree_twigs.specs.Updates.{IsOpen}
 use Rattle.btree_update.specs.Opens.{Opens}
 use Rattle.btree_update.specs.declared.groves.Grove.{Grove}
-use Rattle.btree_update.specs.GroveTree.{Maps, want_at}
+use Rattle.btree_update.specs.GroveTree.{Maps, want_at, least_at, want_in}
 use Rattle.btree_update.specs.Maps.{MapPuts, MapTakes}
 use Rattle.btree_update.specs.Groves.{IsSound, IsAddressOf, KeepsTree, LetsGo, places_of}
 use Rattle.btree_update.proofs.Places.{in_maps}
 use Rattle.btree_update.proofs.GroveLaws.{above_it}
-use Rattle.grove_accounts.specs.Below.{least_at, want_in, HaveParts, GroveHas}
+use Rattle.grove_accounts.specs.Below.{HaveParts, GroveHas}
 use Rattle.grove_accounts.specs.Accounts.{Accounts, IsOwn}
 use Rattle.grove_accounts.specs.Holding.{IsAccounted, HoldsTree, Arrives, Turns, IsSameSize, IsTreeOf, root_stub, data_place}
 use Rattle.grove_accounts.proofs.ListLaws.{AreApart, past, same_order, all_left, all_right, each_left, each_right, each_append, each_weaker, apart_permutation, apart_right}

@@ -1,8 +1,8 @@
 use Rattle.std.proofs.Common.{None, refl}
-use Rattle.device_core.proofs.MomentLaws.{one_look, emptied, never_emptied}
-use Rattle.device_core.proofs.ServedLaws.{serves_still, serves_cleared}
-use Rattle.device_core.proofs.HoldLaws.{during_stands, erased}
-use Rattle.device_core.proofs.KeyLaws.{kept_look, kept_erased, turns_erased, forgets_erased}
+use Rattle.device_terms.proofs.MomentLaws.{one_look, emptied, never_emptied}
+use Rattle.device_terms.proofs.ServedLaws.{serves_still, serves_cleared}
+use Rattle.device_terms.proofs.StandingLaws.{during_stands}
+use Rattle.device_core.proofs.EraseLaws.{erased, kept_look, kept_erased, turns_erased, forgets_erased}
 use Rattle.page_store.proofs.FloorLaws.{forgets_still}
 use Rattle.device_core.proofs.erasing.erase.Goals as goal
 

@@ -1,12 +1,15 @@
-use Rattle.std.proofs.Common.{◌≡◌, ◌∙◌, ◌+◌, ℕ, List, [], Option, None, Some, Bool, true, false, is_ok, refl, ap, sym, inl, inr, arith, rules}
+use Rattle.std.proofs.Common.{◌≡◌, ◌∙◌, ℕ, List, [], Option, None, Some, Bool, true, false, is_ok, refl, ap, sym, inl, inr, arith, rules}
 use Rattle.page_store.specs.Buffer.{Held}
+use Rattle.node_codec.specs.Record.{NodeRecord, record_bytes}
 use Rattle.sdbt_base.specs.Arrays.{new_device}
 use Rattle.std.specs.Prelude.{IsTrue, IsSome, ◌↔◌, ◌≢◌}
 use Rattle.std.proofs.lemmas.Grind.{common_steps}
-use Rattle.device_core.proofs.MomentLaws.{one_look, call_more, stays_then}
-use Rattle.device_core.proofs.HoldLaws.{during_stands, first_root, first_fits, no_entries_fit}
+use Rattle.device_terms.proofs.MomentLaws.{one_look, call_more, stays_then}
+use Rattle.device_terms.proofs.StandingLaws.{during_stands}
+use Rattle.device_core.proofs.FirstLaws.{IsFirst, first_root, is_first, no_entries_fit}
 use Rattle.platform.specs.Image.{Image}
-use Rattle.device_core.proofs.FormatLaws.{IsFirst, IsFormatting, first_page, format_time, format_stands, format_certifies, look_discloses, first_discloses, format_discloses}
+use Rattle.root_codec.specs.declared.root.Root.{Root}
+use Rattle.device_core.proofs.FormatLaws.{IsFormatting, first_page, format_time, format_stands, format_certifies, look_discloses, first_discloses, format_discloses}
 use Rattle.std.specs.Prelude.{◌⊎◌}
 use Rattle.device_core.proofs.formatting.format.Given.{Over}
 use Rattle.device_core.proofs.formatting.format.Goals.{After-append, After-publish, In-Ok-append}
@@ -26,21 +29,22 @@ full_cell : (full : Bool) (cell : Option (List ℕ)) → full ≡ true → IsTru
 full_cell full None is same none = let t : IsTrue full = grind (arith, common_steps, is) in let no = same.0 t in grind (arith, common_steps, no)
 full_cell full (Some bytes) is same none = absurd (cc)
 
--- what the first root record is of
-first_root_is : (g : Over) (c : In-Ok-append g) → IsFirst c.args.blocks c.args.order c.in-Ok-append.placed.addr c.in-Ok-append.placed.key
-first_root_is g c = record {
-  least = c.requires.least;
-  most = c.requires.most;
-  order_is = c.requires.order;
-  room =
-      let address : c.in-Ok-append.placed.addr ≡ g.P.Platform.head c.load_root.new.self = c.in-Ok-append.ensures.address in
-      omega (arith, address, c.head.ensures.value, c.capacity.ensures.value, c.head.ensures.room, c.head.ensures.limit, c.if-head-capacity.false);
-  sized = c.in-Ok-append.ensures.key;
-}
+-- the root record that is written
+abbrev written : (g : Over) → In-Ok-append g → Root
+written g c = first_root c.args.blocks c.args.order c.in-Ok-append.placed.addr c.in-Ok-append.placed.key
+
+-- is the first of a device
+written_first : (g : Over) (c : In-Ok-append g) → IsFirst (written g c) c.args.blocks c.args.order
+written_first g c =
+    let address : c.in-Ok-append.placed.addr ≡ g.P.Platform.head c.load_root.new.self = c.in-Ok-append.ensures.address in
+    is_first c.args.blocks c.args.order c.in-Ok-append.placed.addr c.in-Ok-append.placed.key c.requires.sized.0 c.requires.sized.1 c.requires.ordered.0 c.requires.ordered.1 c.requires.ordered.2
+    (omega (arith, address, c.head.ensures.value, c.capacity.ensures.value, c.head.ensures.room, c.head.ensures.limit, c.if-head-capacity.false))
+    c.in-Ok-append.ensures.key
 
 -- the calls of a format, whether the last step was taken or failed
-calls : (g : Over) (c : After-publish g) → IsFirst c.args.blocks c.args.order c.in-Ok-append.placed.addr c.in-Ok-append.placed.key → let history = g.P.Platform.history in
-    IsFormatting g.P.Platform.tells (history c.args.platform.now) (history c.load_root.new.self) (history c.append.new.platform) (history c.publish.new.platform) c.args.blocks c.args.order c.in-Ok-append.placed.addr c.in-Ok-append.placed.key
+calls : (g : Over) (c : After-publish g) → IsFirst (first_root c.args.blocks c.args.order c.in-Ok-append.placed.addr c.in-Ok-append.placed.key) c.args.blocks c.args.order → let history = g.P.Platform.history in
+    IsFormatting g.P.Platform.tells (history c.args.platform.now) (history c.load_root.new.self) (history c.append.new.platform) (history c.publish.new.platform)
+    (first_root c.args.blocks c.args.order c.in-Ok-append.placed.addr c.in-Ok-append.placed.key) c.args.blocks c.args.order
 calls g c first =
     let pages = g.met.P.Platform.counts_pages in
     let address : c.in-Ok-append.placed.addr ≡ g.P.Platform.head c.load_root.new.self = c.in-Ok-append.ensures.address in
@@ -52,11 +56,14 @@ calls g c first =
       at_end = λ told. address ∙ sym (pages told c.load_root.new.self);
       steps = c.append.ensures.time;
       cell = c.append.ensures.cell;
-      appended = λ told. first_page _ _ c.args.blocks c.args.order _ c.head-addr.result _ _ (c.in-Ok-append.ensures.appended told) (ap (λ (b : Held). b.body) c.put_node.ensures) (c.head-addr.ensures.value ∙ sym address);
-      size = λ told. pages told c.append.new.platform ∙ (c.in-Ok-append.ensures.head_ok ∙ ap (λ (n : ℕ). n + 1) (sym address));
+      appended = λ told. first_page _ _ (first_root c.args.blocks c.args.order c.in-Ok-append.placed.addr c.in-Ok-append.placed.key) c.head-addr.result _ (c.in-Ok-append.ensures.appended told) (ap (λ (b : Held). b.body) c.put_node.ensures) (c.head-addr.ensures.value ∙ sym address);
       stays = λ told. pages told c.publish.new.platform ∙ (c.publish.ensures.head ∙ sym (pages told c.append.new.platform));
       turns = c.publish.ensures.time;
     }
+
+-- the body that is sealed is an empty leaf
+sealed_body : (g : Over) (c : After-append g) → c.put_node.new.self.body ≡ record_bytes c.head-addr.result (NodeRecord 1 [])
+sealed_body g c = ap (λ (b : Held). b.body) c.put_node.ensures
 
 -- where a page was to be appended, the cell was empty and a page was free
 not_kept : (g : Over) (c : After-append g) → g.P.Platform.tells → ((g.P.Platform.history c.args.platform.now).present.cell ≢ None) ⊎ (g.P.Platform.head c.args.platform.now ≡ g.P.Platform.capacity c.args.platform.now) → ⊥
@@ -81,8 +88,8 @@ pub returns-in_default-new-clause-time : goal.returns-in_default-new-clause-time
 returns-in_default-new-clause-time g c = λ told device stands.
     during_stands _ _ device (Some (new_device c.args.blocks c.args.order)) stands (one_look _ _ (c.load_root.ensures.time told) (c.load_root.ensures.image told))
 
-pub returns-in_default-entry_of-clause-time : goal.returns-in_default-entry_of-clause-time
-returns-in_default-entry_of-clause-time g c = λ told device stands.
+pub returns-in_default-first_entry-clause-time : goal.returns-in_default-first_entry-clause-time
+returns-in_default-first_entry-clause-time g c = λ told device stands.
     during_stands _ _ device (Some (new_device c.args.blocks c.args.order)) stands (one_look _ _ (c.load_root.ensures.time told) (c.load_root.ensures.image told))
 
 pub put_node-requires : goal.put_node-requires
@@ -99,13 +106,13 @@ returns-in-Err-PlatformFault-clause-time g c = λ told device stands.
     (call_more _ _ _ (one_look _ _ (c.load_root.ensures.time told) (c.load_root.ensures.image told)) (c.append.ensures.time told) (c.append.ensures.cell told))
 
 pub publish-requires : goal.publish-requires
-publish-requires g c = let first = (first_root_is g (goal.at.publish-requires g c).In-Ok-append) in first_fits _ _ _ _ first.least first.most first.order_is first.room
+publish-requires g c = (written_first g (goal.at.publish-requires g c).In-Ok-append).fits
 
 pub returns-in-Ok-publish-clause-made : goal.returns-in-Ok-publish-clause-made
 returns-in-Ok-publish-clause-made g c = λ told.
-    let all = calls g (goal.at.returns-in-Ok-publish-clause-made g c).After-publish (first_root_is g (goal.at.returns-in-Ok-publish-clause-made g c).In-Ok-append) in
+    let all = calls g (goal.at.returns-in-Ok-publish-clause-made g c).After-publish (written_first g (goal.at.returns-in-Ok-publish-clause-made g c).In-Ok-append) in
     let address : c.in-Ok-append.placed.addr ≡ g.P.Platform.head c.load_root.new.self = c.in-Ok-append.ensures.address in
-    let stands = format_stands _ _ _ _ _ _ _ _ _ all told (c.in-Ok-publish.ensures.published told) in (
+    let stands = format_stands _ _ _ _ _ _ _ _ all told (c.in-Ok-publish.ensures.published told) in (
       stands.0,
       stands.1,
       (
@@ -121,13 +128,13 @@ returns-in-Ok-publish-clause-made g c = λ told.
     )
 
 pub returns-in-Ok-publish-clause-time : goal.returns-in-Ok-publish-clause-time
-returns-in-Ok-publish-clause-time g c = λ told device stands. format_time _ _ _ _ _ _ _ _ _ device (calls g (goal.at.returns-in-Ok-publish-clause-time g c).After-publish (first_root_is g (goal.at.returns-in-Ok-publish-clause-time g c).In-Ok-append)) told stands
+returns-in-Ok-publish-clause-time g c = λ told device stands. format_time _ _ _ _ _ _ _ _ device (calls g (goal.at.returns-in-Ok-publish-clause-time g c).After-publish (written_first g (goal.at.returns-in-Ok-publish-clause-time g c).In-Ok-append)) told stands
 
 pub returns-in-Err-Ledger-clause-time : goal.returns-in-Err-Ledger-clause-time
-returns-in-Err-Ledger-clause-time g c = λ told device stands. format_time _ _ _ _ _ _ _ _ _ device (calls g (goal.at.returns-in-Err-Ledger-clause-time g c).After-publish (first_root_is g (goal.at.returns-in-Err-Ledger-clause-time g c).In-Ok-append)) told stands
+returns-in-Err-Ledger-clause-time g c = λ told device stands. format_time _ _ _ _ _ _ _ _ device (calls g (goal.at.returns-in-Err-Ledger-clause-time g c).After-publish (written_first g (goal.at.returns-in-Err-Ledger-clause-time g c).In-Ok-append)) told stands
 
 pub returns-clause-time : goal.returns-clause-time
-returns-clause-time g c = λ told device stands. format_time _ _ _ _ _ _ _ _ _ device (calls g (goal.at.returns-clause-time g c).After-publish (first_root_is g (goal.at.returns-clause-time g c).In-Ok-append)) told stands
+returns-clause-time g c = λ told device stands. format_time _ _ _ _ _ _ _ _ device (calls g (goal.at.returns-clause-time g c).After-publish (written_first g (goal.at.returns-clause-time g c).In-Ok-append)) told stands
 
 pub returns-in_default-clause-kept : goal.returns-in_default-clause-kept
 returns-in_default-clause-kept g c = λ told before. (refl, one_look _ _ (c.load_root.ensures.time told) (c.load_root.ensures.image told))
@@ -141,8 +148,8 @@ returns-then-head-capacity-clause-kept g c = λ told before. (refl, one_look _ _
 pub returns-in_default-new-clause-kept : goal.returns-in_default-new-clause-kept
 returns-in_default-new-clause-kept g c = λ told before. (refl, one_look _ _ (c.load_root.ensures.time told) (c.load_root.ensures.image told))
 
-pub returns-in_default-entry_of-clause-kept : goal.returns-in_default-entry_of-clause-kept
-returns-in_default-entry_of-clause-kept g c = λ told before. (refl, one_look _ _ (c.load_root.ensures.time told) (c.load_root.ensures.image told))
+pub returns-in_default-first_entry-clause-kept : goal.returns-in_default-first_entry-clause-kept
+returns-in_default-first_entry-clause-kept g c = λ told before. (refl, one_look _ _ (c.load_root.ensures.time told) (c.load_root.ensures.image told))
 
 pub returns-in-Err-TapeFault-clause-kept : goal.returns-in-Err-TapeFault-clause-kept
 returns-in-Err-TapeFault-clause-kept g c = λ told before. absurd (not_kept g (goal.at.returns-in-Err-TapeFault-clause-kept g c).After-append told before)
@@ -171,33 +178,33 @@ returns-then-head-capacity-clause-discloses g c = look_discloses _ _ _ _ c.load_
 pub returns-in_default-new-clause-discloses : goal.returns-in_default-new-clause-discloses
 returns-in_default-new-clause-discloses g c = look_discloses _ _ _ _ c.load_root.ensures.time c.load_root.ensures.image
 
-pub returns-in_default-entry_of-clause-discloses : goal.returns-in_default-entry_of-clause-discloses
-returns-in_default-entry_of-clause-discloses g c = look_discloses _ _ _ _ c.load_root.ensures.time c.load_root.ensures.image
+pub returns-in_default-first_entry-clause-discloses : goal.returns-in_default-first_entry-clause-discloses
+returns-in_default-first_entry-clause-discloses g c = look_discloses _ _ _ _ c.load_root.ensures.time c.load_root.ensures.image
 
 pub returns-in-Err-TapeFault-clause-discloses : goal.returns-in-Err-TapeFault-clause-discloses
 returns-in-Err-TapeFault-clause-discloses g c =
-    first_discloses _ _ _ _ _ _ c.put_node.new.self.body c.head-addr.result _ _ c.load_root.ensures.time c.load_root.ensures.image c.append.ensures.keeps (ap (λ (b : Held). b.body) c.put_node.ensures) c.head-addr.ensures.value
+    first_discloses _ _ _ _ _ _ c.put_node.new.self.body c.head-addr.result _ _ c.load_root.ensures.time c.load_root.ensures.image c.append.ensures.keeps (sealed_body g (goal.at.returns-in-Err-TapeFault-clause-discloses g c).After-append) c.head-addr.ensures.value
     c.append.ensures.time c.append.ensures.cell
 
 pub returns-in-Err-PlatformFault-clause-discloses : goal.returns-in-Err-PlatformFault-clause-discloses
 returns-in-Err-PlatformFault-clause-discloses g c =
-    first_discloses _ _ _ _ _ _ c.put_node.new.self.body c.head-addr.result _ _ c.load_root.ensures.time c.load_root.ensures.image c.append.ensures.keeps (ap (λ (b : Held). b.body) c.put_node.ensures) c.head-addr.ensures.value
+    first_discloses _ _ _ _ _ _ c.put_node.new.self.body c.head-addr.result _ _ c.load_root.ensures.time c.load_root.ensures.image c.append.ensures.keeps (sealed_body g (goal.at.returns-in-Err-PlatformFault-clause-discloses g c).After-append) c.head-addr.ensures.value
     c.append.ensures.time c.append.ensures.cell
 
 pub returns-in-Ok-publish-clause-discloses : goal.returns-in-Ok-publish-clause-discloses
 returns-in-Ok-publish-clause-discloses g c =
-    let all = calls g (goal.at.returns-in-Ok-publish-clause-discloses g c).After-publish (first_root_is g (goal.at.returns-in-Ok-publish-clause-discloses g c).In-Ok-append) in
-    format_discloses _ _ _ _ _ _ _ _ _ _ _ c.put_node.new.self.body c.head-addr.result _ all c.in-Ok-append.ensures.keeps (ap (λ (b : Held). b.body) c.put_node.ensures) c.head-addr.ensures.value
+    let all = calls g (goal.at.returns-in-Ok-publish-clause-discloses g c).After-publish (written_first g (goal.at.returns-in-Ok-publish-clause-discloses g c).In-Ok-append) in
+    format_discloses _ _ _ _ _ _ _ _ _ _ c.put_node.new.self.body c.head-addr.result _ all c.in-Ok-append.ensures.keeps (sealed_body g (goal.at.returns-in-Ok-publish-clause-discloses g c).After-append) c.head-addr.ensures.value
 
 pub returns-in-Err-Ledger-clause-discloses : goal.returns-in-Err-Ledger-clause-discloses
 returns-in-Err-Ledger-clause-discloses g c =
-    let all = calls g (goal.at.returns-in-Err-Ledger-clause-discloses g c).After-publish (first_root_is g (goal.at.returns-in-Err-Ledger-clause-discloses g c).In-Ok-append) in
-    format_discloses _ _ _ _ _ _ _ _ _ _ _ c.put_node.new.self.body c.head-addr.result _ all c.in-Ok-append.ensures.keeps (ap (λ (b : Held). b.body) c.put_node.ensures) c.head-addr.ensures.value
+    let all = calls g (goal.at.returns-in-Err-Ledger-clause-discloses g c).After-publish (written_first g (goal.at.returns-in-Err-Ledger-clause-discloses g c).In-Ok-append) in
+    format_discloses _ _ _ _ _ _ _ _ _ _ c.put_node.new.self.body c.head-addr.result _ all c.in-Ok-append.ensures.keeps (sealed_body g (goal.at.returns-in-Err-Ledger-clause-discloses g c).After-append) c.head-addr.ensures.value
 
 pub returns-clause-discloses : goal.returns-clause-discloses
 returns-clause-discloses g c =
-    let all = calls g (goal.at.returns-clause-discloses g c).After-publish (first_root_is g (goal.at.returns-clause-discloses g c).In-Ok-append) in
-    format_discloses _ _ _ _ _ _ _ _ _ _ _ c.put_node.new.self.body c.head-addr.result _ all c.in-Ok-append.ensures.keeps (ap (λ (b : Held). b.body) c.put_node.ensures) c.head-addr.ensures.value
+    let all = calls g (goal.at.returns-clause-discloses g c).After-publish (written_first g (goal.at.returns-clause-discloses g c).In-Ok-append) in
+    format_discloses _ _ _ _ _ _ _ _ _ _ c.put_node.new.self.body c.head-addr.result _ all c.in-Ok-append.ensures.keeps (sealed_body g (goal.at.returns-clause-discloses g c).After-append) c.head-addr.ensures.value
 
 pub returns-then-is_full-clause-cause : goal.returns-then-is_full-clause-cause
 returns-then-is_full-clause-cause g c = (λ told. full_cell c.in-Ok.is_full (g.P.Platform.history c.args.platform.now).present.cell c.if-is_full.true (c.in-Ok.ensures.full told), (record { head = c.load_root.ensures.head; image = c.load_root.ensures.image; drawn = refl }, λ told. one_look _ _ (c.load_root.ensures.time told) (c.load_root.ensures.image told)))
@@ -212,8 +219,8 @@ returns-then-head-capacity-clause-cause g c = (
 pub returns-in_default-new-clause-cause : goal.returns-in_default-new-clause-cause
 returns-in_default-new-clause-cause g c = (λ none. absurd (omega (arith, none, c.head.ensures.value, c.capacity.ensures.value, c.load_root.ensures.head, c.load_root.ensures.capacity, c.if-head-capacity.false)), (record { head = c.load_root.ensures.head; image = c.load_root.ensures.image; drawn = refl }, λ told. one_look _ _ (c.load_root.ensures.time told) (c.load_root.ensures.image told)))
 
-pub returns-in_default-entry_of-clause-cause : goal.returns-in_default-entry_of-clause-cause
-returns-in_default-entry_of-clause-cause g c = (λ none. absurd (omega (arith, none, c.head.ensures.value, c.capacity.ensures.value, c.load_root.ensures.head, c.load_root.ensures.capacity, c.if-head-capacity.false)), (record { head = c.load_root.ensures.head; image = c.load_root.ensures.image; drawn = refl }, λ told. one_look _ _ (c.load_root.ensures.time told) (c.load_root.ensures.image told)))
+pub returns-in_default-first_entry-clause-cause : goal.returns-in_default-first_entry-clause-cause
+returns-in_default-first_entry-clause-cause g c = (λ none. absurd (omega (arith, none, c.head.ensures.value, c.capacity.ensures.value, c.load_root.ensures.head, c.load_root.ensures.capacity, c.if-head-capacity.false)), (record { head = c.load_root.ensures.head; image = c.load_root.ensures.image; drawn = refl }, λ told. one_look _ _ (c.load_root.ensures.time told) (c.load_root.ensures.image told)))
 
 pub returns-in-Err-TapeFault-clause-cause : goal.returns-in-Err-TapeFault-clause-cause
 returns-in-Err-TapeFault-clause-cause g c = (
@@ -244,19 +251,19 @@ pub returns-in-Err-Ledger-clause-certifies : goal.returns-in-Err-Ledger-clause-c
 returns-in-Err-Ledger-clause-certifies g c =
     let at = goal.at.returns-in-Err-Ledger-clause-certifies g c in
     let address : c.in-Ok-append.placed.addr ≡ g.P.Platform.head c.load_root.new.self = c.in-Ok-append.ensures.address in
-    format_certifies _ _ _ _ _ _ _ _ _ _ _ _ _ _ _ _ (λ was ok. absurd cc) (address ∙ c.load_root.ensures.head) (c.head-addr.ensures.value ∙ c.load_root.ensures.head)
-    (calls g at.After-publish (first_root_is g at.In-Ok-append)) c.in-Ok-entry_of.ensures (rw c.bytes.ensures at c.publish.ensures.put)
+    format_certifies _ _ _ _ _ _ _ _ _ _ _ _ _ _ _ (λ was ok. absurd cc) (address ∙ c.load_root.ensures.head) (c.head-addr.ensures.value ∙ c.load_root.ensures.head)
+    (calls g at.After-publish (written_first g at.In-Ok-append)) c.in-Ok-first_entry.ensures (rw c.bytes.ensures at c.publish.ensures.put)
 
 pub returns-clause-certifies : goal.returns-clause-certifies
 returns-clause-certifies g c =
     let at = goal.at.returns-clause-certifies g c in
     let address : c.in-Ok-append.placed.addr ≡ g.P.Platform.head c.load_root.new.self = c.in-Ok-append.ensures.address in
-    format_certifies _ _ _ _ _ _ _ _ _ _ _ _ _ _ _ _ (λ was ok. absurd cc) (address ∙ c.load_root.ensures.head) (c.head-addr.ensures.value ∙ c.load_root.ensures.head)
-    (calls g at.After-publish (first_root_is g at.In-Ok-append)) c.in-Ok-entry_of.ensures (rw c.bytes.ensures at c.publish.ensures.put)
+    format_certifies _ _ _ _ _ _ _ _ _ _ _ _ _ _ _ (λ was ok. absurd cc) (address ∙ c.load_root.ensures.head) (c.head-addr.ensures.value ∙ c.load_root.ensures.head)
+    (calls g at.After-publish (written_first g at.In-Ok-append)) c.in-Ok-first_entry.ensures (rw c.bytes.ensures at c.publish.ensures.put)
 
 pub returns-in-Ok-publish-clause-certifies : goal.returns-in-Ok-publish-clause-certifies
 returns-in-Ok-publish-clause-certifies g c =
     let at = goal.at.returns-in-Ok-publish-clause-certifies g c in
     let address : c.in-Ok-append.placed.addr ≡ g.P.Platform.head c.load_root.new.self = c.in-Ok-append.ensures.address in
-    format_certifies _ _ _ _ _ _ _ _ _ _ _ _ _ _ _ _ (λ was ok. was (ap is_ok c.in-Ok-publish.is)) (address ∙ c.load_root.ensures.head) (c.head-addr.ensures.value ∙ c.load_root.ensures.head)
-    (calls g at.After-publish (first_root_is g at.In-Ok-append)) c.in-Ok-entry_of.ensures (rw c.bytes.ensures at c.publish.ensures.put)
+    format_certifies _ _ _ _ _ _ _ _ _ _ _ _ _ _ _ (λ was ok. was (ap is_ok c.in-Ok-publish.is)) (address ∙ c.load_root.ensures.head) (c.head-addr.ensures.value ∙ c.load_root.ensures.head)
+    (calls g at.After-publish (written_first g at.In-Ok-append)) c.in-Ok-first_entry.ensures (rw c.bytes.ensures at c.publish.ensures.put)

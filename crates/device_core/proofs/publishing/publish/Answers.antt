@@ -1,6 +1,6 @@
 use Rattle.std.proofs.Common.{inl, inr, ℕ, List, Some, ap, ◌∙◌}
 use Rattle.platform.specs.Image.{Image}
-use Rattle.device_core.proofs.MomentLaws.{one_call, call_more, not_published, published}
+use Rattle.device_terms.proofs.MomentLaws.{one_call, call_more, not_published, published}
 use Rattle.device_core.proofs.publishing.publish.Goals as goal
 
 pub returns-in_default-clause-time : goal.returns-in_default-clause-time

@@ -11,10 +11,11 @@ use Rattle.btree_twigs.specs.Top.{IsTop, child_level, CanPutTop}
 use Rattle.btree_twigs.proofs.LevelLaws.{reshape_from}
 use Rattle.btree_twigs.proofs.Tops.{top_level}
 use Rattle.btree_update.specs.Tells.{Tells}
-use Rattle.btree_update.proofs.RowLaws.{tells_opened, tells_puts}
+use Rattle.btree_update.proofs.RowLaws.{all_weaker, tells_opened, tells_puts}
 use Rattle.btree_update.specs.declared.groves.Grove.{Grove}
-use Rattle.btree_update.specs.GroveTree.{Maps}
+use Rattle.btree_update.specs.GroveTree.{want_in, Maps}
 use Rattle.btree_update.specs.Held.{AreBelow, AnyRead}
+use Rattle.btree_update.specs.Opens.{HasWay, IsThere, Fitting}
 use Rattle.btree_update.specs.Roots.{IsRoot, RootMaps, CanOpenRoot, IsRootOpened}
 use Rattle.btree_update.specs.Groves.{CanInsert, IsAddressOf, LetsGo}
 use Rattle.btree_update.proofs.Places.{puts_maps}
@@ -117,6 +118,7 @@ pub returns-clause-goes : goal.returns-clause-goes
 returns-clause-goes c pages held =
     let can = can_open c.args.block c.args.self.now c.requires.can in
     let o = c.open_root.ensures.opened can in
+    let want = want_in c.args.self.now.order c.args.self.now.level in
     let g = c.open_root.ensures.gives pages can held in
     let blocks = c.args.self.now.blocks in
     let mid = c.open_root.new.top in
@@ -128,7 +130,8 @@ returns-clause-goes c pages held =
       opened = stubs c.args.self.now.level c.args.self.now.blocks c.open_root.new.top;
       places = g.places.places;
       opens = g.places.opens;
-      may = g.places.may;
+      may = all_weaker (Fitting pages want (HasWay c.args.block)) (HasWay c.args.block) (λ s k. k.0) g.places.places g.places.may;
+      fit = all_weaker (Fitting pages want (HasWay c.args.block)) (λ s. IsThere pages (want s) s.key) (λ s k. k.1) g.places.places g.places.may;
       is_open = subst (λ k. IsOpen c.args.block (stubs k c.args.self.now.blocks c.open_root.new.top)) (sym can.level_is) o.is_open;
       makes = subst (λ k. Puts 0 blocks (datum c.args.block c.args.addr k) (stubs c.args.self.now.level blocks mid) (stubs c.level_of-self.result blocks c.put_top.new.top)) c.bytes.ensures.value here;
       replaced = c.address_of-old.result;
