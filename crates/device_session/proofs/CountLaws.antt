@@ -17,12 +17,13 @@ use Rattle.btree_twigs.specs.Top.{IsTop, IsTopBy}
 use Rattle.btree_update.specs.Maps.{LacksBlock}
 use Rattle.btree_update.specs.declared.groves.Grove.{Grove}
 use Rattle.btree_update.specs.Groves.{grown_in}
+use Rattle.btree_update.proofs.AscendLaws.{Ascends}
 use Rattle.btree_update.proofs.GroveLaws.{above_it}
 use Rattle.grove_accounts.specs.Holding.{IsTreeOf}
 use Rattle.device_session.specs.Sessions.{Session}
 use Rattle.device_session.specs.Open.{IsOpen, IsChangedTree, IsTreeFor, needed_by}
 use Rattle.device_session.specs.Holds.{Holds}
-use Rattle.device_session.proofs.ArrayLaws.{Ascends, array_of, array_put, array_lacks}
+use Rattle.device_session.proofs.ArrayLaws.{array_of, array_put, array_lacks}
 use Rattle.device_session.proofs.ReadLaws.{held_up}
 
 above : (low block : ℕ) (ms : List Mapped) → block < low → Ascends low ms → AllByRecursion (λ m. block < m.block) ms

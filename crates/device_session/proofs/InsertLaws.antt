@@ -28,7 +28,7 @@ use Rattle.btree_update.specs.Held.{AreBelow}
 use Rattle.btree_update.specs.Maps.{MapPuts, HasBlock, LacksBlock}
 use Rattle.btree_update.specs.Opens.{HasWay}
 use Rattle.btree_update.specs.Groves.{GroveMaps, places_of}
-use Rattle.btree_update.proofs.AscendLaws.{grove_all, grove_filled}
+use Rattle.btree_update.proofs.AscendLaws.{Ascends, grove_all, grove_filled}
 use Rattle.grove_accounts.specs.Holding.{HoldsTree, Arrives, Turns, IsSameSize}
 use Rattle.grove_accounts.specs.Certs.{IsOwnStub, AreWritten}
 use Rattle.grove_accounts.proofs.HoldingLaws.{holds_later, insert_holds}
@@ -38,7 +38,7 @@ use Rattle.device_session.specs.Open.{IsOpen, AreDataPages}
 use Rattle.device_session.specs.Holds.{Holds}
 use Rattle.device_session.specs.Keys.{HoldsListed}
 use Rattle.device_session.specs.Ready.{IsReadyFor, counted_with}
-use Rattle.device_session.proofs.ArrayLaws.{Ascends, array_put, count_more, count_same}
+use Rattle.device_session.proofs.ArrayLaws.{array_put, count_more, count_same}
 use Rattle.device_session.proofs.ReadLaws.{held_maps, held_up}
 use Rattle.device_session.proofs.UpdateLaws.{open_sound, open_size}
 

@@ -38,7 +38,8 @@ use Rattle.grove_accounts.proofs.PartsLaws.{parts_each}
 use Rattle.grove_accounts.specs.Holding.{HoldsTree}
 use Rattle.device_session.specs.Sessions.{Session}
 use Rattle.device_session.specs.Holds.{Holds}
-use Rattle.device_session.proofs.ArrayLaws.{array_of, array_lacks, array_has, Ascends}
+use Rattle.btree_update.proofs.AscendLaws.{Ascends}
+use Rattle.device_session.proofs.ArrayLaws.{array_of, array_lacks, array_has}
 use Rattle.device_session.proofs.OrderLaws.{places_up}
 
 -- ---- only the cache and the buffers change
