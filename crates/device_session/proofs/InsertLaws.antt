@@ -39,6 +39,7 @@ use Rattle.device_session.specs.Holds.{Holds}
 use Rattle.device_session.specs.Keys.{HoldsListed}
 use Rattle.device_session.specs.Ready.{IsReadyFor, counted_with}
 use Rattle.device_session.proofs.ArrayLaws.{array_put, count_more, count_same}
+use Rattle.device_session.proofs.LeftLaws.{update_left}
 use Rattle.device_session.proofs.ReadLaws.{held_maps, held_up}
 use Rattle.device_session.proofs.UpdateLaws.{open_sound, open_size}
 
@@ -84,6 +85,7 @@ later_holds session buffers image later device contents whole earlier cell h = r
   contents_are = h.contents_are;
   count = h.count;
   untouched = h.untouched;
+  left = h.left;
   cached = cached_later image later session.cache whole earlier h.cached;
 }
 
@@ -141,6 +143,8 @@ pub record IsInsertion (session : Session) (image later : Image) (block addr : �
   pub within : session.root.head ≤ length image.recorded
   pub turns : Inserts image block addr key session.grove grove
   pub ready : IsReadyFor image.readable block session.grove is_mapped
+  pub pages : ℕ
+  pub is_open : IsOpen session pages
 
 count_is : (is_mapped : Bool) (m : Mapped) (old new : List Mapped) (count : ℕ) → Ascends 0 old → MapPuts m old new → OnTrue is_mapped (HasBlock m.block old) × OnFalse is_mapped (LacksBlock m.block old) → count ≡ length old → counted_with is_mapped count ≡ length new
 count_is true m old new count up puts is same = same ∙ sym (count_same 0 m old new up puts is.0)
@@ -162,6 +166,7 @@ inserted_holds session image later device contents block addr key content is_map
       contents_are = ap (λ c. maps.insert c block content) h.contents_are ∙ sym (array_put m (joined h.each).mapped (joined r.0).mapped r.2);
       count = count_is is_mapped m (joined h.each).mapped (joined r.0).mapped session.mapped (held_up session image device contents h) r.2 is h.count;
       untouched = λ is. absurd cc;
+      left = λ is. update_left session i.pages image.readable grove block (HasWay block) (λ opened. Puts 0 session.grove.blocks (datum block addr key) opened (places_of grove)) i.is_open i.to i.turns h.left;
       cached = cached_later image later session.cache i.whole i.arrives.earlier h.cached;
     }
 

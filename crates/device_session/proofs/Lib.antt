@@ -1,7 +1,15 @@
+pub mod MomentLaws
+pub mod ServedLaws
 pub mod SessionLaws
 pub mod ArrayLaws
 pub mod OrderLaws
 pub mod ReadLaws
+pub mod LeftLaws
 pub mod UpdateLaws
 pub mod InsertLaws
 pub mod CountLaws
+pub mod TakingLaws
+pub mod KeyLaws
+pub mod CommitLaws
+pub mod CertifyingLaws
+pub mod StepLaws

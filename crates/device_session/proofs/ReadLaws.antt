@@ -54,6 +54,7 @@ holds_looked session cache buffers image after device contents same keeps h = su
   contents_are = h.contents_are;
   count = h.count;
   untouched = h.untouched;
+  left = h.left;
   cached = keeps h.cached;
 })
 

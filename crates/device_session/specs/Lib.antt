@@ -9,4 +9,5 @@ pub mod Keys
 pub mod Ready
 pub mod Replies
 pub mod Certifying
+pub mod Finishing
 pub mod Publishing

@@ -1,6 +1,7 @@
 //! A session on a device of any number of levels: an array of blocks with changes that are the device's only with a commit.
 #![tactic(auto)]
 
+mod committing;
 mod laws;
 mod reading;
 mod readying;

@@ -78,6 +78,8 @@ insertion g c come told r =
       within = let pages = g.met.P.Platform.counts_pages told c.args.platform.now in omega (arith, pages, o.served.within);
       turns = c.insert.ensures.goes image.readable ready.way;
       ready = ready;
+      pages = g.P.Platform.head c.args.platform.now;
+      is_open = o;
     }
 
 pub returns-in-Err-TapeFault-clause-array : goal.returns-in-Err-TapeFault-clause-array

@@ -75,7 +75,8 @@ returns-clause-array g c = λ told device contents h.
     let at = goal.at.returns-clause-array g c in
     let image = (g.P.Platform.history c.ready.new.platform).present in
     let k = subst (λ (s : Session). Holds s image device contents) (sym c.self-2.view_is) (c.ready.ensures.holds told device contents h).0 in
-    trimmed (the_view c.self-2.inside) c.remove.new.self image device contents c.args.block any (size g at.After-remove) (small g at.After-remove) (removes g at.After-remove told h.cached) (has_block g at.After-remove told h.cached) k c.args.self.now.is_touched
+    let o = subst (λ (s : Session). IsOpen s (g.P.Platform.head c.ready.new.platform)) (sym c.self-2.view_is) c.ready.ensures.open in
+    trimmed (the_view c.self-2.inside) c.remove.new.self image device contents c.args.block (g.P.Platform.head c.ready.new.platform) any o (size g at.After-remove) (small g at.After-remove) (removes g at.After-remove told h.cached) (has_block g at.After-remove told h.cached) k c.args.self.now.is_touched
 
 pub returns-clause-open : goal.returns-clause-open
 returns-clause-open g c =
@@ -92,7 +93,8 @@ returns-clause-listed g c = λ told keys h.
     let at = goal.at.returns-clause-listed g c in
     let image = (g.P.Platform.history c.ready.new.platform).present in
     let k = subst (λ (s : Session). HoldsListed s image keys) (sym c.self-2.view_is) (c.ready.ensures.listed told keys h) in
-    removed_listed (the_view c.self-2.inside) c.remove.new.self image keys c.args.block any (size g at.After-remove) (small g at.After-remove) (removes g at.After-remove told h.holds.cached) (has_block g at.After-remove told h.holds.cached) k
+    let o = subst (λ (s : Session). IsOpen s (g.P.Platform.head c.ready.new.platform)) (sym c.self-2.view_is) c.ready.ensures.open in
+    removed_listed (the_view c.self-2.inside) c.remove.new.self image keys c.args.block (g.P.Platform.head c.ready.new.platform) any o (size g at.After-remove) (small g at.After-remove) (removes g at.After-remove told h.holds.cached) (has_block g at.After-remove told h.holds.cached) k
 
 pub returns-in-Err-BadRecord-clause-pages : goal.returns-in-Err-BadRecord-clause-pages
 returns-in-Err-BadRecord-clause-pages g c = λ told device contents h pages are. ready_pages c.args.self.now c.ready.new.self pages c.ready.ensures.same.0 c.ready.ensures.same.3 are
