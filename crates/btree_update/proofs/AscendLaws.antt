@@ -121,6 +121,9 @@ increasing low (m ∷ n ∷ ms) up (suc k) lt =
     let bs = map (λ (m : Mapped). m.block) (n ∷ ms) in
     subst (λ i. slice_index (m.block ∷ bs) (suc k) < slice_index (m.block ∷ bs) i) e rest
 
+pub grove_up : (pages : List (List ℕ)) (grove : Grove) (mapped : List Mapped) → IsSound grove → GroveMaps pages grove mapped → Ascends 0 mapped
+grove_up pages grove mapped sound m = (root_up pages grove.order (grove.level - 1) grove.blocks (out-Child grove.top) mapped sound.shaped m).0
+
 pub grove_ascends : (pages : List (List ℕ)) (grove : Grove) (mapped : List Mapped) → IsSound grove → GroveMaps pages grove mapped → IsStrictlyIncreasing (map (λ (m : Mapped). m.block) mapped) × All (λ m. m.block < grove.blocks) mapped
 grove_ascends pages grove mapped sound m =
     let up = root_up pages grove.order (grove.level - 1) grove.blocks (out-Child grove.top) mapped sound.shaped m in

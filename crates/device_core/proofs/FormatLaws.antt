@@ -4,7 +4,7 @@ use Rattle.std.specs.Prelude.{Option, Contains}
 use Rattle.std.proofs.lemmas.List.Elements.{All-nil, All-cons}
 use Rattle.sdbt_base.specs.Arrays.{Device, new_device}
 use Rattle.sdbt_base.specs.Traces.{NodeOver}
-use Rattle.platform.specs.Image.{Image, LeavesOnly, with_page}
+use Rattle.platform.specs.Image.{Image, LeavesOnly, with_page, all_synced}
 use Rattle.platform.specs.History.{History, Steps, During, Turns}
 use Rattle.platform.proofs.Moments.{During-step, whole-now, Extends-earlier}
 use Rattle.seal_record.specs.Sealing.{masked}

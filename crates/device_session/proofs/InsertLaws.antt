@@ -146,7 +146,7 @@ pub record IsInsertion (session : Session) (image later : Image) (block addr : �
   pub pages : ℕ
   pub is_open : IsOpen session pages
 
-count_is : (is_mapped : Bool) (m : Mapped) (old new : List Mapped) (count : ℕ) → Ascends 0 old → MapPuts m old new → OnTrue is_mapped (HasBlock m.block old) × OnFalse is_mapped (LacksBlock m.block old) → count ≡ length old → counted_with is_mapped count ≡ length new
+pub count_is : (is_mapped : Bool) (m : Mapped) (old new : List Mapped) (count : ℕ) → Ascends 0 old → MapPuts m old new → OnTrue is_mapped (HasBlock m.block old) × OnFalse is_mapped (LacksBlock m.block old) → count ≡ length old → counted_with is_mapped count ≡ length new
 count_is true m old new count up puts is same = same ∙ sym (count_same 0 m old new up puts is.0)
 count_is false m old new count up puts is same = let more = count_more m old new puts is.1 in omega (arith, same, more)
 
@@ -239,7 +239,7 @@ more_listed session image keys more h = record {
 
 -- ---- no block more
 
-lacks_it : (block : ℕ) (ms : List Mapped) (m : Mapped) → LacksBlock block ms → Contains ms m → m.block ≡ block → ⊥
+pub lacks_it : (block : ℕ) (ms : List Mapped) (m : Mapped) → LacksBlock block ms → Contains ms m → m.block ≡ block → ⊥
 lacks_it block [] m lacks (i, within, is) same = omega (arith, within)
 lacks_it block (x ∷ ms) m lacks (zero, within, is) same = lacks.0 (ap (λ (k : Mapped). k.block) is ∙ same)
 lacks_it block (x ∷ ms) m lacks (suc i, within, is) same = lacks_it block ms m lacks.1 (i, omega (arith, within), is) same

@@ -1,12 +1,12 @@
-pub mod MomentLaws
-pub mod ServedLaws
 pub mod SessionLaws
 pub mod ArrayLaws
 pub mod OrderLaws
 pub mod ReadLaws
 pub mod LeftLaws
 pub mod UpdateLaws
+pub mod PageLaws
 pub mod InsertLaws
+pub mod DamageLaws
 pub mod CountLaws
 pub mod TakingLaws
 pub mod KeyLaws

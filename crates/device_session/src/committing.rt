@@ -3,7 +3,6 @@ ghost use Rattle.sdbt_base.specs.Faults.{Rose};
 ghost use Rattle.platform.specs.Image.{with_cell};
 ghost use Rattle.platform.specs.History.{Turns, CellStays};
 ghost use Rattle.root_codec.specs.RootRecord.{FitsRoot, root_bytes};
-ghost use Rattle.btree_walk.specs.Sights.{StandsOver};
 ghost use Rattle.shadow_commit.specs.Finishing.{Swaps};
 ghost use Rattle.device_session.specs.Finishing.{PutsLine, IsPublishCause, LacksNodes, TakesUp};
 ghost use Rattle.device_session.specs.Publishing.{Commits, HasRaised};
@@ -19,6 +18,7 @@ use shadow_commit::{CommitRefusal, Prepared, prepare};
 
 impl Session {
     ghost use Rattle.device_session.specs.Open.{IsOpen, number_of, root_of, is_touched, needed_by};
+    ghost use Rattle.device_session.specs.Damage.{Follows};
 
     /// Makes the session's changes the device's: the changed nodes on new pages, their certificate, and then the root record that
     /// names the new tree.
@@ -42,9 +42,9 @@ impl Session {
         ensures raised { is_touched self.old ≡ true → needed_by self.old ≤ P.capacity platform.old - P.head platform.old
             → IfOk result (HasRaised P.Platform T.Tape platform.old platform.new tape.old tape.new self.old self.new) }
         ensures commits { Commits P.Platform T.Tape L.Sink platform.old platform.new tape.old tape.new ledger.old ledger.new self.old self.new result }
-        // On any image: what the cache keeps is of the pages still, and a session on the root record in the cell stays on it.
+        // On any image: the session follows the pages still, and one on the root record in the cell stays on it.
         ensures mounted { P.tells → OnOk result (
-            (StandsOver (P.history platform.old).present.readable self.old.cache → StandsOver (P.history platform.new).present.readable self.new.cache)
+            (Follows self.old (P.history platform.old).present → Follows self.new (P.history platform.new).present)
             × ((P.history platform.old).present.cell ≡ Some (root_bytes (root_of self.old))
             → (P.history platform.new).present.cell ≡ Some (root_bytes (root_of self.new)))) }
     {

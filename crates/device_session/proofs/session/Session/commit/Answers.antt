@@ -5,6 +5,7 @@ use Rattle.root_codec.specs.declared.root.Root.{Root}
 use Rattle.device_session.specs.Sessions.{Session}
 use Rattle.device_session.specs.Finishing.{TakesUp}
 use Rattle.device_session.proofs.StepLaws.{IsCommitting, untouched_after, commits_nothing, commits_full, commits_stopped, commits_failed, commits_done, commits_raised, committed_cached}
+use Rattle.device_session.proofs.DamageLaws.{follows_taken}
 use Rattle.device_session.specs.contracts.session.Session.{the_view}
 use Rattle.device_session.proofs.session.Session.commit.Given.{Over}
 use Rattle.device_session.proofs.session.Session.commit.Goals.{After-publish, After-take_up}
@@ -88,6 +89,6 @@ returns-clause-mounted g c = λ told. rw (← c.self.view_is) (
     let at = goal.at.returns-clause-mounted g c in
     let all = calls g at.After-publish in
     let swapped = c.in-Ok-publish.ensures.swapped in (
-      λ stands. committed_cached _ _ _ _ _ _ _ _ _ _ _ _ _ _ all (takes g c) told (swapped told) stands,
+      λ f. follows_taken (the_view c.self.inside) c.take_up.new.self c.in-Ok.prepared.root _ (takes g c) all.readied.ready.is.next_is.mapped_is (committed_cached _ _ _ _ _ _ _ _ _ _ _ _ _ _ all (takes g c) told (swapped told) f.cached),
       λ cell. (commits_raised _ _ _ _ _ _ _ _ _ _ _ _ _ _ _ all (takes g c) swapped (number_is g c)).cell told,
     ))

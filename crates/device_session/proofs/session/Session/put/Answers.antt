@@ -10,7 +10,6 @@ use Rattle.node_codec.specs.Record.{DataRecord, record_bytes}
 use Rattle.page_store.specs.Buffer.{Held}
 use Rattle.page_store.specs.Keeping.{KeepsKeys, IsNextRecord}
 use Rattle.page_store.proofs.KeepingLaws.{keeps_from}
-use Rattle.btree_walk.specs.Sights.{StandsOver}
 use Rattle.btree_update.specs.declared.groves.Grove.{Grove}
 use Rattle.btree_update.specs.Groves.{CanInsert, CanRemove, places_of}
 use Rattle.btree_twigs.specs.Stubs.{Stub, datum}
@@ -20,7 +19,9 @@ use Rattle.device_session.specs.Open.{IsOpen, AreDataPages}
 use Rattle.device_session.specs.Holds.{Holds}
 use Rattle.device_session.specs.Keys.{HoldsListed}
 use Rattle.device_session.specs.Ready.{IsReadyFor, counted_with}
-use Rattle.device_session.proofs.InsertLaws.{IsInsertion, Inserts, with_inserted, arrived, padded_bytes, later_holds, later_listed, later_open, cached_later, inserted_open, inserted_holds, inserted_listed, inserted_pages, below_more, level_stays, count_few, at_false, more_listed}
+use Rattle.device_session.proofs.InsertLaws.{IsInsertion, Inserts, with_inserted, arrived, padded_bytes, later_holds, later_listed, later_open, inserted_open, inserted_holds, inserted_listed, inserted_pages, below_more, level_stays, count_few, at_false, more_listed}
+use Rattle.device_session.specs.Damage.{Follows, HasRoom}
+use Rattle.device_session.proofs.DamageLaws.{follows_later, follows_inserted}
 use Rattle.device_session.specs.contracts.session.Session.{the_view}
 use Rattle.device_session.proofs.session.Session.put.Given.{Over}
 use Rattle.device_session.proofs.session.Session.put.Goals.{After-append, After-insert, In-Ok}
@@ -82,6 +83,12 @@ insertion g c come told r =
       is_open = o;
     }
 
+-- whatever became of the append
+still_follows : (g : Over) (c : After-append g) → g.P.Platform.tells → Follows c.args.self.now (g.P.Platform.history c.args.platform.now).present → Follows (record (the_view c.self.inside) { buffers = c.append.new.self }) (g.P.Platform.history c.append.new.platform).present
+still_follows g c told f =
+    follows_later (the_view c.self.inside) c.append.new.self (g.P.Platform.history c.args.platform.now).present _ (g.P.Platform.head c.args.platform.now) (is_open g c) (sym (g.met.P.Platform.counts_pages told c.args.platform.now))
+    (whole-now (g.P.Platform.history c.args.platform.now)) (Extends-earlier _ _ (c.append.ensures.time told).extends) (subst (λ (s : Session). Follows s (g.P.Platform.history c.args.platform.now).present) (sym c.self.view_is) f)
+
 pub returns-in-Err-TapeFault-clause-array : goal.returns-in-Err-TapeFault-clause-array
 returns-in-Err-TapeFault-clause-array g c = λ told device contents h r.
     later_holds (the_view c.self.inside) c.append.new.self _ _ device contents (whole-now (g.P.Platform.history c.args.platform.now)) (Extends-earlier _ _ (c.append.ensures.time told).extends) (c.append.ensures.cell told)
@@ -92,10 +99,11 @@ returns-in-Err-PlatformFault-clause-array g c = λ told device contents h r.
     later_holds (the_view c.self.inside) c.append.new.self _ _ device contents (whole-now (g.P.Platform.history c.args.platform.now)) (Extends-earlier _ _ (c.append.ensures.time told).extends) (c.append.ensures.cell told)
     (subst (λ (s : Session). Holds s (g.P.Platform.history c.args.platform.now).present device contents) (sym c.self.view_is) h)
 
-pub returns-in-Err-PlatformFault-clause-cached : goal.returns-in-Err-PlatformFault-clause-cached
-returns-in-Err-PlatformFault-clause-cached g c = λ told h.
-    cached_later (g.P.Platform.history c.args.platform.now).present _ (the_view c.self.inside).cache (whole-now (g.P.Platform.history c.args.platform.now)) (Extends-earlier _ _ (c.append.ensures.time told).extends)
-    (subst (λ (s : Session). StandsOver (g.P.Platform.history c.args.platform.now).present.readable s.cache) (sym c.self.view_is) h)
+pub returns-in-Err-PlatformFault-clause-follows : goal.returns-in-Err-PlatformFault-clause-follows
+returns-in-Err-PlatformFault-clause-follows g c = λ told f r. still_follows g (goal.at.returns-in-Err-PlatformFault-clause-follows g c).After-append told f
+
+pub returns-in-Err-TapeFault-clause-follows : goal.returns-in-Err-TapeFault-clause-follows
+returns-in-Err-TapeFault-clause-follows g c = λ told f r. still_follows g (goal.at.returns-in-Err-TapeFault-clause-follows g c).After-append told f
 
 pub returns-in-Err-PlatformFault-clause-open : goal.returns-in-Err-PlatformFault-clause-open
 returns-in-Err-PlatformFault-clause-open g c = later_open (the_view c.self.inside) c.append.new.self _ _ c.append.ensures.head_rises (is_open g (goal.at.returns-in-Err-PlatformFault-clause-open g c).After-append)
@@ -130,10 +138,13 @@ returns-clause-array g c = λ told device contents h r.
     subst (λ n. Holds (with_inserted (the_view c.self.inside) c.insert.new.self n c.append.new.self) (g.P.Platform.history c.append.new.platform).present device (maps.insert contents c.args.block (padded c.args.content.now))) (sym c.count_with-self-inside.ensures)
     (inserted_holds (the_view c.self.inside) _ _ device contents c.args.block c.in-Ok.placed.addr c.in-Ok.placed.key (padded c.args.content.now) c.args.is_mapped c.insert.new.self c.append.new.self (insertion g at.After-insert (arrives g at.In-Ok) told r) k)
 
-pub returns-clause-cached : goal.returns-clause-cached
-returns-clause-cached g c = λ told h.
-    cached_later (g.P.Platform.history c.args.platform.now).present _ (the_view c.self.inside).cache (whole-now (g.P.Platform.history c.args.platform.now)) (Extends-earlier _ _ (c.append.ensures.time told).extends)
-    (subst (λ (s : Session). StandsOver (g.P.Platform.history c.args.platform.now).present.readable s.cache) (sym c.self.view_is) h)
+pub returns-clause-follows : goal.returns-clause-follows
+returns-clause-follows g c = λ told f r.
+    let at = goal.at.returns-clause-follows g c in
+    let k = subst (λ (s : Session). Follows s (g.P.Platform.history c.args.platform.now).present) (sym c.self.view_is) f in
+    subst (λ n. Follows (with_inserted (the_view c.self.inside) c.insert.new.self n c.append.new.self) (g.P.Platform.history c.append.new.platform).present) (sym c.count_with-self-inside.ensures)
+    (follows_inserted (the_view c.self.inside) _ _ c.args.block c.in-Ok.placed.addr c.in-Ok.placed.key (padded c.args.content.now) c.args.is_mapped c.insert.new.self c.append.new.self (insertion g at.After-insert (arrives g at.In-Ok) told r)
+    (sym (g.met.P.Platform.counts_pages told c.args.platform.now)) (λ mapped content read maps there. c.insert.ensures.maps (g.P.Platform.history c.append.new.platform).present.readable mapped content read maps there) k)
 
 pub returns-clause-open : goal.returns-clause-open
 returns-clause-open g c =
@@ -143,7 +154,7 @@ returns-clause-open g c =
     let o = is_open g at.After-append in
     let grown : head + 1 ≡ now = omega (arith, c.in-Ok.ensures.head_ok) in
     let below = c.insert.ensures.below now (below_more head now c.self.inside.grove (omega (arith, grown)) o.below) (omega (arith, c.in-Ok.ensures.address, grown)) in
-    let limit = subst (λ (s : Session). OnFalse c.args.is_mapped ((s.mapped < s.root.blocks) × (s.grove.level < 20))) (sym c.self.view_is) c.requires.limit in
+    let limit = subst (λ (s : Session). OnFalse c.args.is_mapped (HasRoom s)) (sym c.self.view_is) c.requires.limit in
     let can = subst (λ (s : Session). CanInsert c.args.block s.grove × (IsTrue c.args.is_mapped → CanRemove c.args.block s.grove)) (sym c.self.view_is) c.requires.can in
     subst (λ n. IsOpen (with_inserted (the_view c.self.inside) c.insert.new.self n c.append.new.self) now) (sym c.count_with-self-inside.ensures)
     (inserted_open (the_view c.self.inside) c.insert.new.self (counted_with c.args.is_mapped c.self.inside.mapped) c.append.new.self head now (size g at.After-insert) c.insert.ensures.top

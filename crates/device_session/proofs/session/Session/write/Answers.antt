@@ -12,7 +12,10 @@ use Rattle.device_session.specs.Sessions.{Session}
 use Rattle.device_session.specs.Open.{AreDataPages}
 use Rattle.device_session.specs.Holds.{Holds}
 use Rattle.device_session.specs.Keys.{HoldsListed}
+use Rattle.page_store.specs.Tree.{Wrong}
+use Rattle.device_session.specs.Damage.{Follows, IsFound, IsMiscounted}
 use Rattle.device_session.specs.Ready.{IsReadyFor}
+use Rattle.device_session.proofs.DamageLaws.{update_is_wrong, miscounted_full, limit_same}
 use Rattle.device_session.proofs.UpdateLaws.{ready_pages, on_false}
 use Rattle.device_session.proofs.InsertLaws.{all_mapped}
 use Rattle.device_session.specs.contracts.session.Session.{the_view}
@@ -76,3 +79,38 @@ returns-clause-pages g c = λ told device contents h pages are.
     let k = (c.ready.ensures.holds told device contents h).0 in
     let written = c.put.ensures.pages told device contents k (c.in-Ok.ensures.ready told h.cached) pages (ready_pages c.args.self.now c.ready.new.self pages c.ready.ensures.same.0 c.ready.ensures.same.3 are) in
     (written.0, subst (λ n. OnOk c.put.result (AreDataPages c.put.new.self (pages ++ record { block = c.args.block; addr = n } ∷ []))) c.ready.ensures.looks.head written.1)
+
+-- ---- on any pages
+
+pub returns-in-Err-BadRecord-clause-damaged : goal.returns-in-Err-BadRecord-clause-damaged
+returns-in-Err-BadRecord-clause-damaged g c = λ told f addr is.
+    let image = (g.P.Platform.history c.args.platform.now).present in
+    let wrong = update_is_wrong c.args.self.now image c.args.block addr (g.P.Platform.head c.args.platform.now) c.requires.open f (c.ready.ensures.bad told f.cached addr (cc)) in
+    (inl wrong, inl (subst (λ (i : Image). Wrong i.readable c.args.self.now.root addr) (sym (c.ready.ensures.looks.image told)) wrong))
+
+pub returns-then-is_at_limit-clause-damaged : goal.returns-then-is_at_limit-clause-damaged
+returns-then-is_at_limit-clause-damaged g c = λ told f addr is.
+    let image = (g.P.Platform.history c.ready.new.platform).present in
+    let r = c.in-Ok.ensures.ready told f.cached in
+    let limit = c.is_at_limit.ensures.full c.if-is_at_limit.true in
+    let at : c.self-2.inside.root.addr ≡ addr = cc in
+    let named : addr ≡ c.args.self.now.root.addr = sym at ∙ ap (λ (s : Session). s.root.addr) c.self-2.view_is ∙ ap (λ (n : Root). n.addr) c.ready.ensures.same.0 in
+    let small = subst (λ (n : Root). c.args.block < n.blocks) (sym c.ready.ensures.same.0) (subst (λ (s : Session). c.args.block < s.root.blocks) c.self.view_is c.if-block-self.false) in
+    let miscounted = miscounted_full c.ready.new.self image c.args.block (g.P.Platform.head c.ready.new.platform) c.ready.ensures.open small limit
+    (λ mapped m. on_false c.in-Ok.is_mapped (LacksBlock c.args.block mapped) c.if-not-is_mapped.true (r.mapped mapped m).1) (c.ready.ensures.follows told f) in (
+      inr (
+        named,
+        limit_same c.args.self.now c.ready.new.self c.ready.ensures.same.0 c.ready.ensures.same.1 c.ready.ensures.same.3.level limit,
+        subst (λ b. IsFound b (g.P.Platform.history c.args.platform.now).present.readable c.args.self.now c.args.block) c.if-not-is_mapped.true (c.in-Ok.ensures.found told f.cached),
+      ),
+      inr (named, subst (IsMiscounted image.readable) c.ready.ensures.same.0 miscounted),
+    )
+
+pub returns-clause-damaged : goal.returns-clause-damaged
+returns-clause-damaged g c = λ told f addr is. absurd (rw is at c.put.ensures.cause)
+
+pub returns-clause-follows : goal.returns-clause-follows
+returns-clause-follows g c = λ told f. c.put.ensures.follows told (c.ready.ensures.follows told f) (c.in-Ok.ensures.ready told f.cached)
+
+pub returns-clause-counter : goal.returns-clause-counter
+returns-clause-counter g c = ?
