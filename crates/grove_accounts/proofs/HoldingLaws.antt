@@ -14,7 +14,7 @@ use Rattle.platform.specs.Image.{Image, IsEarlier}
 use Rattle.node_codec.specs.Record.{DataRecord}
 use Rattle.root_codec.specs.declared.root.Root.{Root}
 use Rattle.page_store.specs.Places.{IsRecordAt, root_want}
-use Rattle.page_store.specs.Tree.{Parts, Place, Mapped, Subtree, joined, data_parts}
+use Rattle.page_store.specs.Tree.{Tree, Parts, Place, Mapped, Subtree, joined, data_parts}
 use Rattle.page_store.specs.Stands.{StandsBy}
 use Rattle.page_store.proofs.TreeLaws.{subtree_kept}
 use Rattle.btree_twigs.specs.Stubs.{Stub, Tiles, Puts, Takes, datum, stubs}
