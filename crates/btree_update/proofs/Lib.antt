@@ -17,6 +17,8 @@ pub mod HelpingLaws
 pub mod MappedLaws
 pub mod FoundLaws
 pub mod FoundMaps
+pub mod NodeFinds
+pub mod WayFinds
 pub mod CountLaws
 pub mod FitsLaws
 pub mod DatumLaws
