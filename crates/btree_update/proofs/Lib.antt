@@ -18,6 +18,8 @@ pub mod HelpLaws
 pub mod HelpingLaws
 pub mod MappedLaws
 pub mod FoundMaps
+pub mod NodeFinds
+pub mod WayFinds
 pub mod CountLaws
 pub mod FitsLaws
 pub mod DatumLaws

@@ -60,7 +60,7 @@ wrong_at Wrong high i cs d split lt h at front c [] is n at_next at_last =
     (take i cs, d, sym same.0, subst (λ bs. Wrong (start_by low_of bs high) d) same.1 h)
 
 -- children on the medium name their entries
-entry_is : (e f : Entry) → e.low ≡ f.low → e.addr ≡ f.addr → e.key ≡ f.key → e ≡ f
+pub entry_is : (e f : Entry) → e.low ≡ f.low → e.addr ≡ f.addr → e.key ≡ f.key → e ≡ f
 entry_is e f l a k = rw (l, a, k) refl
 
 kept_is : (e f : Entry) → kept_of e ≡ kept_of f → e ≡ f

@@ -12,7 +12,9 @@ use Rattle.btree_twigs.specs.declared.twigs.Spot.TheVariants.{Found, Absent, Bel
 use Rattle.btree_twigs.specs.Stubs.{Stub, stubs_below}
 use Rattle.btree_twigs.specs.Search.{IsSpot}
 use Rattle.btree_update.specs.declared.groves.Grove.{Grove}
-use Rattle.btree_update.specs.GroveTree.{want_of, top_want}
+use Rattle.btree_update.specs.declared.siblings.Left.{Left}
+use Rattle.btree_update.specs.declared.siblings.Left.TheVariants.{Unmapped, Enough, Short}
+use Rattle.btree_update.specs.GroveTree.{want_of, want_at, top_want}
 use Rattle.btree_update.specs.Held.{stub_at}
 
 -- from the place of a node on each node on the way to the block fits, down to the leaf, which has this of the block
@@ -46,6 +48,20 @@ pub record StopsAmong (pages : List (List ℕ)) (order block wrong : ℕ) (stubs
   pub spot : Spot
   pub is : IsSpot block stubs spot
   pub stops : StopsFrom pages order block wrong spot
+
+abbrev pub ChildFindsBy : List (List ℕ) → ℕ → ℕ → ℕ → ℕ → ℕ → Child-F Child Twig → Option Entry → Type 0
+ChildFindsBy pages order least block below high (Kept low addr key) found = FindsBelow pages block (want_at order (suc below) low high addr least) key found
+ChildFindsBy pages order least block below high (Grown low twig) found = FindsAmong pages order block (stubs_below below high twig) found
+
+-- from a child over children of this level on, whose node has so many at least, this is found of the block
+abbrev pub ChildFinds : List (List ℕ) → ℕ → ℕ → ℕ → ℕ → ℕ → Child → Option Entry → Type 0
+ChildFinds pages order least block below high child found = ChildFindsBy pages order least block below high (out-Child child) found
+
+-- a removal leaves all where nothing is found of the block, and there alone
+abbrev pub IsFoundBy : (Option Entry → Type 0) → Left → Type 0
+IsFoundBy Finds Unmapped = Finds None
+IsFoundBy Finds Enough = (entry : Entry) × Finds (Some entry)
+IsFoundBy Finds Short = (entry : Entry) × Finds (Some entry)
 
 abbrev pub RootFindsBy : List (List ℕ) → ℕ → ℕ → ℕ → ℕ → Child-F Child Twig → Option Entry → Type 0
 RootFindsBy pages order block below high (Kept low addr key) found = FindsBelow pages block (top_want order high (suc below) addr) key found

@@ -1,5 +1,6 @@
 ghost use Rattle.std.specs.Prelude.{◌≡◌, ◌⊎◌, ◌<◌, ◌≤◌, ◌+◌, ◌-◌, ◌*◌, ℕ, List, [], suc, vec_len, vec_capacity, IfOk, IfSome, IsErrOf, IsTrue, Bool, Contains};
 ghost use Rattle.root_codec.specs.RootRecord.{FitsRoot};
+ghost use Rattle.node_codec.specs.declared.body.Entry.{Entry};
 ghost use Rattle.node_codec.specs.Record.{DataRecord};
 ghost use Rattle.page_store.specs.Places.{IsRecordAt};
 ghost use Rattle.page_store.specs.Tree.{Parts, Mapped, Tree};
@@ -177,6 +178,10 @@ impl Grove {
             IfOk result (λ mapped. IsReadFrom (P.history platform.old).present.readable block self.new × (IsTrue mapped → IsReadBeside (P.history platform.old).present.readable block self.new)) }
         ensures mapped { P.tells → StandsOver (P.history platform.old).present.readable cache.old →
             IfOk result (λ mapped. (map : List Mapped) → GroveMaps (P.history platform.old).present.readable self.old map → OnTrue mapped (HasBlock block map) × OnFalse mapped (LacksBlock block map)) }
+        // The answer is what a look-up finds.
+        ensures finds { P.tells → StandsOver (P.history platform.old).present.readable cache.old →
+            IfOk result (λ mapped. OnTrue mapped ((entry : Entry) × GroveFinds (P.history platform.old).present.readable block self.old (Some entry))
+            × OnFalse mapped (GroveFinds (P.history platform.old).present.readable block self.old None)) }
         ensures bad { P.tells → StandsOver (P.history platform.old).present.readable cache.old → (addr : ℕ) → IsErrOf result (ReadyRefusal.BadRecord addr) →
             IsWrongOnWay (P.history platform.old).present.readable block self.old addr }
         // Where the tree maps anything at all, no node is refused.

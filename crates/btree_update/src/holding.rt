@@ -11,6 +11,7 @@ ghost use Rattle.btree_update.specs.GroveTree.{Maps, MapsFrom};
 ghost use Rattle.btree_update.specs.Wrong.{WrongUnder, WrongFrom};
 ghost use Rattle.btree_update.specs.Beside.{IsLeft, HelpsBelow, LeftOf, IsMappedBy};
 ghost use Rattle.btree_update.specs.Holding.{CanHold, CanHoldBelow};
+ghost use Rattle.btree_update.specs.Finding.{FindsAmong, ChildFinds, IsFoundBy};
 
 use crate::kept::read_kept;
 use crate::refusals::ReadyRefusal;
@@ -50,6 +51,8 @@ pub(crate) fn hold_way<P: Platform>(
         WrongFrom (P.history platform.old).present.readable order least block addr (level - 1) high child.now }
     ensures mapped { P.tells → StandsOver (P.history platform.old).present.readable cache.old →
         IfOk result (λ left. (mapped : List Mapped) → MapsFrom (P.history platform.old).present.readable order least (level - 1) high child.now mapped → IsMappedBy block mapped left) }
+    ensures finds { P.tells → StandsOver (P.history platform.old).present.readable cache.old →
+        IfOk result (IsFoundBy (ChildFinds (P.history platform.old).present.readable order least block (level - 1) high child.now)) }
     ensures stands { P.tells → StandsOver (P.history platform.old).present.readable cache.old → StandsOver (P.history platform.old).present.readable cache.new }
     ensures looks { Looks P.Platform (2 * level - 1) platform.old platform.new }
     ensures cause { IsErrOf result ReadyRefusal.PlatformFault → Rose (P.faults platform.old) (P.faults platform.new) }
@@ -118,6 +121,8 @@ pub(crate) fn hold_below<P: Platform>(
         WrongUnder (P.history platform.old).present.readable order block addr level high twig.now }
     ensures mapped { P.tells → StandsOver (P.history platform.old).present.readable cache.old →
         IfOk result (λ left. (mapped : List Mapped) → Maps (P.history platform.old).present.readable order (stubs_below level high twig.now) mapped → IsMappedBy block mapped left) }
+    ensures finds { P.tells → StandsOver (P.history platform.old).present.readable cache.old →
+        IfOk result (IsFoundBy (FindsAmong (P.history platform.old).present.readable order block (stubs_below level high twig.now))) }
     ensures stands { P.tells → StandsOver (P.history platform.old).present.readable cache.old → StandsOver (P.history platform.old).present.readable cache.new }
     ensures looks { Looks P.Platform (2 * level) platform.old platform.new }
     ensures cause { IsErrOf result ReadyRefusal.PlatformFault → Rose (P.faults platform.old) (P.faults platform.new) }

@@ -4,6 +4,7 @@ use Rattle.btree_update.proofs.BesideLaws.{IfOk_all, has_record, leaf_left, left
 use Rattle.btree_update.specs.Beside.{LeftOf, IsLeft, HelpsBelow, HoldsBeside}
 use Rattle.std.proofs.lemmas.List.{length-take-le}
 use Rattle.btree_twigs.specs.declared.twigs.Child.{Child}
+use Rattle.btree_twigs.specs.declared.twigs.Child.TheVariants as made
 use Rattle.btree_twigs.specs.declared.twigs.Twig.{Twig}
 use Rattle.btree_twigs.specs.Stubs.{start_by, low_of, children_of, stubs, stubs_below}
 use Rattle.btree_twigs.specs.Shape.{IsChild}
@@ -26,6 +27,8 @@ use Rattle.page_store.specs.Tree.{Mapped}
 use Rattle.btree_update.specs.GroveTree.{Maps, MapsFrom, want_at}
 use Rattle.btree_update.specs.Beside.{IsMappedBy}
 use Rattle.btree_update.proofs.MappedLaws.{first_lacks, leaf_mapped, leaf_not, beside_mapped, way_mapped, kept_mapped, grown_mapped, maps_from}
+use Rattle.btree_update.specs.Finding.{FindsAmong, ChildFinds, IsFoundBy}
+use Rattle.btree_update.proofs.WayFinds.{found_as, beside_found, first_finds, way_finds, leaf_finds, child_finds, kept_finds}
 use Rattle.btree_update.proofs.holding.+hold.Goals as goal
 
 nothing_before : (block high n : ℕ) (ds cs : List Child) → ds ≡ cs → n ≡ 0 → ((high : ℕ) → block < high → block < start_by low_of (drop n ds) high) → block < high → block < start_by low_of cs high
@@ -365,3 +368,53 @@ hold_way-returns-in-Grown-clause-mapped g t c = λ tells stands.
     IfOk_map _ _ c.hold_below.result
     (λ left h mapped m. h mapped (grown_mapped pages c.args.order c.args.least (c.args.level - 1) c.args.high c.in-Grown.low c.in-Grown.twig mapped (subst (λ x. MapsFrom pages c.args.order c.args.least (c.args.level - 1) c.args.high x mapped) c.in-Grown.is m)))
     (c.hold_below.ensures.mapped tells stands))
+
+pub hold_below-returns-then-at-eq0-clause-finds : goal.hold_below-returns-then-at-eq0-clause-finds
+hold_below-returns-then-at-eq0-clause-finds g t c = λ tells stands.
+    (let at = c.requires.can in
+    first_finds (g.P.Platform.history c.args.platform.now).present.readable c.args.order c.args.level at.least at.low c.args.high c.args.block c.args.twig.now at.shaped
+    (nothing_before c.args.block c.args.high c.place-at.result _ (children_of c.args.twig.now) c.deref.ensures.value c.if-at-eq0.true c.place-at.ensures.after at.to))
+
+pub hold_below-returns-then-level-eq0-clause-finds : goal.hold_below-returns-then-level-eq0-clause-finds
+hold_below-returns-then-level-eq0-clause-finds g t c = λ tells stands.
+    (let at = c.requires.can in
+    let w = on_way c.args.order c.args.block c.args.level c.args.high c.place-at.result (children_of c.args.twig.now) c.deref.result.now c.index-child.result.now c.deref.ensures.value c.if-at-eq0.false
+    c.place-at.ensures.within c.place-at.ensures.before c.place-at.ensures.after at.to c.index-child.ensures in
+    leaf_finds (g.P.Platform.history c.args.platform.now).present.readable c.args.order c.args.level at.least at.low c.args.high c.args.block c.place-at.result c.args.twig.now c.index-child.result.now c.if-level-eq0.true at.shaped w c.left_of_leaf.result
+    (c.low_of.result == c.args.block) (λ e. sym c.low_of.ensures ∙ eqb-true c.low_of.result c.args.block e) (λ e. eq-eqb c.low_of.result c.args.block (c.low_of.ensures ∙ e))
+    (leaf_not c.args.order (length (children_of c.args.twig.now)) (c.low_of.result == c.args.block) c.left_of_leaf.result c.left_of_leaf.ensures.mapped) c.left_of_leaf.ensures.unmapped)
+
+pub hold_below-returns-clause-finds : goal.hold_below-returns-clause-finds
+hold_below-returns-clause-finds g t c = λ tells stands.
+    (let at = c.requires.can in
+    let cs = children_of c.args.twig.now in
+    let w = on_way c.args.order c.args.block c.args.level c.args.high c.place-at.result cs c.deref.result.now c.index-child.result.now c.deref.ensures.value c.if-at-eq0.false
+    c.place-at.ensures.within c.place-at.ensures.before c.place-at.ensures.after at.to c.index-child.ensures in
+    let e = end_is c.args.high c.place-at.result w.at c.end_of-end.result c.deref-2.result.now cs c.deref-2.ensures.value w.at_is c.end_of-end.ensures in
+    let pages = (g.P.Platform.history c.args.platform.now).present.readable in
+    let Finds = FindsAmong pages c.args.order c.args.block (stubs_below c.args.level c.args.high c.args.twig.now) in
+    let one = found_as (ChildFinds pages c.args.order (c.args.order / 2) c.args.block (c.args.level - 1) c.end_of-end.result c.index-child.result.now) Finds c.in_ok-left.left
+    (λ found f. way_finds pages c.args.order c.args.level at.least at.low c.args.high c.args.block c.args.twig.now at.shaped c.place-at.result c.index-child.result.now w found
+    (subst (λ m. FindsAmong pages c.args.order c.args.block (stubs c.args.level m c.index-child.result.now) found) e
+    (child_finds pages c.args.order c.args.block c.args.level (c.args.level - 1) c.end_of-end.result c.index-child.result.now found (above c.args.level c.if-level-eq0.false) w.from (subst (λ m. c.args.block < m) (sym e) w.to) f)))
+    (c.in_ok-left.ensures.finds tells stands) in
+    IfOk_map _ _ c.hold_beside.result
+    (λ after h. beside_found Finds AnyRead c.args.order (c.args.level - 1) (length cs) c.args.high (take w.at cs) c.index-child.result.now (drop (suc w.at) cs) c.hold_way.new.beside.items c.hold_beside.new.beside.items c.in_ok-left.left after h one)
+    (c.hold_beside.ensures.helps (take w.at cs) c.index-child.result.now (drop (suc w.at) cs) w.split (before_is w.at c.place-at.result cs w.within w.at_is)))
+
+pub hold_way-returns-in_ok-hold-in-Kept-clause-finds : goal.hold_way-returns-in_ok-hold-in-Kept-clause-finds
+hold_way-returns-in_ok-hold-in-Kept-clause-finds g t c = λ tells stands.
+    (let head = g.P.Platform.head c.args.platform.now in
+    let at = subst (CanHold c.args.order c.args.least c.args.level c.args.block c.args.high head) c.in-Kept.is c.requires.can in
+    let l = above_it c.args.level at.one in
+    let twig = c.in_ok-twig-in-Kept.twig in
+    let pages = (g.P.Platform.history c.args.platform.now).present.readable in
+    let same : (g.P.Platform.history c.read_kept.new.platform).present.readable ≡ pages = ap (λ i. i.readable) (c.in_ok-twig-in-Kept.ensures.looks.image tells) in
+    let stands' = subst (λ p. StandsOver p c.read_kept.new.cache) (sym same) (c.in_ok-twig-in-Kept.ensures.stands tells stands) in
+    let can = way_read c.args.order c.args.least c.args.level c.args.block c.args.high head c.in-Kept.low c.in-Kept.addr c.in-Kept.key twig at c.in_ok-twig-in-Kept.ensures.fits in
+    let fits = subst (λ k. IsNodeFor (want_at c.args.order k c.in-Kept.low c.args.high c.in-Kept.addr c.args.least) twig) l c.in_ok-twig-in-Kept.ensures.fits in
+    let node = subst (λ k. IsNodeOf pages (want_at c.args.order k c.in-Kept.low c.args.high c.in-Kept.addr c.args.least) c.in-Kept.key twig) l (c.in_ok-twig-in-Kept.ensures.reads tells stands) in
+    let below = subst (λ p. IsFoundBy (FindsAmong p c.args.order c.args.block (stubs_below (c.args.level - 1) c.args.high twig)) c.in_ok-left-in-Kept.left) same (c.in_ok-left-in-Kept.ensures.finds tells stands') in
+    subst (λ x. IsFoundBy (ChildFinds pages c.args.order c.args.least c.args.block (c.args.level - 1) c.args.high x) c.in_ok-left-in-Kept.left) (sym c.in-Kept.is)
+    (found_as (FindsAmong pages c.args.order c.args.block (stubs_below (c.args.level - 1) c.args.high twig)) (ChildFinds pages c.args.order c.args.least c.args.block (c.args.level - 1) c.args.high (made.Kept c.in-Kept.low c.in-Kept.addr c.in-Kept.key)) c.in_ok-left-in-Kept.left
+    (λ found f. kept_finds pages c.args.order c.args.least c.args.block (c.args.level - 1) c.args.high head c.in-Kept.low c.in-Kept.addr c.in-Kept.key twig found can fits node f) below))
