@@ -1,6 +1,6 @@
 -- What a session is over any pages, and what it names that isn't as it should be.
 use Rattle.std.proofs.Common.{◌≡◌, ◌≢◌, ◌⊎◌, inl, inr, ℕ, zero, suc, ◌+◌, ◌-◌, ◌^◌, ◌<◌, ◌≤◌, Bool, true, false, List, [], ◌∷◌, ◌++◌, All, IsTrue, length, refl, sym, ap, subst, ◌∙◌, arith, append-nil}
-use Rattle.std.specs.Prelude.{Contains, Option, None, Some}
+use Rattle.std.specs.Prelude.{Contains, Option, None, Some, Result, Ok, Err, IfOk}
 use Rattle.std.specs.Bool.{OnTrue, OnFalse}
 use Rattle.platform.specs.Image.{Image, IsEarlier, IsWhole}
 use Rattle.node_codec.specs.declared.body.Entry.{Entry}
@@ -15,6 +15,7 @@ use Rattle.btree_twigs.specs.Stubs.{Stub, Puts, Takes, datum}
 use Rattle.btree_walk.specs.Sights.{StandsOver}
 use Rattle.btree_update.specs.declared.groves.Grove.{Grove}
 use Rattle.btree_update.specs.Held.{AreBelow}
+use Rattle.btree_update.specs.Finding.{GroveFinds}
 use Rattle.btree_update.specs.Maps.{MapPuts, MapTakes, HasBlock, LacksBlock}
 use Rattle.btree_update.specs.Opens.{HasWay}
 use Rattle.btree_update.specs.Groves.{IsSound, IsReadFrom, IsReadBeside, IsWrongOnWay, GroveMaps, KeepsTree, places_of}
@@ -29,7 +30,7 @@ use Rattle.device_session.specs.Open.{IsOpen}
 use Rattle.device_session.specs.Finishing.{TakesUp}
 use Rattle.device_session.specs.Reading.{IsFirstMisfit}
 use Rattle.device_session.specs.Ready.{IsReadyFor, counted_with}
-use Rattle.device_session.specs.Damage.{Follows, MapsMany, IsMiscounted, IsAtLimit, HasRoom}
+use Rattle.device_session.specs.Damage.{Follows, MapsMany, IsMiscounted, IsAtLimit, HasRoom, IsFound}
 use Rattle.device_session.proofs.ArrayLaws.{count_more, count_same, count_less}
 use Rattle.device_session.proofs.ReadLaws.{grove_maps}
 use Rattle.device_session.proofs.PageLaws.{AreAlike, tree_alike, maps_alike, read_later}
@@ -72,6 +73,13 @@ follows_ready session grove cache buffers image after same k keeps f = subst (Fo
 -- a look leaves it so
 pub follows_looked : (session : Session) (cache : Cached) (buffers : Held) (image after : Image) → after ≡ image → (StandsOver image.readable session.cache → StandsOver image.readable cache) → Follows session image → Follows (record session { cache = cache; buffers = buffers }) after
 follows_looked session cache buffers image after same keeps f = subst (Follows (record session { cache = cache; buffers = buffers })) (sym same) (record { places = f.places; counted = f.counted; cached = keeps f.cached })
+
+-- what is found of the block, whichever it is
+pub found_by : {E : Type 0} (pages : List (List ℕ)) (block : ℕ) (session : Session) (result : Result Bool E) → IfOk result (λ mapped. OnTrue mapped ((entry : Entry) × GroveFinds pages block session.grove (Some entry)) × OnFalse mapped (GroveFinds pages block session.grove None)) →
+    IfOk result (λ mapped. IsFound mapped pages session block)
+found_by pages block session (Ok true) h = h.0
+found_by pages block session (Ok false) h = h.1
+found_by pages block session (Err e) h = tt
 
 -- what a read names is a wrong place
 pub misfit_wrong : (session : Session) (image : Image) (block addr pages : ℕ) → IsOpen session pages → Follows session image → IsFirstMisfit image.readable session.grove block addr → Wrong image.readable session.root addr

@@ -16,7 +16,8 @@ use Rattle.btree_twigs.specs.Stubs.{Stub}
 use Rattle.btree_walk.proofs.OrderLaws.{subtree_up_to}
 use Rattle.btree_update.specs.Groves.{places_of}
 use Rattle.grove_accounts.specs.Accounts.{IsOwn}
-use Rattle.grove_accounts.specs.Below.{want_in, HaveParts}
+use Rattle.btree_update.specs.GroveTree.{want_in}
+use Rattle.grove_accounts.specs.Below.{HaveParts}
 use Rattle.grove_accounts.specs.Certs.{IsOwnStub}
 use Rattle.grove_accounts.proofs.CertLaws.{IsOldNode, old_nodes}
 use Rattle.grove_accounts.proofs.ListLaws.{all_left, all_right}

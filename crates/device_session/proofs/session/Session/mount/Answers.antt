@@ -61,4 +61,4 @@ returns-clause-follows g c = λ told. follows_fresh _ (g.P.Platform.history c.cu
   top = c.of-grove.ensures.top;
   none_gone = c.of-grove.ensures.lists.0;
   none_never = c.of-grove.ensures.lists.1;
-}) (none_cached _ _ (ap (λ (k : Cached). k.kept) c.in-Ok-new-2.ensures))
+}) (none_cached _ c.in-Ok-new-2.cache (ap (λ (k : Cached). k.kept) c.in-Ok-new-2.ensures))

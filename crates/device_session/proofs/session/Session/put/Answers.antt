@@ -139,6 +139,7 @@ returns-clause-array g c = λ told device contents h r.
     (inserted_holds (the_view c.self.inside) _ _ device contents c.args.block c.in-Ok.placed.addr c.in-Ok.placed.key (padded c.args.content.now) c.args.is_mapped c.insert.new.self c.append.new.self (insertion g at.After-insert (arrives g at.In-Ok) told r) k)
 
 pub returns-clause-follows : goal.returns-clause-follows
+unfolding insertion
 returns-clause-follows g c = λ told f r.
     let at = goal.at.returns-clause-follows g c in
     let k = subst (λ (s : Session). Follows s (g.P.Platform.history c.args.platform.now).present) (sym c.self.view_is) f in

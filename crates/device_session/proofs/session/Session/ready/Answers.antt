@@ -9,8 +9,8 @@ use Rattle.btree_update.specs.Groves.{IsReadFrom, IsReadBeside, IsWrongOnWay, Gr
 use Rattle.device_session.specs.Sessions.{Session}
 use Rattle.device_session.specs.Holds.{Holds}
 use Rattle.device_session.specs.Keys.{HoldsListed}
-use Rattle.device_session.specs.Damage.{Follows}
-use Rattle.device_session.proofs.DamageLaws.{follows_ready}
+use Rattle.device_session.specs.Damage.{Follows, IsFound}
+use Rattle.device_session.proofs.DamageLaws.{follows_ready, found_by}
 use Rattle.device_session.specs.Ready.{IsReadyFor}
 use Rattle.device_session.proofs.ReadLaws.{held_array, cached_looked}
 use Rattle.device_session.proofs.UpdateLaws.{ready_holds, ready_listed, ready_maps, both}
@@ -59,3 +59,9 @@ returns-clause-bad g c = λ told h addr is.
     let image = (g.P.Platform.history c.args.platform.now).present in
     let over = subst (λ (s : Session). StandsOver image.readable s.cache) (sym c.self.view_is) h in
     subst (λ (s : Session). IsWrongOnWay image.readable c.args.block s.grove addr) c.self.view_is (c.ready.ensures.bad told over addr is)
+
+pub returns-clause-found : goal.returns-clause-found
+returns-clause-found g c = λ told h.
+    let image = (g.P.Platform.history c.args.platform.now).present in
+    let over = subst (λ (s : Session). StandsOver image.readable s.cache) (sym c.self.view_is) h in
+    subst (λ (s : Session). IfOk c.ready.result (λ mapped. IsFound mapped image.readable s c.args.block)) c.self.view_is (found_by image.readable c.args.block (the_view c.self.inside) c.ready.result (c.ready.ensures.finds told over))

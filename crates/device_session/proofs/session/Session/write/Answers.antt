@@ -13,14 +13,14 @@ use Rattle.device_session.specs.Open.{AreDataPages}
 use Rattle.device_session.specs.Holds.{Holds}
 use Rattle.device_session.specs.Keys.{HoldsListed}
 use Rattle.page_store.specs.Tree.{Wrong}
-use Rattle.device_session.specs.Damage.{Follows, IsFound, IsMiscounted}
+use Rattle.device_session.specs.Damage.{Follows, IsFound, IsMiscounted, HasRoom}
 use Rattle.device_session.specs.Ready.{IsReadyFor}
-use Rattle.device_session.proofs.DamageLaws.{update_is_wrong, miscounted_full, limit_same}
+use Rattle.device_session.proofs.DamageLaws.{update_is_wrong, miscounted_full, limit_same, room_same}
 use Rattle.device_session.proofs.UpdateLaws.{ready_pages, on_false}
 use Rattle.device_session.proofs.InsertLaws.{all_mapped}
 use Rattle.device_session.specs.contracts.session.Session.{the_view}
 use Rattle.device_session.proofs.session.Session.write.Given.{Over}
-use Rattle.device_session.proofs.session.Session.write.Goals.{After-ready}
+use Rattle.device_session.proofs.session.Session.write.Goals.{After-ready, else-not-is_mapped-via-then-not-is_mapped+else-is_at_limit, else-not-is_mapped-via-else-not-is_mapped}
 use Rattle.device_session.proofs.session.Session.write.Goals as goal
 
 pub returns-then-block-self-clause-keeps : goal.returns-then-block-self-clause-keeps
@@ -113,4 +113,9 @@ pub returns-clause-follows : goal.returns-clause-follows
 returns-clause-follows g c = λ told f. c.put.ensures.follows told (c.ready.ensures.follows told f) (c.in-Ok.ensures.ready told f.cached)
 
 pub returns-clause-counter : goal.returns-clause-counter
-returns-clause-counter g c = ?
+returns-clause-counter g c = λ told h stop. elim c.else-not-is_mapped.branch [
+  | else-not-is_mapped-via-then-not-is_mapped+else-is_at_limit w ↦
+      inr (room_same c.args.self.now c.ready.new.self c.ready.ensures.same.0 c.ready.ensures.same.1 c.ready.ensures.same.3.level (on_false w.is_at_limit.result (HasRoom c.ready.new.self) w.if-is_at_limit.false w.is_at_limit.ensures.room))
+  | else-not-is_mapped-via-else-not-is_mapped w ↦
+      inl (subst (λ b. IsFound b (g.P.Platform.history c.args.platform.now).present.readable c.args.self.now c.args.block) w.if-not-is_mapped.false (c.in-Ok.ensures.found told h))
+]
