@@ -15,7 +15,7 @@ use Rattle.btree_twigs.proofs.Children.{tiles_child, low_of_kept, stubs_of_kept}
 use Rattle.btree_twigs.proofs.Nodes.{stubs_of_grown}
 use Rattle.btree_twigs.proofs.Ways.{child_is_twig}
 
-tiles_before : (low high block : ℕ) (xs : List Stub) → Tiles low high xs → high ≤ block → AllByRecursion (λ s. s.high ≤ block) xs
+pub tiles_before : (low high block : ℕ) (xs : List Stub) → Tiles low high xs → high ≤ block → AllByRecursion (λ s. s.high ≤ block) xs
 tiles_before low high block [] h le = tt
 tiles_before low high block (x ∷ xs) h le = (go x.high high xs h.2 le, tiles_before x.high high block xs h.2 le)
   where
@@ -23,7 +23,7 @@ tiles_before low high block (x ∷ xs) h le = (go x.high high xs h.2 le, tiles_b
     go low high [] h le = omega (arith, h, le)
     go low high (x ∷ xs) h le = let t = go x.high high xs h.2 le in omega (arith, h.0, h.1, t)
 
-tiles_after : (low high block : ℕ) (xs : List Stub) → Tiles low high xs → block < low → AllByRecursion (λ s. block < s.low) xs
+pub tiles_after : (low high block : ℕ) (xs : List Stub) → Tiles low high xs → block < low → AllByRecursion (λ s. block < s.low) xs
 tiles_after low high block [] h lt = tt
 tiles_after low high block (x ∷ xs) h lt = (omega (arith, h.0, lt), tiles_after x.high high block xs h.2 (omega (arith, h.0, h.1, lt)))
 

@@ -11,3 +11,4 @@ pub mod Tops
 pub mod Counts
 pub mod LevelLaws
 pub mod SinkLaws
+pub mod Stays

@@ -1,5 +1,5 @@
 -- Where a search ends.
-use Rattle.std.specs.Prelude.{◌≡◌, ℕ, ◌<◌, ◌≤◌, List, [], ◌∷◌, ◌++◌}
+use Rattle.std.specs.Prelude.{◌≡◌, ℕ, Contains, ◌<◌, ◌≤◌, List, [], ◌∷◌, ◌++◌}
 use Rattle.std.specs.List.{AllByRecursion}
 use Rattle.btree_twigs.specs.Stubs.{Stub, datum}
 use Rattle.btree_twigs.specs.declared.twigs.Spot.{Spot}
@@ -19,3 +19,7 @@ IsSpot block stubs (Found addr key) = IsAt block stubs (datum block addr key ∷
 IsSpot block stubs Absent = IsAt block stubs []
 IsSpot block stubs (Below level low high addr key) =
     (1 ≤ level) × (low ≤ block) × (block < high) × IsAt block stubs (record { level = level; low = low; high = high; addr = addr; key = key } ∷ [])
+
+-- the data record of a block is among these places
+abbrev pub HasDatum : ℕ → List Stub → Type 0
+HasDatum block stubs = (addr : ℕ) × (key : List ℕ) × Contains stubs (datum block addr key)

@@ -1,8 +1,9 @@
 ghost use Rattle.std.specs.Prelude.{◌-◌, suc, ◌≡◌, ℕ, ◌<◌, ◌≤◌, ◌+◌, ◌/◌, List, length, map, vec_capacity, vec_len};
-ghost use Rattle.btree_twigs.specs.Stubs.{Stub, Puts, datum, children_of, low_of as low_in, nodes, nodes_below, sum_by};
+ghost use Rattle.btree_twigs.specs.Stubs.{Stub, Puts, datum, children_of, low_of as low_in, stubs, stubs_below, nodes, nodes_below, sum_by};
+ghost use Rattle.btree_twigs.specs.Search.{HasDatum};
 ghost use Rattle.btree_twigs.specs.Levels.{Node, IsMedium, TakesLow, IsCut, IsRowPut, IsRowPutBelow, rows_at, Reshape};
 ghost use Rattle.btree_twigs.specs.Shape.{IsTwig};
-ghost use Rattle.btree_twigs.specs.Updates.{IsNode, IsPut, HasSpares, IsSplit, IsTwigPut, IsChildPut, CanPut, CanPutBelow};
+ghost use Rattle.btree_twigs.specs.Updates.{IsNode, IsPut, stubs_under, HasSpares, IsSplit, IsTwigPut, IsChildPut, CanPut, CanPutBelow};
 ghost use Rattle.std.specs.Option.{option_to_list};
 ghost use Rattle.btree_twigs.specs.Top.{child_level, CanPutTop, IsTopPut, CanRaise, IsRaised};
 
@@ -16,6 +17,8 @@ pub fn put_datum(children: &mut Vec<Child>, block: u64, addr: u64, key: [u8; 32]
     ensures put { (order least most low high : ℕ) → IsNode order 0 least most low high children.old.items → low ≤ block → block < high
         → IsPut order 0 least (most + 1) low high (datum block addr key) children.old.items children.new.items }
     ensures lows { TakesLow block (map low_in children.old.items) (map low_in children.new.items) }
+    ensures stays { (order least most low high : ℕ) → IsNode order 0 least most low high children.old.items → block < high → HasDatum block (stubs_under 0 high children.old.items)
+        → length children.new.items ≡ length children.old.items }
     ensures capacity { vec_capacity children.new ≡ vec_capacity children.old }
 {
     let child = Child::Kept {
@@ -81,6 +84,8 @@ pub fn put(
     ensures nodes { (at : CanPut order block spares.old.items twig.old) → nodes_below at.level twig.new ≤ nodes_below at.level twig.old + at.level }
     ensures levels { (medium : Stub → ℕ → List Node) → IsMedium medium → (at : CanPut order block spares.old.items twig.old)
         → IsRowPut medium order block at.level at.high twig.old twig.new }
+    ensures stays { (at : CanPut order block spares.old.items twig.old) → HasDatum block (stubs_below at.level at.high twig.old)
+        → length (children_of twig.new) ≡ length (children_of twig.old) }
 {
     if twig.level == 1 {
         let _old = put_datum(&mut twig.children, block, addr, key);
@@ -114,6 +119,7 @@ fn put_below(
         → nodes (suc at.level) child.new + sum_by (nodes (suc at.level)) (option_to_list result) ≤ nodes (suc at.level) child.old + suc at.level }
     ensures levels { (medium : Stub → ℕ → List Node) → IsMedium medium → (at : CanPutBelow order block spares.old.items child.old)
         → IsRowPutBelow medium order block (suc at.level) at.high child.old child.new result }
+    ensures stays { (at : CanPutBelow order block spares.old.items child.old) → HasDatum block (stubs (suc at.level) at.high child.old) → result ≡ None }
 {
     match child {
         Child::Kept { .. } => unreachable!(),
@@ -144,6 +150,8 @@ pub fn put_top(
     ensures spares { HasSpares order 0 spares.new.items }
     ensures levels { (medium : Stub → ℕ → List Node) → IsMedium medium → (at : CanPutTop order block spares.old.items top.old)
         → Reshape order block (suc at.level) (child_level top.new) (rows_at medium (suc at.level) at.high top.old) (rows_at medium (child_level top.new) at.high top.new) }
+    // In the place of the record that the block has there is always room.
+    ensures stays { (at : CanPutTop order block spares.old.items top.old) → HasDatum block (stubs (suc at.level) at.high top.old) → child_level top.new ≡ child_level top.old }
 {
     if let Child::Grown { twig, .. } = top {
         put(twig, order, block, addr, key, spares);

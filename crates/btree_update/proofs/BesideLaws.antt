@@ -1,19 +1,22 @@
 -- What is held beside the way.
-use Rattle.std.proofs.Common.{◌≡◌, ℕ, zero, suc, ◌+◌, ◌-◌, ◌/◌, ◌<◌, ◌≤◌, List, [], ◌∷◌, ◌++◌, Option, None, Some, Bool, true, false, length, take, drop, inl, inr, Result, Ok, Err, IfOk, refl, sym, ap, subst, ◌∙◌, arith, length-append, append_assoc}
-use Rattle.std.proofs.lemmas.List.{length-take-le}
+use Rattle.std.proofs.Common.{◌≡◌, ℕ, zero, suc, ◌+◌, ◌-◌, ◌/◌, ◌<◌, ◌≤◌, List, [], ◌∷◌, ◌++◌, Option, None, Some, Bool, true, false, length, map, take, drop, inl, inr, Result, Ok, Err, IfOk, refl, sym, ap, subst, ◌∙◌, arith, length-append, append_assoc}
+use Rattle.std.specs.Prelude.{Contains}
+use Rattle.std.proofs.lemmas.List.{length-take-le, map-append}
+use Rattle.std.proofs.lemmas.List.Elements.{Contains-append_right}
 use Rattle.std.specs.Bool.{OnTrue, OnFalse}
 use Rattle.page_store.specs.declared.wants.Want.{Want}
 use Rattle.btree_twigs.specs.declared.twigs.Child.{Child, out-Child}
 use Rattle.btree_twigs.specs.declared.twigs.Child.TheVariants as made
 use Rattle.btree_twigs.specs.declared.twigs.Twig.{Twig}
 use Rattle.btree_twigs.specs.Stubs.{Stub, start_by, low_of, children_of, stubs}
+use Rattle.btree_twigs.specs.Levels.{lows_of}
 use Rattle.btree_twigs.specs.Shape.{EachBy, IsChild, IsTwig}
 use Rattle.btree_twigs.proofs.Children.{low_of_kept}
 use Rattle.btree_update.specs.Held.{stub_at, AreBelow}
 use Rattle.btree_update.specs.Holding.{IsNodeFor}
 use Rattle.btree_update.specs.declared.siblings.Left.{Left}
 use Rattle.btree_update.specs.declared.siblings.Left.TheVariants.{Unmapped, Enough, Short}
-use Rattle.btree_update.specs.Beside.{LeftOf, IsNodeAt, loses_for, Spares, LendsFrom, HasHelp, IsNodeHeld, HelpsOnWay, HelpsBelow, HelpsFrom, IsLeft, IsAfter, HoldsHelp, HoldsBeside, CanRead}
+use Rattle.btree_update.specs.Beside.{LeftOf, IsNodeAt, loses_for, Spares, LendsFrom, HasHelp, IsNodeHeld, HelpsOnWay, HasRecord, HelpsBelow, HelpsFrom, IsLeft, IsAfter, HoldsHelp, HoldsBeside, CanRead}
 use Rattle.btree_update.proofs.OpenLaws.{IsOnWay}
 use Rattle.btree_update.proofs.HoldLaws.{same_way, bare_of, read_lower, node_is_twig, kept_below}
 
@@ -138,14 +141,22 @@ module _ (Reads : ℕ → Stub → Twig → Type 0) (order block l least low hig
     left_beside Short Enough f h = (h.loses, short_on f Enough h, h.left)
     left_beside Short Short f h = (h.loses, short_on f Short h, h.left)
 
+-- a leaf has a block's record where one of its children begins at the block
+pub has_record : (block : ℕ) (twig : Twig) (fs : List Child) (c : Child) (bs : List Child) (is_it : Bool) → children_of twig ≡ fs ++ c ∷ bs → (is_it ≡ true → low_of c ≡ block) → OnTrue is_it (HasRecord block twig)
+has_record block twig fs c bs true split is =
+    let lows : lows_of twig ≡ map low_of fs ++ low_of c ∷ map low_of bs = ap (map low_of) split ∙ map-append low_of fs (c ∷ bs) in
+    subst (Contains (lows_of twig)) (is refl)
+    (subst (λ ls. Contains ls (low_of c)) (sym lows) (Contains-append_right (map low_of fs) (low_of c ∷ map low_of bs) (low_of c) (0, omega arith, refl)))
+has_record block twig fs c bs false split is = tt
+
 -- a leaf loses the block's record
-pub left_of_leaf : (Reads : ℕ → Stub → Twig → Type 0) (order block level high : ℕ) (twig : Twig) (held : List Twig) (beside : List (Option Twig)) (after : Left) → level ≡ 0 → IsAfter order (length (children_of twig)) 1 after →
+pub left_of_leaf : (Reads : ℕ → Stub → Twig → Type 0) (order block level high : ℕ) (twig : Twig) (held : List Twig) (beside : List (Option Twig)) (after : Left) → level ≡ 0 → HasRecord block twig → IsAfter order (length (children_of twig)) 1 after →
     IsLeft (λ loses. HelpsBelow Reads order block level high twig held beside loses) order (length (children_of twig)) after
 unfolding HelpsBelow
-left_of_leaf Reads order block zero high twig held beside Unmapped is h = absurd h
-left_of_leaf Reads order block zero high twig held beside Enough is h = (1, refl, h)
-left_of_leaf Reads order block zero high twig held beside Short is h = (1, refl, h)
-left_of_leaf Reads order block (suc level) high twig held beside after is h = absurd (omega (arith, is))
+left_of_leaf Reads order block zero high twig held beside Unmapped is has h = absurd h
+left_of_leaf Reads order block zero high twig held beside Enough is has h = (1, (refl, has), h)
+left_of_leaf Reads order block zero high twig held beside Short is has h = (1, (refl, has), h)
+left_of_leaf Reads order block (suc level) high twig held beside after is has h = absurd (omega (arith, is))
 
 -- what a removal asks of a node below which nothing is left open
 pub loses_of : (Reads : ℕ → Stub → Twig → Type 0) (order block below high : ℕ) (c : Child) (held : List Twig) (beside : List (Option Twig)) (left : Left) → (left ≡ Unmapped → ⊥) → LeftOf Reads order block below high c held beside left →
@@ -154,10 +165,10 @@ loses_of Reads order block below high c held beside Unmapped mapped f = absurd (
 loses_of Reads order block below high c held beside Enough mapped f = (f.left.0, record { node = f.node; left = f.rest; is_node = f.is_node; helps = f.left.1 })
 loses_of Reads order block below high c held beside Short mapped f = (f.left.0, record { node = f.node; left = f.rest; is_node = f.is_node; helps = f.left.1 })
 
-pub leaf_left : (Reads : ℕ → Stub → Twig → Type 0) (order block level high : ℕ) (twig : Twig) (held : List Twig) (beside : List (Option Twig)) (mapped : Bool) (after : Left) → level ≡ 0 →
+pub leaf_left : (Reads : ℕ → Stub → Twig → Type 0) (order block level high : ℕ) (twig : Twig) (held : List Twig) (beside : List (Option Twig)) (mapped : Bool) (after : Left) → level ≡ 0 → OnTrue mapped (HasRecord block twig) →
     OnTrue mapped (IsAfter order (length (children_of twig)) 1 after) → OnFalse mapped (after ≡ Unmapped) → IsLeft (λ loses. HelpsBelow Reads order block level high twig held beside loses) order (length (children_of twig)) after
-leaf_left Reads order block level high twig held beside true after is t f = left_of_leaf Reads order block level high twig held beside after is t
-leaf_left Reads order block level high twig held beside false after is t f = subst (IsLeft (λ loses. HelpsBelow Reads order block level high twig held beside loses) order (length (children_of twig))) (sym f) tt
+leaf_left Reads order block level high twig held beside true after is has t f = left_of_leaf Reads order block level high twig held beside after is has t
+leaf_left Reads order block level high twig held beside false after is has t f = subst (IsLeft (λ loses. HelpsBelow Reads order block level high twig held beside loses) order (length (children_of twig))) (sym f) tt
 
 -- a child in memory, and one whose node was read
 pub left_grown : (Reads : ℕ → Stub → Twig → Type 0) (order block below high low : ℕ) (twig : Twig) (held : List Twig) (beside : List (Option Twig)) (after : Left) →

@@ -9,12 +9,15 @@ use Rattle.btree_twigs.specs.Stubs.{Stub, start_by, low_in, low_of, children_of,
 use Rattle.btree_twigs.specs.Updates.{IsNode, stubs_under}
 use Rattle.btree_twigs.specs.Levels.{Node, row_in, row}
 use Rattle.btree_twigs.proofs.Nodes.{stubs_of_grown}
+use Rattle.page_store.specs.declared.wants.Want.{Want}
+use Rattle.btree_update.specs.GroveTree.{want_of, want_at, want_in}
 use Rattle.btree_update.specs.Held.{stub_at, IsReadAs, HeldIn, HeldFor, IsTakenUp, IsNoted}
 use Rattle.btree_twigs.specs.Top.{top_least}
 use Rattle.btree_update.specs.Roots.{IsRoot, IsRootBy, HeldRoot}
 use Rattle.btree_update.specs.Tells.{node_row, Tells}
-use Rattle.btree_update.specs.Opens.{Opens, Same, Here, Then, HasWay, GivesWay, GivesChild, GivesBelow}
+use Rattle.btree_update.specs.Opens.{Opens, Same, Here, Then, HasWay, IsThere, Fitting, GivesWay, GivesChild, GivesBelow}
 use Rattle.btree_update.proofs.OpenLaws.{still_opens}
+use Rattle.btree_update.proofs.ThereLaws.{twig_there, least_root}
 use Rattle.btree_update.proofs.RowLaws.{all_append, all_weaker, kept_row, tells_opened, tells_child, still_rows, row_of_grown}
 
 module _ (pages : List (List ℕ)) (order : ℕ) (May : Stub → Type 0) where
@@ -102,24 +105,27 @@ abbrev grown_of : ℕ → Twig → Child-F Child Twig
 grown_of low twig = Grown low twig
 
 -- a child takes what is held for it
-takes_up_by : (pages : List (List ℕ)) (order least block l high : ℕ) (Rest : ℕ → Child → List Twig → Type 0) (x : Child-F Child Twig) (new : Child) (held rest : List Twig) (low : ℕ) (twig : Twig) (gone more : List ℕ) → low_in x ≤ block → block < high →
-    HeldIn (IsReadAs pages order) order least block Rest l high x held → IsTakenUp x new held rest → IsNoted x gone more → out-Child new ≡ Grown low twig → TakesUp pages order (HasWay block) l high x low twig gone more
-takes_up_by pages order least block l high Rest (Kept low' addr key) new held rest low twig gone more from to h t n is =
+takes_up_by : (pages : List (List ℕ)) (order least block l high : ℕ) (want : Stub → Want) → ((low addr : ℕ) (key : List ℕ) → want (stub_at (suc l) low high addr key) ≡ want_at order (suc l) low high addr least) →
+    (Rest : ℕ → Child → List Twig → Type 0) (x : Child-F Child Twig) (new : Child) (held rest : List Twig) (low : ℕ) (twig : Twig) (gone more : List ℕ) → low_in x ≤ block → block < high →
+    HeldIn (IsReadAs pages order) order least block Rest l high x held → IsTakenUp x new held rest → IsNoted x gone more → out-Child new ≡ Grown low twig → TakesUp pages order (Fitting pages want (HasWay block)) l high x low twig gone more
+takes_up_by pages order least block l high want wants Rest (Kept low' addr key) new held rest low twig gone more from to h t n is =
     let same = same_from_push h.rest rest h.twig t.0 (sym h.is ∙ t.1) in
     let grown : grown_of low' t.0 ≡ grown_of low twig = sym t.2 ∙ is in
     let lows : low' ≡ low = cc in
     let twigs : t.0 ≡ twig = cc in
-    kept_takes pages order (HasWay block) l high low' addr low key twig gone more lows (subst (IsReadAs pages order l (stub_at (suc l) low' high addr key)) (same.1 ∙ twigs) h.reads) (from, to) n
-takes_up_by pages order least block l high Rest (Grown low' twig') new held rest low twig gone more from to h t n is =
+    let there = subst (λ w. IsThere pages w key) (sym (wants low' addr key)) (twig_there pages order l least low' high addr key h.twig h.reads h.shaped) in
+    kept_takes pages order (Fitting pages want (HasWay block)) l high low' addr low key twig gone more lows (subst (IsReadAs pages order l (stub_at (suc l) low' high addr key)) (same.1 ∙ twigs) h.reads) ((from, to), there) n
+takes_up_by pages order least block l high want wants Rest (Grown low' twig') new held rest low twig gone more from to h t n is =
     let grown : grown_of low' twig' ≡ grown_of low twig = sym t.0 ∙ is in
     let lows : low' ≡ low = cc in
     let twigs : twig' ≡ twig = cc in
-    grown_takes pages order (HasWay block) l high low' low twig' twig gone more lows twigs n
+    grown_takes pages order (Fitting pages want (HasWay block)) l high low' low twig' twig gone more lows twigs n
 
 pub takes_up : (pages : List (List ℕ)) (order block l high : ℕ) (c new : Child) (held rest : List Twig) (low : ℕ) (twig : Twig) (gone more : List ℕ) → low_of c ≤ block → block < high →
-    HeldFor (IsReadAs pages order) order block (suc l) high c held → IsTakenUp (out-Child c) new held rest → IsNoted (out-Child c) gone more → out-Child new ≡ Grown low twig → TakesUp pages order (HasWay block) l high (out-Child c) low twig gone more
+    HeldFor (IsReadAs pages order) order block (suc l) high c held → IsTakenUp (out-Child c) new held rest → IsNoted (out-Child c) gone more → out-Child new ≡ Grown low twig →
+    TakesUp pages order (Fitting pages (want_of order) (HasWay block)) l high (out-Child c) low twig gone more
 unfolding HeldFor
-takes_up pages order block l high c new held rest low twig gone more from to h t n is = takes_up_by pages order (order / 2) block l high (HeldFor (IsReadAs pages order) order block l) (out-Child c) new held rest low twig gone more from to h t n is
+takes_up pages order block l high c new held rest low twig gone more from to h t n is = takes_up_by pages order (order / 2) block l high (want_of order) (λ low addr key. refl) (HeldFor (IsReadAs pages order) order block l) (out-Child c) new held rest low twig gone more from to h t n is
 
 -- so does a root
 root_from : (order block l high : ℕ) (x : Child-F Child Twig) → IsRootBy order l high x → low_in x ≤ block
@@ -127,6 +133,7 @@ root_from order block l high (Kept low addr key) h = omega (arith, h)
 root_from order block l high (Grown low twig) h = omega (arith, h.0)
 
 pub root_takes_up : (pages : List (List ℕ)) (order block l high : ℕ) (top new : Child) (held rest : List Twig) (low : ℕ) (twig : Twig) (gone more : List ℕ) → IsRoot order l high top → block < high →
-    HeldRoot (IsReadAs pages order) order block l high top held → IsTakenUp (out-Child top) new held rest → IsNoted (out-Child top) gone more → out-Child new ≡ Grown low twig → TakesUp pages order (HasWay block) l high (out-Child top) low twig gone more
+    HeldRoot (IsReadAs pages order) order block l high top held → IsTakenUp (out-Child top) new held rest → IsNoted (out-Child top) gone more → out-Child new ≡ Grown low twig →
+    TakesUp pages order (Fitting pages (want_in order (suc l)) (HasWay block)) l high (out-Child top) low twig gone more
 root_takes_up pages order block l high top new held rest low twig gone more root to h t n is =
-    takes_up_by pages order (top_least l) block l high (HeldFor (IsReadAs pages order) order block l) (out-Child top) new held rest low twig gone more (root_from order block l high (out-Child top) root) to h t n is
+    takes_up_by pages order (top_least l) block l high (want_in order (suc l)) (λ low addr key. ap (λ n. want_at order (suc l) low high addr n) (least_root order l)) (HeldFor (IsReadAs pages order) order block l) (out-Child top) new held rest low twig gone more (root_from order block l high (out-Child top) root) to h t n is

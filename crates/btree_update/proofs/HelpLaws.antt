@@ -1,11 +1,13 @@
 -- What is held beside the way, while the way is opened.
-use Rattle.std.proofs.Common.{◌≡◌, ℕ, zero, suc, ◌-◌, List, [], ◌∷◌, ◌++◌, Option, length, take, drop, inl, inr, refl, sym, ap, subst, ◌∙◌, arith, length-append}
-use Rattle.std.proofs.lemmas.List.{same_from_push}
+use Rattle.std.proofs.Common.{◌≡◌, ℕ, zero, suc, ◌-◌, List, [], ◌∷◌, ◌++◌, Option, length, map, take, drop, inl, inr, refl, sym, ap, subst, ◌∙◌, arith, length-append}
+use Rattle.std.specs.Prelude.{Contains}
+use Rattle.std.proofs.lemmas.List.{same_from_push, map-append}
 use Rattle.btree_twigs.specs.declared.twigs.Child.{Child, Child-F, out-Child}
 use Rattle.btree_twigs.specs.declared.twigs.Child.TheOpen.{Kept, Grown}
 use Rattle.btree_twigs.specs.declared.twigs.Child.TheVariants as made
 use Rattle.btree_twigs.specs.declared.twigs.Twig.{Twig}
 use Rattle.btree_twigs.specs.Stubs.{Stub, start_by, low_of, children_of}
+use Rattle.btree_twigs.specs.Levels.{lows_of}
 use Rattle.btree_twigs.specs.Shape.{EachBy, IsChild, IsTwig}
 use Rattle.btree_update.specs.Held.{IsTakenUp}
 use Rattle.btree_update.specs.Beside.{LendsFrom, HasHelp, KeepsOrHasHelp, IsNodeHeld, HelpsOnWay, HelpsBelow, HelpsFrom, HelpsWide}
@@ -86,12 +88,17 @@ module _ (Reads : ℕ → Stub → Twig → Type 0) (order block l least low hig
       by fewer width width' one is (inl k) = inl (k.0, omega (arith, k.1, is), k.2)
       by fewer width width' one is (inr k) = inr (omega (arith, k.0, is), other_help Reads order l loses high (take w.at (children_of twig)) c d (drop (suc w.at) (children_of twig)) one low_is k.1)
 
--- a node over data records asks for nothing
-pub leaf_asks : (Reads : ℕ → Stub → Twig → Type 0) (order block level high : ℕ) (twig new : Twig) (held rest : List Twig) (beside : List (Option Twig)) (loses : ℕ) → level ≡ 0 →
+-- the lows are the same where one child stands for another that begins where it did
+lows_alike : (twig new : Twig) (fs : List Child) (c d : Child) (bs : List Child) → children_of twig ≡ fs ++ c ∷ bs → children_of new ≡ fs ++ d ∷ bs → low_of d ≡ low_of c → lows_of new ≡ lows_of twig
+lows_alike twig new fs c d bs was now same =
+    ap (map low_of) now ∙ map-append low_of fs (d ∷ bs) ∙ ap (λ l. map low_of fs ++ l ∷ map low_of bs) same ∙ sym (ap (map low_of) was ∙ map-append low_of fs (c ∷ bs))
+
+-- a node over data records asks for nothing but the block's
+pub leaf_asks : (Reads : ℕ → Stub → Twig → Type 0) (order block level high : ℕ) (twig new : Twig) (held rest : List Twig) (beside : List (Option Twig)) (loses : ℕ) → level ≡ 0 → lows_of new ≡ lows_of twig →
     HelpsBelow Reads order block level high twig held beside loses → HelpsBelow Reads order block level high new rest beside loses
 unfolding HelpsBelow
-leaf_asks Reads order block zero high twig new held rest beside loses is h = h
-leaf_asks Reads order block (suc level) high twig new held rest beside loses is h = absurd (omega (arith, is))
+leaf_asks Reads order block zero high twig new held rest beside loses is same h = (h.0, subst (λ ls. Contains ls block) (sym same) h.1)
+leaf_asks Reads order block (suc level) high twig new held rest beside loses is same h = absurd (omega (arith, is))
 
 pub opened_helps : (Reads : ℕ → Stub → Twig → Type 0) (order block level least low high n : ℕ) (twig new : Twig) (c d : Child) → IsTwig order level least order low high twig → (w : IsOnWay order block level high (children_of twig) n c) →
     EachBy low_of (IsChild order level) high (take w.at (children_of twig) ++ d ∷ drop (suc w.at) (children_of twig)) → low_of d ≡ low_of c → children_of new ≡ take w.at (children_of twig) ++ d ∷ drop (suc w.at) (children_of twig) →
@@ -99,7 +106,8 @@ pub opened_helps : (Reads : ℕ → Stub → Twig → Type 0) (order block level
     ((width : ℕ) (beside : List (Option Twig)) (loses : ℕ) → HelpsWide Reads order block (level - 1) (start_by low_of (drop (suc w.at) (children_of twig)) high) width c held beside loses →
     HelpsWide Reads order block (level - 1) (start_by low_of (drop (suc w.at) (children_of twig)) high) width d rest beside loses) →
     HelpsBelow Reads order block level high twig held beside loses → HelpsBelow Reads order block level high new rest beside loses
-opened_helps Reads order block zero least low high n twig new c d shaped w each low_is now held rest beside loses one h = leaf_asks Reads order block 0 high twig new held rest beside loses refl h
+opened_helps Reads order block zero least low high n twig new c d shaped w each low_is now held rest beside loses one h =
+    leaf_asks Reads order block 0 high twig new held rest beside loses refl (lows_alike twig new (take w.at (children_of twig)) c d (drop (suc w.at) (children_of twig)) w.split now low_is) h
 opened_helps Reads order block (suc l) least low high n twig new c d shaped w each low_is now held rest beside loses one h =
     let e : suc l - 1 ≡ l = omega arith in
     below_opened Reads order block l least low high n twig new c d shaped w each low_is now held rest beside loses

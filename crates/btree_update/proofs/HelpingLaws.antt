@@ -1,5 +1,5 @@
 -- How what is held beside the way comes into the tree.
-use Rattle.std.proofs.Common.{◌≡◌, ◌⊎◌, ℕ, zero, suc, ◌+◌, ◌-◌, ◌/◌, ◌<◌, ◌≤◌, List, [], ◌∷◌, ◌++◌, Option, None, Some, Bool, IsTrue, length, take, drop, get_or, set, vec_capacity, inl, inr, refl, sym, ap, subst, ◌∙◌, arith, length-append, append_assoc}
+use Rattle.std.proofs.Common.{◌≡◌, ◌⊎◌, ℕ, zero, suc, ◌+◌, ◌-◌, ◌/◌, ◌<◌, ◌≤◌, List, [], ◌∷◌, ◌++◌, Option, None, Some, Bool, length, take, drop, get_or, set, vec_capacity, inl, inr, refl, sym, ap, subst, ◌∙◌, arith, length-append, append_assoc}
 use Rattle.std.proofs.lemmas.List.{same_from_push, length-take-le, get_or_at}
 use Rattle.btree_twigs.specs.declared.twigs.Child.{Child, Child-F, out-Child}
 use Rattle.btree_twigs.specs.declared.twigs.Child.TheOpen.{Kept, Grown}
@@ -18,7 +18,8 @@ use Rattle.btree_twigs.proofs.Ways.{open_front, open_back, child_is_twig}
 use Rattle.btree_update.specs.Held.{AreBelow, AnyRead}
 use Rattle.btree_update.specs.Opens.{GivesWay, GivesChild, GivesBelow}
 use Rattle.btree_update.specs.Beside.{IsReadWhere, Spares, LendsFrom, HasHelp, KeepsOrHasHelp, IsNodeHeld, HelpsBeside, HelpsOnWay, HelpsBelow, HelpsFrom}
-use Rattle.btree_update.specs.Helping.{IsPutBy, TakesHelp, IsHelpTaken, CanHelp, CanHelpWay, HelpedOut, HelpedWay, HelpedRoot}
+use Rattle.btree_update.specs.Helping.{IsPutBy, TakesHelp, IsHelpTaken, CanHelp, CanHelpWay, MayHelp, HelpedOut, HelpedWay, HelpedRoot}
+use Rattle.btree_update.proofs.ThereLaws.{twig_there}
 use Rattle.btree_update.proofs.OpenLaws.{child_is, opened, still_below, lower}
 use Rattle.btree_update.proofs.GivesLaws.{TakesUp, kept_takes, below_none, below_then, child_gives, node_gives}
 use Rattle.btree_update.proofs.BesideLaws.{same_split}
@@ -47,18 +48,18 @@ up order l loses end (Kept low addr key) new node gone more h p = record {
 }
 
 help_by : (pages : List (List ℕ)) (may : Stub → Bool) (order l loses end : ℕ) (x : Child-F Child Twig) (new : Child) (node : Twig) (gone more : List ℕ) → LendsFrom (IsReadWhere pages may order) order l loses end x (Some node) → IsPutBy x new node gone more →
-    (low : ℕ) × (out-Child new ≡ Grown low node) × TakesUp pages order (λ s. IsTrue (may s)) l end x low node gone more
+    (low : ℕ) × (out-Child new ≡ Grown low node) × TakesUp pages order (MayHelp pages order may) l end x low node gone more
 help_by pages may order l loses end (Grown low twig) new node gone more h p = absurd h
 help_by pages may order l loses end (Kept low addr key) new node gone more h p =
-    (low, p.0, kept_takes pages order (λ s. IsTrue (may s)) l end low addr low key node gone more refl h.0.reads.0 h.0.reads.1 p.1)
+    (low, p.0, kept_takes pages order (MayHelp pages order may) l end low addr low key node gone more refl h.0.reads.0 (h.0.reads.1, twig_there pages order l (order / 2) low end addr key node h.0.reads.0 h.0.shaped) p.1)
 
 help_gives : (pages : List (List ℕ)) (may : Stub → Bool) (order l loses end : ℕ) (c new : Child) (node : Twig) (gone more : List ℕ) → LendsFrom (IsReadWhere pages may order) order l loses end (out-Child c) (Some node) → IsPutBy (out-Child c) new node gone more →
-    GivesChild pages order (λ s. IsTrue (may s)) (suc l) end c new gone more
+    GivesChild pages order (MayHelp pages order may) (suc l) end c new gone more
 unfolding stubs row
 help_gives pages may order l loses end c new node gone more h p =
     let u = help_by pages may order l loses end (out-Child c) new node gone more h p in
     record {
-      places = subst (λ y. GivesWay pages order (λ s. IsTrue (may s)) (stubs_in (stubs l) (suc l) end (out-Child c)) (stubs_in (stubs l) (suc l) end y) gone more) (sym u.1) u.2.places;
+      places = subst (λ y. GivesWay pages order (MayHelp pages order may) (stubs_in (stubs l) (suc l) end (out-Child c)) (stubs_in (stubs l) (suc l) end y) gone more) (sym u.1) u.2.places;
       rows = λ medium t j. ap (row_in medium j (row medium j l) l end) u.1 ∙ u.2.rows medium t j;
     }
 
@@ -170,21 +171,21 @@ placed order l least low high at loses fewer width old mid gone more fs c bs (So
 
 gives_some : (pages : List (List ℕ)) (may : Stub → Bool) (order l least low high at loses : ℕ) (old mid : Twig) (gone more : List ℕ) (fs : List Child) (c : Child) (bs : List Child) (node : Twig) → IsNode order (suc l) least order low high (children_of old) → children_of old ≡ fs ++ c ∷ bs → length fs + 1 ≡ at →
     TakesHelp at node old mid gone more → HasHelp AnyRead order l loses high fs c bs (Some node) → (loses' : ℕ) → HasHelp (IsReadWhere pages may order) order l loses' high fs c bs (Some node) →
-    GivesBelow pages order (λ s. IsTrue (may s)) (suc l) high old mid gone more
+    GivesBelow pages order (MayHelp pages order may) (suc l) high old mid gone more
 gives_some pages may order l least low high at loses old mid gone more fs c bs node h is n th help loses' reads =
     let cs = children_of old in
     let fi = take th.i cs in
     let bi = drop (suc th.i) cs in
     let u = up order l loses (start_by low_of bi high) (out-Child th.child) th.other node gone more (neighbour_at AnyRead order l loses high at th.i cs fs c bs th.child (Some node) is n th.was th.within th.next th.last help) th.put in
     let g = help_gives pages may order l loses' (start_by low_of bi high) th.child th.other node gone more (neighbour_at (IsReadWhere pages may order) order l loses' high at th.i cs fs c bs th.child (Some node) is n th.was th.within th.next th.last reads) th.put in
-    node_gives pages order (λ s. IsTrue (may s)) (suc l) least low high old mid fi th.child th.other bi gone more (subst (IsNode order (suc l) least order low high) th.was h) th.was th.now u.low_is g
+    node_gives pages order (MayHelp pages order may) (suc l) least low high old mid fi th.child th.other bi gone more (subst (IsNode order (suc l) least order low high) th.was h) th.was th.now u.low_is g
 
 pub placed_gives : (pages : List (List ℕ)) (may : Stub → Bool) (order l least low high at loses fewer width loses' fewer' width' : ℕ) (old mid : Twig) (gone more : List ℕ) (fs : List Child) (c : Child) (bs : List Child) (one : Option Twig) → IsNode order (suc l) least order low high (children_of old) → children_of old ≡ fs ++ c ∷ bs → length fs + 1 ≡ at →
     IsHelpTaken at one old mid gone more → KeepsOrHasHelp AnyRead order l fewer width loses high fs c bs one →
-    KeepsOrHasHelp (IsReadWhere pages may order) order l fewer' width' loses' high fs c bs one → GivesBelow pages order (λ s. IsTrue (may s)) (suc l) high old mid gone more
+    KeepsOrHasHelp (IsReadWhere pages may order) order l fewer' width' loses' high fs c bs one → GivesBelow pages order (MayHelp pages order may) (suc l) high old mid gone more
 placed_gives pages may order l least low high at loses fewer width loses' fewer' width' old mid gone more fs c bs None h is n t e k =
-    subst (GivesBelow pages order (λ s. IsTrue (may s)) (suc l) high old mid gone) (sym t.1)
-    (subst (λ w. GivesBelow pages order (λ s. IsTrue (may s)) (suc l) high old w gone gone) (sym t.0) (below_none pages order (λ s. IsTrue (may s)) (suc l) high old gone))
+    subst (GivesBelow pages order (MayHelp pages order may) (suc l) high old mid gone) (sym t.1)
+    (subst (λ w. GivesBelow pages order (MayHelp pages order may) (suc l) high old w gone gone) (sym t.0) (below_none pages order (MayHelp pages order may) (suc l) high old gone))
 placed_gives pages may order l least low high at loses fewer width loses' fewer' width' old mid gone more fs c bs (Some node) h is n t (inr e) (inr k) = gives_some pages may order l least low high at loses old mid gone more fs c bs node h is n t e.1 loses' k.1
 placed_gives pages may order l least low high at loses fewer width loses' fewer' width' old mid gone more fs c bs (Some node) h is n t (inl e) k = absurd (some_none e.0)
   where
@@ -350,18 +351,18 @@ module _ (order l least low high block n loses : ℕ) (old mid : Twig) (beside :
                 let first = placed_gives pages may order l least low high n loses o.helps.fewer (length (children_of o.node)) loses' o'.helps.fewer (length (children_of o'.node)) old mid gone gone' fs x bs o.helps.one shaped.node split n_is t o.helps.helped
                 (subst (KeepsOrHasHelp (IsReadWhere pages may order) order l o'.helps.fewer (length (children_of o'.node)) loses' high fs x bs) (sym popped.1) o'.helps.helped) in
                 let g = h.gives pages may held' o'.helps.fewer (asks_y (IsReadWhere pages may order) held' loses' o' rest (rest_is ∙ popped.0)) in
-                below_then pages order (λ s. IsTrue (may s)) (suc l) high old mid new gone gone' more first
-                (node_gives pages order (λ s. IsTrue (may s)) (suc l) least low high mid new f y d b gone' more node_y q.comes.now now h.low_is g));
+                below_then pages order (MayHelp pages order may) (suc l) high old mid new gone gone' more first
+                (node_gives pages order (MayHelp pages order may) (suc l) least low high mid new f y d b gone' more node_y q.comes.now now h.low_is g));
           }
 
 -- what gives way below a child that stands in memory
 grown_out : (order below high block low : ℕ) (twig : Twig) (beside : List (Option Twig)) (held : List Twig) (loses : ℕ) (pages : List (List ℕ)) (may : Stub → Bool) (new : Twig) (gone more : List ℕ) → HelpsFrom (IsReadWhere pages may order) order block below high (made.Grown low twig) held beside loses →
-    ((pages : List (List ℕ)) (may : Stub → Bool) (held : List Twig) (loses : ℕ) → HelpsBelow (IsReadWhere pages may order) order block below high twig held beside loses → GivesBelow pages order (λ s. IsTrue (may s)) below high twig new gone more) →
-    GivesChild pages order (λ s. IsTrue (may s)) (suc below) high (made.Grown low twig) (made.Grown low new) gone more
+    ((pages : List (List ℕ)) (may : Stub → Bool) (held : List Twig) (loses : ℕ) → HelpsBelow (IsReadWhere pages may order) order block below high twig held beside loses → GivesBelow pages order (MayHelp pages order may) below high twig new gone more) →
+    GivesChild pages order (MayHelp pages order may) (suc below) high (made.Grown low twig) (made.Grown low new) gone more
 grown_out order below high block low twig beside held loses pages may new gone more asks gives =
     let n = subst (λ y. IsNodeHeld y asks.node held asks.left) (made.outs-Grown low twig) asks.is_node in
     let helps = subst (λ w. HelpsBelow (IsReadWhere pages may order) order block below high w asks.left beside loses) n.0 asks.helps in
-    child_gives pages order (λ s. IsTrue (may s)) below high low twig new gone more (gives pages may asks.left loses helps)
+    child_gives pages order (MayHelp pages order may) below high low twig new gone more (gives pages may asks.left loses helps)
 
 -- what is asked of the nodes that are held holds of what it implies
 lends_weaker : (R Q : ℕ → Stub → Twig → Type 0) → ((l : ℕ) (s : Stub) (t : Twig) → R l s t → Q l s t) → (order l loses end : ℕ) (x : Child-F Child Twig) (one : Option Twig) → LendsFrom R order l loses end x one → LendsFrom Q order l loses end x one
@@ -420,11 +421,11 @@ unfolding HelpsBelow Helps
 leaf_out order zero least low high block loses twig held beside gone is shaped is_open h = record {
   shaped = shaped;
   is_open = is_open;
-  helps = omega (arith, h);
+  helps = omega (arith, h.0);
   wide = refl;
   below = λ head k. k;
   few = omega arith;
-  gives = λ pages may held loses asks. below_none pages order (λ s. IsTrue (may s)) 0 high twig gone;
+  gives = λ pages may held loses asks. below_none pages order (MayHelp pages order may) 0 high twig gone;
 }
 leaf_out order (suc level) least low high block loses twig held beside gone is shaped is_open h = absurd (omega (arith, is))
 

@@ -4,6 +4,8 @@ pub mod OpenLaws
 pub mod OpenMaps
 pub mod RowLaws
 pub mod MediumLaws
+pub mod FoundLaws
+pub mod ThereLaws
 pub mod GivesLaws
 pub mod RootLaws
 pub mod GroveLaws
@@ -15,7 +17,9 @@ pub mod BesideLaws
 pub mod HelpLaws
 pub mod HelpingLaws
 pub mod MappedLaws
-pub mod FoundLaws
 pub mod FoundMaps
 pub mod CountLaws
 pub mod FitsLaws
+pub mod DatumLaws
+pub mod ManyLaws
+pub mod AscendLaws

@@ -1,9 +1,10 @@
 -- What a removal may need beside the way to its block: the nodes of neighbours that are to lend a child or to merge.
-use Rattle.std.specs.Prelude.{◌≡◌, ◌⊎◌, ℕ, zero, suc, ◌+◌, ◌/◌, ◌<◌, ◌≤◌, List, [], ◌∷◌, ◌++◌, Option, None, Some, Bool, true, false, IsTrue, length}
+use Rattle.std.specs.Prelude.{◌≡◌, ◌⊎◌, ℕ, Contains, zero, suc, ◌+◌, ◌/◌, ◌<◌, ◌≤◌, List, [], ◌∷◌, ◌++◌, Option, None, Some, Bool, true, false, IsTrue, length}
 use Rattle.btree_twigs.specs.declared.twigs.Child.{Child, Child-F, out-Child}
 use Rattle.btree_twigs.specs.declared.twigs.Child.TheOpen.{Kept, Grown}
 use Rattle.btree_twigs.specs.declared.twigs.Twig.{Twig}
 use Rattle.btree_twigs.specs.Stubs.{Stub, start_by, low_of, children_of, stubs, stubs_below, nodes_below}
+use Rattle.btree_twigs.specs.Levels.{lows_of}
 use Rattle.btree_twigs.specs.Shape.{IsChild, IsTwig}
 use Rattle.btree_update.specs.declared.siblings.Left.{Left}
 use Rattle.btree_update.specs.declared.siblings.Left.TheVariants.{Unmapped, Enough, Short}
@@ -65,9 +66,13 @@ pub record HelpsOnWay (Reads : ℕ → Stub → Twig → Type 0) (order below hi
   pub is_node : IsNodeHeld (out-Child c) node held left
   pub helps : HelpsBeside Reads order below (length (children_of node)) high front c back (Below (start_by low_of back high) node left) beside loses
 
--- a node over children of this level loses so many of them, and each neighbour that is to help out below it is in memory or held, the topmost last
+-- a leaf has the data record of a block
+abbrev pub HasRecord : ℕ → Twig → Type 0
+HasRecord block twig = Contains (lows_of twig) block
+
+-- below a node over children of this level a leaf has the block's record; without it the node loses so many children, and each neighbour that is to help out below it is in memory or held, the topmost last
 unfoldable pub HelpsBelow : (ℕ → Stub → Twig → Type 0) → ℕ → ℕ → ℕ → ℕ → Twig → List Twig → List (Option Twig) → ℕ → Type 0
-HelpsBelow Reads order block zero high twig held beside loses = loses ≡ 1
+HelpsBelow Reads order block zero high twig held beside loses = (loses ≡ 1) × HasRecord block twig
 HelpsBelow Reads order block (suc level) high twig held beside loses = (front back : List Child) (c : Child) → children_of twig ≡ front ++ c ∷ back → low_of c ≤ block → block < start_by low_of back high →
     HelpsOnWay Reads order level high front c back (HelpsBelow Reads order block level) held beside loses
 

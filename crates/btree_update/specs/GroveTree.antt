@@ -18,6 +18,14 @@ want_of order stub = record { addr = stub.addr; level = stub.level; low = stub.l
 abbrev pub want_at : ℕ → ℕ → ℕ → ℕ → ℕ → ℕ → Want
 want_at order level low high addr least = record { addr = addr; level = level; low = low; high = high; least = least; most = order }
 
+-- how many children a node at a level has at least, below a root at another; a root's own node may have fewer
+abbrev pub least_at : ℕ → ℕ → ℕ → ℕ
+least_at order top level = if level == top then (if top == 1 then 0 else 2) else order / 2
+
+-- what is wanted at a place of a tree whose root is at this level
+abbrev pub want_in : ℕ → ℕ → Stub → Want
+want_in order top s = want_at order s.level s.low s.high s.addr (least_at order top s.level)
+
 -- at each of these places there is what is wanted, and it has these parts
 abbrev pub HasEach : List (List ℕ) → ℕ → List Stub → List Parts → Type 0
 HasEach pages order = AllZip (λ s p. Subtree pages order s.level (want_of order s) s.key p)

@@ -11,7 +11,8 @@ use Rattle.btree_twigs.specs.Top.{top_least}
 use Rattle.btree_update.specs.declared.groves.Grove.{Grove}
 use Rattle.btree_update.specs.Held.{AnyRead, IsReadAs}
 use Rattle.btree_update.specs.Tells.{Tells}
-use Rattle.btree_update.specs.Opens.{Opens}
+use Rattle.btree_update.specs.GroveTree.{want_in}
+use Rattle.btree_update.specs.Opens.{Opens, IsThere}
 use Rattle.btree_update.specs.Roots.{IsRoot, HeldRoot, RootMaps}
 use Rattle.btree_update.specs.Wrong.{WrongFrom}
 use Rattle.btree_update.specs.Beside.{IsReadWhere, HelpsFrom}
@@ -90,12 +91,14 @@ LetsGo head block (Some addr) gone more never most =
 abbrev pub IsReadBesideAt : List (List ℕ) → (Stub → Bool) → ℕ → Grove → Type 0
 IsReadBesideAt pages may block grove = (loses : ℕ) × HelpsFrom (IsReadWhere pages may grove.order) grove.order block (grove.level - 1) grove.blocks grove.top grove.held.items grove.beside.items loses
 
--- an update of a block opens such places until the way to it is open, and makes this of them; their nodes are gone, and so is the block's data record
-pub record Goes (pages : List (List ℕ)) (order head block : ℕ) (May : Stub → Type 0) (Makes : List Stub → Type 0) (old : List Stub) (gone more : List ℕ) (never most : List Unkept) : Type 0 where
+-- below a root at a level an update of a block opens such places until the way to it is open, and makes this of them; their nodes were there, and
+-- are gone, and so is the block's data record
+pub record Goes (pages : List (List ℕ)) (order top head block : ℕ) (May : Stub → Type 0) (Makes : List Stub → Type 0) (old : List Stub) (gone more : List ℕ) (never most : List Unkept) : Type 0 where
   pub opened : List Stub
   pub places : List Stub
   pub opens : Opens pages order places old opened
   pub may : AllByRecursion May places
+  pub fit : AllByRecursion (λ s. IsThere pages (want_in order top s) s.key) places
   pub is_open : IsOpen block opened
   pub makes : Makes opened
   pub replaced : Option ℕ

@@ -9,7 +9,8 @@ use Rattle.btree_twigs.specs.Updates.{IsOpen, width_of}
 use Rattle.btree_twigs.specs.Removal.{below_in, Helps}
 use Rattle.btree_twigs.specs.Top.{IsTop}
 use Rattle.btree_update.specs.Held.{AreBelow, AnyRead}
-use Rattle.btree_update.specs.Opens.{GivesChild, GivesBelow}
+use Rattle.btree_update.specs.GroveTree.{want_of}
+use Rattle.btree_update.specs.Opens.{Fitting, GivesChild, GivesBelow}
 use Rattle.btree_update.specs.Beside.{IsReadWhere, HelpsBelow, HelpsFrom}
 
 -- a node is put in the place of a child on the medium, whose address is gone then
@@ -35,6 +36,10 @@ pub record TakesHelp (at : ℕ) (node : Twig) (old new : Twig) (gone more : List
 abbrev pub IsHelpTaken : ℕ → Option Twig → Twig → Twig → List ℕ → List ℕ → Type 0
 IsHelpTaken at None old new gone more = (new ≡ old) × (more ≡ gone)
 IsHelpTaken at (Some node) old new gone more = TakesHelp at node old new gone more
+
+-- a place for which a neighbour's node is held, which is there
+abbrev pub MayHelp : List (List ℕ) → ℕ → (Stub → Bool) → Stub → Type 0
+MayHelp pages order may = Fitting pages (want_of order) (λ s. IsTrue (may s))
 
 -- a node whose way to a block is in memory, with what a removal may need beside it
 pub record CanHelp (level block : ℕ) (beside : List (Option Twig)) (twig : Twig) : Type 0 where
@@ -76,7 +81,7 @@ pub record HelpedOut (order level least low high block loses : ℕ) (old new : T
   pub below : (head : ℕ) → AreBelow head (stubs_below level high old) → AreBelow head (stubs_below level high new)
   pub few : nodes_below level new ≤ nodes_below level old + level
   pub gives : (pages : List (List ℕ)) (may : Stub → Bool) (held : List Twig) (loses : ℕ) → HelpsBelow (IsReadWhere pages may order) order block level high old held beside loses →
-      GivesBelow pages order (λ s. IsTrue (may s)) level high old new gone more
+      GivesBelow pages order (MayHelp pages order may) level high old new gone more
 
 -- the same of a child that is such a node
 pub record HelpedWay (order below high block loses : ℕ) (old new : Child) (beside : List (Option Twig)) (gone more : List ℕ) : Type 0 where
@@ -88,7 +93,7 @@ pub record HelpedWay (order below high block loses : ℕ) (old new : Child) (bes
   pub below_it : (head : ℕ) → AreBelow head (stubs (suc below) high old) → AreBelow head (stubs (suc below) high new)
   pub few : nodes (suc below) new ≤ nodes (suc below) old + below
   pub gives : (pages : List (List ℕ)) (may : Stub → Bool) (held : List Twig) (loses : ℕ) → HelpsFrom (IsReadWhere pages may order) order block below high old held beside loses →
-      GivesChild pages order (λ s. IsTrue (may s)) (suc below) high old new gone more
+      GivesChild pages order (MayHelp pages order may) (suc below) high old new gone more
 
 -- a root in memory whose way to a block is in memory, with what a removal may need beside it
 pub record CanHelpRoot (level block : ℕ) (beside : List (Option Twig)) (top : Child) : Type 0 where
@@ -112,4 +117,4 @@ pub record HelpedRoot (order below high block loses : ℕ) (old new : Child) (be
   pub below_it : (head : ℕ) → AreBelow head (stubs (suc below) high old) → AreBelow head (stubs (suc below) high new)
   pub few : nodes (suc below) new ≤ nodes (suc below) old + below
   pub gives : (pages : List (List ℕ)) (may : Stub → Bool) (held : List Twig) (loses : ℕ) → HelpsFrom (IsReadWhere pages may order) order block below high old held beside loses →
-      GivesChild pages order (λ s. IsTrue (may s)) (suc below) high old new gone more
+      GivesChild pages order (MayHelp pages order may) (suc below) high old new gone more

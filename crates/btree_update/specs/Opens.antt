@@ -1,6 +1,10 @@
 -- How a tree is opened: nodes on the medium give way to the places below them.
 use Rattle.std.specs.Prelude.{◌≡◌, ◌<◌, ◌≤◌, ℕ, suc, List, [], ◌∷◌, ◌++◌, map}
 use Rattle.std.specs.List.{AllByRecursion}
+use Rattle.node_codec.specs.declared.body.Entry.{Entry}
+use Rattle.node_codec.specs.Record.{NodeRecord}
+use Rattle.page_store.specs.declared.wants.Want.{Want}
+use Rattle.page_store.specs.Places.{FitsAt}
 use Rattle.btree_twigs.specs.declared.twigs.Child.{Child}
 use Rattle.btree_twigs.specs.declared.twigs.Twig.{Twig}
 use Rattle.btree_twigs.specs.Stubs.{Stub, stubs, stubs_below, children_of}
@@ -21,6 +25,15 @@ pub data Opens (pages : List (List ℕ)) (order : ℕ) : List Stub → List Stub
 -- a place has the block
 abbrev pub HasWay : ℕ → Stub → Type 0
 HasWay block stub = (stub.low ≤ block) × (block < stub.high)
+
+-- the page at a place is a node that is wanted there
+pub record IsThere (pages : List (List ℕ)) (want : Want) (key : List ℕ) : Type 0 where
+  pub entries : List Entry
+  pub fits : FitsAt pages want key (NodeRecord want.level entries)
+
+-- such a place, and its node is there
+abbrev pub Fitting : List (List ℕ) → (Stub → Want) → (Stub → Type 0) → Stub → Type 0
+Fitting pages want May s = May s × IsThere pages (want s) s.key
 
 -- such places are opened, and the addresses of the nodes that gave way come to those that are gone
 pub record GivesWay (pages : List (List ℕ)) (order : ℕ) (May : Stub → Type 0) (old new : List Stub) (gone more : List ℕ) : Type 0 where

@@ -1,4 +1,4 @@
-ghost use Rattle.std.specs.Prelude.{◌≡◌, ◌⊎◌, ◌<◌, ◌≤◌, ◌+◌, ◌-◌, ◌*◌, ℕ, List, [], suc, vec_len, vec_capacity, IfOk, IfSome, IsErrOf, IsTrue, Bool};
+ghost use Rattle.std.specs.Prelude.{◌≡◌, ◌⊎◌, ◌<◌, ◌≤◌, ◌+◌, ◌-◌, ◌*◌, ℕ, List, [], suc, vec_len, vec_capacity, IfOk, IfSome, IsErrOf, IsTrue, Bool, Contains};
 ghost use Rattle.root_codec.specs.RootRecord.{FitsRoot};
 ghost use Rattle.node_codec.specs.Record.{DataRecord};
 ghost use Rattle.page_store.specs.Places.{IsRecordAt};
@@ -224,11 +224,14 @@ impl Grove {
         ensures top { IsTop self.new.order (self.new.level - 1) self.new.blocks self.new.top }
         ensures size { (self.new.order ≡ self.old.order) × (self.new.blocks ≡ self.old.blocks) × (self.new.head ≡ self.old.head) }
         ensures level { (self.new.level ≡ self.old.level) ⊎ (self.new.level ≡ self.old.level + 1) }
+        // Where the block is mapped, its record only gives way to another.
+        ensures has { Contains (places_of self.new) (datum block addr key) }
+        ensures stays { CanRemove block self.old → self.new.level ≡ self.old.level }
         ensures maps { (pages : List (List ℕ)) (mapped : List Mapped) (content : List ℕ) → IsReadFrom pages block self.old → GroveMaps pages self.old mapped
             → IsRecordAt pages addr key (DataRecord block content)
             → (after : List Mapped) × GroveMaps pages self.new after × MapPuts (record { block = block; addr = addr; key = key; content = content }) mapped after }
         ensures goes { (pages : List (List ℕ)) → IsReadFrom pages block self.old
-            → Goes pages self.old.order self.old.head block (HasWay block) (λ opened. Puts 0 self.old.blocks (datum block addr key) opened (places_of self.new))
+            → Goes pages self.old.order self.old.level self.old.head block (HasWay block) (λ opened. Puts 0 self.old.blocks (datum block addr key) opened (places_of self.new))
             (places_of self.old) self.old.gone.items self.new.gone.items self.old.never.items self.new.never.items }
         ensures levels { (pages : List (List ℕ)) (levels : ℕ → List Node) → IsReadFrom pages block self.old → HasLevels pages self.old levels
             → (after : ℕ → List Node) × HasLevels pages self.new after × Reshape self.old.order block self.old.level self.new.level levels after }
@@ -267,7 +270,7 @@ impl Grove {
             → (after : List Mapped) × GroveMaps pages self.new after × MapTakes block mapped after }
         // Beside the way no place is opened but those for which a neighbour's node is held.
         ensures goes { (pages : List (List ℕ)) (may : Stub → Bool) → IsReadFrom pages block self.old → IsReadBesideAt pages may block self.old
-            → Goes pages self.old.order self.old.head block (λ s. HasWay block s ⊎ IsTrue (may s)) (λ opened. Takes 0 self.old.blocks block opened (places_of self.new))
+            → Goes pages self.old.order self.old.level self.old.head block (λ s. HasWay block s ⊎ IsTrue (may s)) (λ opened. Takes 0 self.old.blocks block opened (places_of self.new))
             (places_of self.old) self.old.gone.items self.new.gone.items self.old.never.items self.new.never.items }
         ensures levels { (pages : List (List ℕ)) (levels : ℕ → List Node) → IsReadFrom pages block self.old → IsReadBeside pages block self.old → HasLevels pages self.old levels
             → (after : ℕ → List Node) × HasLevels pages self.new after × ReshapeDown self.old.order block self.old.level self.new.level levels after }

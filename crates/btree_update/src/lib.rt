@@ -14,7 +14,10 @@ mod refusals;
 mod siblings;
 
 pub use groves::Grove;
-pub use laws::{opened_maps, put_maps, read_maps, sealed_is, take_maps};
+pub use laws::{
+    grove_maps_all, grove_maps_ascend, grove_maps_many, opened_maps, put_maps, read_maps,
+    sealed_is, take_maps,
+};
 pub use opening::open_way;
 pub use refusals::ReadyRefusal;
 

@@ -4,10 +4,10 @@ ghost use Rattle.btree_twigs.specs.declared.twigs.Child.{out-Child};
 ghost use Rattle.btree_twigs.specs.declared.twigs.Child.TheOpen.{Grown};
 ghost use Rattle.btree_twigs.specs.declared.twigs.Twig.{Twig};
 ghost use Rattle.btree_update.specs.Held.{AreBelow, IsReadAs, HeldFor, OnWay, CanOpen, IsOpened, IsTakenUp, IsNoted, IsAtHand, CanOpenBelow, IsOpenedBelow};
-ghost use Rattle.btree_update.specs.Opens.{HasWay, GivesChild, GivesBelow};
+ghost use Rattle.btree_update.specs.Opens.{HasWay, Fitting, GivesChild, GivesBelow};
 ghost use Rattle.btree_update.specs.Beside.{HelpsBelow, HelpsFrom, HelpsWide, Source, ReadOver};
 ghost use Rattle.btree_update.specs.Roots.{CanOpenRoot, IsRootOpened, HeldRoot, RootMaps};
-ghost use Rattle.btree_update.specs.GroveTree.{Maps};
+ghost use Rattle.btree_update.specs.GroveTree.{want_of, want_in, Maps};
 ghost use Rattle.page_store.specs.Tree.{Mapped};
 
 use btree_twigs::{Child, Twig, addr_of, low_of, place};
@@ -21,7 +21,7 @@ pub fn open_way(child: &mut Child, level: u8, block: u64, held: &mut Vec<Twig>, 
     ensures opened { (at : CanOpen level block held.old.items child.old) → IsOpened at.order level block at.high child.old child.new }
     ensures gives { (pages : List (List ℕ)) (at : CanOpen level block held.old.items child.old)
         → HeldFor (IsReadAs pages at.order) at.order block level at.high child.old held.old.items
-        → GivesChild pages at.order (HasWay block) level at.high child.old child.new gone.old.items gone.new.items }
+        → GivesChild pages at.order (Fitting pages (want_of at.order) (HasWay block)) level at.high child.old child.new gone.old.items gone.new.items }
     ensures room { vec_len gone.new + vec_len held.new ≤ vec_capacity gone.new }
     ensures spare { vec_len gone.new + vec_len held.new + vec_capacity gone.old ≤ vec_len gone.old + vec_len held.old + vec_capacity gone.new }
     ensures below { (head : ℕ) (at : CanOpen level block held.old.items child.old) → AreBelow head (stubs level at.high child.old) → AreBelow head (stubs level at.high child.new) }
@@ -53,7 +53,7 @@ pub(crate) fn open_below(
     ensures opened { (at : CanOpenBelow level block held.old.items twig.old) → IsOpenedBelow at.order level at.least at.low at.high block twig.old twig.new }
     ensures gives { (pages : List (List ℕ)) (at : CanOpenBelow level block held.old.items twig.old)
         → OnWay block (λ high c. HeldFor (IsReadAs pages at.order) at.order block level high c held.old.items) at.high twig.old
-        → GivesBelow pages at.order (HasWay block) level at.high twig.old twig.new gone.old.items gone.new.items }
+        → GivesBelow pages at.order (Fitting pages (want_of at.order) (HasWay block)) level at.high twig.old twig.new gone.old.items gone.new.items }
     ensures room { vec_len gone.new + vec_len held.new ≤ vec_capacity gone.new }
     ensures spare { vec_len gone.new + vec_len held.new + vec_capacity gone.old ≤ vec_len gone.old + vec_len held.old + vec_capacity gone.new }
     ensures below { (head : ℕ) (at : CanOpenBelow level block held.old.items twig.old) → AreBelow head (stubs_below level at.high twig.old) → AreBelow head (stubs_below level at.high twig.new) }
@@ -82,7 +82,7 @@ pub(crate) fn open_root(
     ensures opened { (at : CanOpenRoot level block held.old.items top.old) → IsRootOpened at.order at.below block at.high top.new }
     ensures gives { (pages : List (List ℕ)) (at : CanOpenRoot level block held.old.items top.old)
         → HeldRoot (IsReadAs pages at.order) at.order block at.below at.high top.old held.old.items
-        → GivesChild pages at.order (HasWay block) level at.high top.old top.new gone.old.items gone.new.items }
+        → GivesChild pages at.order (Fitting pages (want_in at.order level) (HasWay block)) level at.high top.old top.new gone.old.items gone.new.items }
     ensures maps { (pages : List (List ℕ)) (at : CanOpenRoot level block held.old.items top.old)
         → HeldRoot (IsReadAs pages at.order) at.order block at.below at.high top.old held.old.items
         → (mapped : List Mapped) → RootMaps pages at.order at.below at.high top.old mapped → Maps pages at.order (stubs level at.high top.new) mapped }

@@ -4,7 +4,7 @@ use Rattle.std.specs.Prelude.{Option, Contains}
 use Rattle.std.proofs.lemmas.List.Elements.{All-nil, All-cons}
 use Rattle.sdbt_base.specs.Arrays.{Device, new_device}
 use Rattle.sdbt_base.specs.Traces.{NodeOver}
-use Rattle.platform.specs.Image.{Image, LeavesOnly, with_page}
+use Rattle.platform.specs.Image.{Image, LeavesOnly, with_page, all_synced}
 use Rattle.platform.specs.History.{History, Steps, During, Turns}
 use Rattle.platform.proofs.Moments.{During-step, whole-now, Extends-earlier}
 use Rattle.seal_record.specs.Sealing.{masked}
@@ -72,7 +72,7 @@ made_size tells old looked mid new root blocks order all told =
 -- and can be served
 made_served : (tells : Type 0) (old looked mid new : History) (root : Root) (blocks order : ℕ) → IsFormatting tells old looked mid new root blocks order → tells → IsServedImage (with_root mid.present root)
 made_served tells old looked mid new root blocks order all told =
-    served_published mid.present root (root.addr + 1) (made_size tells old looked mid new root blocks order all told)
+    served_published (all_synced mid.present) root (root.addr + 1) (made_size tells old looked mid new root blocks order all told)
     (record { in_range = all.first.fits; key = all.first.key; within = omega (arith, all.first.head) })
 
 pub format_time : (tells : Type 0) (old looked mid new : History) (root : Root) (blocks order : ℕ) (device : Option Device) → IsFormatting tells old looked mid new root blocks order → tells → Stands old.present device

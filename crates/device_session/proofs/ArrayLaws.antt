@@ -9,6 +9,7 @@ use Rattle.std.specs.FinMap.{find, from_entries, get-from_entries, get-insert, g
 use Rattle.sdbt_base.specs.Arrays.{Blocks}
 use Rattle.page_store.specs.Tree.{Mapped}
 use Rattle.btree_update.specs.Maps.{MapPuts, MapTakes, HasBlock, LacksBlock}
+use Rattle.btree_update.proofs.AscendLaws.{Ascends}
 
 -- the blocks with their contents
 abbrev pub array_of : List Mapped → Blocks
@@ -114,19 +115,6 @@ remove_none contents block none = same_map nat_cmp_total nat_cmp-IsAntisymmetric
     ] refl ∙ sym (get-remove nat_cmp_total contents block q))
 
 -- ---- in order
-
--- blocks ascend from a number on
-abbrev pub Ascends : ℕ → List Mapped → Type 0
-Ascends low [] = Unit {0}
-Ascends low (m ∷ ms) = (low ≤ m.block) × Ascends (suc m.block) ms
-
-pub ascends_from : (low high : ℕ) (ms : List Mapped) → low ≤ high → Ascends high ms → Ascends low ms
-ascends_from low high [] le h = tt
-ascends_from low high (m ∷ ms) le h = (omega (arith, le, h.0), h.1)
-
-pub ascends_append : (low mid : ℕ) (xs ys : List Mapped) → low ≤ mid → Ascends low xs → AllByRecursion (λ m. m.block < mid) xs → Ascends mid ys → Ascends low (xs ++ ys)
-ascends_append low mid [] ys le h under k = ascends_from low mid ys le k
-ascends_append low mid (x ∷ xs) ys le h under k = (h.0, ascends_append (suc x.block) mid xs ys (omega (arith, under.0)) h.1 under.1 k)
 
 later : (low q : ℕ) (ms : List Mapped) → Ascends low ms → q < low → AllByRecursion (λ m. m.block ≢ q) ms
 later low q [] h less = tt

@@ -1,16 +1,22 @@
 -- What a write makes of a session.
-use Rattle.std.proofs.Common.{◌≡◌, ◌⊎◌, inl, inr, ℕ, zero, suc, ◌+◌, ◌-◌, ◌<◌, ◌≤◌, ◌^◌, Bool, true, false, cond, List, [], ◌∷◌, ◌++◌, All, IsTrue, length, take, refl, sym, ap, subst, ◌∙◌, arith}
-use Rattle.std.specs.Prelude.{Contains, Option, Some, slice_get}
+use Rattle.std.proofs.Common.{◌≡◌, ◌⊎◌, inl, inr, ℕ, zero, suc, ◌+◌, ◌-◌, ◌<◌, ◌≤◌, ◌^◌, Bool, true, false, cond, List, [], ◌∷◌, ◌++◌, All, IsTrue, length, take, refl, sym, ap, subst, ◌∙◌, arith, length-append}
+use Rattle.std.specs.Prelude.{Contains, Option, Some, replicate, slice_get}
 use Rattle.std.specs.FinMap as maps
 use Rattle.std.specs.Bool.{OnTrue, OnFalse}
-use Rattle.std.proofs.lemmas.List.Elements.{All-weaker, Contains-append_left, Contains-append_right}
-use Rattle.sdbt_base.specs.Arrays.{Device, Blocks}
+use Rattle.std.proofs.lemmas.List.{length-replicate}
+use Rattle.std.proofs.lemmas.List.Elements.{All-weaker, All-append, All-replicate, Contains-append_left}
+use Rattle.sdbt_base.specs.Arrays.{Device, Blocks, padded}
 use Rattle.sdbt_base.specs.declared.lists.Unkept.{Unkept}
-use Rattle.platform.specs.Image.{Image, IsEarlier, IsWhole}
+use Rattle.sdbt_base.specs.Bytes.{IsBytes}
+use Rattle.platform.specs.Image.{Image, IsEarlier, IsWhole, with_page}
+use Rattle.seal_record.specs.Sealing.{masked}
+use Rattle.node_codec.specs.Record.{DataRecord, record_bytes}
 use Rattle.root_codec.specs.declared.root.Root.{Root}
 use Rattle.page_store.specs.Buffer.{Held}
+use Rattle.page_store.specs.Places.{IsRecordAt}
 use Rattle.page_store.specs.Stands.{StandsBy}
 use Rattle.page_store.specs.Tree.{Parts, Place, Mapped, joined}
+use Rattle.page_store.proofs.RecordLaws.{record_appended, slice_get-end}
 use Rattle.page_store.proofs.StandsLaws.{stands_kept}
 use Rattle.node_cache.specs.declared.slots.Kept.{Kept}
 use Rattle.node_cache.specs.Kept.{Cached}
@@ -21,7 +27,8 @@ use Rattle.btree_update.specs.declared.groves.Grove.{Grove}
 use Rattle.btree_update.specs.Held.{AreBelow}
 use Rattle.btree_update.specs.Maps.{MapPuts, HasBlock, LacksBlock}
 use Rattle.btree_update.specs.Opens.{HasWay}
-use Rattle.btree_update.specs.Groves.{places_of}
+use Rattle.btree_update.specs.Groves.{GroveMaps, places_of}
+use Rattle.btree_update.proofs.AscendLaws.{Ascends, grove_all, grove_filled}
 use Rattle.grove_accounts.specs.Holding.{HoldsTree, Arrives, Turns, IsSameSize}
 use Rattle.grove_accounts.specs.Certs.{IsOwnStub, AreWritten}
 use Rattle.grove_accounts.proofs.HoldingLaws.{holds_later, insert_holds}
@@ -30,8 +37,9 @@ use Rattle.device_session.specs.Sessions.{Session}
 use Rattle.device_session.specs.Open.{IsOpen, AreDataPages}
 use Rattle.device_session.specs.Holds.{Holds}
 use Rattle.device_session.specs.Keys.{HoldsListed}
-use Rattle.device_session.specs.Ready.{IsReadyFor}
-use Rattle.device_session.proofs.ArrayLaws.{Ascends, array_put, count_more, count_same}
+use Rattle.device_session.specs.Ready.{IsReadyFor, counted_with}
+use Rattle.device_session.proofs.ArrayLaws.{array_put, count_more, count_same}
+use Rattle.device_session.proofs.LeftLaws.{update_left}
 use Rattle.device_session.proofs.ReadLaws.{held_maps, held_up}
 use Rattle.device_session.proofs.UpdateLaws.{open_sound, open_size}
 
@@ -77,6 +85,7 @@ later_holds session buffers image later device contents whole earlier cell h = r
   contents_are = h.contents_are;
   count = h.count;
   untouched = h.untouched;
+  left = h.left;
   cached = cached_later image later session.cache whole earlier h.cached;
 }
 
@@ -111,10 +120,6 @@ with_inserted session grove mapped buffers = record session { grove = grove; map
 abbrev pub Inserts : Image → ℕ → ℕ → List ℕ → Grove → Grove → Type 0
 Inserts image block addr key old new = Turns image.readable block (HasWay block) (λ opened. Puts 0 old.blocks (datum block addr key) opened (places_of new)) old new
 
--- how many blocks are mapped then
-abbrev pub counted_with : Bool → ℕ → ℕ
-counted_with is_mapped mapped = cond is_mapped mapped (mapped + 1)
-
 pub inserted_open : (session : Session) (grove : Grove) (mapped : ℕ) (buffers : Held) (pages now : ℕ) → IsSameSize session.grove grove → IsTop grove.order (grove.level - 1) grove.blocks grove.top → grove.level ≤ 20 → AreBelow now (places_of grove) →
     mapped ≤ session.root.blocks → pages ≤ now → IsOpen session pages → IsOpen (with_inserted session grove mapped buffers) now
 inserted_open session grove mapped buffers pages now size top level below few le o =
@@ -138,8 +143,10 @@ pub record IsInsertion (session : Session) (image later : Image) (block addr : �
   pub within : session.root.head ≤ length image.recorded
   pub turns : Inserts image block addr key session.grove grove
   pub ready : IsReadyFor image.readable block session.grove is_mapped
+  pub pages : ℕ
+  pub is_open : IsOpen session pages
 
-count_is : (is_mapped : Bool) (m : Mapped) (old new : List Mapped) (count : ℕ) → Ascends 0 old → MapPuts m old new → OnTrue is_mapped (HasBlock m.block old) × OnFalse is_mapped (LacksBlock m.block old) → count ≡ length old → counted_with is_mapped count ≡ length new
+pub count_is : (is_mapped : Bool) (m : Mapped) (old new : List Mapped) (count : ℕ) → Ascends 0 old → MapPuts m old new → OnTrue is_mapped (HasBlock m.block old) × OnFalse is_mapped (LacksBlock m.block old) → count ≡ length old → counted_with is_mapped count ≡ length new
 count_is true m old new count up puts is same = same ∙ sym (count_same 0 m old new up puts is.0)
 count_is false m old new count up puts is same = let more = count_more m old new puts is.1 in omega (arith, same, more)
 
@@ -159,6 +166,7 @@ inserted_holds session image later device contents block addr key content is_map
       contents_are = ap (λ c. maps.insert c block content) h.contents_are ∙ sym (array_put m (joined h.each).mapped (joined r.0).mapped r.2);
       count = count_is is_mapped m (joined h.each).mapped (joined r.0).mapped session.mapped (held_up session image device contents h) r.2 is h.count;
       untouched = λ is. absurd cc;
+      left = λ is. update_left session i.pages image.readable grove block (HasWay block) (λ opened. Puts 0 session.grove.blocks (datum block addr key) opened (places_of grove)) i.is_open i.to i.turns h.left;
       cached = cached_later image later session.cache i.whole i.arrives.earlier h.cached;
     }
 
@@ -180,3 +188,73 @@ pub inserted_pages : (session : Session) (image later : Image) (device : Device)
     AreDataPages session pages → AreDataPages (with_inserted session grove (counted_with is_mapped session.mapped) buffers) (pages ++ record { block = block; addr = addr } ∷ [])
 inserted_pages session image later device contents block addr key content is_mapped grove buffers pages i h are =
     insertion_written image session.root h.committed.places session.grove grove h.each block addr key (HasWay block) pages h.tree (omega (arith, i.within, i.arrives.new)) i.turns are
+
+-- ---- a page that came
+
+pub padded_bytes : (content : List ℕ) → length content ≤ 4096 → All (λ b. b < 256) content → IsBytes 4096 (padded content)
+padded_bytes content most bytes = (
+  omega (arith, length-append content (replicate (4096 - length content) 0), length-replicate {A = ℕ} (4096 - length content) 0),
+  All-append (λ (b : ℕ). b < 256) content (replicate (4096 - length content) 0) bytes (All-replicate (λ (b : ℕ). b < 256) (4096 - length content) 0 (omega arith)),
+)
+
+-- a block's data record that was appended arrives
+pub arrived : (image later : Image) (block addr : ℕ) (key content : List ℕ) → IsWhole image → IsEarlier image later → addr ≡ length image.recorded → addr < 2 ^ 64 → block < 1048576 → IsBytes 4096 content →
+    later ≡ with_page image (masked key (record_bytes addr (DataRecord block content))) (masked key (record_bytes addr (DataRecord block content))) → Arrives image later block addr key content
+arrived image later block addr key content whole earlier at small low sized is =
+    let page = masked key (record_bytes addr (DataRecord block content)) in
+    record {
+      earlier = earlier;
+      one = ap (λ (i : Image). length i.recorded) is ∙ length-append image.recorded (page ∷ []) ∙ omega arith;
+      new = at;
+      there = subst (λ (i : Image). IsRecordAt i.readable addr key (DataRecord block content)) (sym is) (record_appended image.readable addr key (DataRecord block content) small (at ∙ sym whole.as_many) (low, sized));
+      same = subst (λ (i : Image). slice_get i.readable addr ≡ slice_get i.recorded addr) (sym is) (slice_get-end image.readable page addr (at ∙ sym whole.as_many) ∙ sym (slice_get-end image.recorded page addr at));
+    }
+
+-- ---- on any pages
+
+pub below_more : (pages now : ℕ) (grove : Grove) → pages ≤ now → AreBelow pages (places_of grove) → AreBelow now (places_of grove)
+below_more pages now grove le h = below_later pages now (places_of grove) le h
+
+pub level_stays : (is_mapped : Bool) (old new : ℕ) → (IsTrue is_mapped → new ≡ old) → (new ≡ old) ⊎ (new ≡ old + 1) → OnFalse is_mapped (old < 20) → old ≤ 20 → new ≤ 20
+level_stays true old new stays either limit le = let same = stays refl in omega (arith, same, le)
+level_stays false old new stays (inl same) limit le = omega (arith, same, le)
+level_stays false old new stays (inr more) limit le = omega (arith, more, limit)
+
+pub count_few : (is_mapped : Bool) (mapped blocks : ℕ) → OnFalse is_mapped (mapped < blocks) → mapped ≤ blocks → counted_with is_mapped mapped ≤ blocks
+count_few true mapped blocks limit le = le
+count_few false mapped blocks limit le = omega (arith, limit)
+
+pub at_false : (b : Bool) (P Q : Type 0) → (P → Q) → OnFalse b P → OnFalse b Q
+at_false true P Q f h = tt
+at_false false P Q f h = f h
+
+-- keys that were drawn are listed with those before
+pub more_listed : (session : Session) (image : Image) (keys more : List (List ℕ)) → HoldsListed session image keys → HoldsListed session image (keys ++ more)
+more_listed session image keys more h = record {
+  device = h.device;
+  contents = h.contents;
+  holds = h.holds;
+  listed = λ s has own. Contains-append_left keys more s.key (h.listed s has own);
+}
+
+-- ---- no block more
+
+pub lacks_it : (block : ℕ) (ms : List Mapped) (m : Mapped) → LacksBlock block ms → Contains ms m → m.block ≡ block → ⊥
+lacks_it block [] m lacks (i, within, is) same = omega (arith, within)
+lacks_it block (x ∷ ms) m lacks (zero, within, is) same = lacks.0 (ap (λ (k : Mapped). k.block) is ∙ same)
+lacks_it block (x ∷ ms) m lacks (suc i, within, is) same = lacks_it block ms m lacks.1 (i, omega (arith, within), is) same
+
+-- where as many blocks are mapped as there are, or the tree has as many levels as it may, every block is mapped
+pub all_mapped : (session : Session) (image : Image) (device : Device) (contents : Blocks) (block pages : ℕ) → IsOpen session pages → Holds session image device contents → block < session.root.blocks →
+    (session.root.blocks ≤ session.mapped) ⊎ (20 ≤ session.grove.level) → ((mapped : List Mapped) → GroveMaps image.readable session.grove mapped → LacksBlock block mapped) → ⊥
+all_mapped session image device contents block pages o h to limit lacks =
+    let ms = (joined h.each).mapped in
+    let m = held_maps session image device contents h in
+    let same = h.tree.blocks in
+    let has : HasBlock block ms = elim limit [
+      | inl many ↦ grove_filled image.readable session.grove ms block h.tree.sound m (let count = h.count in omega (arith, many, count, same)) (omega (arith, to, same))
+      | inr high ↦
+          let top : session.grove.level ≡ 20 = omega (arith, high, o.level) in
+          grove_all image.readable session.grove ms block h.tree.sound m (omega (arith, high)) (subst (λ n. session.grove.blocks ≤ 2 ^ n) (sym top) (let most = o.served.in_range.blocks_most in omega (arith, most, same))) (omega (arith, to, same))
+    ] in
+    lacks_it block ms has.0 (lacks ms m) has.1 has.2

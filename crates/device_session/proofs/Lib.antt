@@ -2,5 +2,14 @@ pub mod SessionLaws
 pub mod ArrayLaws
 pub mod OrderLaws
 pub mod ReadLaws
+pub mod LeftLaws
 pub mod UpdateLaws
+pub mod PageLaws
 pub mod InsertLaws
+pub mod DamageLaws
+pub mod CountLaws
+pub mod TakingLaws
+pub mod KeyLaws
+pub mod CommitLaws
+pub mod CertifyingLaws
+pub mod StepLaws

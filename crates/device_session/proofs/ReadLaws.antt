@@ -25,20 +25,21 @@ use Rattle.btree_twigs.proofs.Children.{tiles_child}
 use Rattle.btree_walk.specs.Mapped.{mapped_as, IsMappedAs}
 use Rattle.btree_walk.specs.Sights.{StandsOver}
 use Rattle.btree_update.specs.declared.groves.Grove.{Grove}
-use Rattle.btree_update.specs.GroveTree.{Maps, MapsIn, MapsFrom, want_at}
+use Rattle.btree_update.specs.GroveTree.{Maps, MapsIn, MapsFrom, want_at, least_at, want_in}
 use Rattle.btree_update.specs.Maps.{LacksBlock}
 use Rattle.btree_update.specs.Roots.{IsRoot, IsRootBy}
 use Rattle.btree_update.specs.Groves.{IsSound, GroveMaps, places_of}
 use Rattle.btree_update.proofs.FoundLaws.{up_twig}
 use Rattle.btree_update.proofs.GroveLaws.{above_it}
 use Rattle.node_cache.specs.Kept.{Cached}
-use Rattle.grove_accounts.specs.Below.{least_at, want_in, HaveParts}
+use Rattle.grove_accounts.specs.Below.{HaveParts}
 use Rattle.grove_accounts.proofs.ListLaws.{each_append, each_weaker}
 use Rattle.grove_accounts.proofs.PartsLaws.{parts_each}
 use Rattle.grove_accounts.specs.Holding.{HoldsTree}
 use Rattle.device_session.specs.Sessions.{Session}
 use Rattle.device_session.specs.Holds.{Holds}
-use Rattle.device_session.proofs.ArrayLaws.{array_of, array_lacks, array_has, Ascends}
+use Rattle.btree_update.proofs.AscendLaws.{Ascends}
+use Rattle.device_session.proofs.ArrayLaws.{array_of, array_lacks, array_has}
 use Rattle.device_session.proofs.OrderLaws.{places_up}
 
 -- ---- only the cache and the buffers change
@@ -53,6 +54,7 @@ holds_looked session cache buffers image after device contents same keeps h = su
   contents_are = h.contents_are;
   count = h.count;
   untouched = h.untouched;
+  left = h.left;
   cached = keeps h.cached;
 })
 

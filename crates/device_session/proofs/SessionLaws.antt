@@ -44,7 +44,8 @@ pub record IsFresh (session : Session) : Type 0 where
   pub tree : IsTreeOf session.root session.grove
   pub none : session.cache.kept ≡ []
 
-no_own : (session : Session) → 1 ≤ session.root.level → IsTreeOf session.root session.grove → (s : Stub) → Contains (places_of session.grove) s → IsOwnStub session.root.head s → ⊥
+-- a tree with no node in memory has no data record of its own
+pub no_own : (session : Session) → 1 ≤ session.root.level → IsTreeOf session.root session.grove → (s : Stub) → Contains (places_of session.grove) s → IsOwnStub session.root.head s → ⊥
 no_own session one tree s has own = only (subst (λ ss. Contains ss s) (tree_place session.root session.grove tree) has)
   where
     only : Contains (root_stub session.root ∷ []) s → ⊥
@@ -86,5 +87,6 @@ fresh_holds session image device pages within whole cell fresh (other, parts, st
       contents_are = by_root.contents ∙ ap (λ ms. from_entries (map (λ (m : Mapped). (m.block, m.content)) ms)) (sym all);
       count = fresh.mapped ∙ sym by_root.count ∙ ap length (sym all);
       untouched = λ is. refl;
+      left = λ is. absurd (cc (is, fresh.untouched));
       cached = none_cached image.readable session.cache fresh.none;
     }

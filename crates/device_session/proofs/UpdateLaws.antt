@@ -31,6 +31,7 @@ use Rattle.device_session.specs.Holds.{Holds}
 use Rattle.device_session.specs.Keys.{HoldsListed}
 use Rattle.device_session.proofs.ArrayLaws.{array_of, array_take, array_has, array_lacks, count_less, remove_none}
 use Rattle.device_session.proofs.ReadLaws.{held_maps, held_up}
+use Rattle.device_session.proofs.LeftLaws.{update_left}
 
 -- ---- a tree that is ready for an update
 
@@ -80,6 +81,7 @@ ready_holds session grove cache buffers image after device contents same k sound
   contents_are = h.contents_are;
   count = h.count;
   untouched = h.untouched;
+  left = λ is. subst (λ ns. Contains ns session.root.addr) (sym k.gone) (h.left is);
   cached = keeps h.cached;
 })
 
@@ -129,9 +131,9 @@ removed_open session grove pages size top level below o =
 abbrev pub Removes : Image → ℕ → (Stub → Bool) → Grove → Grove → Type 0
 Removes image block may old new = Turns image.readable block (λ s. HasWay block s ⊎ IsTrue (may s)) (λ opened. Takes 0 old.blocks block opened (places_of new)) old new
 
-pub removed_holds : (session : Session) (grove : Grove) (image : Image) (device : Device) (contents : Blocks) (block : ℕ) (may : Stub → Bool) → IsSameSize session.grove grove → block < session.root.blocks → Removes image block may session.grove grove →
+pub removed_holds : (session : Session) (grove : Grove) (image : Image) (device : Device) (contents : Blocks) (block pages : ℕ) (may : Stub → Bool) → IsOpen session pages → IsSameSize session.grove grove → block < session.root.blocks → Removes image block may session.grove grove →
     ((mapped : List Mapped) → GroveMaps image.readable session.grove mapped → HasBlock block mapped) → (h : Holds session image device contents) → Holds (with_removed session grove) image device (maps.remove contents block) × HasBlock block (joined h.each).mapped
-removed_holds session grove image device contents block may size to turns mapped h =
+removed_holds session grove image device contents block pages may opened size to turns mapped h =
     let has = mapped (joined h.each).mapped (held_maps session image device contents h) in
     let less : block < session.grove.blocks = let same = h.tree.blocks in omega (arith, to, same) in
     let r = remove_holds image session.root h.committed.places session.grove grove h.each block (λ s. HasWay block s ⊎ IsTrue (may s)) h.tree size less turns in
@@ -144,6 +146,7 @@ removed_holds session grove image device contents block may size to turns mapped
         contents_are = ap (λ m. maps.remove m block) h.contents_are ∙ sym (array_take block (joined h.each).mapped (joined r.0).mapped r.2);
         count = omega (arith, h.count, count);
         untouched = λ is. absurd cc;
+        left = λ is. update_left session pages image.readable grove block (λ s. HasWay block s ⊎ IsTrue (may s)) (λ opened. Takes 0 session.grove.blocks block opened (places_of grove)) opened to turns h.left;
         cached = h.cached;
       },
       has,
@@ -163,13 +166,13 @@ both P Q R f (Ok b) p q = f b p q
 both P Q R f (Err e) p q = tt
 
 -- the array without a block that was mapped
-pub trimmed : (session : Session) (grove : Grove) (image : Image) (device : Device) (contents : Blocks) (block : ℕ) (may : Stub → Bool) → IsSameSize session.grove grove → block < session.root.blocks → Removes image block may session.grove grove →
+pub trimmed : (session : Session) (grove : Grove) (image : Image) (device : Device) (contents : Blocks) (block pages : ℕ) (may : Stub → Bool) → IsOpen session pages → IsSameSize session.grove grove → block < session.root.blocks → Removes image block may session.grove grove →
     ((mapped : List Mapped) → GroveMaps image.readable session.grove mapped → HasBlock block mapped) → Holds session image device contents → (touched : Bool) →
     Holds (with_removed session grove) image device (maps.remove contents block) × (true ≡ (touched || maps.contains_key contents block))
-trimmed session grove image device contents block may size to turns mapped h touched =
+trimmed session grove image device contents block pages may opened size to turns mapped h touched =
     let has = mapped (joined h.each).mapped (held_maps session image device contents h) in
     let there : maps.get contents block ≡ Some has.0.content = ap (λ m. maps.get m block) h.contents_are ∙ ap (λ n. maps.get (array_of (joined h.each).mapped) n) (sym has.2) ∙ array_has 0 has.0 (joined h.each).mapped (held_up session image device contents h) has.1 in
-    ((removed_holds session grove image device contents block may size to turns mapped h).0, is_there touched has.0.content there)
+    ((removed_holds session grove image device contents block pages may opened size to turns mapped h).0, is_there touched has.0.content there)
   where
     is_there : (touched : Bool) (content : List ℕ) → maps.get contents block ≡ Some content → true ≡ (touched || maps.contains_key contents block)
     is_there true content is = refl
@@ -195,12 +198,12 @@ counted session image device contents block mapped h zero_is =
     omega (arith, within, count, zero_is)
 
 -- the keys of a session's own data records, after a removal
-pub removed_listed : (session : Session) (grove : Grove) (image : Image) (keys : List (List ℕ)) (block : ℕ) (may : Stub → Bool) → IsSameSize session.grove grove → block < session.root.blocks → Removes image block may session.grove grove →
+pub removed_listed : (session : Session) (grove : Grove) (image : Image) (keys : List (List ℕ)) (block pages : ℕ) (may : Stub → Bool) → IsOpen session pages → IsSameSize session.grove grove → block < session.root.blocks → Removes image block may session.grove grove →
     ((mapped : List Mapped) → GroveMaps image.readable session.grove mapped → HasBlock block mapped) → HoldsListed session image keys → HoldsListed (with_removed session grove) image keys
-removed_listed session grove image keys block may size to turns mapped h = record {
+removed_listed session grove image keys block pages may opened size to turns mapped h = record {
   device = h.device;
   contents = maps.remove h.contents block;
-  holds = (removed_holds session grove image h.device h.contents block may size to turns mapped h.holds).0;
+  holds = (removed_holds session grove image h.device h.contents block pages may opened size to turns mapped h.holds).0;
   listed = λ s has own. h.listed s (removal_own image session.root h.holds.committed.places session.grove grove h.holds.each block (λ s. HasWay block s ⊎ IsTrue (may s)) h.holds.tree turns s own has) own;
 }
 

@@ -1,5 +1,5 @@
 -- What a session is over an image.
-use Rattle.std.specs.Prelude.{◌≡◌, ℕ, false, List, length}
+use Rattle.std.specs.Prelude.{◌≡◌, true, false, List, Contains, length}
 use Rattle.std.specs.FinMap.{from_entries}
 use Rattle.sdbt_base.specs.Arrays.{Device, Blocks}
 use Rattle.platform.specs.Image.{Image}
@@ -10,8 +10,8 @@ use Rattle.grove_accounts.specs.Holding.{HoldsTree}
 use Rattle.device_session.specs.Sessions.{Session}
 
 -- the image stands for the device that the session was opened on, or that its last commit made; each place of the session's tree that has a
--- page fits, and the page reads as it was recorded; what it maps is an array of these contents: without a change the device's own; and each
--- node that is kept in the cache is what its page is
+-- page fits, and the page reads as it was recorded; what it maps is an array of these contents: without a change the device's own, and after
+-- one the page of the root record's node is let go of; and each node that is kept in the cache is what its page is
 pub record Holds (session : Session) (image : Image) (device : Device) (contents : Blocks) : Type 0 where
   pub committed : Parts
   pub stands : StandsBy image device session.root committed
@@ -20,4 +20,5 @@ pub record Holds (session : Session) (image : Image) (device : Device) (contents
   pub contents_are : contents ≡ from_entries (pairs_of (joined each))
   pub count : session.mapped ≡ length (joined each).mapped
   pub untouched : session.is_touched ≡ false → contents ≡ device.contents
+  pub left : session.is_touched ≡ true → Contains session.grove.gone.items session.root.addr
   pub cached : StandsOver image.readable session.cache

@@ -7,6 +7,8 @@ pub mod Causes
 pub mod Changes
 pub mod Keys
 pub mod Ready
+pub mod Damage
 pub mod Replies
 pub mod Certifying
+pub mod Finishing
 pub mod Publishing

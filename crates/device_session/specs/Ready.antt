@@ -1,5 +1,5 @@
 -- What is at hand for an update of a session's tree.
-use Rattle.std.specs.Prelude.{ℕ, Bool, List, IsTrue}
+use Rattle.std.specs.Prelude.{ℕ, ◌+◌, Bool, List, IsTrue, cond}
 use Rattle.std.specs.Bool.{OnTrue, OnFalse}
 use Rattle.page_store.specs.Tree.{Mapped}
 use Rattle.btree_update.specs.declared.groves.Grove.{Grove}
@@ -11,3 +11,7 @@ pub record IsReadyFor (pages : List (List ℕ)) (block : ℕ) (grove : Grove) (i
   pub way : IsReadFrom pages block grove
   pub beside : IsTrue is_mapped → IsReadBeside pages block grove
   pub mapped : (mapped : List Mapped) → GroveMaps pages grove mapped → OnTrue is_mapped (HasBlock block mapped) × OnFalse is_mapped (LacksBlock block mapped)
+
+-- how many blocks are mapped with one that was mapped, or wasn't
+abbrev pub counted_with : Bool → ℕ → ℕ
+counted_with is_mapped mapped = cond is_mapped mapped (mapped + 1)

@@ -1,18 +1,24 @@
-ghost use Rattle.std.specs.Prelude.{◌≡◌, ◌≢◌, ◌<◌, ◌≤◌, ◌+◌, ◌-◌, Some, true, false, IfOk, OnOk, IsOk};
-ghost use Rattle.root_codec.specs.RootRecord.{root_bytes};
-ghost use Rattle.btree_walk.specs.Sights.{StandsOver};
+ghost use Rattle.std.specs.Prelude.{◌≡◌, ◌<◌, ◌≤◌, ◌-◌, Some, true, false, All, Contains, IfOk, OnOk, IfErr, IsOk};
+ghost use Rattle.sdbt_base.specs.Faults.{Rose};
+ghost use Rattle.platform.specs.Image.{with_cell};
+ghost use Rattle.platform.specs.History.{Turns, CellStays};
+ghost use Rattle.root_codec.specs.RootRecord.{FitsRoot, root_bytes};
+ghost use Rattle.shadow_commit.specs.Finishing.{Swaps};
+ghost use Rattle.device_session.specs.Finishing.{PutsLine, IsPublishCause, LacksNodes, TakesUp};
 ghost use Rattle.device_session.specs.Publishing.{Commits, HasRaised};
 
 use crate::refusals::{CommitFault, CommitReply};
 use crate::session::Session;
 use btree_update::Grove;
+use node_cache::NodeCache;
 use platform::Platform;
 use root_codec::Root;
 use sdbt_base::{Sink, Tape};
-use shadow_commit::{CommitRefusal, prepare};
+use shadow_commit::{CommitRefusal, Prepared, prepare};
 
 impl Session {
     ghost use Rattle.device_session.specs.Open.{IsOpen, number_of, root_of, is_touched, needed_by};
+    ghost use Rattle.device_session.specs.Damage.{Follows};
 
     /// Makes the session's changes the device's: the changed nodes on new pages, their certificate, and then the root record that
     /// names the new tree.
@@ -36,9 +42,9 @@ impl Session {
         ensures raised { is_touched self.old ≡ true → needed_by self.old ≤ P.capacity platform.old - P.head platform.old
             → IfOk result (HasRaised P.Platform T.Tape platform.old platform.new tape.old tape.new self.old self.new) }
         ensures commits { Commits P.Platform T.Tape L.Sink platform.old platform.new tape.old tape.new ledger.old ledger.new self.old self.new result }
-        // On any image: what the cache keeps is of the pages still, and a session on the root record in the cell stays on it.
+        // On any image: the session follows the pages still, and one on the root record in the cell stays on it.
         ensures mounted { P.tells → OnOk result (
-            (StandsOver (P.history platform.old).present.readable self.old.cache → StandsOver (P.history platform.new).present.readable self.new.cache)
+            (Follows self.old (P.history platform.old).present → Follows self.new (P.history platform.new).present)
             × ((P.history platform.old).present.cell ≡ Some (root_bytes (root_of self.old))
             → (P.history platform.new).present.cell ≡ Some (root_bytes (root_of self.new)))) }
     {
@@ -63,26 +69,65 @@ impl Session {
             Err(CommitRefusal::TapeFault) => return Err(CommitFault::TapeFault),
             Err(CommitRefusal::PlatformFault) => return Err(CommitFault::PlatformFault),
         };
-        let Ok(()) = ledger.put(prepared.line()) else {
-            prepared.abandon();
-            return Err(CommitFault::LedgerFault);
-        };
-        let Ok(root) = prepared.finish(platform) else {
-            return Err(CommitFault::PlatformFault);
+        let root = match publish(platform, ledger, prepared) {
+            Ok(root) => root,
+            Err(fault) => return Err(fault),
         };
         let number = root.commit;
         self.take_up(root);
         Ok(CommitReply::Committed { number })
     }
 
-    /// Goes on with the tree of a root record that was just put into the cell: no node is in memory then, and none that is gone in the cache.
-    fn take_up(&mut self, root: Root) {
-        for addr in self.grove.gone() {
-            self.cache.forget(*addr);
-        }
+    /// Goes on with the tree of a root record that was just put into the cell: no node is in memory then, and none that is gone in
+    /// the cache.
+    fn take_up(&mut self, root: Root)
+        requires { FitsRoot root }
+        ensures { TakesUp self.old root self.new }
+    {
+        forget(&mut self.cache, self.grove.gone());
         self.grove = Grove::of(self.alloc, &root);
         self.root = root;
         self.is_touched = false;
         self.buffers.wipe();
+    }
+}
+
+/// Leaves no node in a cache that is kept for one of these addresses.
+fn forget(cache: &mut NodeCache, gone: &[u64])
+    ensures kept { All (Contains cache.old.kept) cache.new.kept }
+    ensures forgot { LacksNodes gone.now cache.new.kept }
+{
+    for addr in gone {
+        cache.forget(*addr);
+    }
+}
+
+/// Puts the line of a commit's certificate to the ledger and then replaces the root record. The cell is as it was until that one
+/// step, before which the line was put whole.
+fn publish<P: Platform, L: Sink>(
+    platform: &mut P,
+    ledger: &mut L,
+    prepared: Prepared,
+) -> Result<Root, CommitFault>
+    requires { FitsRoot prepared.root }
+    ensures root { IfOk result (λ root. root ≡ prepared.root) }
+    ensures swapped { P.tells → OnOk result ((P.history platform.new).present
+        ≡ with_cell (P.history platform.old).present (Some (root_bytes prepared.root))) }
+    ensures time { P.tells → Turns (P.history platform.old) (P.history platform.new) (λ image. image.cell ≡ (P.history platform.old).present.cell)
+        (λ image. image ≡ with_cell (P.history platform.old).present (Some (root_bytes prepared.root))) }
+    ensures put { PutsLine P.tells (L.written ledger.old) (L.written ledger.new) (P.history platform.old) (P.history platform.new)
+        prepared.line prepared.root (IsOk result) }
+    ensures beside { Swaps P.Platform platform.old platform.new }
+    ensures count { L.faults ledger.old ≤ L.faults ledger.new }
+    ensures cause { IfErr result (IsPublishCause (Rose (P.faults platform.old) (P.faults platform.new))
+        (Rose (L.faults ledger.old) (L.faults ledger.new) × (P.tells → CellStays (P.history platform.old) (P.history platform.new)))) }
+{
+    let Ok(()) = ledger.put(prepared.line()) else {
+        prepared.abandon();
+        return Err(CommitFault::LedgerFault);
+    };
+    match prepared.finish(platform) {
+        Ok(root) => Ok(root),
+        Err(_) => Err(CommitFault::PlatformFault),
     }
 }

@@ -2,6 +2,7 @@
 #![tactic(auto)]
 
 mod committing;
+mod laws;
 mod reading;
 mod readying;
 mod refusals;
@@ -9,6 +10,7 @@ mod session;
 mod trimming;
 mod writing;
 
+pub use laws::{changes_need_pages, stands_under_session};
 pub use refusals::{
     CommitFault, CommitReply, MountRefusal, ReadRefusal, TrimRefusal, WriteRefusal,
 };

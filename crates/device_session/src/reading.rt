@@ -4,6 +4,7 @@ ghost use Rattle.sdbt_base.specs.Arrays.{Device, Blocks};
 ghost use Rattle.platform.specs.Calls.{Looks};
 ghost use Rattle.node_codec.specs.Record.{Record, DataRecord};
 ghost use Rattle.page_store.specs.Places.{NothingFits, FitsAt, block_want};
+ghost use Rattle.page_store.specs.Tree.{Wrong};
 ghost use Rattle.btree_walk.specs.Sights.{StandsOver};
 ghost use Rattle.device_session.specs.Causes.{IsReadCause};
 
@@ -14,8 +15,9 @@ use page_store::{Buffers, FetchRefusal, Want, fetch_block};
 use platform::Platform;
 
 impl Session {
-    ghost use Rattle.device_session.specs.Open.{IsOpen, blocks_of};
+    ghost use Rattle.device_session.specs.Open.{IsOpen, blocks_of, root_of};
     ghost use Rattle.device_session.specs.Holds.{Holds};
+    ghost use Rattle.device_session.specs.Damage.{Follows};
     ghost use Rattle.device_session.specs.Reading.{ReadsArray, FindsContent, IsFirstMisfit};
 
     /// Puts the content of a block into the 4,096 bytes of `out`: zeros where it is not mapped.
@@ -33,9 +35,12 @@ impl Session {
         requires open { IsOpen self.old (P.head platform.old) }
         ensures array { P.tells → (device : Device) (contents : Blocks) → Holds self.old (P.history platform.old).present device contents
             → Holds self.new (P.history platform.new).present device contents × ReadsArray contents block out.new result }
-        ensures cached { P.tells → StandsOver (P.history platform.old).present.readable self.old.cache → StandsOver (P.history platform.new).present.readable self.new.cache }
-        // On any pages: the content is what the tree and the block's data record say, and what is named is the first record that doesn't
-        // fit. No count is asked.
+        // On any pages: what is named is a place of the root's tree that doesn't fit.
+        ensures follows { P.tells → Follows self.old (P.history platform.old).present → Follows self.new (P.history platform.new).present }
+        ensures damaged { P.tells → Follows self.old (P.history platform.old).present → (addr : ℕ)
+            → IsErrOf result (ReadRefusal.BadRecord addr) → Wrong (P.history platform.old).present.readable (root_of self.old) addr }
+        // The content is what the tree and the block's data record say, and what is named is the first record that doesn't fit. No count is
+        // asked.
         ensures finds { P.tells → StandsOver (P.history platform.old).present.readable self.old.cache
             → OnOk result (FindsContent (P.history platform.old).present.readable self.old.grove block out.new) }
         ensures misfit { P.tells → StandsOver (P.history platform.old).present.readable self.old.cache → (addr : ℕ)

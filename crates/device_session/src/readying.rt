@@ -17,6 +17,7 @@ impl Session {
     ghost use Rattle.device_session.specs.Open.{IsOpen, blocks_of, is_touched};
     ghost use Rattle.device_session.specs.Holds.{Holds};
     ghost use Rattle.device_session.specs.Keys.{HoldsListed};
+    ghost use Rattle.device_session.specs.Damage.{Follows, IsFound};
 
     /// Brings into memory, beside the tree, what an update of a block may need, and answers whether the block is mapped. The
     /// array is the same. `BadRecord` never comes on a sound device; on a forged one it names a node on the way to the block, or
@@ -35,9 +36,13 @@ impl Session {
         ensures listed { P.tells → (keys : List (List ℕ)) → HoldsListed self.old (P.history platform.old).present keys
             → HoldsListed self.new (P.history platform.new).present keys }
         ensures cached { P.tells → StandsOver (P.history platform.old).present.readable self.old.cache → StandsOver (P.history platform.new).present.readable self.new.cache }
+        ensures follows { P.tells → Follows self.old (P.history platform.old).present → Follows self.new (P.history platform.new).present }
         ensures can { IfOk result (λ mapped. CanInsert block self.new.grove × (IsTrue mapped → CanRemove block self.new.grove)) }
         ensures ready { P.tells → StandsOver (P.history platform.old).present.readable self.old.cache
             → IfOk result (IsReadyFor (P.history platform.new).present.readable block self.new.grove) }
+        // The answer is what a look-up finds.
+        ensures found { P.tells → StandsOver (P.history platform.old).present.readable self.old.cache
+            → IfOk result (λ mapped. IsFound mapped (P.history platform.old).present.readable self.old block) }
         ensures bad { P.tells → StandsOver (P.history platform.old).present.readable self.old.cache → (addr : ℕ) → IsErrOf result (ReadyRefusal.BadRecord addr)
             → IsWrongOnWay (P.history platform.old).present.readable block self.old.grove addr }
         ensures looks { Looks P.Platform (2 * self.old.grove.level) platform.old platform.new }

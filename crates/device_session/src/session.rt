@@ -5,7 +5,6 @@ ghost use Rattle.platform.specs.Calls.{Looks};
 ghost use Rattle.root_codec.specs.RootRecord.{root_bytes};
 ghost use Rattle.page_store.specs.Buffer.{IsBlank};
 ghost use Rattle.page_store.specs.Stands.{Stands};
-ghost use Rattle.btree_walk.specs.Sights.{StandsOver};
 ghost use Rattle.device_session.specs.Causes.{IsMountCause};
 
 use crate::refusals::MountRefusal;
@@ -56,6 +55,7 @@ impl Model for Session {
 impl Session {
     ghost use Rattle.device_session.specs.Open.{IsOpen, AreDataPages, blocks_of, number_of, is_touched};
     ghost use Rattle.device_session.specs.Holds.{Holds};
+    ghost use Rattle.device_session.specs.Damage.{Follows};
 
     /// Opens a session on the device. It reads no page.
     ///
@@ -71,7 +71,7 @@ impl Session {
         ensures open { IfOk result (λ session. IsOpen session (P.head platform.new) × (is_touched session ≡ false) × AreDataPages session []) }
         ensures holds { P.tells → (device : Device) → Stands (P.history platform.old).present (Some device)
             → IfOk result (λ session. Holds session (P.history platform.new).present device device.contents) }
-        ensures cached { P.tells → IfOk result (λ session. StandsOver (P.history platform.new).present.readable session.cache) }
+        ensures follows { P.tells → IfOk result (λ session. Follows session (P.history platform.new).present) }
         ensures found { P.tells → IfOk result (λ session. (P.history platform.old).present.cell ≡ Some (root_bytes session.root)) }
         ensures refused { P.tells → IfErr result (λ refusal. IsMountCause (P.history platform.old).present.cell (P.head platform.old) refusal) }
         ensures looks { Looks P.Platform platform.old platform.new }

@@ -1,50 +1,116 @@
-//! A session over a device that another one wrote: reading, trimming, and its refusals.
-use crate::Session;
-use device_core::{MountRefusal, ReadRefusal, Session as Writer, TrimRefusal, format};
-use platform::MemPlatform;
-use sdbt_base::{BLOCK, ListTape, MemSink};
+//! A session on a small device: what it reads, writes, trims and commits, and what it refuses.
+use crate::{CommitReply, MountRefusal, ReadRefusal, Session, TrimRefusal, WriteRefusal};
+use page_store::Buffers;
+use platform::{MemPlatform, Platform};
+use root_codec::{Root, encode_root};
+use sdbt_base::{BLOCK, ListTape, MemSink, ROOT};
 use std::alloc::Global;
 use std::test::Fail;
 
-/// Maps block 3 by a session of one leaf, and commits; none where anything is refused.
-fn written(
+/// Makes a device of 64 blocks of order 4, none of them mapped, on a blank medium; none where anything is refused.
+fn made(alloc: Global, platform: &mut MemPlatform, tape: &mut ListTape) -> Option<()> {
+    let mut buffers = Buffers::new(alloc).ok()?;
+    if platform.head() != 0 || platform.capacity() == 0 {
+        return None;
+    }
+    buffers.put_node(0, 1, &[]);
+    let placed = buffers.append(platform, tape).ok()?;
+    platform.sync().ok()?;
+    let root = Root {
+        order: 4,
+        level: 1,
+        blocks: 64,
+        commit: 0,
+        addr: 0,
+        key: placed.key,
+        mapped: 0,
+        head: 1,
+    };
+    let mut bytes = [0; ROOT];
+    encode_root(&root, &mut bytes);
+    platform.swap_root(&bytes).ok()
+}
+
+/// Writes these blocks, each with its number as its one byte, and commits; none where anything is refused.
+fn filled(
     alloc: Global,
     platform: &mut MemPlatform,
     tape: &mut ListTape,
     ledger: &mut MemSink,
-    content: &[u8],
-) -> Option<()> {
-    if content.len() > BLOCK {
-        return None;
+    blocks: &[u8],
+) -> Option<CommitReply> {
+    let mut session = Session::mount(alloc, platform, 4).ok()?;
+    for block in blocks {
+        session.write(platform, tape, u64::from(*block), &[*block]).ok()?;
     }
-    let mut writer = Writer::mount(alloc, platform, 0).ok()?;
-    writer.write(platform, tape, 3, content).ok()?;
-    writer.commit(platform, tape, ledger).ok()?;
-    Some(())
+    session.commit(platform, tape, ledger).ok()
+}
+
+/// The first byte of a block, by a session that is opened anew.
+fn look(alloc: Global, platform: &mut MemPlatform, block: u64) -> Option<u8> {
+    let mut session = Session::mount(alloc, platform, 4).ok()?;
+    let mut content = [7; BLOCK];
+    session.read(platform, block, &mut content).ok()?;
+    Some(content[0])
 }
 
 #[test]
-fn reads_and_trims(rt: HostRuntime) -> Result<(), Fail> {
-    let mut platform = MemPlatform::blank(rt.alloc(), 6);
+fn changes_are_the_devices_with_a_commit(rt: HostRuntime) -> Result<(), Fail> {
+    let mut platform = MemPlatform::blank(rt.alloc(), 13);
     let absent = Session::mount(rt.alloc(), &mut platform, 4).err();
     assert!(rt; absent == Some(MountRefusal::NoDevice));
+    let mut keys = [[0; 32]; 13];
+    for (number, key) in keys.iter_mut().enumerate() {
+        key[0] = number as u8;
+    }
+    let mut tape = ListTape::new(rt.alloc(), &keys, &[])?;
+    let mut ledger = MemSink::new(rt.alloc(), &[])?;
+    made(rt.alloc(), &mut platform, &mut tape).ok_or("no device")?;
+    // Five blocks are two leaves below a root.
+    let blocks = [1, 2, 3, 4, 5];
+    let reply = filled(rt.alloc(), &mut platform, &mut tape, &mut ledger, &blocks);
+    assert!(rt; reply == Some(CommitReply::Committed { number: 1 }));
+    assert!(rt; platform.head() == 9);
+    for block in blocks {
+        assert!(rt; look(rt.alloc(), &mut platform, u64::from(block)) == Some(block));
+    }
+    assert!(rt; look(rt.alloc(), &mut platform, 6) == Some(0));
+
+    let mut session = Session::mount(rt.alloc(), &mut platform, 4)?;
+    assert!(rt; (session.number(), session.mapped(), session.blocks()) == (1, 5, 64));
+    let mut content = [7; BLOCK];
+    assert!(rt; session.read(&mut platform, 64, &mut content) == Err(ReadRefusal::Range));
+    assert!(rt; session.trim(&mut platform, 64) == Err(TrimRefusal::Range));
+    let outside = session.write(&mut platform, &mut tape, 64, b"a");
+    assert!(rt; outside == Err(WriteRefusal::Range));
+    session.trim(&mut platform, 6)?;
+    let idle = session.commit(&mut platform, &mut tape, &mut ledger)?;
+    assert!(rt; idle == CommitReply::Committed { number: 1 });
+    // Without block 5 its leaf and the root are new.
+    session.trim(&mut platform, 5)?;
+    assert!(rt; session.mapped() == 4);
+    let reply = session.commit(&mut platform, &mut tape, &mut ledger)?;
+    assert!(rt; reply == CommitReply::Committed { number: 2 });
+    assert!(rt; platform.head() == 11);
+    session.read(&mut platform, 5, &mut content)?;
+    assert!(rt; content[0] == 0);
+    session.wipe();
+    Ok(())
+}
+
+#[test]
+fn a_full_medium_is_told(rt: HostRuntime) -> Result<(), Fail> {
+    let mut platform = MemPlatform::blank(rt.alloc(), 2);
     let keys = [[1; 32], [2; 32], [3; 32]];
     let mut tape = ListTape::new(rt.alloc(), &keys, &[])?;
     let mut ledger = MemSink::new(rt.alloc(), &[])?;
-    format(rt.alloc(), &mut platform, &mut tape, &mut ledger, 8, 64)?;
-    let done = written(rt.alloc(), &mut platform, &mut tape, &mut ledger, b"hi");
-    assert!(rt; done.is_some());
-    let mut session = Session::mount(rt.alloc(), &mut platform, 4)?;
-    assert!(rt; (session.number(), session.mapped(), session.blocks()) == (1, 1, 8));
-    let mut content = [7; BLOCK];
-    session.read(&mut platform, 3, &mut content)?;
-    assert!(rt; (content[0], content[1], content[2]) == (104, 105, 0));
-    assert!(rt; session.read(&mut platform, 8, &mut content) == Err(ReadRefusal::Range));
-    assert!(rt; session.trim(&mut platform, 8) == Err(TrimRefusal::Range));
-    session.trim(&mut platform, 4)?;
-    session.trim(&mut platform, 3)?;
-    assert!(rt; session.mapped() == 0);
-    session.read(&mut platform, 3, &mut content)?;
-    assert!(rt; (content[0], content[1], content[2]) == (0, 0, 0));
+    made(rt.alloc(), &mut platform, &mut tape).ok_or("no device")?;
+    let mut session = Session::mount(rt.alloc(), &mut platform, 0)?;
+    session.write(&mut platform, &mut tape, 3, b"a")?;
+    let second = session.write(&mut platform, &mut tape, 4, b"b");
+    assert!(rt; second == Err(WriteRefusal::Full));
+    let reply = session.commit(&mut platform, &mut tape, &mut ledger)?;
+    assert!(rt; reply == CommitReply::Full { needed: 1, free: 0 });
+    assert!(rt; session.mapped() == 1);
     Ok(())
 }

@@ -1,4 +1,4 @@
-ghost use Rattle.std.specs.Prelude.{◌≡◌, ◌⊎◌, ◌<◌, ◌≤◌, ◌+◌, ◌++◌, ◌∷◌, [], ℕ, List, true, All, IsTrue, OnOk, OnErr, IfErr, length};
+ghost use Rattle.std.specs.Prelude.{◌≡◌, ◌⊎◌, ◌<◌, ◌≤◌, ◌+◌, ◌++◌, ◌∷◌, [], ℕ, List, true, false, All, IsTrue, OnOk, OnErr, IfErr, IsOk, IsErrOf, length};
 ghost use Rattle.std.specs.Bool.{OnFalse};
 ghost use Rattle.sdbt_base.specs.Faults.{Rose};
 ghost use Rattle.sdbt_base.specs.Arrays.{padded, Device, Blocks};
@@ -10,7 +10,7 @@ ghost use Rattle.btree_walk.specs.Sights.{StandsOver};
 ghost use Rattle.btree_update.specs.Groves.{CanInsert, CanRemove, places_of};
 ghost use Rattle.device_session.specs.Causes.{IsWriteCause, IsPutCause};
 ghost use Rattle.device_session.specs.Changes.{WritesArray, WriteAdds};
-ghost use Rattle.device_session.specs.Ready.{IsReadyFor};
+ghost use Rattle.device_session.specs.Ready.{IsReadyFor, counted_with};
 
 use crate::refusals::WriteRefusal;
 use crate::session::Session;
@@ -20,8 +20,9 @@ use platform::Platform;
 use sdbt_base::Tape;
 
 impl Session {
-    ghost use Rattle.device_session.specs.Open.{IsOpen, AreDataPages, blocks_of, is_touched, needed_by};
+    ghost use Rattle.device_session.specs.Open.{IsOpen, AreDataPages, blocks_of, root_of, is_touched, needed_by};
     ghost use Rattle.device_session.specs.Holds.{Holds};
+    ghost use Rattle.device_session.specs.Damage.{Follows, IsWriteDamage, IsDamaged, IsFound, IsAtLimit, HasRoom};
     ghost use Rattle.device_session.specs.Keys.{HoldsListed};
 
     /// Writes a block: at most 4,096 bytes, and zeros up to its end. It is the session's alone until a commit.
@@ -41,7 +42,13 @@ impl Session {
         requires open { IsOpen self.old (P.head platform.old) }
         ensures array { P.tells → (device : Device) (contents : Blocks) → Holds self.old (P.history platform.old).present device contents
             → WritesArray self.new (P.history platform.new).present device contents block (padded content.now) result }
-        ensures cached { P.tells → StandsOver (P.history platform.old).present.readable self.old.cache → StandsOver (P.history platform.new).present.readable self.new.cache }
+        // On any pages: what is named is a place of the root's tree that doesn't fit, or the root node, where the block isn't mapped and no
+        // more can be; and a block is written where it is mapped, or another one can be.
+        ensures follows { P.tells → Follows self.old (P.history platform.old).present → Follows self.new (P.history platform.new).present }
+        ensures damaged { P.tells → Follows self.old (P.history platform.old).present → (addr : ℕ) → IsErrOf result (WriteRefusal.BadRecord addr)
+            → IsWriteDamage (P.history platform.old).present.readable self.old block addr × IsDamaged (P.history platform.new).present.readable (root_of self.old) addr }
+        ensures counter { P.tells → StandsOver (P.history platform.old).present.readable self.old.cache → IsOk result ⊎ IsErrOf result WriteRefusal.TapeFault
+            → IsFound true (P.history platform.old).present.readable self.old block ⊎ HasRoom self.old }
         ensures open { IsOpen self.new (P.head platform.new) }
         ensures same { (self.new.root ≡ self.old.root) × OnOk result (is_touched self.new ≡ true) × OnErr result (is_touched self.new ≡ is_touched self.old) }
         // Each moment keeps the keys that the image kept before, with the one that was drawn.
@@ -80,8 +87,8 @@ impl Session {
 
     /// Whether no block more can be mapped: there are as many as the device has, or the tree has as many levels as it may.
     fn is_at_limit(&self) -> bool
-        ensures full { IsTrue result → (blocks_of self.now ≤ self.now.mapped) ⊎ (20 ≤ self.now.grove.level) }
-        ensures room { OnFalse result ((self.now.mapped < blocks_of self.now) × (self.now.grove.level < 20)) }
+        ensures full { IsTrue result → IsAtLimit self.now }
+        ensures room { OnFalse result (HasRoom self.now) }
     {
         self.mapped >= self.root.blocks || self.grove.level() >= 20
     }
@@ -99,11 +106,12 @@ impl Session {
         requires open { IsOpen self.old (P.head platform.old) }
         requires room { (block < blocks_of self.old) × (P.head platform.old < P.capacity platform.old) }
         requires can { CanInsert block self.old.grove × (IsTrue is_mapped → CanRemove block self.old.grove) }
-        requires limit { OnFalse is_mapped ((self.old.mapped < blocks_of self.old) × (self.old.grove.level < 20)) }
+        requires limit { OnFalse is_mapped (HasRoom self.old) }
         ensures array { P.tells → (device : Device) (contents : Blocks) → Holds self.old (P.history platform.old).present device contents
             → IsReadyFor (P.history platform.old).present.readable block self.old.grove is_mapped
             → WritesArray self.new (P.history platform.new).present device contents block (padded content.now) result }
-        ensures cached { P.tells → StandsOver (P.history platform.old).present.readable self.old.cache → StandsOver (P.history platform.new).present.readable self.new.cache }
+        ensures follows { P.tells → Follows self.old (P.history platform.old).present
+            → IsReadyFor (P.history platform.old).present.readable block self.old.grove is_mapped → Follows self.new (P.history platform.new).present }
         ensures open { IsOpen self.new (P.head platform.new) }
         ensures same { (self.new.root ≡ self.old.root) × OnOk result (is_touched self.new ≡ true) × OnErr result (is_touched self.new ≡ is_touched self.old) }
         ensures keeps { KeepsKeys P.tells (T.drawn tape.old) (T.drawn tape.new) (P.history platform.old) (P.history platform.new)
@@ -128,12 +136,18 @@ impl Session {
             Err(AppendFault::PlatformFault) => return Err(WriteRefusal::PlatformFault),
         };
         self.grove.insert(block, placed.addr, placed.key);
-        if !is_mapped {
-            self.mapped += 1;
-        }
+        self.mapped = count_with(self.mapped, is_mapped);
         self.is_touched = true;
         Ok(())
     }
+}
+
+/// How many blocks are mapped with one that was mapped, or wasn't.
+fn count_with(mapped: u64, is_mapped: bool) -> u64
+    requires { OnFalse is_mapped (mapped < 1048576) }
+    ensures { result ≡ counted_with is_mapped mapped }
+{
+    if is_mapped { mapped } else { mapped + 1 }
 }
 
 /// A fact: each is below 256.

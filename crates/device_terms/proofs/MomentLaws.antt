@@ -40,6 +40,16 @@ published old mid new bytes root first cell synced second either is =
       | inr swapped ↦ inr (swapped ∙ ap (λ (i : Image). with_cell i (Some bytes)) synced ∙ ap (λ (b : List ℕ). with_cell (all_synced old.present) (Some b)) is)
     ])
 
+-- one step that may replace the root record
+pub swapped : (old new : History) (X : Image) → Steps old new → IsEither old.present X new.present → Turns old new (λ image. image.cell ≡ old.present.cell) (λ image. image ≡ X)
+swapped old new X steps either =
+    let Q : Image → Type 0 = λ image. image ≡ X in
+    Turns-either old old new (HasCell old.present.cell) Q (still old) steps
+    (elim either as (λ e. (new.present.cell ≡ old.present.cell) ⊎ Q new.present) [
+      | inl same ↦ inl (ap (λ (i : Image). i.cell) same)
+      | inr is ↦ inr is
+    ])
+
 -- the turn doesn't come
 pub not_published : (old new : History) (X : Image) → During old new (λ image. image.cell ≡ old.present.cell) → Turns old new (λ image. image.cell ≡ old.present.cell) (λ image. image ≡ X)
 not_published old new X during = Turns-not old new (HasCell old.present.cell) (λ image. image ≡ X) during

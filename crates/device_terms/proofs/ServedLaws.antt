@@ -1,6 +1,6 @@
 -- That a cell which can be served is one at each moment, whatever a call makes of it.
 use Rattle.std.proofs.Common.{◌≡◌, inl, inr, ℕ, ◌≤◌, List, Option, Some, None, length, refl, sym, subst, arith}
-use Rattle.platform.specs.Image.{Image, IsEither, with_cell, all_synced}
+use Rattle.platform.specs.Image.{Image, IsEither, with_cell}
 use Rattle.platform.specs.History.{History, Steps, During, Turns, image_at}
 use Rattle.platform.proofs.Moments.{Extends-since, During-call, During-now, During-turns}
 use Rattle.root_codec.specs.declared.root.Root.{Root}
@@ -12,7 +12,7 @@ use Rattle.device_terms.proofs.MomentLaws.{HasCell}
 served_more : (cell : Option (List ℕ)) (pages more : ℕ) → pages ≤ more → IsServedCell cell pages → IsServedCell cell more
 served_more None pages more later served = tt
 served_more (Some bytes) pages more later (root, served, is) =
-    (root, record { in_range = served.in_range; key = served.key; within = omega (arith, served.within) }, is)
+    (root, record { in_range = served.in_range; key = served.key; within = omega (arith, served.within, later) }, is)
 
 -- the same cell, with as many pages or more
 served_later : (image later : Image) → later.cell ≡ image.cell → length image.recorded ≤ length later.recorded → IsServedImage image → IsServedImage later
@@ -48,5 +48,5 @@ serves_cleared old mid new during steps either served =
     ])
 
 -- the image that a root record makes which can be served over so many pages
-pub served_published : (mid : Image) (root : Root) (pages : ℕ) → length mid.recorded ≡ pages → IsRootWithin pages root → IsServedImage (with_cell (all_synced mid) (Some (root_bytes root)))
+pub served_published : (mid : Image) (root : Root) (pages : ℕ) → length mid.recorded ≡ pages → IsRootWithin pages root → IsServedImage (with_cell mid (Some (root_bytes root)))
 served_published mid root pages are served = (root, subst (λ (n : ℕ). IsRootWithin n root) (sym are) served, refl)

@@ -20,7 +20,8 @@ use Rattle.btree_twigs.specs.Stubs.{Stub}
 use Rattle.btree_walk.proofs.OrderLaws.{subtree_up_to}
 use Rattle.btree_update.specs.declared.groves.Grove.{Grove}
 use Rattle.btree_update.specs.Groves.{places_of}
-use Rattle.grove_accounts.specs.Below.{want_in, HaveParts}
+use Rattle.btree_update.specs.GroveTree.{want_in}
+use Rattle.grove_accounts.specs.Below.{HaveParts}
 use Rattle.grove_accounts.specs.Accounts.{Accounts, IsOwn, LacksAddress, HasAddress}
 use Rattle.grove_accounts.specs.Holding.{HoldsTree}
 use Rattle.grove_accounts.specs.Certs.{told, told_stub, page_at, IsOwnStub, AreWritten, AddsNodes, IsSealedTree}

@@ -22,12 +22,12 @@ use Rattle.btree_twigs.proofs.Finds.{kept_stub}
 use Rattle.btree_twigs.specs.Updates.{IsOpen}
 use Rattle.btree_update.specs.Opens.{Opens}
 use Rattle.btree_update.specs.declared.groves.Grove.{Grove}
-use Rattle.btree_update.specs.GroveTree.{Maps, want_at}
+use Rattle.btree_update.specs.GroveTree.{Maps, want_at, least_at, want_in}
 use Rattle.btree_update.specs.Maps.{MapPuts, MapTakes}
 use Rattle.btree_update.specs.Groves.{IsSound, IsAddressOf, KeepsTree, LetsGo, places_of}
 use Rattle.btree_update.proofs.Places.{in_maps}
 use Rattle.btree_update.proofs.GroveLaws.{above_it}
-use Rattle.grove_accounts.specs.Below.{least_at, want_in, HaveParts, GroveHas}
+use Rattle.grove_accounts.specs.Below.{HaveParts, GroveHas}
 use Rattle.grove_accounts.specs.Accounts.{Accounts, IsOwn}
 use Rattle.grove_accounts.specs.Holding.{IsAccounted, HoldsTree, Arrives, Turns, IsSameSize, IsTreeOf, root_stub, data_place}
 use Rattle.grove_accounts.proofs.ListLaws.{AreApart, past, same_order, all_left, all_right, each_left, each_right, each_append, each_weaker, apart_permutation, apart_right}
@@ -46,30 +46,13 @@ tree_place root grove of =
     ap (λ n. stubs n grove.blocks grove.top) one ∙ ap (λ c. stubs (suc (grove.level - 1)) grove.blocks c) of.top ∙ kept_stub (grove.level - 1) grove.blocks 0 root.addr root.key
     ∙ (λ i. record { level = level i; low = 0; high = blocks i; addr = root.addr; key = root.key } ∷ [])
 
--- where the image stands, the tree of its root record, with no node in memory, is what the record says
-pub holds_start : (image : Image) (device : Device) (root : Root) (parts : Parts) (grove : Grove) → StandsBy image device root parts → image.synced ≤ length image.recorded → IsTreeOf root grove → HoldsTree image root parts.places grove (parts ∷ [])
-holds_start image device root parts grove stands whole of =
-    let places = tree_place root grove of in
+-- what stands below its root
+pub tree_has : (pages : List (List ℕ)) (root : Root) (grove : Grove) (parts : Parts) → IsTreeOf root grove → Tree pages root parts → GroveHas pages grove (parts ∷ [])
+tree_has pages root grove parts of stands =
     let same : want_in grove.order grove.level (root_stub root) ≡ root_want root = want_same in
-    let tree = subst (λ w. Subtree image.readable root.order root.level w root.key parts) (sym same) stands.tree in
-    let has = subst (λ n. Subtree image.readable n root.level (want_in grove.order grove.level (root_stub root)) root.key parts) (sym of.order) tree in
-    let all = append-nil parts.places in
-    record {
-      sound = of.sound;
-      order = of.order;
-      blocks = of.blocks;
-      head = of.head;
-      within = stands.below;
-      has = subst (λ ss. HaveParts image.readable grove.order grove.level ss (parts ∷ [])) (sym places) (has, tt);
-      accounted = subst (λ ps. IsAccounted image root.head parts.places ps grove.gone.items grove.never.items) (sym all)
-          (subst (λ ns. IsAccounted image root.head parts.places parts.places ns grove.never.items) (sym of.none_gone) (subst (λ ns. IsAccounted image root.head parts.places parts.places [] ns) (sym of.none_never)
-          (record {
-            apart = stands.apart;
-            below = All-weaker (λ p. p.addr < root.head) (λ p. p.addr < length image.recorded) (λ p less. omega (arith, less, stands.head, whole)) parts.places stands.below;
-            recorded = stands.recorded;
-            accounts = accounts_start root.head (length image.recorded) parts.places;
-          })));
-    }
+    let tree = subst (λ w. Subtree pages root.order root.level w root.key parts) (sym same) stands in
+    let has = subst (λ n. Subtree pages n root.level (want_in grove.order grove.level (root_stub root)) root.key parts) (sym of.order) tree in
+    subst (λ ss. HaveParts pages grove.order grove.level ss (parts ∷ [])) (sym (tree_place root grove of)) (has, tt)
   where
     want_same : want_in grove.order grove.level (root_stub root) ≡ root_want root
     want_same =
@@ -79,6 +62,27 @@ holds_start image device root parts grove stands whole of =
       where
         least : least_at root.order root.level root.level ≡ (if root.level == 1 then 0 else 2)
         least = rw (eq-eqb root.level root.level refl) refl
+
+-- where the image stands, the tree of its root record, with no node in memory, is what the record says
+pub holds_start : (image : Image) (device : Device) (root : Root) (parts : Parts) (grove : Grove) → StandsBy image device root parts → image.synced ≤ length image.recorded → IsTreeOf root grove → HoldsTree image root parts.places grove (parts ∷ [])
+holds_start image device root parts grove stands whole of =
+    let all = append-nil parts.places in
+    record {
+      sound = of.sound;
+      order = of.order;
+      blocks = of.blocks;
+      head = of.head;
+      within = stands.below;
+      has = tree_has image.readable root grove parts of stands.tree;
+      accounted = subst (λ ps. IsAccounted image root.head parts.places ps grove.gone.items grove.never.items) (sym all)
+          (subst (λ ns. IsAccounted image root.head parts.places parts.places ns grove.never.items) (sym of.none_gone) (subst (λ ns. IsAccounted image root.head parts.places parts.places [] ns) (sym of.none_never)
+          (record {
+            apart = stands.apart;
+            below = All-weaker (λ p. p.addr < root.head) (λ p. p.addr < length image.recorded) (λ p less. omega (arith, less, stands.head, whole)) parts.places stands.below;
+            recorded = stands.recorded;
+            accounts = accounts_start root.head (length image.recorded) parts.places;
+          })));
+    }
 
 -- bringing into memory beside the tree what an update may need changes nothing
 pub holds_ready : (image : Image) (root : Root) (committed : List Place) (old new : Grove) (each : List Parts) → KeepsTree old new → IsSound new → HoldsTree image root committed old each → HoldsTree image root committed new each

@@ -5,3 +5,6 @@ pub mod PlaceLaws
 pub mod HoldingLaws
 pub mod CertLaws
 pub mod OwnLaws
+pub mod ReachLaws
+pub mod FollowLaws
+pub mod FollowingLaws

@@ -11,12 +11,12 @@ use Rattle.root_codec.specs.declared.root.Root.{Root}
 use Rattle.page_store.specs.Tree.{Parts, Place, Subtree, joined}
 use Rattle.btree_twigs.specs.Stubs.{Stub, Puts, Takes, datum}
 use Rattle.btree_update.specs.declared.groves.Grove.{Grove}
-use Rattle.btree_update.specs.GroveTree.{stubs_at}
+use Rattle.btree_update.specs.GroveTree.{stubs_at, want_in}
 use Rattle.btree_update.specs.Held.{stub_at, IsReadAs}
 use Rattle.btree_update.specs.Opens.{Opens, Same, Here, Within, Then}
 use Rattle.btree_update.specs.Groves.{LetsGo, places_of}
 use Rattle.btree_update.proofs.Readings.{read_same}
-use Rattle.grove_accounts.specs.Below.{want_in, HaveParts}
+use Rattle.grove_accounts.specs.Below.{HaveParts}
 use Rattle.grove_accounts.specs.Holding.{HoldsTree, Turns}
 use Rattle.grove_accounts.specs.Certs.{IsOwnStub, page_at, AreWritten}
 use Rattle.grove_accounts.proofs.ListLaws.{all_left, all_right, each_left, each_right, each_append}

@@ -2,7 +2,6 @@
 use Rattle.std.proofs.Common.{◌≡◌, ◌≢◌, ◌⊎◌, inl, inr, ℕ, zero, suc, ◌+◌, ◌/◌, ◌<◌, ◌≤◌, List, [], ◌∷◌, ◌++◌, All, map, length, refl, sym, ap, subst, ◌∙◌, arith, append_assoc, append-nil}
 use Rattle.std.specs.List.{AllByRecursion}
 use Rattle.std.specs.List.Sorted.{IsPermutation}
-use Rattle.std.proofs.lemmas.Bool.{ne_eqb}
 use Rattle.std.proofs.lemmas.List.{map-append}
 use Rattle.std.proofs.lemmas.List.Elements.{All-nil, All-cons, All-append}
 use Rattle.std.proofs.lemmas.List.Sorted.{IsPermutation-refl}
@@ -14,12 +13,13 @@ use Rattle.page_store.specs.Tree.{Parts, Place, Mapped, Subtree, EachChild, join
 use Rattle.page_store.proofs.RecordLaws.{one_record}
 use Rattle.btree_twigs.specs.declared.twigs.Twig.{Twig}
 use Rattle.btree_twigs.specs.Stubs.{Stub, stubs_below}
-use Rattle.btree_update.specs.GroveTree.{HasEach, want_at, stubs_at}
+use Rattle.btree_update.specs.GroveTree.{HasEach, want_at, stubs_at, want_in}
 use Rattle.btree_update.specs.Held.{stub_at, IsReadAs}
 use Rattle.btree_update.specs.Opens.{Opens, Same, Here, Within, Then}
 use Rattle.btree_update.proofs.Places.{entries_have}
 use Rattle.btree_update.proofs.Readings.{read_same}
-use Rattle.grove_accounts.specs.Below.{least_at, want_in, HaveParts}
+use Rattle.btree_update.proofs.ThereLaws.{least_below}
+use Rattle.grove_accounts.specs.Below.{HaveParts}
 use Rattle.grove_accounts.proofs.ListLaws.{same_order, out_of, out_twice, each_left, each_right, each_append}
 
 -- ---- neighbours
@@ -61,23 +61,20 @@ parts_append pages order top (x ∷ xs) ys (p ∷ ps) qs h k = (h.0, parts_appen
 
 -- ---- below the root
 
-below_top : (order top level : ℕ) → level < top → least_at order top level ≡ order / 2
-below_top order top level less = rw (ne_eqb level top (λ e. absurd (omega (arith, less, e)))) refl
-
 -- below places under the root's level stands what is wanted there
 pub parts_from : (pages : List (List ℕ)) (order top : ℕ) (ss : List Stub) (ps : List Parts) → AllByRecursion (λ s. s.level < top) ss → HasEach pages order ss ps → HaveParts pages order top ss ps
 parts_from pages order top [] [] low h = tt
 parts_from pages order top [] (p ∷ ps) low h = absurd h
 parts_from pages order top (s ∷ ss) [] low h = absurd h
 parts_from pages order top (s ∷ ss) (p ∷ ps) low h =
-    (subst (λ n. Subtree pages order s.level (want_at order s.level s.low s.high s.addr n) s.key p) (sym (below_top order top s.level low.0)) h.0, parts_from pages order top ss ps low.1 h.1)
+    (subst (λ n. Subtree pages order s.level (want_at order s.level s.low s.high s.addr n) s.key p) (sym (least_below order top s.level low.0)) h.0, parts_from pages order top ss ps low.1 h.1)
 
 pub parts_each : (pages : List (List ℕ)) (order top : ℕ) (ss : List Stub) (ps : List Parts) → AllByRecursion (λ s. s.level < top) ss → HaveParts pages order top ss ps → HasEach pages order ss ps
 parts_each pages order top [] [] low h = tt
 parts_each pages order top [] (p ∷ ps) low h = absurd h
 parts_each pages order top (s ∷ ss) [] low h = absurd h
 parts_each pages order top (s ∷ ss) (p ∷ ps) low h =
-    (subst (λ n. Subtree pages order s.level (want_at order s.level s.low s.high s.addr n) s.key p) (below_top order top s.level low.0) h.0, parts_each pages order top ss ps low.1 h.1)
+    (subst (λ n. Subtree pages order s.level (want_at order s.level s.low s.high s.addr n) s.key p) (least_below order top s.level low.0) h.0, parts_each pages order top ss ps low.1 h.1)
 
 -- ---- opened places
 

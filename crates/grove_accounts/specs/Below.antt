@@ -1,20 +1,11 @@
 -- What stands below the places on the medium of a tree that is partly in memory.
-use Rattle.std.specs.Prelude.{◌==◌, ◌/◌, ℕ, List, if◌then◌else◌}
+use Rattle.std.specs.Prelude.{ℕ, List}
 use Rattle.std.specs.List.{AllZip}
-use Rattle.page_store.specs.declared.wants.Want.{Want}
 use Rattle.page_store.specs.Tree.{Parts, Subtree}
 use Rattle.btree_twigs.specs.Stubs.{Stub}
 use Rattle.btree_update.specs.declared.groves.Grove.{Grove}
-use Rattle.btree_update.specs.GroveTree.{want_at}
+use Rattle.btree_update.specs.GroveTree.{want_in}
 use Rattle.btree_update.specs.Groves.{places_of}
-
--- how many children a node at a level has at least, below a root at another; a root's own node may have fewer
-abbrev pub least_at : ℕ → ℕ → ℕ → ℕ
-least_at order top level = if level == top then (if top == 1 then 0 else 2) else order / 2
-
--- what is wanted at a place
-abbrev pub want_in : ℕ → ℕ → Stub → Want
-want_in order top s = want_at order s.level s.low s.high s.addr (least_at order top s.level)
 
 -- at each of these places there is what is wanted, and it has these parts
 abbrev pub HaveParts : List (List ℕ) → ℕ → ℕ → List Stub → List Parts → Type 0

@@ -46,7 +46,7 @@ pub record Arrives (image later : Image) (block addr : ℕ) (key content : List 
 -- an update that was ready opened such places of the old tree, and made this of them
 abbrev pub Turns : List (List ℕ) → ℕ → (Stub → Type 0) → (List Stub → Type 0) → Grove → Grove → Type 0
 Turns pages block May Makes old new =
-    Goes pages old.order old.head block May Makes (places_of old) old.gone.items new.gone.items old.never.items new.never.items
+    Goes pages old.order old.level old.head block May Makes (places_of old) old.gone.items new.gone.items old.never.items new.never.items
 
 -- a tree of the same size
 pub record IsSameSize (old new : Grove) : Type 0 where

@@ -2,3 +2,4 @@ pub mod Below
 pub mod Accounts
 pub mod Holding
 pub mod Certs
+pub mod Followed

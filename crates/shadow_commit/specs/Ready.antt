@@ -133,3 +133,11 @@ IsPrepareCause P T platform platform_now tape tape_now grown (Err refused.TapeFa
     (grown ≤ P.capacity platform - P.head platform) × Rose (T.faults tape) (T.faults tape_now)
 IsPrepareCause P T platform platform_now tape tape_now grown (Err refused.PlatformFault) =
     (grown ≤ P.capacity platform - P.head platform) × Rose (P.faults platform) (P.faults platform_now)
+
+-- nothing was begun, for want of room or of memory
+abbrev pub IsUnbegun : Result Prepared CommitRefusal → Type 0
+IsUnbegun (Ok prepared) = ⊥
+IsUnbegun (Err (refused.Full needed free)) = Unit {0}
+IsUnbegun (Err refused.Memory) = Unit {0}
+IsUnbegun (Err refused.TapeFault) = ⊥
+IsUnbegun (Err refused.PlatformFault) = ⊥

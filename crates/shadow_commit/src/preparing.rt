@@ -5,7 +5,7 @@ ghost use Rattle.page_store.specs.Keeping.{KeepsKeys};
 ghost use Rattle.btree_twigs.specs.Stubs.{stubs, nodes};
 ghost use Rattle.btree_update.specs.Groves.{places_of, grown_in};
 ghost use Rattle.shadow_commit.specs.Handing.{OnlyAdds, KnowsPlaces, StopsFrom};
-ghost use Rattle.shadow_commit.specs.Ready.{CanPrepare, CanSealTop, IsSealed, IsReady, IsPrepareCause, ListsNewTree};
+ghost use Rattle.shadow_commit.specs.Ready.{CanPrepare, CanSealTop, IsSealed, IsReady, IsPrepareCause, IsUnbegun, ListsNewTree};
 
 use crate::certifying::certify;
 use crate::prepared::Prepared;
@@ -38,6 +38,7 @@ pub fn prepare<P: Platform, T: Tape>(
         root.now mapped grove.now) }
     ensures stops { IsErr result → StopsFrom (P.head platform.old) (places_of grove.now) P.tells (P.history platform.old).present (P.history platform.new).present (T.drawn tape.old) (T.drawn tape.new) }
     ensures cause { IsPrepareCause P.Platform T.Tape platform.old platform.new tape.old tape.new (grown_in grove.now) result }
+    ensures unbegun { IsUnbegun result → buffers.new ≡ buffers.old }
     ensures within { P.head platform.new ≤ P.head platform.old + grown_in grove.now }
     ensures keeps { KeepsKeys P.tells (T.drawn tape.old) (T.drawn tape.new) (P.history platform.old) (P.history platform.new)
         (KnowsPlaces (P.history platform.old).present (places_of grove.now)) (λ keys. IfOk result (λ prepared.

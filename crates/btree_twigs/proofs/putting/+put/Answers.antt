@@ -1,12 +1,12 @@
-use Rattle.std.proofs.Common.{◌≡◌, ℕ, suc, ◌<◌, ◌≤◌, ◌+◌, ◌-◌, ◌/◌, List, refl, length, take, drop, get_or, sym, subst, ◌∙◌, rules, arith}
+use Rattle.std.proofs.Common.{◌≡◌, ℕ, suc, ◌<◌, ◌≤◌, ◌+◌, ◌-◌, ◌/◌, List, refl, length, take, drop, get_or, sym, ap, subst, ◌∙◌, rules, arith}
 use Rattle.std.specs.List.{AllByRecursion}
 use Rattle.btree_twigs.specs.declared.twigs.Child.{Child}
 use Rattle.btree_twigs.specs.declared.twigs.Child.TheVariants as made
 use Rattle.btree_twigs.specs.declared.twigs.Child.{the_lemmas}
 use Rattle.btree_twigs.specs.declared.twigs.Twig.{Twig, out-Twig}
-use Rattle.btree_twigs.specs.Stubs.{datum, start_by, low_of, children_of}
-use Rattle.btree_twigs.specs.Updates.{IsPut, IsOpen, IsChildPut, CanPut, CanPutBelow, HasSpares}
-use Rattle.btree_twigs.proofs.Nodes.{stubs_of_grown, low_of_grown}
+use Rattle.btree_twigs.specs.Stubs.{datum, start_by, low_of, children_of, stubs, stubs_below}
+use Rattle.btree_twigs.specs.Updates.{IsNode, IsPut, IsOpen, IsChildPut, CanPut, CanPutBelow, HasSpares}
+use Rattle.btree_twigs.proofs.Nodes.{stubs_of_grown, low_of_grown, children_of_roll}
 use Rattle.btree_twigs.proofs.Ways.{IsWay, way, fewer, child_is_twig, open_is_grown, put_alone, put_two, set_on_way, insert_on_way, twig_put, leaf_put, child_put, child_cut}
 use Rattle.std.specs.Option.{option_to_list}
 use Rattle.std.specs.Vec.{with_item}
@@ -16,6 +16,8 @@ use Rattle.std.proofs.Common.{Option, None, Some}
 use Rattle.btree_twigs.specs.Stubs.{Stub}
 use Rattle.btree_twigs.specs.Levels.{IsRowPutBelow}
 use Rattle.btree_twigs.proofs.LevelLaws.{leaf_rows, row_alone, row_two, fits_child, cut_child}
+use Rattle.btree_twigs.specs.Search.{HasDatum}
+use Rattle.btree_twigs.proofs.Stays.{datum_below}
 use Rattle.btree_twigs.proofs.putting.+put.Goals as goal
 
 -- below a child in memory
@@ -265,3 +267,37 @@ put_below-returns-clause-levels t c medium m at =
     let q = cut_child medium c.args.order c.args.block at.level at.high c.in-Grown.low c.in-Grown.twig c.put.new.twig c.split.new.twig c.split.result open_at.from open_at.shaped.node.within (omega (arith, p.shaped.node.within))
     (e.levels medium m open_at) c.split.ensures.cut in
     rw (c.in-Grown.is, made.outs-Grown c.in-Grown.low c.in-Grown.twig) q
+
+pub put-returns-then-twig-eq1-clause-stays : goal.put-returns-then-twig-eq1-clause-stays
+put-returns-then-twig-eq1-clause-stays t c at has =
+    let zero_is : at.level ≡ 0 = omega (arith, at.shaped.level_is, c.if-twig-eq1.true) in
+    ap length (children_of_roll (record { level = (out-Twig c.args.twig.now).level; children = c.put_datum-old.new.children }))
+    ∙ c.put_datum-old.ensures.stays c.args.order at.least c.args.order at.low at.high
+    (subst (λ l. IsNode c.args.order l at.least c.args.order at.low at.high (children_of c.args.twig.now)) zero_is at.shaped.node) at.to
+    (subst (λ l. HasDatum c.args.block (stubs_below l at.high c.args.twig.now)) zero_is has)
+
+-- no child is cut
+never_both : (o : Option Child) (part : Child) → o ≡ None → o ≡ Some part → ⊥
+never_both o part none some = cc
+
+pub put-returns-in-Some-clause-stays : goal.put-returns-in-Some-clause-stays
+put-returns-in-Some-clause-stays t c at has =
+    let n = c.place-at.result in
+    let cs = children_of c.args.twig.now in
+    let child = c.index_mut-child.result.now in
+    let w = the_way c.args.order c.args.block n c.args.twig.now _ c.deref.result.now child at c.deref.ensures.value c.if-twig-eq1.false
+    c.place-at.ensures.within c.place-at.ensures.before c.place-at.ensures.after c.index_mut-child.ensures.value in
+    let there = datum_below c.args.order at.level at.least c.args.order at.low at.high c.args.block cs at.shaped.node w.at n child w.at_is w.within w.here w.from w.to has in
+    absurd (never_both c.put_below.result c.in-Some.part
+    (c.put_below.ensures.stays (below_way c.args.order c.args.block n c.args.twig.now _ child at w)
+    (subst (λ l. HasDatum c.args.block (stubs l (start_by low_of (drop n cs) at.high) child)) w.level_is there))
+    c.in-Some.is)
+
+pub put_below-returns-clause-stays : goal.put_below-returns-clause-stays
+put_below-returns-clause-stays t c at has =
+    let grown = subst (CanPutBelow c.args.order c.args.block c.args.spares.now.items) c.in-Grown.is at in
+    let open_at = below_grown c.args.order c.args.block c.in-Grown.low _ c.in-Grown.twig grown in
+    let e = rw (c.in-Grown.is, made.outs-Grown c.in-Grown.low c.in-Grown.twig) at c.put.ensures in
+    let there = subst (λ x. HasDatum c.args.block (stubs (suc at.level) at.high x)) c.in-Grown.is has in
+    let same = e.stays open_at (subst (HasDatum c.args.block) (stubs_of_grown at.level at.high c.in-Grown.low c.in-Grown.twig) there) in
+    absurd (omega (arith, same, open_at.shaped.node.within))

@@ -10,6 +10,7 @@ use Rattle.btree_twigs.proofs.Leaf.{IsLeaf, replaced, inserted, first}
 use Rattle.btree_twigs.proofs.Children.{low_of_kept}
 use Rattle.btree_twigs.specs.Levels.{TakesLow}
 use Rattle.btree_twigs.proofs.LevelLaws.{lows_in, lows_first, lows_same}
+use Rattle.btree_twigs.proofs.Stays.{none_before_all, leaf_low}
 use Rattle.btree_twigs.proofs.putting.put_datum.Goals as goal
 
 module _ (order least most low high block addr : ℕ) (key : List ℕ) (cs : List Child) (h : IsLeaf order least most low high cs) where
@@ -97,3 +98,18 @@ returns-clause-lows c =
     let low_d = low_of_kept c.args.block c.args.addr c.args.key in
     subst (λ l. TakesLow l (map low_of cs) (map low_of (set cs (n - 1) d))) low_d
     (lows_replaced cs (n - 1) last d (omega arith) c.index-last.ensures (omega (arith, low_d, at_most)))
+
+pub returns-then-at-eq0-clause-stays : goal.returns-then-at-eq0-clause-stays
+returns-then-at-eq0-clause-stays c order least most low high h lt has =
+    let cs = c.args.children.now.items in
+    let after = subst (λ ds. c.args.block < start_by low_of (drop c.place-at.result ds) high) c.deref.ensures.value (c.place-at.ensures.after high lt) in
+    absurd (none_before_all order 0 least most low high c.args.block cs h (subst (λ n. c.args.block < start_by low_of (drop n cs) high) c.if-at-eq0.true after) has)
+
+pub returns-then-low_of-block-clause-stays : goal.returns-then-low_of-block-clause-stays
+returns-then-low_of-block-clause-stays c order least most low high h lt has =
+    let cs = c.args.children.now.items in
+    let n = c.place-at.result in
+    let last = c.index-last.result.now in
+    let after = subst (λ ds. c.args.block < start_by low_of (drop n ds) high) c.deref.ensures.value (c.place-at.ensures.after high lt) in
+    let is = leaf_low order least most low high c.args.block (n - 1) n cs last h (omega arith) (omega arith) c.index-last.ensures (omega arith) after has in
+    absurd (omega (arith, is))

@@ -1,10 +1,10 @@
-use Rattle.std.proofs.Common.{◌≡◌, ℕ, suc, ◌+◌, ◌/◌, ◌<◌, ◌≤◌, List, length, ap, subst, ◌∙◌, arith}
+use Rattle.std.proofs.Common.{◌≡◌, ℕ, suc, ◌+◌, ◌/◌, ◌<◌, ◌≤◌, List, length, sym, ap, subst, ◌∙◌, arith}
 use Rattle.std.specs.declared.vec.Vec.{Vec}
 use Rattle.std.specs.declared.alloc.Global.{Global}
 use Rattle.btree_twigs.specs.declared.twigs.Child.{Child}
 use Rattle.btree_twigs.specs.declared.twigs.Child.TheVariants as made
 use Rattle.btree_twigs.specs.declared.twigs.Twig.{Twig}
-use Rattle.btree_twigs.specs.Stubs.{Stub, children_of, datum, level_of}
+use Rattle.btree_twigs.specs.Stubs.{Stub, children_of, datum, level_of, stubs, stubs_below}
 use Rattle.btree_twigs.specs.Shape.{IsTwig}
 use Rattle.btree_twigs.specs.Updates.{IsOpen, CanPut, HasSpares, IsTwigPut}
 use Rattle.btree_twigs.specs.Top.{CanRaise, IsTopBy, top_least, level_in, CanPutTop}
@@ -12,6 +12,7 @@ use Rattle.btree_twigs.proofs.Ways.{fewer}
 use Rattle.btree_twigs.proofs.Nodes.{stubs_of_grown}
 use Rattle.btree_twigs.proofs.Tops.{top_kept, top_raised}
 use Rattle.btree_twigs.proofs.LevelLaws.{kept_rows, raised_rows}
+use Rattle.btree_twigs.specs.Search.{HasDatum}
 use Rattle.btree_twigs.proofs.putting.put_top.Goals as goal
 
 -- below the root
@@ -151,3 +152,25 @@ returns-then-len-order-clause-levels c medium m at =
     let raised = r (record { level = at.level; level_is = ap level_in (made.outs-Grown c.in-Grown.low c.split-part.new.twig) ∙ s.left.level_is; small = at.small; order = c.args.order; four = c.requires.four; spare = left }) c.args.order left in
     rw c.in-Grown.is (raised_rows medium c.args.order c.args.block at.level at.high c.in-Grown.low c.in-Grown.twig c.put.new.twig c.split-part.new.twig c.split-part.result c.raise.new.top
     zero_is open_at.shaped.node.within long (e.levels medium m open_at) c.split-part.ensures.cut raised)
+
+-- the record below a root in memory is below its node
+datum_in_top : (block level high low : ℕ) (twig : Twig) → HasDatum block (stubs (suc level) high (made.Grown low twig)) → HasDatum block (stubs_below level high twig)
+datum_in_top block level high low twig has = subst (HasDatum block) (stubs_of_grown level high low twig) has
+
+pub returns-then-len-order-clause-stays : goal.returns-then-len-order-clause-stays
+returns-then-len-order-clause-stays c at has =
+    let e = rw (c.in-Grown.is, made.outs-Grown c.in-Grown.low c.in-Grown.twig) at c.put.ensures in
+    let grown = subst (CanPutTop c.args.order c.args.block c.args.spares.now.items) c.in-Grown.is at in
+    let open_at = open_top c.args.order c.args.block c.in-Grown.low _ c.in-Grown.twig grown in
+    let there = subst (λ x. HasDatum c.args.block (stubs (suc at.level) at.high x)) c.in-Grown.is has in
+    let same = e.stays open_at (datum_in_top c.args.block at.level at.high c.in-Grown.low c.in-Grown.twig there) in
+    absurd (omega (arith, same, open_at.shaped.node.within))
+
+pub returns-else-len-order-clause-stays : goal.returns-else-len-order-clause-stays
+returns-else-len-order-clause-stays c at has =
+    let e = rw (c.in-Grown.is, made.outs-Grown c.in-Grown.low c.in-Grown.twig) at c.put.ensures in
+    let grown = subst (CanPutTop c.args.order c.args.block c.args.spares.now.items) c.in-Grown.is at in
+    let open_at = open_top c.args.order c.args.block c.in-Grown.low _ c.in-Grown.twig grown in
+    let p = e.put open_at in
+    rw (c.in-Grown.is, made.outs-Grown c.in-Grown.low c.in-Grown.twig)
+    (ap level_in (made.outs-Grown c.in-Grown.low c.put.new.twig) ∙ p.shaped.level_is ∙ sym open_at.shaped.level_is)

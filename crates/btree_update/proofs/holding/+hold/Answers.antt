@@ -1,6 +1,6 @@
 use Rattle.std.proofs.Common.{length, ◌+◌, ◌≡◌, ℕ, suc, ◌<◌, ◌-◌, ◌/◌, ◌^◌, List, take, drop, sym, ap, subst, ◌∙◌, rules, arith}
 use Rattle.btree_walk.proofs.OnLaws.{IfOk_map}
-use Rattle.btree_update.proofs.BesideLaws.{IfOk_all, leaf_left, left_at, left_grown, left_kept}
+use Rattle.btree_update.proofs.BesideLaws.{IfOk_all, has_record, leaf_left, left_at, left_grown, left_kept}
 use Rattle.btree_update.specs.Beside.{LeftOf, IsLeft, HelpsBelow, HoldsBeside}
 use Rattle.std.proofs.lemmas.List.{length-take-le}
 use Rattle.btree_twigs.specs.declared.twigs.Child.{Child}
@@ -139,11 +139,19 @@ hold_below-returns-clause-bad g t c = λ tells stands addr is.
 
 pub hold_below-returns-then-level-eq0-clause-helps : goal.hold_below-returns-then-level-eq0-clause-helps
 hold_below-returns-then-level-eq0-clause-helps g t c =
-    leaf_left AnyRead c.args.order c.args.block c.args.level c.args.high c.args.twig.now c.args.held.now.items c.args.beside.now.items _ c.left_of_leaf.result c.if-level-eq0.true c.left_of_leaf.ensures.mapped c.left_of_leaf.ensures.unmapped
+    let cs = children_of c.args.twig.now in
+    let w = on_way c.args.order c.args.block c.args.level c.args.high c.place-at.result cs c.deref.result.now c.index-child.result.now c.deref.ensures.value c.if-at-eq0.false
+    c.place-at.ensures.within c.place-at.ensures.before c.place-at.ensures.after c.requires.can.to c.index-child.ensures in
+    let has = has_record c.args.block c.args.twig.now (take w.at cs) c.index-child.result.now (drop (suc w.at) cs) (c.low_of.result == c.args.block) w.split (λ e. sym c.low_of.ensures ∙ eqb-true c.low_of.result c.args.block e) in
+    leaf_left AnyRead c.args.order c.args.block c.args.level c.args.high c.args.twig.now c.args.held.now.items c.args.beside.now.items _ c.left_of_leaf.result c.if-level-eq0.true has c.left_of_leaf.ensures.mapped c.left_of_leaf.ensures.unmapped
 
 pub hold_below-returns-then-level-eq0-clause-beside : goal.hold_below-returns-then-level-eq0-clause-beside
 hold_below-returns-then-level-eq0-clause-beside g t c = λ tells stands.
-    leaf_left (IsReadAs (g.P.Platform.history c.args.platform.now).present.readable c.args.order) c.args.order c.args.block c.args.level c.args.high c.args.twig.now c.args.held.now.items c.args.beside.now.items _ c.left_of_leaf.result c.if-level-eq0.true c.left_of_leaf.ensures.mapped c.left_of_leaf.ensures.unmapped
+    (let cs = children_of c.args.twig.now in
+    let w = on_way c.args.order c.args.block c.args.level c.args.high c.place-at.result cs c.deref.result.now c.index-child.result.now c.deref.ensures.value c.if-at-eq0.false
+    c.place-at.ensures.within c.place-at.ensures.before c.place-at.ensures.after c.requires.can.to c.index-child.ensures in
+    let has = has_record c.args.block c.args.twig.now (take w.at cs) c.index-child.result.now (drop (suc w.at) cs) (c.low_of.result == c.args.block) w.split (λ e. sym c.low_of.ensures ∙ eqb-true c.low_of.result c.args.block e) in
+    leaf_left (IsReadAs (g.P.Platform.history c.args.platform.now).present.readable c.args.order) c.args.order c.args.block c.args.level c.args.high c.args.twig.now c.args.held.now.items c.args.beside.now.items _ c.left_of_leaf.result c.if-level-eq0.true has c.left_of_leaf.ensures.mapped c.left_of_leaf.ensures.unmapped)
 
 pub hold_below-returns-clause-helps : goal.hold_below-returns-clause-helps
 hold_below-returns-clause-helps g t c =

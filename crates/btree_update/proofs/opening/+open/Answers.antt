@@ -8,7 +8,8 @@ use Rattle.btree_twigs.specs.Stubs.{start_by, low_of, children_of, stubs, nodes}
 use Rattle.btree_twigs.specs.Shape.{IsChild, IsTwig}
 use Rattle.btree_twigs.specs.Updates.{IsNode, IsOpen, stubs_under}
 use Rattle.btree_twigs.proofs.Nodes.{children_of_roll, low_of_grown, stubs_of_grown, grown_is_child}
-use Rattle.btree_update.specs.Opens.{HasWay, GivesChild}
+use Rattle.btree_update.specs.GroveTree.{want_of}
+use Rattle.btree_update.specs.Opens.{HasWay, Fitting, GivesChild}
 use Rattle.btree_twigs.proofs.Counts.{one_nodes, nodes_grown}
 use Rattle.btree_update.specs.Held.{AreBelow, IsReadAs, OnWay, HeldFor, AnyRead, CanOpen, IsOpened, CanOpenBelow}
 use Rattle.btree_update.proofs.OpenLaws.{open_first, child_is, opened, still_below, up_below, IsOnWay, on_way, at_hand, IsUp, up, nodes_is, data_open, twig_opened}
@@ -78,7 +79,7 @@ open_below-returns-clause-opened t c at =
     (subst (λ xs. IsOpen c.args.block (stubs_under c.args.level at.high xs)) (sym same) o.1)
 
 pub open_below-returns-then-at-eq0-clause-gives : goal.open_below-returns-then-at-eq0-clause-gives
-open_below-returns-then-at-eq0-clause-gives t c pages at held = below_none pages at.order (HasWay c.args.block) _ _ _ _
+open_below-returns-then-at-eq0-clause-gives t c pages at held = below_none pages at.order (Fitting pages (want_of at.order) (HasWay c.args.block)) _ _ _ _
 
 pub open_below-returns-clause-gives : goal.open_below-returns-clause-gives
 open_below-returns-clause-gives t c pages at held =
@@ -89,7 +90,7 @@ open_below-returns-clause-gives t c pages at held =
     let same = set_is c.place-at.result w.at cs c.open_way.new.child w.at_is w.within in
     let g = c.open_way.ensures.gives pages can (held (take w.at cs) (drop (suc w.at) cs) c.index_mut.result.now w.split w.from w.to) in
     let new : Twig-F Child Twig = record { level = (out-Twig c.args.twig.now).level; children = with_item (out-Twig c.args.twig.now).children (c.place-at.result - 1) c.open_way.new.child } in
-    node_gives pages at.order (HasWay c.args.block) c.args.level at.least at.low at.high c.args.twig.now (roll-Twig new) (take w.at cs) c.index_mut.result.now c.open_way.new.child (drop (suc w.at) cs) _ _
+    node_gives pages at.order (Fitting pages (want_of at.order) (HasWay c.args.block)) c.args.level at.least at.low at.high c.args.twig.now (roll-Twig new) (take w.at cs) c.index_mut.result.now c.open_way.new.child (drop (suc w.at) cs) _ _
     (subst (IsNode at.order c.args.level at.least at.order at.low at.high) w.split at.shaped.node) w.split (children_of_roll new ∙ same) (c.open_way.ensures.opened can).low_is g
 
 pub open_below-returns-clause-below : goal.open_below-returns-clause-below
@@ -162,7 +163,7 @@ open_way-returns-clause-opened t c at =
     rw (c.in-Grown.is, made.outs-Grown c.in-Grown.low c.in-Grown.twig) (subst (λ m. IsOpened at.order m c.args.block at.high c.args.child.now new) (sym level_is) r)
 
 pub open_way-returns-then-level-eq0-clause-gives : goal.open_way-returns-then-level-eq0-clause-gives
-open_way-returns-then-level-eq0-clause-gives t c pages at held = child_none pages at.order (HasWay c.args.block) _ _ _ _
+open_way-returns-then-level-eq0-clause-gives t c pages at held = child_none pages at.order (Fitting pages (want_of at.order) (HasWay c.args.block)) _ _ _ _
 
 pub open_way-returns-clause-gives : goal.open_way-returns-clause-gives
 open_way-returns-clause-gives t c pages at held =
@@ -179,9 +180,9 @@ open_way-returns-clause-gives t c pages at held =
     let first = takes_up pages at.order c.args.block l at.high c.args.child.now c.take_held.new.child c.args.held.now.items c.take_held.new.held.items c.in-Grown.low c.in-Grown.twig c.args.gone.now.items c.take_held.new.gone.items at.from at.to held_is c.take_held.ensures.taken c.take_held.ensures.noted is in
     let second = e.gives pages open_at v.on_way in
     let new = made.Grown c.in-Grown.low c.open_below.new.twig in
-    let both = grown_gives pages at.order (HasWay c.args.block) l at.high c.args.child.now c.in-Grown.low c.in-Grown.twig c.open_below.new.twig c.args.gone.now.items c.take_held.new.gone.items c.open_below.new.gone.items first second in
+    let both = grown_gives pages at.order (Fitting pages (want_of at.order) (HasWay c.args.block)) l at.high c.args.child.now c.in-Grown.low c.in-Grown.twig c.open_below.new.twig c.args.gone.now.items c.take_held.new.gone.items c.open_below.new.gone.items first second in
     rw (c.in-Grown.is, made.outs-Grown c.in-Grown.low c.in-Grown.twig)
-    (subst (λ k. GivesChild pages at.order (HasWay c.args.block) k at.high c.args.child.now new c.args.gone.now.items c.open_below.new.gone.items) (sym level_is) both)
+    (subst (λ k. GivesChild pages at.order (Fitting pages (want_of at.order) (HasWay c.args.block)) k at.high c.args.child.now new c.args.gone.now.items c.open_below.new.gone.items) (sym level_is) both)
 
 pub open_way-returns-clause-nodes : goal.open_way-returns-clause-nodes
 open_way-returns-clause-nodes t c at =

@@ -7,12 +7,13 @@ use Rattle.btree_twigs.specs.Updates.{IsOpen}
 use Rattle.btree_twigs.specs.Top.{IsTopBy, top_least}
 use Rattle.btree_twigs.proofs.Nodes.{stubs_of_grown}
 use Rattle.btree_twigs.proofs.Counts.{nodes_grown}
-use Rattle.btree_update.specs.GroveTree.{Maps}
+use Rattle.btree_update.specs.GroveTree.{want_of, want_in, Maps}
 use Rattle.btree_update.specs.Held.{AreBelow, IsReadAs, AnyRead, OnWay, HeldFor}
-use Rattle.btree_update.specs.Opens.{HasWay, GivesChild, GivesBelow}
+use Rattle.btree_update.specs.Opens.{HasWay, Fitting, GivesChild, GivesBelow}
 use Rattle.btree_update.proofs.OpenLaws.{nodes_is, at_hand_by}
 use Rattle.btree_update.proofs.GivesLaws.{root_takes_up, grown_gives}
 use Rattle.btree_update.proofs.OpenMaps.{opened_maps}
+use Rattle.btree_update.proofs.ThereLaws.{fits_below}
 use Rattle.btree_update.proofs.RootLaws.{root_up, root_maps, root_below, below_root}
 use Rattle.btree_update.specs.Beside.{HelpsBelow, ReadOver}
 use Rattle.btree_update.proofs.HelpLaws.{helps_up, from_grown}
@@ -58,11 +59,12 @@ returns-clause-gives c pages at held =
     let can = below_root at.order c.args.block at.below (c.args.level - 1) at.high c.in-Grown.low (out-Child c.args.top.now) c.in-Grown.twig c.take_held.new.held.items l at.to u in
     let way = subst (λ m. OnWay c.args.block (λ high c'. HeldFor (IsReadAs pages at.order) at.order c.args.block m high c' c.take_held.new.held.items) at.high c.in-Grown.twig) (sym l) v.on_way in
     let first = root_takes_up pages at.order c.args.block at.below at.high c.args.top.now c.take_held.new.child c.args.held.now.items c.take_held.new.held.items c.in-Grown.low c.in-Grown.twig c.args.gone.now.items c.take_held.new.gone.items at.shaped at.to held c.take_held.ensures.taken c.take_held.ensures.noted is in
-    let second = subst (λ m. GivesBelow pages at.order (HasWay c.args.block) m at.high c.in-Grown.twig c.open_below.new.twig c.take_held.new.gone.items c.open_below.new.gone.items) l (e.gives pages can way) in
-    let both = grown_gives pages at.order (HasWay c.args.block) at.below at.high c.args.top.now c.in-Grown.low c.in-Grown.twig c.open_below.new.twig c.args.gone.now.items c.take_held.new.gone.items c.open_below.new.gone.items first second in
+    let second = subst (λ m. GivesBelow pages at.order (Fitting pages (want_of at.order) (HasWay c.args.block)) m at.high c.in-Grown.twig c.open_below.new.twig c.take_held.new.gone.items c.open_below.new.gone.items) l (e.gives pages can way) in
+    let third = fits_below pages at.order (suc at.below) (HasWay c.args.block) at.below at.high c.in-Grown.twig c.open_below.new.twig c.take_held.new.gone.items c.open_below.new.gone.items (omega arith) second in
+    let both = grown_gives pages at.order (Fitting pages (want_in at.order (suc at.below)) (HasWay c.args.block)) at.below at.high c.args.top.now c.in-Grown.low c.in-Grown.twig c.open_below.new.twig c.args.gone.now.items c.take_held.new.gone.items c.open_below.new.gone.items first third in
     let new = made.Grown c.in-Grown.low c.open_below.new.twig in
     rw (c.in-Grown.is, made.outs-Grown c.in-Grown.low c.in-Grown.twig)
-    (subst (λ k. GivesChild pages at.order (HasWay c.args.block) k at.high c.args.top.now new c.args.gone.now.items c.open_below.new.gone.items) (sym at.level_is) both)
+    (subst (λ k. GivesChild pages at.order (Fitting pages (want_in at.order k) (HasWay c.args.block)) k at.high c.args.top.now new c.args.gone.now.items c.open_below.new.gone.items) (sym at.level_is) both)
 
 pub returns-clause-maps : goal.returns-clause-maps
 returns-clause-maps c pages at held mapped m =
@@ -73,7 +75,7 @@ returns-clause-maps c pages at held mapped m =
     let e = rw (c.in-Grown.is, made.outs-Grown c.in-Grown.low c.in-Grown.twig) at c.open_below.ensures in
     let can = below_root at.order c.args.block at.below (c.args.level - 1) at.high c.in-Grown.low (out-Child c.args.top.now) c.in-Grown.twig c.take_held.new.held.items l at.to u in
     let way = subst (λ m. OnWay c.args.block (λ high c'. HeldFor (IsReadAs pages at.order) at.order c.args.block m high c' c.take_held.new.held.items) at.high c.in-Grown.twig) (sym l) v.on_way in
-    let second = subst (λ m. GivesBelow pages at.order (HasWay c.args.block) m at.high c.in-Grown.twig c.open_below.new.twig c.take_held.new.gone.items c.open_below.new.gone.items) l (e.gives pages can way) in
+    let second = subst (λ m. GivesBelow pages at.order (Fitting pages (want_of at.order) (HasWay c.args.block)) m at.high c.in-Grown.twig c.open_below.new.twig c.take_held.new.gone.items c.open_below.new.gone.items) l (e.gives pages can way) in
     let before = root_maps pages at.order c.args.block at.below at.high c.args.top.now c.take_held.new.child c.args.held.now.items c.take_held.new.held.items c.in-Grown.low c.in-Grown.twig mapped held c.take_held.ensures.taken is m in
     let after = opened_maps pages at.order second.places.places _ _ mapped second.places.opens before in
     let new = made.Grown c.in-Grown.low c.open_below.new.twig in

@@ -1,4 +1,6 @@
 use Rattle.std.proofs.Common.{◌≡◌, ◌⊎◌, ℕ, suc, ◌+◌, ◌-◌, ◌*◌, ◌<◌, ◌≤◌, inl, inr, refl, sym, subst, ◌∙◌, arith}
+use Rattle.std.specs.Prelude.{Contains, ◌∷◌}
+use Rattle.std.proofs.lemmas.List.Elements.{Contains-append_right}
 use Rattle.node_codec.specs.Record.{DataRecord}
 use Rattle.page_store.specs.Places.{IsRecordAt}
 use Rattle.btree_twigs.specs.declared.twigs.Child.{Child}
@@ -9,14 +11,17 @@ use Rattle.btree_twigs.specs.Top.{IsTop, child_level, CanPutTop}
 use Rattle.btree_twigs.proofs.LevelLaws.{reshape_from}
 use Rattle.btree_twigs.proofs.Tops.{top_level}
 use Rattle.btree_update.specs.Tells.{Tells}
-use Rattle.btree_update.proofs.RowLaws.{tells_opened, tells_puts}
+use Rattle.btree_update.proofs.RowLaws.{all_weaker, tells_opened, tells_puts}
 use Rattle.btree_update.specs.declared.groves.Grove.{Grove}
-use Rattle.btree_update.specs.GroveTree.{Maps}
-use Rattle.btree_update.specs.Held.{AreBelow}
+use Rattle.btree_update.specs.GroveTree.{want_in, Maps}
+use Rattle.btree_update.specs.Held.{AreBelow, AnyRead}
+use Rattle.btree_update.specs.Opens.{HasWay, IsThere, Fitting}
 use Rattle.btree_update.specs.Roots.{IsRoot, RootMaps, CanOpenRoot, IsRootOpened}
 use Rattle.btree_update.specs.Groves.{CanInsert, IsAddressOf, LetsGo}
 use Rattle.btree_update.proofs.Places.{puts_maps}
 use Rattle.btree_update.proofs.GroveLaws.{top_is_root, top_maps, above_it, puts_below}
+use Rattle.btree_update.specs.Beside.{Anywhere}
+use Rattle.btree_update.proofs.DatumLaws.{root_has}
 use Rattle.btree_update.proofs.groves.Grove.insert.Goals as goal
 
 abbrev can_open : (block : ℕ) (grove : Grove) → CanInsert block grove → CanOpenRoot grove.level block grove.held.items grove.top
@@ -77,6 +82,28 @@ returns-clause-level c =
     let p = c.put_top.ensures.put (can_put c.args.block c.args.self.now c.open_root.new.top c.requires.can c.requires.small (c.open_root.ensures.opened (can_open c.args.block c.args.self.now c.requires.can))) in
     level_by c.args.self.now.level p.new_level c.level_of-self.result c.requires.can.sound.one p.level_is (c.level_of-self.ensures ∙ top_level c.args.self.now.order p.new_level c.args.self.now.blocks c.put_top.new.top p.shaped)
 
+pub returns-clause-has : goal.returns-clause-has
+returns-clause-has c =
+    let can = can_open c.args.block c.args.self.now c.requires.can in
+    let blocks = c.args.self.now.blocks in
+    let new = c.put_top.new.top in
+    let p = c.put_top.ensures.put (can_put c.args.block c.args.self.now c.open_root.new.top c.requires.can c.requires.small (c.open_root.ensures.opened can)) in
+    let l = c.level_of-self.ensures ∙ top_level c.args.self.now.order p.new_level blocks new p.shaped in
+    let stub = datum c.args.block c.args.addr c.bytes.result in
+    let has : Contains (stubs (suc p.new_level) blocks new) stub = subst (λ ss. Contains ss stub) (sym p.puts.now) (Contains-append_right p.puts.front (stub ∷ p.puts.back) stub (0, omega arith, refl)) in
+    let at = subst (λ k. Contains (stubs k blocks new) stub) (sym l) has in
+    subst (λ k. Contains (stubs c.level_of-self.result blocks new) (datum c.args.block c.args.addr k)) c.bytes.ensures.value at
+
+pub returns-clause-stays : goal.returns-clause-stays
+returns-clause-stays c remove =
+    let grove = c.args.self.now in
+    let can = can_open c.args.block grove c.requires.can in
+    let o = c.open_root.ensures.opened can in
+    let mid = c.open_root.new.top in
+    let helps = c.open_root.ensures.helps can Anywhere grove.beside.items remove.loses remove.beside in
+    let has = root_has AnyRead grove.order c.args.block (grove.level - 1) grove.blocks mid c.open_root.new.held.items grove.beside.items remove.loses o.shaped c.requires.can.to o.is_open helps in
+    c.level_of-self.ensures ∙ c.put_top.ensures.stays (can_put c.args.block grove mid c.requires.can c.requires.small o) has ∙ top_level grove.order (grove.level - 1) grove.blocks mid o.shaped ∙ sym can.level_is
+
 pub returns-clause-maps : goal.returns-clause-maps
 returns-clause-maps c pages mapped content held m there =
     let can = can_open c.args.block c.args.self.now c.requires.can in
@@ -91,6 +118,7 @@ pub returns-clause-goes : goal.returns-clause-goes
 returns-clause-goes c pages held =
     let can = can_open c.args.block c.args.self.now c.requires.can in
     let o = c.open_root.ensures.opened can in
+    let want = want_in c.args.self.now.order c.args.self.now.level in
     let g = c.open_root.ensures.gives pages can held in
     let blocks = c.args.self.now.blocks in
     let mid = c.open_root.new.top in
@@ -102,7 +130,8 @@ returns-clause-goes c pages held =
       opened = stubs c.args.self.now.level c.args.self.now.blocks c.open_root.new.top;
       places = g.places.places;
       opens = g.places.opens;
-      may = g.places.may;
+      may = all_weaker (Fitting pages want (HasWay c.args.block)) (HasWay c.args.block) (λ s k. k.0) g.places.places g.places.may;
+      fit = all_weaker (Fitting pages want (HasWay c.args.block)) (λ s. IsThere pages (want s) s.key) (λ s k. k.1) g.places.places g.places.may;
       is_open = subst (λ k. IsOpen c.args.block (stubs k c.args.self.now.blocks c.open_root.new.top)) (sym can.level_is) o.is_open;
       makes = subst (λ k. Puts 0 blocks (datum c.args.block c.args.addr k) (stubs c.args.self.now.level blocks mid) (stubs c.level_of-self.result blocks c.put_top.new.top)) c.bytes.ensures.value here;
       replaced = c.address_of-old.result;

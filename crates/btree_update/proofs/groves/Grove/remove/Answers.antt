@@ -8,17 +8,18 @@ use Rattle.btree_twigs.specs.Top.{IsTop, child_level, CanTakeTop}
 use Rattle.btree_twigs.proofs.SinkLaws.{down_from}
 use Rattle.btree_twigs.proofs.Tops.{top_level}
 use Rattle.btree_update.specs.declared.groves.Grove.{Grove}
-use Rattle.btree_update.specs.GroveTree.{Maps}
+use Rattle.btree_update.specs.GroveTree.{want_in, Maps}
 use Rattle.btree_update.specs.Held.{AreBelow, AnyRead, IsReadAs}
 use Rattle.btree_update.specs.Tells.{Tells}
-use Rattle.btree_update.specs.Opens.{HasWay, GivesChild}
+use Rattle.btree_update.specs.Opens.{HasWay, IsThere, Fitting, GivesChild}
 use Rattle.btree_update.specs.Roots.{IsRoot, RootMaps, CanOpenRoot, IsRootOpened}
 use Rattle.btree_update.specs.Beside.{HelpsFrom, IsReadWhere, Anywhere, Over}
-use Rattle.btree_update.specs.Helping.{CanHelpRoot, HelpedRoot}
+use Rattle.btree_update.specs.Helping.{CanHelpRoot, MayHelp, HelpedRoot}
 use Rattle.btree_update.specs.Groves.{CanRemove, IsAddressOf, LetsGo}
 use Rattle.btree_update.proofs.Places.{takes_maps}
 use Rattle.btree_update.proofs.OpenMaps.{opened_maps}
-use Rattle.btree_update.proofs.RowLaws.{tells_opened, tells_takes}
+use Rattle.btree_update.proofs.RowLaws.{all_weaker, tells_opened, tells_takes}
+use Rattle.btree_update.proofs.ThereLaws.{fits_top}
 use Rattle.btree_update.proofs.GivesLaws.{gives_then, gives_weaker}
 use Rattle.btree_update.proofs.HelpingLaws.{from_weaker}
 use Rattle.btree_update.proofs.GroveLaws.{top_is_root, top_maps, above_it, takes_below}
@@ -138,12 +139,14 @@ returns-clause-goes c pages may held beside =
     let can = can_open c.args.block c.args.self.now c.requires.can in
     let h = c.help_root.ensures.helped (can_help c.args.block c.args.self.now c.open_root.new.top c.open_root.new.held.items c.requires.can (c.open_root.ensures.opened can) (c.open_root.ensures.helps can Anywhere c.args.self.now.beside.items c.requires.can.loses c.requires.can.beside)) in
     let first = c.open_root.ensures.gives pages can held in
-    let second = subst (λ k. GivesChild pages c.args.self.now.order (λ s. IsTrue (may s)) k c.args.self.now.blocks c.open_root.new.top c.help_root.new.top c.open_root.new.gone.items c.help_root.new.gone.items) (sym can.level_is)
+    let second = subst (λ k. GivesChild pages c.args.self.now.order (MayHelp pages c.args.self.now.order may) k c.args.self.now.blocks c.open_root.new.top c.help_root.new.top c.open_root.new.gone.items c.help_root.new.gone.items) (sym can.level_is)
     (h.gives pages may c.open_root.new.held.items beside.0 (c.open_root.ensures.helps can (Over pages may) c.args.self.now.beside.items beside.0 beside.1)) in
     let Might : Stub → Type 0 = λ s. HasWay c.args.block s ⊎ IsTrue (may s) in
-    let g = gives_then pages c.args.self.now.order Might _ _ _ _ _ _
-    (gives_weaker pages c.args.self.now.order (HasWay c.args.block) Might (λ s k. inl k) _ _ _ _ first.places)
-    (gives_weaker pages c.args.self.now.order (λ s. IsTrue (may s)) Might (λ s k. inr k) _ _ _ _ second.places) in
+    let want = want_in c.args.self.now.order c.args.self.now.level in
+    let helped = fits_top pages c.args.self.now.order (c.args.self.now.level - 1) c.args.self.now.level c.args.self.now.blocks (λ s. IsTrue (may s)) c.open_root.new.top _ _ _ can.level_is (c.open_root.ensures.opened can).shaped second.places in
+    let g = gives_then pages c.args.self.now.order (Fitting pages want Might) _ _ _ _ _ _
+    (gives_weaker pages c.args.self.now.order (Fitting pages want (HasWay c.args.block)) (Fitting pages want Might) (λ s k. (inl k.0, k.1)) _ _ _ _ first.places)
+    (gives_weaker pages c.args.self.now.order (Fitting pages want (λ s. IsTrue (may s))) (Fitting pages want Might) (λ s k. (inr k.0, k.1)) _ _ _ _ helped) in
     let blocks = c.args.self.now.blocks in
     let mid = c.help_root.new.top in
     let p = c.take_top.ensures.taken (can_take c.args.block c.args.self.now c.open_root.new.top mid _ _ c.requires.can h) in
@@ -153,7 +156,8 @@ returns-clause-goes c pages may held beside =
       opened = stubs c.args.self.now.level c.args.self.now.blocks c.help_root.new.top;
       places = g.places;
       opens = g.opens;
-      may = g.may;
+      may = all_weaker (Fitting pages want Might) Might (λ s k. k.0) g.places g.may;
+      fit = all_weaker (Fitting pages want Might) (λ s. IsThere pages (want s) s.key) (λ s k. k.1) g.places g.may;
       is_open = subst (λ k. IsOpen c.args.block (stubs k c.args.self.now.blocks c.help_root.new.top)) (sym can.level_is) h.is_open;
       makes = subst (λ k. Takes 0 blocks c.args.block (stubs k blocks mid) (stubs c.level_of-self.result blocks c.take_top.new.top)) (sym can.level_is) there;
       replaced = c.address_of-addr.result;
@@ -176,7 +180,7 @@ returns-clause-levels c pages levels held beside has =
     let l = c.level_of-self.ensures ∙ top_level order p.new_level blocks new p.shaped in
     let asks = from_weaker (IsReadAs pages order) (IsReadWhere pages anywhere order) (λ l s t r. (r, refl)) order c.args.block (level - 1) blocks c.args.self.now.top _ _ beside.0 beside.1 in
     let first = c.open_root.ensures.gives pages can held in
-    let second = subst (λ k. GivesChild pages order (λ s. IsTrue (anywhere s)) k blocks c.open_root.new.top mid c.open_root.new.gone.items c.help_root.new.gone.items) (sym can.level_is)
+    let second = subst (λ k. GivesChild pages order (MayHelp pages order anywhere) k blocks c.open_root.new.top mid c.open_root.new.gone.items c.help_root.new.gone.items) (sym can.level_is)
     (h.gives pages anywhere c.open_root.new.held.items beside.0 (c.open_root.ensures.helps can (Over pages anywhere) c.args.self.now.beside.items beside.0 asks)) in
     let tells = tells_opened pages has.medium order first.places.places _ _ first.places.opens has.told in
     let helped = tells_opened pages has.medium order second.places.places _ _ second.places.opens tells in

@@ -10,7 +10,9 @@ use Rattle.btree_walk.specs.Sights.{StandsOver}
 use Rattle.btree_update.specs.Finding.{GroveFinds, GroveStops}
 use Rattle.device_session.specs.Sessions.{Session}
 use Rattle.device_session.specs.Holds.{Holds}
-use Rattle.device_session.proofs.ReadLaws.{IsArray, held_array, holds_looked, cached_looked, content_none, entry_read, entry_fits}
+use Rattle.device_session.proofs.ReadLaws.{IsArray, held_array, holds_looked, content_none, entry_read, entry_fits}
+use Rattle.device_session.specs.Damage.{Follows}
+use Rattle.device_session.proofs.DamageLaws.{follows_looked, misfit_wrong}
 use Rattle.device_session.specs.contracts.session.Session.{the_view}
 use Rattle.device_session.proofs.session.Session.read.Given.{Over}
 use Rattle.device_session.proofs.session.Session.read.Goals.{After-find, In-Some}
@@ -23,21 +25,26 @@ held g c device contents h = subst (λ (s : Session). Holds s (g.P.Platform.hist
 cached : (g : Over) (c : After-find g) → StandsOver (g.P.Platform.history c.args.platform.now).present.readable c.args.self.now.cache → StandsOver (g.P.Platform.history c.args.platform.now).present.readable (the_view c.self.inside).cache
 cached g c h = subst (λ (s : Session). StandsOver (g.P.Platform.history c.args.platform.now).present.readable s.cache) (sym c.self.view_is) h
 
+followed : (g : Over) (c : After-find g) → Follows c.args.self.now (g.P.Platform.history c.args.platform.now).present → Follows (the_view c.self.inside) (g.P.Platform.history c.args.platform.now).present
+followed g c f = subst (λ (s : Session). Follows s (g.P.Platform.history c.args.platform.now).present) (sym c.self.view_is) f
+
 pub returns-in-Err-BadRecord-clause-array : goal.returns-in-Err-BadRecord-clause-array
 returns-in-Err-BadRecord-clause-array g c = λ told device contents h.
     let k = held g (goal.at.returns-in-Err-BadRecord-clause-array g c).After-find device contents h in
     let a = held_array (the_view c.self.inside) (g.P.Platform.history c.args.platform.now).present device contents k in
     absurd (c.find.ensures.fits told k.cached a.mapped a.maps_are c.in-Err-BadRecord.addr (cc))
 
-pub returns-in-Err-BadRecord-clause-cached : goal.returns-in-Err-BadRecord-clause-cached
-returns-in-Err-BadRecord-clause-cached g c = λ told h. cached_looked _ _ (the_view c.self.inside).cache c.find.new.cache (c.find.ensures.looks.image told) (c.find.ensures.stands told) (cached g (goal.at.returns-in-Err-BadRecord-clause-cached g c).After-find h)
+pub returns-in-Err-BadRecord-clause-follows : goal.returns-in-Err-BadRecord-clause-follows
+returns-in-Err-BadRecord-clause-follows g c = λ told f.
+    follows_looked (the_view c.self.inside) c.find.new.cache c.find.new.buf _ _ (c.find.ensures.looks.image told) (c.find.ensures.stands told) (followed g (goal.at.returns-in-Err-BadRecord-clause-follows g c).After-find f)
 
 pub returns-in-Err-PlatformFault-clause-array : goal.returns-in-Err-PlatformFault-clause-array
 returns-in-Err-PlatformFault-clause-array g c = λ told device contents h.
     (holds_looked (the_view c.self.inside) c.find.new.cache c.find.new.buf _ _ device contents (c.find.ensures.looks.image told) (c.find.ensures.stands told) (held g (goal.at.returns-in-Err-PlatformFault-clause-array g c).After-find device contents h), tt)
 
-pub returns-in-Err-PlatformFault-clause-cached : goal.returns-in-Err-PlatformFault-clause-cached
-returns-in-Err-PlatformFault-clause-cached g c = λ told h. cached_looked _ _ (the_view c.self.inside).cache c.find.new.cache (c.find.ensures.looks.image told) (c.find.ensures.stands told) (cached g (goal.at.returns-in-Err-PlatformFault-clause-cached g c).After-find h)
+pub returns-in-Err-PlatformFault-clause-follows : goal.returns-in-Err-PlatformFault-clause-follows
+returns-in-Err-PlatformFault-clause-follows g c = λ told f.
+    follows_looked (the_view c.self.inside) c.find.new.cache c.find.new.buf _ _ (c.find.ensures.looks.image told) (c.find.ensures.stands told) (followed g (goal.at.returns-in-Err-PlatformFault-clause-follows g c).After-find f)
 
 pub returns-in-Err-BadRecord-clause-misfit : goal.returns-in-Err-BadRecord-clause-misfit
 returns-in-Err-BadRecord-clause-misfit g c = λ told h addr is.
@@ -54,8 +61,9 @@ returns-in_default-clause-array g c = λ told device contents h.
       c.fill.ensures.after (λ y same. same) ∙ ap (λ (n : ℕ). replicate n 0) c.requires.size ∙ sym (content_none a.mapped contents c.args.block a.contents_are none),
     )
 
-pub returns-in_default-clause-cached : goal.returns-in_default-clause-cached
-returns-in_default-clause-cached g c = λ told h. cached_looked _ _ (the_view c.self.inside).cache c.find.new.cache (c.find.ensures.looks.image told) (c.find.ensures.stands told) (cached g (goal.at.returns-in_default-clause-cached g c).After-find h)
+pub returns-in_default-clause-follows : goal.returns-in_default-clause-follows
+returns-in_default-clause-follows g c = λ told f.
+    follows_looked (the_view c.self.inside) c.find.new.cache c.find.new.buf _ _ (c.find.ensures.looks.image told) (c.find.ensures.stands told) (followed g (goal.at.returns-in_default-clause-follows g c).After-find f)
 
 pub returns-in_default-clause-finds : goal.returns-in_default-clause-finds
 returns-in_default-clause-finds g c = λ told h.
@@ -91,8 +99,9 @@ returns-clause-array g c = λ told device contents h.
       entry_read old.present (the_view c.self.inside).grove contents c.args.block c.in-Some.entry c.read_block.new.out a some (omega (arith, small, g.met.P.Platform.has_room c.args.platform.now, g.met.P.Platform.is_limited c.args.platform.now)) there.0,
     )
 
-pub returns-clause-cached : goal.returns-clause-cached
-returns-clause-cached g c = λ told h. cached_looked _ _ (the_view c.self.inside).cache c.find.new.cache (c.read_block.ensures.looks.image told ∙ c.find.ensures.looks.image told) (c.find.ensures.stands told) (cached g (goal.at.returns-clause-cached g c).After-find h)
+pub returns-clause-follows : goal.returns-clause-follows
+returns-clause-follows g c = λ told f.
+    follows_looked (the_view c.self.inside) c.find.new.cache c.read_block.new.buffers _ _ (c.read_block.ensures.looks.image told ∙ c.find.ensures.looks.image told) (c.find.ensures.stands told) (followed g (goal.at.returns-clause-follows g c).After-find f)
 
 pub returns-clause-finds : goal.returns-clause-finds
 returns-clause-finds g c = λ told h. record {
@@ -111,9 +120,9 @@ returns-in-Err-BadRecord-read_block-clause-array g c = λ told device contents h
     let nothing = subst (λ (i : Image). NothingFits i.readable (block_want c.in-Some.entry.addr c.args.block) c.in-Some.entry.key) (c.find.ensures.looks.image told) (c.read_block.ensures.nothing_fits told c.in-Err-BadRecord-read_block.field-0-0 (cc)) in
     absurd (entry_fits old.present (the_view c.self.inside).grove contents c.args.block c.in-Some.entry a some nothing)
 
-pub returns-in-Err-BadRecord-read_block-clause-cached : goal.returns-in-Err-BadRecord-read_block-clause-cached
-returns-in-Err-BadRecord-read_block-clause-cached g c = λ told h.
-    cached_looked _ _ (the_view c.self.inside).cache c.find.new.cache (c.read_block.ensures.looks.image told ∙ c.find.ensures.looks.image told) (c.find.ensures.stands told) (cached g (goal.at.returns-in-Err-BadRecord-read_block-clause-cached g c).After-find h)
+pub returns-in-Err-BadRecord-read_block-clause-follows : goal.returns-in-Err-BadRecord-read_block-clause-follows
+returns-in-Err-BadRecord-read_block-clause-follows g c = λ told f.
+    follows_looked (the_view c.self.inside) c.find.new.cache c.read_block.new.buffers _ _ (c.read_block.ensures.looks.image told ∙ c.find.ensures.looks.image told) (c.find.ensures.stands told) (followed g (goal.at.returns-in-Err-BadRecord-read_block-clause-follows g c).After-find f)
 
 pub returns-in-Err-BadRecord-read_block-clause-misfit : goal.returns-in-Err-BadRecord-read_block-clause-misfit
 returns-in-Err-BadRecord-read_block-clause-misfit g c = λ told h addr is.
@@ -126,6 +135,20 @@ returns-in-Err-PlatformFault-read_block-clause-array g c = λ told device conten
     let k = held g (goal.at.returns-in-Err-PlatformFault-read_block-clause-array g c).After-find device contents h in
     (holds_looked (the_view c.self.inside) c.find.new.cache c.read_block.new.buffers _ _ device contents (c.read_block.ensures.looks.image told ∙ c.find.ensures.looks.image told) (c.find.ensures.stands told) k, tt)
 
-pub returns-in-Err-PlatformFault-read_block-clause-cached : goal.returns-in-Err-PlatformFault-read_block-clause-cached
-returns-in-Err-PlatformFault-read_block-clause-cached g c = λ told h.
-    cached_looked _ _ (the_view c.self.inside).cache c.find.new.cache (c.read_block.ensures.looks.image told ∙ c.find.ensures.looks.image told) (c.find.ensures.stands told) (cached g (goal.at.returns-in-Err-PlatformFault-read_block-clause-cached g c).After-find h)
+pub returns-in-Err-PlatformFault-read_block-clause-follows : goal.returns-in-Err-PlatformFault-read_block-clause-follows
+returns-in-Err-PlatformFault-read_block-clause-follows g c = λ told f.
+    follows_looked (the_view c.self.inside) c.find.new.cache c.read_block.new.buffers _ _ (c.read_block.ensures.looks.image told ∙ c.find.ensures.looks.image told) (c.find.ensures.stands told) (followed g (goal.at.returns-in-Err-PlatformFault-read_block-clause-follows g c).After-find f)
+
+-- what is named is a wrong place
+pub returns-in-Err-BadRecord-clause-damaged : goal.returns-in-Err-BadRecord-clause-damaged
+returns-in-Err-BadRecord-clause-damaged g c = λ told f addr is.
+    let stops = c.find.ensures.bad told (cached g (goal.at.returns-in-Err-BadRecord-clause-damaged g c).After-find f.cached) addr (cc) in
+    misfit_wrong c.args.self.now (g.P.Platform.history c.args.platform.now).present c.args.block addr (g.P.Platform.head c.args.platform.now) c.requires.open f
+    (inl (subst (λ (s : Session). GroveStops (g.P.Platform.history c.args.platform.now).present.readable c.args.block addr s.grove) c.self.view_is stops))
+
+pub returns-in-Err-BadRecord-read_block-clause-damaged : goal.returns-in-Err-BadRecord-read_block-clause-damaged
+returns-in-Err-BadRecord-read_block-clause-damaged g c = λ told f addr is.
+    let named : addr ≡ c.in-Some.entry.addr = let same : c.in-Some.entry.addr ≡ addr = cc in sym same in
+    let nothing = subst (λ (i : Image). NothingFits i.readable (block_want c.in-Some.entry.addr c.args.block) c.in-Some.entry.key) (c.find.ensures.looks.image told) (c.read_block.ensures.nothing_fits told c.in-Err-BadRecord-read_block.field-0-0 (cc)) in
+    misfit_wrong c.args.self.now (g.P.Platform.history c.args.platform.now).present c.args.block addr (g.P.Platform.head c.args.platform.now) c.requires.open f
+    (inr (c.in-Some.entry, found g (goal.at.returns-in-Err-BadRecord-read_block-clause-damaged g c).In-Some told f.cached, named, nothing))

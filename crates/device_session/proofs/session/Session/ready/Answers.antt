@@ -9,6 +9,8 @@ use Rattle.btree_update.specs.Groves.{IsReadFrom, IsReadBeside, IsWrongOnWay, Gr
 use Rattle.device_session.specs.Sessions.{Session}
 use Rattle.device_session.specs.Holds.{Holds}
 use Rattle.device_session.specs.Keys.{HoldsListed}
+use Rattle.device_session.specs.Damage.{Follows}
+use Rattle.device_session.proofs.DamageLaws.{follows_ready}
 use Rattle.device_session.specs.Ready.{IsReadyFor}
 use Rattle.device_session.proofs.ReadLaws.{held_array, cached_looked}
 use Rattle.device_session.proofs.UpdateLaws.{ready_holds, ready_listed, ready_maps, both}
@@ -34,6 +36,11 @@ pub returns-clause-cached : goal.returns-clause-cached
 returns-clause-cached g c = λ told h.
     let image = (g.P.Platform.history c.args.platform.now).present in
     cached_looked image _ (the_view c.self.inside).cache c.ready.new.cache (c.ready.ensures.looks.image told) (c.ready.ensures.stands told) (subst (λ (s : Session). StandsOver image.readable s.cache) (sym c.self.view_is) h)
+
+pub returns-clause-follows : goal.returns-clause-follows
+returns-clause-follows g c = λ told f.
+    let image = (g.P.Platform.history c.args.platform.now).present in
+    follows_ready (the_view c.self.inside) c.ready.new.self c.ready.new.cache c.ready.new.buf image _ (c.ready.ensures.looks.image told) c.ready.ensures.tree (c.ready.ensures.stands told) (subst (λ (s : Session). Follows s image) (sym c.self.view_is) f)
 
 pub returns-clause-ready : goal.returns-clause-ready
 returns-clause-ready g c = λ told h.

@@ -14,7 +14,10 @@ use Rattle.device_session.specs.Sessions.{Session}
 use Rattle.device_session.specs.Open.{IsOpen, AreDataPages}
 use Rattle.device_session.specs.Holds.{Holds}
 use Rattle.device_session.specs.Keys.{HoldsListed}
+use Rattle.page_store.specs.Tree.{Wrong}
+use Rattle.device_session.specs.Damage.{Follows, IsFound, IsMiscounted}
 use Rattle.device_session.specs.Ready.{IsReadyFor}
+use Rattle.device_session.proofs.DamageLaws.{follows_removed, update_is_wrong, miscounted_empty}
 use Rattle.device_session.proofs.UpdateLaws.{Removes, ready_pages, removed_pages, removed_open, removed_listed, trimmed, unmapped, counted, beside_anywhere, on_true, on_false}
 use Rattle.device_session.specs.contracts.session.Session.{the_view}
 use Rattle.device_session.proofs.session.Session.trim.Given.{Over}
@@ -75,7 +78,8 @@ returns-clause-array g c = λ told device contents h.
     let at = goal.at.returns-clause-array g c in
     let image = (g.P.Platform.history c.ready.new.platform).present in
     let k = subst (λ (s : Session). Holds s image device contents) (sym c.self-2.view_is) (c.ready.ensures.holds told device contents h).0 in
-    trimmed (the_view c.self-2.inside) c.remove.new.self image device contents c.args.block any (size g at.After-remove) (small g at.After-remove) (removes g at.After-remove told h.cached) (has_block g at.After-remove told h.cached) k c.args.self.now.is_touched
+    let o = subst (λ (s : Session). IsOpen s (g.P.Platform.head c.ready.new.platform)) (sym c.self-2.view_is) c.ready.ensures.open in
+    trimmed (the_view c.self-2.inside) c.remove.new.self image device contents c.args.block (g.P.Platform.head c.ready.new.platform) any o (size g at.After-remove) (small g at.After-remove) (removes g at.After-remove told h.cached) (has_block g at.After-remove told h.cached) k c.args.self.now.is_touched
 
 pub returns-clause-open : goal.returns-clause-open
 returns-clause-open g c =
@@ -92,7 +96,8 @@ returns-clause-listed g c = λ told keys h.
     let at = goal.at.returns-clause-listed g c in
     let image = (g.P.Platform.history c.ready.new.platform).present in
     let k = subst (λ (s : Session). HoldsListed s image keys) (sym c.self-2.view_is) (c.ready.ensures.listed told keys h) in
-    removed_listed (the_view c.self-2.inside) c.remove.new.self image keys c.args.block any (size g at.After-remove) (small g at.After-remove) (removes g at.After-remove told h.holds.cached) (has_block g at.After-remove told h.holds.cached) k
+    let o = subst (λ (s : Session). IsOpen s (g.P.Platform.head c.ready.new.platform)) (sym c.self-2.view_is) c.ready.ensures.open in
+    removed_listed (the_view c.self-2.inside) c.remove.new.self image keys c.args.block (g.P.Platform.head c.ready.new.platform) any o (size g at.After-remove) (small g at.After-remove) (removes g at.After-remove told h.holds.cached) (has_block g at.After-remove told h.holds.cached) k
 
 pub returns-in-Err-BadRecord-clause-pages : goal.returns-in-Err-BadRecord-clause-pages
 returns-in-Err-BadRecord-clause-pages g c = λ told device contents h pages are. ready_pages c.args.self.now c.ready.new.self pages c.ready.ensures.same.0 c.ready.ensures.same.3 are
@@ -116,3 +121,44 @@ returns-clause-pages g c = λ told device contents h pages are.
     let k = subst (λ (s : Session). Holds s image device contents) (sym c.self-2.view_is) (c.ready.ensures.holds told device contents h).0 in
     let ready = subst (λ (s : Session). AreDataPages s pages) (sym c.self-2.view_is) (ready_pages c.args.self.now c.ready.new.self pages c.ready.ensures.same.0 c.ready.ensures.same.3 are) in
     removed_pages (the_view c.self-2.inside) c.remove.new.self image device contents c.args.block any pages (removes g at.After-remove told h.cached) k ready
+
+-- ---- on any pages
+
+pub returns-in-Err-BadRecord-clause-damaged : goal.returns-in-Err-BadRecord-clause-damaged
+returns-in-Err-BadRecord-clause-damaged g c = λ told f addr is.
+    let image = (g.P.Platform.history c.args.platform.now).present in
+    let wrong = update_is_wrong c.args.self.now image c.args.block addr (g.P.Platform.head c.args.platform.now) c.requires f (c.ready.ensures.bad told f.cached addr (cc)) in
+    (inl wrong, inl (subst (λ (i : Image). Wrong i.readable c.args.self.now.root addr) (sym (c.ready.ensures.looks.image told)) wrong))
+
+pub returns-then-self-eq0-clause-damaged : goal.returns-then-self-eq0-clause-damaged
+returns-then-self-eq0-clause-damaged g c = λ told f addr is.
+    let image = (g.P.Platform.history c.ready.new.platform).present in
+    let r = c.in-Ok.ensures.ready told f.cached in
+    let on : IsTrue c.in-Ok.is_mapped = grind (arith, c.if-not-is_mapped.false) in
+    let none : c.ready.new.self.mapped ≡ 0 = subst (λ (s : Session). s.mapped ≡ 0) c.self-2.view_is (grind (arith, c.if-self-eq0.true)) in
+    let at : c.self-2.inside.root.addr ≡ addr = cc in
+    let named : addr ≡ c.args.self.now.root.addr = sym at ∙ ap (λ (s : Session). s.root.addr) c.self-2.view_is ∙ ap (λ (n : Root). n.addr) c.ready.ensures.same.0 in
+    let miscounted = miscounted_empty c.ready.new.self image c.args.block none (λ mapped m. on_true c.in-Ok.is_mapped (HasBlock c.args.block mapped) on (r.mapped mapped m).0) (c.ready.ensures.follows told f) in (
+      inr (named, sym c.ready.ensures.same.1 ∙ none, subst (λ b. IsFound b (g.P.Platform.history c.args.platform.now).present.readable c.args.self.now c.args.block) on (c.in-Ok.ensures.found told f.cached)),
+      inr (named, subst (IsMiscounted image.readable) c.ready.ensures.same.0 miscounted),
+    )
+
+pub returns-then-not-is_mapped-clause-counter : goal.returns-then-not-is_mapped-clause-counter
+returns-then-not-is_mapped-clause-counter g c = λ told h ok.
+    let off : c.in-Ok.is_mapped ≡ false = grind (arith, c.if-not-is_mapped.true) in
+    inl (subst (λ b. IsFound b (g.P.Platform.history c.args.platform.now).present.readable c.args.self.now c.args.block) off (c.in-Ok.ensures.found told h))
+
+pub returns-clause-counter : goal.returns-clause-counter
+returns-clause-counter g c = λ told h ok.
+    let same : c.self-2.inside.mapped ≡ c.args.self.now.mapped = ap (λ (s : Session). s.mapped) c.self-2.view_is ∙ c.ready.ensures.same.1 in
+    inr (omega (arith, same, c.if-self-eq0.false))
+
+pub returns-clause-follows : goal.returns-clause-follows
+returns-clause-follows g c = λ told f.
+    let at = goal.at.returns-clause-follows g c in
+    let image = (g.P.Platform.history c.ready.new.platform).present in
+    let o = subst (λ (s : Session). IsOpen s (g.P.Platform.head c.ready.new.platform)) (sym c.self-2.view_is) c.ready.ensures.open in
+    let k = subst (λ (s : Session). Follows s image) (sym c.self-2.view_is) (c.ready.ensures.follows told f) in
+    let r = subst (IsReadyFor image.readable c.args.block c.self-2.inside.grove) (was_mapped g at.After-remove) (is_ready g at.After-remove told f.cached) in
+    follows_removed (the_view c.self-2.inside) c.remove.new.self image c.args.block (g.P.Platform.head c.ready.new.platform) any o (size g at.After-remove) (small g at.After-remove) (removes g at.After-remove told f.cached) r
+    (λ mapped read beside maps. c.remove.ensures.maps image.readable mapped read beside maps) k

@@ -1,0 +1,198 @@
+use Rattle.std.proofs.Common.{◌≡◌, ◌∙◌, ◌⊎◌, inl, inr, ℕ, [], ◌∷◌, ◌++◌, ◌+◌, ◌-◌, ◌<◌, ◌≤◌, ◌^◌, Bool, true, false, List, IsTrue, refl, sym, ap, subst, arith}
+use Rattle.std.specs.Prelude.{Contains, Some}
+use Rattle.std.specs.Bool.{OnTrue, OnFalse}
+use Rattle.std.specs.FinMap as maps
+use Rattle.sdbt_base.specs.Arrays.{Device, Blocks, padded}
+use Rattle.platform.specs.Image.{Image, with_page}
+use Rattle.platform.proofs.Moments.{Extends-earlier, whole-now}
+use Rattle.seal_record.specs.Sealing.{masked}
+use Rattle.node_codec.specs.Record.{DataRecord, record_bytes}
+use Rattle.page_store.specs.Buffer.{Held}
+use Rattle.page_store.specs.Keeping.{KeepsKeys, IsNextRecord}
+use Rattle.page_store.proofs.KeepingLaws.{keeps_from}
+use Rattle.btree_update.specs.declared.groves.Grove.{Grove}
+use Rattle.btree_update.specs.Groves.{CanInsert, CanRemove, places_of}
+use Rattle.btree_twigs.specs.Stubs.{Stub, datum}
+use Rattle.grove_accounts.specs.Holding.{Arrives, IsSameSize}
+use Rattle.device_session.specs.Sessions.{Session}
+use Rattle.device_session.specs.Open.{IsOpen, AreDataPages}
+use Rattle.device_session.specs.Holds.{Holds}
+use Rattle.device_session.specs.Keys.{HoldsListed}
+use Rattle.device_session.specs.Ready.{IsReadyFor, counted_with}
+use Rattle.device_session.proofs.InsertLaws.{IsInsertion, Inserts, with_inserted, arrived, padded_bytes, later_holds, later_listed, later_open, inserted_open, inserted_holds, inserted_listed, inserted_pages, below_more, level_stays, count_few, at_false, more_listed}
+use Rattle.device_session.specs.Damage.{Follows, HasRoom}
+use Rattle.device_session.proofs.DamageLaws.{follows_later, follows_inserted}
+use Rattle.device_session.specs.contracts.session.Session.{the_view}
+use Rattle.device_session.proofs.session.Session.put.Given.{Over}
+use Rattle.device_session.proofs.session.Session.put.Goals.{After-append, After-insert, In-Ok}
+use Rattle.device_session.proofs.session.Session.put.Goals as goal
+
+-- the session as the call finds it
+here : (g : Over) (c : After-append g) → Session
+here g c = the_view c.self.inside
+
+is_open : (g : Over) (c : After-append g) → IsOpen (the_view c.self.inside) (g.P.Platform.head c.args.platform.now)
+is_open g c = subst (λ (s : Session). IsOpen s (g.P.Platform.head c.args.platform.now)) (sym c.self.view_is) c.requires.open
+
+small : (g : Over) (c : After-append g) → c.args.block < c.self.inside.root.blocks
+small g c = subst (λ (s : Session). c.args.block < s.root.blocks) (sym c.self.view_is) c.requires.room.0
+
+few : (g : Over) (c : After-append g) → c.args.block < 1048576
+few g c = let o = is_open g c in omega (arith, small g c, o.served.in_range.blocks_most)
+
+-- the body is the record of the block
+body_is : (g : Over) (c : After-append g) → c.put_block.new.self.body ≡ record_bytes (g.P.Platform.head c.args.platform.now) (DataRecord c.args.block (padded c.args.content.now))
+body_is g c = ap (λ (b : Held). b.body) c.put_block.ensures ∙ ap (λ (n : ℕ). record_bytes n (DataRecord c.args.block (padded c.args.content.now))) c.head-addr.ensures.value
+
+size : (g : Over) (c : After-insert g) → IsSameSize c.self.inside.grove c.insert.new.self
+size g c = record { sound = c.insert.ensures.sound; order = c.insert.ensures.size.0; blocks = c.insert.ensures.size.1; head = c.insert.ensures.size.2 }
+
+-- the data record arrives
+arrives : (g : Over) (c : In-Ok g) → g.P.Platform.tells → Arrives (g.P.Platform.history c.args.platform.now).present (g.P.Platform.history c.append.new.platform).present c.args.block c.in-Ok.placed.addr c.in-Ok.placed.key (padded c.args.content.now)
+arrives g c told =
+    let image = (g.P.Platform.history c.args.platform.now).present in
+    let addr = c.in-Ok.placed.addr in
+    let key = c.in-Ok.placed.key in
+    let text = padded c.args.content.now in
+    let address : addr ≡ g.P.Platform.head c.args.platform.now = c.in-Ok.ensures.address in
+    let body : c.put_block.new.self.body ≡ record_bytes addr (DataRecord c.args.block text) = ap (λ (b : Held). b.body) c.put_block.ensures ∙ ap (λ (n : ℕ). record_bytes n (DataRecord c.args.block text)) (c.head-addr.ensures.value ∙ sym address) in
+    let o = subst (λ (s : Session). IsOpen s (g.P.Platform.head c.args.platform.now)) (sym c.self.view_is) c.requires.open in
+    let to = subst (λ (s : Session). c.args.block < s.root.blocks) (sym c.self.view_is) c.requires.room.0 in
+    arrived image (g.P.Platform.history c.append.new.platform).present c.args.block addr key text (whole-now (g.P.Platform.history c.args.platform.now)) (Extends-earlier _ _ (c.append.ensures.time told).extends)
+    (address ∙ sym (g.met.P.Platform.counts_pages told c.args.platform.now)) (omega (arith, address, g.met.P.Platform.has_room c.args.platform.now, g.met.P.Platform.is_limited c.args.platform.now))
+    (omega (arith, to, o.served.in_range.blocks_most)) (padded_bytes c.args.content.now c.requires.size c.are_bytes.ensures)
+    (c.in-Ok.ensures.appended told ∙ ap (λ (b : List ℕ). with_page image (masked key b) (masked key b)) body)
+
+-- the insertion, over a tree that is ready for it
+insertion : (g : Over) (c : After-insert g) → (g.P.Platform.tells → Arrives (g.P.Platform.history c.args.platform.now).present (g.P.Platform.history c.append.new.platform).present c.args.block c.in-Ok.placed.addr c.in-Ok.placed.key (padded c.args.content.now)) → g.P.Platform.tells → IsReadyFor (g.P.Platform.history c.args.platform.now).present.readable c.args.block c.args.self.now.grove c.args.is_mapped →
+    IsInsertion (the_view c.self.inside) (g.P.Platform.history c.args.platform.now).present (g.P.Platform.history c.append.new.platform).present c.args.block c.in-Ok.placed.addr c.in-Ok.placed.key (padded c.args.content.now) c.args.is_mapped c.insert.new.self
+insertion g c come told r =
+    let image = (g.P.Platform.history c.args.platform.now).present in
+    let o = subst (λ (s : Session). IsOpen s (g.P.Platform.head c.args.platform.now)) (sym c.self.view_is) c.requires.open in
+    let ready = subst (λ (s : Session). IsReadyFor image.readable c.args.block s.grove c.args.is_mapped) (sym c.self.view_is) r in
+    record {
+      whole = whole-now (g.P.Platform.history c.args.platform.now);
+      cell = c.append.ensures.cell told;
+      size = size g c;
+      to = subst (λ (s : Session). c.args.block < s.root.blocks) (sym c.self.view_is) c.requires.room.0;
+      arrives = come told;
+      within = let pages = g.met.P.Platform.counts_pages told c.args.platform.now in omega (arith, pages, o.served.within);
+      turns = c.insert.ensures.goes image.readable ready.way;
+      ready = ready;
+      pages = g.P.Platform.head c.args.platform.now;
+      is_open = o;
+    }
+
+-- whatever became of the append
+still_follows : (g : Over) (c : After-append g) → g.P.Platform.tells → Follows c.args.self.now (g.P.Platform.history c.args.platform.now).present → Follows (record (the_view c.self.inside) { buffers = c.append.new.self }) (g.P.Platform.history c.append.new.platform).present
+still_follows g c told f =
+    follows_later (the_view c.self.inside) c.append.new.self (g.P.Platform.history c.args.platform.now).present _ (g.P.Platform.head c.args.platform.now) (is_open g c) (sym (g.met.P.Platform.counts_pages told c.args.platform.now))
+    (whole-now (g.P.Platform.history c.args.platform.now)) (Extends-earlier _ _ (c.append.ensures.time told).extends) (subst (λ (s : Session). Follows s (g.P.Platform.history c.args.platform.now).present) (sym c.self.view_is) f)
+
+pub returns-in-Err-TapeFault-clause-array : goal.returns-in-Err-TapeFault-clause-array
+returns-in-Err-TapeFault-clause-array g c = λ told device contents h r.
+    later_holds (the_view c.self.inside) c.append.new.self _ _ device contents (whole-now (g.P.Platform.history c.args.platform.now)) (Extends-earlier _ _ (c.append.ensures.time told).extends) (c.append.ensures.cell told)
+    (subst (λ (s : Session). Holds s (g.P.Platform.history c.args.platform.now).present device contents) (sym c.self.view_is) h)
+
+pub returns-in-Err-PlatformFault-clause-array : goal.returns-in-Err-PlatformFault-clause-array
+returns-in-Err-PlatformFault-clause-array g c = λ told device contents h r.
+    later_holds (the_view c.self.inside) c.append.new.self _ _ device contents (whole-now (g.P.Platform.history c.args.platform.now)) (Extends-earlier _ _ (c.append.ensures.time told).extends) (c.append.ensures.cell told)
+    (subst (λ (s : Session). Holds s (g.P.Platform.history c.args.platform.now).present device contents) (sym c.self.view_is) h)
+
+pub returns-in-Err-PlatformFault-clause-follows : goal.returns-in-Err-PlatformFault-clause-follows
+returns-in-Err-PlatformFault-clause-follows g c = λ told f r. still_follows g (goal.at.returns-in-Err-PlatformFault-clause-follows g c).After-append told f
+
+pub returns-in-Err-TapeFault-clause-follows : goal.returns-in-Err-TapeFault-clause-follows
+returns-in-Err-TapeFault-clause-follows g c = λ told f r. still_follows g (goal.at.returns-in-Err-TapeFault-clause-follows g c).After-append told f
+
+pub returns-in-Err-PlatformFault-clause-open : goal.returns-in-Err-PlatformFault-clause-open
+returns-in-Err-PlatformFault-clause-open g c = later_open (the_view c.self.inside) c.append.new.self _ _ c.append.ensures.head_rises (is_open g (goal.at.returns-in-Err-PlatformFault-clause-open g c).After-append)
+
+-- an append that failed keeps the keys
+appends : (g : Over) (c : After-append g) (Done : List (List ℕ) → Type 0) → (g.P.Platform.tells → (keys more : List (List ℕ)) → HoldsListed (the_view c.self.inside) (g.P.Platform.history c.args.platform.now).present keys → IsReadyFor (g.P.Platform.history c.args.platform.now).present.readable c.args.block c.args.self.now.grove c.args.is_mapped →
+    Done (keys ++ more)) →
+    KeepsKeys g.P.Platform.tells (g.T.Tape.drawn c.args.tape.now) (g.T.Tape.drawn c.append.new.tape) (g.P.Platform.history c.args.platform.now) (g.P.Platform.history c.append.new.platform)
+    (λ keys. HoldsListed c.args.self.now (g.P.Platform.history c.args.platform.now).present keys × IsReadyFor (g.P.Platform.history c.args.platform.now).present.readable c.args.block c.args.self.now.grove c.args.is_mapped) Done
+appends g c Done done =
+    let old = g.P.Platform.history c.args.platform.now in
+    let value = DataRecord c.args.block (padded c.args.content.now) in
+    keeps_from _ _ _ old _ (IsNextRecord old.present value) _ _ Done
+    (c.append.ensures.keeps value (few g c, padded_bytes c.args.content.now c.requires.size c.are_bytes.ensures) (body_is g c))
+    (λ told keys h. record { device = Some h.0.device; stands = (c.args.self.now.root, h.0.holds.committed, h.0.holds.stands); listed = tt })
+    (λ told keys more h then. done told keys more (subst (λ (s : Session). HoldsListed s old.present keys) (sym c.self.view_is) h.0) h.1)
+
+pub returns-in-Err-TapeFault-clause-keeps : goal.returns-in-Err-TapeFault-clause-keeps
+returns-in-Err-TapeFault-clause-keeps g c = appends g (goal.at.returns-in-Err-TapeFault-clause-keeps g c).After-append _ (λ told keys more h r.
+    later_listed (the_view c.self.inside) c.append.new.self _ _ (keys ++ more) (whole-now (g.P.Platform.history c.args.platform.now)) (Extends-earlier _ _ (c.append.ensures.time told).extends) (c.append.ensures.cell told) (more_listed (the_view c.self.inside) _ keys more h))
+
+pub returns-in-Err-PlatformFault-clause-keeps : goal.returns-in-Err-PlatformFault-clause-keeps
+returns-in-Err-PlatformFault-clause-keeps g c = appends g (goal.at.returns-in-Err-PlatformFault-clause-keeps g c).After-append _ (λ told keys more h r.
+    later_listed (the_view c.self.inside) c.append.new.self _ _ (keys ++ more) (whole-now (g.P.Platform.history c.args.platform.now)) (Extends-earlier _ _ (c.append.ensures.time told).extends) (c.append.ensures.cell told) (more_listed (the_view c.self.inside) _ keys more h))
+
+-- ---- where the record was put
+
+pub returns-clause-array : goal.returns-clause-array
+returns-clause-array g c = λ told device contents h r.
+    let at = goal.at.returns-clause-array g c in
+    let k = subst (λ (s : Session). Holds s (g.P.Platform.history c.args.platform.now).present device contents) (sym c.self.view_is) h in
+    subst (λ n. Holds (with_inserted (the_view c.self.inside) c.insert.new.self n c.append.new.self) (g.P.Platform.history c.append.new.platform).present device (maps.insert contents c.args.block (padded c.args.content.now))) (sym c.count_with-self-inside.ensures)
+    (inserted_holds (the_view c.self.inside) _ _ device contents c.args.block c.in-Ok.placed.addr c.in-Ok.placed.key (padded c.args.content.now) c.args.is_mapped c.insert.new.self c.append.new.self (insertion g at.After-insert (arrives g at.In-Ok) told r) k)
+
+pub returns-clause-follows : goal.returns-clause-follows
+returns-clause-follows g c = λ told f r.
+    let at = goal.at.returns-clause-follows g c in
+    let k = subst (λ (s : Session). Follows s (g.P.Platform.history c.args.platform.now).present) (sym c.self.view_is) f in
+    subst (λ n. Follows (with_inserted (the_view c.self.inside) c.insert.new.self n c.append.new.self) (g.P.Platform.history c.append.new.platform).present) (sym c.count_with-self-inside.ensures)
+    (follows_inserted (the_view c.self.inside) _ _ c.args.block c.in-Ok.placed.addr c.in-Ok.placed.key (padded c.args.content.now) c.args.is_mapped c.insert.new.self c.append.new.self (insertion g at.After-insert (arrives g at.In-Ok) told r)
+    (sym (g.met.P.Platform.counts_pages told c.args.platform.now)) (λ mapped content read maps there. c.insert.ensures.maps (g.P.Platform.history c.append.new.platform).present.readable mapped content read maps there) k)
+
+pub returns-clause-open : goal.returns-clause-open
+returns-clause-open g c =
+    let at = goal.at.returns-clause-open g c in
+    let head = g.P.Platform.head c.args.platform.now in
+    let now = g.P.Platform.head c.append.new.platform in
+    let o = is_open g at.After-append in
+    let grown : head + 1 ≡ now = omega (arith, c.in-Ok.ensures.head_ok) in
+    let below = c.insert.ensures.below now (below_more head now c.self.inside.grove (omega (arith, grown)) o.below) (omega (arith, c.in-Ok.ensures.address, grown)) in
+    let limit = subst (λ (s : Session). OnFalse c.args.is_mapped (HasRoom s)) (sym c.self.view_is) c.requires.limit in
+    let can = subst (λ (s : Session). CanInsert c.args.block s.grove × (IsTrue c.args.is_mapped → CanRemove c.args.block s.grove)) (sym c.self.view_is) c.requires.can in
+    subst (λ n. IsOpen (with_inserted (the_view c.self.inside) c.insert.new.self n c.append.new.self) now) (sym c.count_with-self-inside.ensures)
+    (inserted_open (the_view c.self.inside) c.insert.new.self (counted_with c.args.is_mapped c.self.inside.mapped) c.append.new.self head now (size g at.After-insert) c.insert.ensures.top
+    (level_stays c.args.is_mapped c.self.inside.grove.level c.insert.new.self.level (λ yes. c.insert.ensures.stays (can.1 yes)) c.insert.ensures.level (at_false c.args.is_mapped _ _ (λ l. l.1) limit) o.level)
+    below (count_few c.args.is_mapped c.self.inside.mapped c.self.inside.root.blocks (at_false c.args.is_mapped _ _ (λ l. l.0) limit) o.mapped) (omega (arith, grown)) o)
+
+pub returns-clause-keeps : goal.returns-clause-keeps
+returns-clause-keeps g c =
+    let at = goal.at.returns-clause-keeps g c in
+    let old = g.P.Platform.history c.args.platform.now in
+    let value = DataRecord c.args.block (padded c.args.content.now) in
+    keeps_from _ _ _ old _ (IsNextRecord old.present value) _ _ _
+    (c.append.ensures.keeps value (few g at.After-append, padded_bytes c.args.content.now c.requires.size c.are_bytes.ensures) (body_is g at.After-append))
+    (λ told keys h. record { device = Some h.0.device; stands = (c.args.self.now.root, h.0.holds.committed, h.0.holds.stands); listed = tt })
+    (λ told keys more h then.
+    let k = subst (λ (s : Session). HoldsListed s old.present keys) (sym c.self.view_is) h.0 in
+    let has : Contains (keys ++ more) c.in-Ok.placed.key = rw c.in-Ok.is at then in
+    subst (λ n. HoldsListed (with_inserted (the_view c.self.inside) c.insert.new.self n c.append.new.self) (g.P.Platform.history c.append.new.platform).present (keys ++ more)) (sym c.count_with-self-inside.ensures)
+    (inserted_listed (the_view c.self.inside) _ _ keys more c.args.block c.in-Ok.placed.addr c.in-Ok.placed.key (padded c.args.content.now) c.args.is_mapped c.insert.new.self c.append.new.self (insertion g at.After-insert (arrives g at.In-Ok) told h.1) k has))
+
+pub returns-clause-adds : goal.returns-clause-adds
+returns-clause-adds g c =
+    let address : c.in-Ok.placed.addr ≡ g.P.Platform.head c.args.platform.now = c.in-Ok.ensures.address in (
+      c.in-Ok.ensures.head_ok,
+      record {
+        key = c.in-Ok.placed.key;
+        drew = c.in-Ok.ensures.drew;
+        place = subst (λ n. Contains (places_of c.insert.new.self) (datum c.args.block n c.in-Ok.placed.key)) address c.insert.ensures.has;
+      },
+    )
+
+pub returns-clause-pages : goal.returns-clause-pages
+returns-clause-pages g c = λ told device contents h r pages are.
+    let at = goal.at.returns-clause-pages g c in
+    let k = subst (λ (s : Session). Holds s (g.P.Platform.history c.args.platform.now).present device contents) (sym c.self.view_is) h in
+    let were = subst (λ (s : Session). AreDataPages s pages) (sym c.self.view_is) are in
+    let address : c.in-Ok.placed.addr ≡ g.P.Platform.head c.args.platform.now = c.in-Ok.ensures.address in (
+      tt,
+      subst (λ n. AreDataPages (with_inserted (the_view c.self.inside) c.insert.new.self (counted_with c.args.is_mapped c.self.inside.mapped) c.append.new.self) (pages ++ record { block = c.args.block; addr = n } ∷ [])) address
+          (inserted_pages (the_view c.self.inside) _ _ device contents c.args.block c.in-Ok.placed.addr c.in-Ok.placed.key (padded c.args.content.now) c.args.is_mapped c.insert.new.self c.append.new.self pages (insertion g at.After-insert (arrives g at.In-Ok) told r) k were),
+    )

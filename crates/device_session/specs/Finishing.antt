@@ -1,0 +1,40 @@
+-- What the steps of a commit say that follow the sealing of its tree.
+use Rattle.std.specs.Prelude.{◌≡◌, ◌≢◌, ◌⊎◌, ℕ, false, List, Option, Some, All, Contains}
+use Rattle.sdbt_base.specs.Told.{Got, GotPart}
+use Rattle.platform.specs.History.{History, CellStays}
+use Rattle.root_codec.specs.declared.root.Root.{Root}
+use Rattle.root_codec.specs.RootRecord.{root_bytes}
+use Rattle.page_store.specs.Buffer.{IsBlank}
+use Rattle.node_cache.specs.declared.slots.Kept.{Kept}
+use Rattle.grove_accounts.specs.Holding.{IsTreeOf}
+use Rattle.device_session.specs.declared.refusals.CommitFault.{CommitFault}
+use Rattle.device_session.specs.declared.refusals.CommitFault.TheVariants as commit
+use Rattle.device_session.specs.Sessions.{Session}
+
+-- a line was put before the root record was replaced: all of it where the call was done or that root record came into the cell; and else, with the
+-- cell as it was at each moment, all or a first part
+abbrev pub PutsLine : Type 0 → Option (List ℕ) → Option (List ℕ) → History → History → List ℕ → Root → Type 0 → Type 0
+PutsLine tells written written_now old new line root Done =
+    (Got written line written_now × (tells → (new.present.cell ≡ Some (root_bytes root)) ⊎ (CellStays old new × (Done → ⊥))))
+    ⊎ (GotPart written line written_now × (tells → CellStays old new) × (Done → ⊥))
+
+-- a root record was not published since the platform failed, or the ledger
+abbrev pub IsPublishCause : Type 0 → Type 0 → CommitFault → Type 0
+IsPublishCause Failed Unput commit.PlatformFault = Failed
+IsPublishCause Failed Unput commit.LedgerFault = Unput
+IsPublishCause Failed Unput commit.TapeFault = ⊥
+IsPublishCause Failed Unput commit.Memory = ⊥
+
+-- no node is kept for one of these addresses
+abbrev pub LacksNodes : List ℕ → List Kept → Type 0
+LacksNodes gone kept = All (λ addr. All (λ node. node.addr ≢ addr) kept) gone
+
+-- a session goes on with the tree of a root record: no node is in memory then, none that is gone is kept, and nothing of what was read or sealed
+pub record TakesUp (session : Session) (root : Root) (now : Session) : Type 0 where
+  pub root_is : now.root ≡ root
+  pub mapped : now.mapped ≡ session.mapped
+  pub untouched : now.is_touched ≡ false
+  pub tree : IsTreeOf root now.grove
+  pub kept : All (Contains session.cache.kept) now.cache.kept
+  pub forgot : LacksNodes session.grove.gone.items now.cache.kept
+  pub wiped : IsBlank now.buffers
