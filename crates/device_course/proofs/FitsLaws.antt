@@ -1,38 +1,33 @@
 -- How a ledger goes on to fit an image.
-use Rattle.std.proofs.Common.{◌≡◌, ◌≢◌, ◌⊎◌, inl, inr, ℕ, zero, suc, ◌+◌, ◌<◌, ◌≤◌, true, false, List, [], ◌∷◌, ◌++◌, All, Option, None, Some, take, length, map, get_or, refl, sym, subst, ap, ◌∙◌, arith, append_assoc}
-use Rattle.std.specs.Prelude.{AllPairs, Contains, IfSome, slice_get}
+use Rattle.std.proofs.Common.{◌≡◌, ◌≢◌, ◌⊎◌, inl, inr, ℕ, zero, suc, ◌+◌, ◌<◌, ◌≤◌, List, [], ◌∷◌, ◌++◌, All, Option, None, Some, take, length, map, get_or, refl, sym, subst, ap, ◌∙◌, arith, append_assoc}
+use Rattle.std.specs.Prelude.{AllPairs, Contains}
 use Rattle.std.specs.Option.{option_map_or}
-use Rattle.std.specs.List.{AllZip}
-use Rattle.std.proofs.lemmas.Bool.{cases_lt, cases_Bool}
-use Rattle.std.proofs.lemmas.Option.{none-some, same_Some, slice_get_within}
+use Rattle.std.proofs.lemmas.Bool.{cases_eq, cases_lt}
+use Rattle.std.proofs.lemmas.Option.{none-some, same_Some}
 use Rattle.std.proofs.lemmas.List.{append-nil}
 use Rattle.std.proofs.lemmas.List.Elements.{All-nil, All-cons, All-contains, All-weaker, All-append, All-map, Contains-append_left, Contains-append_right, Contains-get_or}
 use Rattle.std.proofs.lemmas.List.Kept.{AllPairs-cons}
 use Rattle.sdbt_base.specs.Told.{Got, GotPart}
 use Rattle.sdbt_base.proofs.ToldLaws.{Got-nothing, Got-then}
 use Rattle.sdbt_base.specs.Arrays.{Device, Blocks, State, Session as OpenSession}
-use Rattle.sdbt_base.specs.Traces.{Traced, TraceEntry, NodeOver}
+use Rattle.sdbt_base.specs.Traces.{Traced, TraceEntry, DataOf, NodeOver}
 use Rattle.sdbt_base.specs.declared.lists.Unkept.{Unkept}
 use Rattle.platform.specs.Image.{Image, IsEarlier, MayLeave, LeavesOnly}
 use Rattle.platform.specs.History.{History, Turns, CellStays}
 use Rattle.platform.proofs.RunLaws.{Turns-cases}
 use Rattle.platform.specs.Logged.{AllPairs-first, AllPairs-rest}
-use Rattle.platform.proofs.Moments.{During-now, Extends-earlier, whole-now, synced-stays}
+use Rattle.platform.proofs.Moments.{During-now, Extends-earlier, synced-stays}
 use Rattle.node_codec.specs.declared.body.Entry.{Entry}
-use Rattle.node_codec.specs.Record.{DataRecord}
 use Rattle.root_codec.specs.declared.root.Root.{Root}
 use Rattle.root_codec.specs.RootRecord.{FitsRoot, root_bytes}
 use Rattle.root_codec.specs.Laws.{one_root}
-use Rattle.key_graph.specs.Trace.{Entries, Has, IsTraceTree, entry_in}
+use Rattle.key_graph.specs.Trace.{Entries, Has}
 use Rattle.key_graph.proofs.ChainLaws.{contains_map, map_contains}
-use Rattle.page_store.specs.Places.{IsRecordAt}
-use Rattle.page_store.specs.Tree.{Place, Parts, Tree}
-use Rattle.page_store.specs.Leaf.{leaf_parts, data_places}
+use Rattle.page_store.specs.Tree.{Place, Parts, Subtree, Tree, joined}
 use Rattle.page_store.specs.Kept.{IsRootOf}
 use Rattle.page_store.specs.Stands.{Stands, StandsBy, IsSound}
 use Rattle.page_store.specs.Floors.{Forgets, HasPlace, IsInTree, IsNewRoot, head_in, low_of}
 use Rattle.page_store.proofs.KeptLaws.{tree_later, one_root_in, root_of_stands}
-use Rattle.page_store.proofs.LeafStandsLaws.{stands_by_leaf}
 use Rattle.page_store.proofs.TreeLaws.{ReadsAlike, one_tree, tree_kept}
 use Rattle.page_store.proofs.FloorLaws.{low_of_stands, place_of_stands, place_in_tree}
 use Rattle.cert_maker.specs.Cert.{Cert}
@@ -45,11 +40,16 @@ use Rattle.cert_codec.proofs.LedgerLaws.{entry_adds, part_adds}
 use Rattle.cert_checker.specs.Chain.{Fits}
 use Rattle.cert_checker.specs.Succession.{Succeeds}
 use Rattle.cert_checker.proofs.FitsLaws.{fits_next, fits_waits, fits_first}
+use Rattle.btree_twigs.specs.Stubs.{Stub}
+use Rattle.btree_update.specs.Groves.{places_of}
+use Rattle.grove_accounts.specs.Accounts.{LacksAddress}
+use Rattle.grove_accounts.specs.Below.{want_in, HaveParts}
+use Rattle.grove_accounts.specs.Certs.{IsOwnStub, page_at}
 use Rattle.device_session.specs.Holds.{Holds}
 use Rattle.device_session.specs.Sessions.{Session}
 use Rattle.device_session.specs.Open.{AreDataPages}
 use Rattle.device_session.specs.Certifying.{IsOfCommit}
-use Rattle.device_terms.specs.Certifying.{Certifies, PutsEntry}
+use Rattle.device_terms.specs.Certifying.{Certifies}
 use Rattle.device_core.specs.Certifying.{IsOfFormat}
 use Rattle.device_course.proofs.SaidLaws.{entry_has, has_entry}
 use Rattle.device_session.specs.Keys.{HoldsListed}
@@ -156,36 +156,67 @@ said_none entries addr none = go (entries addr) refl
 
 -- ---- the data pages of a session
 
--- the pages of those entries that came after a root record
-record Own (head : ℕ) (entries : List Entry) : Type 0 where
+-- the pages of those data records among these places that came after a root record
+record Own (head : ℕ) (stubs : List Stub) : Type 0 where
   pages : List Unkept
-  named : All (λ e. head ≤ e.addr → Contains pages (page_of e)) entries
-  only : All (λ page. (e : Entry) × Contains entries e × (head ≤ e.addr) × (page ≡ page_of e)) pages
+  named : (s : Stub) → Contains stubs s → IsOwnStub head s → Contains pages (page_at s)
+  only : All (λ page. (s : Stub) × Contains stubs s × IsOwnStub head s × (page ≡ page_at s)) pages
 
 behind : {X : Type 0} (x y : X) (xs : List X) → Contains xs y → Contains (x ∷ xs) y
 behind x y xs has = (suc has.0, omega (arith, has.1), has.2)
 
-own : (head : ℕ) (entries : List Entry) → Own head entries
-own head [] = record { pages = []; named = All-nil _; only = All-nil _ }
-own head (e ∷ entries) =
-    let rest = own head entries in
-    let later : All (λ page. (x : Entry) × Contains (e ∷ entries) x × (head ≤ x.addr) × (page ≡ page_of x)) rest.pages =
-    All-weaker (λ (page : Unkept). (x : Entry) × Contains entries x × (head ≤ x.addr) × (page ≡ page_of x)) (λ (page : Unkept). (x : Entry) × Contains (e ∷ entries) x × (head ≤ x.addr) × (page ≡ page_of x))
-    (λ page of. (of.0, behind e of.0 entries of.1, of.2, of.3)) rest.pages rest.only in
-    elim (cases_lt e.addr head) [
-      | inl less ↦ record {
-        pages = rest.pages;
-        named = All-cons (λ (x : Entry). head ≤ x.addr → Contains rest.pages (page_of x)) e entries (λ most. absurd (omega (arith, less, most))) rest.named;
-        only = later;
+is_own : (head : ℕ) (s : Stub) → IsOwnStub head s ⊎ (IsOwnStub head s → ⊥)
+is_own head s = elim (cases_eq s.level 0) [
+  | inl lowest ↦ elim (cases_lt s.addr head) [
+    | inl less ↦ inr (λ own. let late = own.after in omega (arith, less, late))
+    | inr most ↦ inl (record { level = lowest; after = most })
+  ]
+  | inr node ↦ inr (λ own. node own.level)
+]
+
+own : (head : ℕ) (stubs : List Stub) → Own head stubs
+own head [] = record { pages = []; named = λ s has is. absurd (omega (arith, has.1)); only = All-nil (λ (page : Unkept). (s : Stub) × Contains [] s × IsOwnStub head s × (page ≡ page_at s)) }
+own head (t ∷ stubs) =
+    let rest = own head stubs in
+    let Of : Unkept → Type 0 = λ (page : Unkept). (s : Stub) × Contains (t ∷ stubs) s × IsOwnStub head s × (page ≡ page_at s) in
+    let later : All Of rest.pages = All-weaker (λ (page : Unkept). (s : Stub) × Contains stubs s × IsOwnStub head s × (page ≡ page_at s)) Of
+    (λ page of. (of.0, behind t of.0 stubs of.1, of.2, of.3)) rest.pages rest.only in
+    elim (is_own head t) [
+      | inl mine ↦ record {
+        pages = page_at t ∷ rest.pages;
+        named = named_first head t stubs rest.pages rest.named;
+        only = All-cons Of (page_at t) rest.pages (t, (0, omega arith, refl), mine, refl) later;
       }
-      | inr most ↦ record {
-        pages = page_of e ∷ rest.pages;
-        named = All-cons (λ (x : Entry). head ≤ x.addr → Contains (page_of e ∷ rest.pages) (page_of x)) e entries (λ high. (0, omega arith, refl))
-            (All-weaker (λ (x : Entry). head ≤ x.addr → Contains rest.pages (page_of x)) (λ (x : Entry). head ≤ x.addr → Contains (page_of e ∷ rest.pages) (page_of x))
-            (λ x has high. behind (page_of e) (page_of x) rest.pages (has high)) entries rest.named);
-        only = All-cons (λ (page : Unkept). (x : Entry) × Contains (e ∷ entries) x × (head ≤ x.addr) × (page ≡ page_of x)) (page_of e) rest.pages (e, (0, omega arith, refl), most, refl) later;
-      }
+      | inr other ↦ record { pages = rest.pages; named = named_rest head t stubs rest.pages other rest.named; only = later }
     ]
+  where
+    named_first : (head : ℕ) (t : Stub) (stubs : List Stub) (pages : List Unkept) → ((s : Stub) → Contains stubs s → IsOwnStub head s → Contains pages (page_at s)) → (s : Stub) → Contains (t ∷ stubs) s → IsOwnStub head s → Contains (page_at t ∷ pages) (page_at s)
+    named_first head t stubs pages named s (zero, within, is) mine = (0, omega arith, ap page_at is)
+    named_first head t stubs pages named s (suc k, within, is) mine = behind (page_at t) (page_at s) pages (named s (k, omega (arith, within), is) mine)
+
+    named_rest : (head : ℕ) (t : Stub) (stubs : List Stub) (pages : List Unkept) → (IsOwnStub head t → ⊥) → ((s : Stub) → Contains stubs s → IsOwnStub head s → Contains pages (page_at s)) → (s : Stub) → Contains (t ∷ stubs) s → IsOwnStub head s → Contains pages (page_at s)
+    named_rest head t stubs pages other named s (zero, within, is) mine = absurd (other (subst (IsOwnStub head) (sym is) mine))
+    named_rest head t stubs pages other named s (suc k, within, is) mine = named s (k, omega (arith, within), is) mine
+
+-- a place of a session's tree has a place of all that stands below it at its address
+top_place : (pages : List (List ℕ)) (order top level : ℕ) (s : Stub) (q : Parts) → Subtree pages order level (want_in order top s) s.key q → (p : Place) × Contains q.places p × (p.addr ≡ s.addr)
+unfolding Subtree
+top_place pages order top zero s q h =
+    let here : Place = record { addr = s.addr; key = s.key; trace = DataOf s.low } in
+    (here, subst (λ (x : Parts). Contains x.places here) (sym h.has) (0, omega arith, refl), refl)
+top_place pages order top (suc level) s q h =
+    let here : Place = record { addr = s.addr; key = s.key; trace = NodeOver (map (λ (e : Entry). e.addr) h.entries) } in
+    (here, subst (λ (x : Parts). Contains x.places here) (sym h.has) (0, omega arith, refl), refl)
+
+stub_place : (pages : List (List ℕ)) (order top : ℕ) (stubs : List Stub) (each : List Parts) (s : Stub) → HaveParts pages order top stubs each → Contains stubs s → (p : Place) × Contains (joined each).places p × (p.addr ≡ s.addr)
+stub_place pages order top [] each s h has = absurd (omega (arith, has.1))
+stub_place pages order top (t ∷ stubs) [] s h has = absurd h
+stub_place pages order top (t ∷ stubs) (q ∷ qs) s h (zero, within, is) =
+    let one = top_place pages order top t.level t q h.0 in
+    (one.0, Contains-append_left q.places (joined qs).places one.0 one.1, one.2 ∙ ap (λ (x : Stub). x.addr) is)
+stub_place pages order top (t ∷ stubs) (q ∷ qs) s h (suc k, within, is) =
+    let rest = stub_place pages order top stubs qs s h.1 (k, omega (arith, within), is) in
+    (rest.0, Contains-append_right q.places (joined qs).places rest.0 rest.1, rest.2)
 
 -- the data pages of a session that has an array over an image, which lie from the head of its root record on
 record Wrote (session : Session) (pages : ℕ) : Type 0 where
@@ -193,57 +224,35 @@ record Wrote (session : Session) (pages : ℕ) : Type 0 where
   are : AreDataPages session list
   between : (page : Unkept) → Contains list page → (session.root.head ≤ page.addr) × (page.addr < pages)
 
-zip_each : {X Y : Type 0} (R : X → Y → Type 0) (xs : List X) (ys : List Y) (x : X) → AllZip R xs ys → Contains xs x → (y : Y) × R x y
-zip_each R [] ys x all has = absurd (omega (arith, has.1))
-zip_each R (first ∷ xs) [] x all has = absurd all
-zip_each {X} {Y} R (first ∷ xs) (y ∷ ys) x all (zero, within, is) = (y, subst (λ (e : X). R e y) is all.0)
-zip_each R (first ∷ xs) (y ∷ ys) x all (suc k, within, is) = zip_each R xs ys x all.1 (k, omega (arith, within), is)
-
--- a page that an entry names is there
-named_page : (history : History) (session : Session) (device : Device) (contents : Blocks) (h : Holds session history.present device contents) (e : Entry) → Contains h.entries e → e.addr < length history.present.recorded
-named_page history session device contents h e has =
-    let there = zip_each (λ (e : Entry) (c : List ℕ). IsRecordAt history.present.readable e.addr e.key (DataRecord e.low c)) h.entries h.texts e h.mapped_there.records has in
-    let within : e.addr < length history.present.readable = slice_get_within history.present.readable e.addr there.1.page there.1.reads in
-    omega (arith, within, (whole-now history).as_many)
-
-wrote : (history : History) (session : Session) (device : Device) (contents : Blocks) → Holds session history.present device contents → Wrote session (length history.present.recorded)
-wrote history session device contents h = elim (cases_Bool session.is_loaded) [
-  | inl read ↦
-      let mine = own session.root.head session.entries in
-      let only : All (λ page. Contains session.released.never page ⊎ ((session.is_loaded ≡ true) × ((e : Entry) × Contains session.entries e × (session.root.head ≤ e.addr) × (page ≡ page_of e)))) (session.released.never ++ mine.pages) =
-      All-append (λ (page : Unkept). Contains session.released.never page ⊎ ((session.is_loaded ≡ true) × ((e : Entry) × Contains session.entries e × (session.root.head ≤ e.addr) × (page ≡ page_of e)))) session.released.never mine.pages
-      (λ k d within. inl (Contains-get_or session.released.never k d within))
-      (All-weaker (λ (page : Unkept). (e : Entry) × Contains session.entries e × (session.root.head ≤ e.addr) × (page ≡ page_of e)) (λ (page : Unkept). Contains session.released.never page ⊎ ((session.is_loaded ≡ true) × ((e : Entry) × Contains session.entries e × (session.root.head ≤ e.addr) × (page ≡ page_of e))))
-      (λ page of. inr (read, of)) mine.pages mine.only) in
-      record {
-        list = session.released.never ++ mine.pages;
-        are = record {
-          named = λ yes. All-weaker (λ (e : Entry). session.root.head ≤ e.addr → Contains mine.pages (page_of e)) (λ (e : Entry). session.root.head ≤ e.addr → Contains (session.released.never ++ mine.pages) (page_of e))
-              (λ e has high. Contains-append_right session.released.never mine.pages (page_of e) (has high)) session.entries mine.named;
-          unnamed = λ k d within. Contains-append_left session.released.never mine.pages (get_or session.released.never k d) (Contains-get_or session.released.never k d within);
-          only = only;
-        };
-        between = λ page has. go page (All-contains (λ (page : Unkept). Contains session.released.never page ⊎ ((session.is_loaded ≡ true) × ((e : Entry) × Contains session.entries e × (session.root.head ≤ e.addr) × (page ≡ page_of e)))) (session.released.never ++ mine.pages) page only has);
-      }
-  | inr unread ↦ record {
-    list = session.released.never;
-    are = record {
-      named = λ yes. absurd (cc (yes, unread));
-      unnamed = λ k d within. Contains-get_or session.released.never k d within;
-      only = λ k d within. inl (Contains-get_or session.released.never k d within);
-    };
-    between = λ page has. go page (inl has);
-  }
-]
+wrote : (image : Image) (session : Session) (device : Device) (contents : Blocks) → Holds session image device contents → Wrote session (length image.recorded)
+wrote image session device contents h =
+    let head = session.root.head in
+    let stubs = places_of session.grove in
+    let never = session.grove.never.items in
+    let mine = own head stubs in
+    let Of : Unkept → Type 0 = λ (page : Unkept). Contains never page ⊎ ((s : Stub) × Contains stubs s × IsOwnStub head s × (page ≡ page_at s)) in
+    let only : All Of (never ++ mine.pages) = All-append Of never mine.pages (λ k d within. inl (Contains-get_or never k d within))
+    (All-weaker (λ (page : Unkept). (s : Stub) × Contains stubs s × IsOwnStub head s × (page ≡ page_at s)) Of (λ page of. inr of) mine.pages mine.only) in
+    record {
+      list = never ++ mine.pages;
+      are = record {
+        named = λ s has is. Contains-append_right never mine.pages (page_at s) (mine.named s has is);
+        unnamed = λ k d within. Contains-append_left never mine.pages (get_or never k d) (Contains-get_or never k d within);
+        only = only;
+      };
+      between = λ page has. go page (All-contains Of (never ++ mine.pages) page only has);
+    }
   where
-    go : (page : Unkept) → Contains session.released.never page ⊎ ((session.is_loaded ≡ true) × ((e : Entry) × Contains session.entries e × (session.root.head ≤ e.addr) × (page ≡ page_of e))) → (session.root.head ≤ page.addr) × (page.addr < length history.present.recorded)
+    go : (page : Unkept) → Contains session.grove.never.items page ⊎ ((s : Stub) × Contains (places_of session.grove) s × IsOwnStub session.root.head s × (page ≡ page_at s)) → (session.root.head ≤ page.addr) × (page.addr < length image.recorded)
     go page (inl never) =
-        let is = All-contains (λ page. (session.root.head ≤ page.addr) × (page.addr < length history.present.recorded) × IsUnnamed h.entries page.addr) session.released.never page h.accounts.never never in
+        let is = All-contains (λ (page : Unkept). (session.root.head ≤ page.addr) × (page.addr < length image.recorded) × LacksAddress (joined h.each).places page.addr) session.grove.never.items page h.tree.accounted.accounts.never_are never in
         (is.0, is.1)
-    go page (inr (read, of)) =
+    go page (inr of) =
         let here : page.addr ≡ of.0.addr = ap (λ (p : Unkept). p.addr) of.3 in
-        let less = named_page history session device contents h of.0 (subst (λ (es : List Entry). Contains es of.0) (h.read read) of.1) in
-        (omega (arith, here, of.2), omega (arith, here, less))
+        let place = stub_place image.readable session.grove.order session.grove.level (places_of session.grove) h.each of.0 h.tree.has of.1 in
+        let less : place.0.addr < length image.recorded = All-contains (λ (p : Place). p.addr < length image.recorded) (joined h.each).places place.0 h.tree.accounted.below place.1 in
+        let after = of.2.after in
+        (omega (arith, here, after), omega (arith, here, less, place.2))
 
 -- ---- a commit
 
@@ -335,8 +344,8 @@ pub fitting_commit : (tells : Type 0) (written written_now : Option (List ℕ)) 
     → Certifies tells written written_now old new session.root.head (session.root.commit + 1) (IsOfCommit session old.present new.present) Done → KeepsFitting written written_now old.present new.present
 fitting_commit tells written written_now old new session device contents Done told h forgets certifies =
     let earlier = Extends-earlier old new forgets.turns.extends in
-    let before : Parts = leaf_parts session.root.addr session.root.key h.leaf h.leaf_texts in
-    let was : StandsBy old.present device session.root before = stands_by_leaf old.present device session.root h.leaf h.leaf_texts h.stands in
+    let before : Parts = h.committed in
+    let was : StandsBy old.present device session.root before = h.stands in
     let there : IsRootOf old.present session.root = root_of_stands old.present device session.root before was in
     elim certifies [
       | inl none ↦ fitting_still written written_now old.present new.present none.0 earlier (During-now old new (λ image. image.cell ≡ old.present.cell) (none.1 told))
@@ -360,7 +369,7 @@ fitting_commit tells written written_now old new session device contents Done to
     next_fits cert next in_text in_range number came is before was text f =
         let now = came_root new.present next (During-now old new IsSound forgets.sound) in_range came in
         let stands : StandsBy new.present now.0 next now.1 = now.2 in
-        let pages = wrote old session device contents h in
+        let pages = wrote old.present session device contents h in
         let of = is device contents h pages.list pages.are before was.tree in
         let same : of.after ≡ now.1 = one_tree new.present.readable next of.after now.1 in_range of.tree stands.tree in
         let cert_of : CertOf (entries_of before.places) (entries_of now.1.places) next.commit next.addr session.root.head next.head pages.list cert =
@@ -452,27 +461,14 @@ fitting_format tells written written_now old new base Done told forgets certifie
 
 -- ---- from a state of the session
 
--- a session that read its leaf and has an array over an image has a list of its keys
-listed : (session : Session) (image : Image) (device : Device) (contents : Blocks) → Holds session image device contents → session.is_loaded ≡ true → HoldsListed session image (map (λ e. e.key) session.entries)
-listed session image device contents h read =
-    let parts : Parts = leaf_parts session.root.addr session.root.key h.leaf h.leaf_texts in
-    let stands : StandsBy image device session.root parts = stands_by_leaf image device session.root h.leaf h.leaf_texts h.stands in
-    let in_leaf : (e : Entry) → Contains h.leaf e → HasPlace image (data_place e) = λ e has. record {
-      root = session.root;
-      parts = parts;
-      is = root_of_stands image device session.root parts stands;
-      tree = stands.tree;
-      has = behind (record { addr = session.root.addr; key = session.root.key; trace = NodeOver (map (λ (e : Entry). e.addr) h.leaf) }) (data_place e) (data_places h.leaf) (map_contains data_place h.leaf e has);
-    } in
-    record {
-      device = device;
-      contents = contents;
-      holds = h;
-      listed = λ k d within. map_contains (λ (e : Entry). e.key) session.entries (get_or session.entries k d) (Contains-get_or session.entries k d within);
-      newer = subst (λ (es : List Entry). All (λ e. HasPlace image (data_place e) ⊎ (session.root.head ≤ e.addr)) es) (sym (h.read read))
-          (All-weaker (λ (e : Entry). Contains h.leaf e ⊎ (session.root.head ≤ e.addr)) (λ (e : Entry). HasPlace image (data_place e) ⊎ (session.root.head ≤ e.addr))
-          (λ e is. elim is [ inl old ↦ inl (in_leaf e old) | inr new ↦ inr new ]) h.entries h.accounts.kept);
-    }
+-- a session that has an array over an image has a list of its keys
+listed : (session : Session) (image : Image) (device : Device) (contents : Blocks) → Holds session image device contents → HoldsListed session image (map (λ s. s.key) (places_of session.grove))
+listed session image device contents h = record {
+  device = device;
+  contents = contents;
+  holds = h;
+  listed = λ s has mine. map_contains (λ (s : Stub). s.key) (places_of session.grove) s has;
+}
 
 session_holds : (session : Session) (image : Image) (device : Option Device) (there : Option OpenSession) → IsSessionOf (Some session) image device there → (d : Device) × (contents : Blocks) × Holds session image d contents
 session_holds session image None None is = absurd is
@@ -481,17 +477,15 @@ session_holds session image (Some device) None is = absurd is
 session_holds session image (Some device) (Some there) is = (device, there.contents, is.0)
 
 -- a commit, by its public clauses
-pub fitting_committed : (tells : Type 0) (written written_now : Option (List ℕ)) (old new : History) (held : Option Session) (session : Session) (Done : Type 0) → held ≡ Some session → (session.is_touched ≡ true → session.is_loaded ≡ true)
-    → (session.is_touched ≡ false → (new ≡ old) × (written_now ≡ written)) → (tells → (keys : List (List ℕ)) → HoldsListed session old.present keys → Forgets old new)
+pub fitting_committed : (tells : Type 0) (written written_now : Option (List ℕ)) (old new : History) (held : Option Session) (session : Session) (Done : Type 0) → held ≡ Some session
+    → (tells → (keys : List (List ℕ)) → HoldsListed session old.present keys → Forgets old new)
     → Certifies tells written written_now old new session.root.head (session.root.commit + 1) (IsOfCommit session old.present new.present) Done
     → tells → (entry : State) → IsAt old.present held entry → KeepsFitting written written_now old.present new.present
-fitting_committed tells written written_now old new held session Done is loaded idle forgets certifies told entry at =
+fitting_committed tells written written_now old new held session Done is forgets certifies told entry at =
     let there : IsSessionOf (Some session) old.present entry.device entry.session = subst (λ (s : Option Session). IsSessionOf s old.present entry.device entry.session) is at.there.session in
     let h = session_holds session old.present entry.device entry.session there in
-    elim (cases_Bool session.is_touched) [
-      | inl touched ↦ fitting_commit tells written written_now old new session h.0 h.1 Done told h.2 (forgets told (map (λ (e : Entry). e.key) session.entries) (listed session old.present h.0 h.1 h.2 (loaded touched))) certifies
-      | inr untouched ↦ subst (λ (w : Option (List ℕ)). KeepsFitting written w old.present new.present) (sym (idle untouched).1) (fitting_same written old.present new.present (ap (λ (hs : History). hs.present) (idle untouched).0))
-    ]
+    fitting_commit tells written written_now old new session h.0 h.1 Done told h.2
+    (forgets told (map (λ (s : Stub). s.key) (places_of session.grove)) (listed session old.present h.0 h.1 h.2)) certifies
 
 -- a format, by its public clauses
 pub fitting_formatted : (tells : Type 0) (written written_now : Option (List ℕ)) (old new : History) (held : Option Session) (base : ℕ) (Done : Type 0) → (tells → IsSound old.present → Forgets old new)

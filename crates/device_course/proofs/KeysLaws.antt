@@ -1,5 +1,6 @@
 -- How parts of a run compose that keep the keys of an image, and which calls do.
 use Rattle.std.proofs.Common.{◌≡◌, ℕ, List, ◌++◌, Option, None, Some, length, refl, sym, ◌∙◌, subst}
+use Rattle.std.proofs.lemmas.List.Elements.{Contains-append_left}
 use Rattle.sdbt_base.specs.Arrays.{Device, State}
 use Rattle.root_codec.specs.RootRecord.{root_bytes}
 use Rattle.platform.specs.Image.{Image}
@@ -25,7 +26,7 @@ use Rattle.device_course.proofs.FitsLaws.{fitting_start, fitting_same, fitting_e
 
 pub sound_of : (session : Option Session) (image : Image) (keys : List (List ℕ)) → IsListed session image keys → IsSound image
 sound_of None image keys sound = sound
-sound_of (Some session) image keys h = listed_sound session image keys h
+sound_of (Some session) image keys h = (Some h.device, (session.root, h.holds.committed, h.holds.stands))
 
 pub listed_image : (session : Option Session) (image other : Image) (keys : List (List ℕ)) → other ≡ image → IsListed session image keys → IsListed session other keys
 listed_image session image other keys same h = subst (λ (i : Image). IsListed session i keys) (sym same) h
@@ -114,9 +115,12 @@ format_listed (Some session) image after keys more device empty stands h = absur
 -- a session whose image stays is listed by more keys
 pub listed_keys : (held : Option Session) (image other : Image) (keys more : List (List ℕ)) → other ≡ image → IsListed held image keys → IsListed held other (keys ++ more)
 listed_keys None image other keys more same h = subst IsSound (sym same) h
-listed_keys (Some session) image other keys more same h =
-    listed_same session session.buffers image other (keys ++ more) same
-    (listed_grown session image keys more h)
+listed_keys (Some session) image other keys more same h = subst (λ (i : Image). HoldsListed session i (keys ++ more)) (sym same) record {
+  device = h.device;
+  contents = h.contents;
+  holds = h.holds;
+  listed = λ s has own. Contains-append_left keys more s.key (h.listed s has own);
+}
 
 -- a call that draws none and adds no page
 pub on_kept : (tells : Type 0) (drawn : Option (List (List ℕ))) (written : Option (List ℕ)) (session : Option Session) (old new : History) (Going : Type 0) (Done : List (List ℕ) → Type 0) → (tells → Extends old new) → (tells → length new.present.recorded ≡ length old.present.recorded) → (tells → (keys : List (List ℕ)) → Kept keys old.present → During old new (Kept keys)) → (tells → IsSound old.present → Forgets old new) → (tells → (keys : List (List ℕ)) → IsListed session old.present keys → Done keys) → (tells → IsServedImage old.present → During old new IsServedImage) → Certified tells written written old new Going → (tells → Turns old new (λ image. image.cell ≡ old.present.cell) (λ image. image.cell ≡ None)) → KeepsOn tells drawn drawn written written session old new Going Done

@@ -27,4 +27,3 @@ has_entry (x ∷ xs) t zero apart inside is = rw (eq-eqb x.addr t.addr (ap (λ (
 has_entry (x ∷ xs) t (suc k) apart inside is =
     let other : x.addr ≢ t.addr = subst (λ (y : Traced). x.addr ≢ y.addr) is (apart 0 (suc k) t (omega arith) inside) in
     rw (ne_eqb x.addr t.addr other) (has_entry xs t k (AllPairs-rest (λ (t : Traced) (u : Traced). t.addr ≢ u.addr) x xs apart) (omega arith) is)
-
