@@ -5,7 +5,6 @@ use Rattle.sdbt_base.specs.Bytes.{IsBytes}
 use Rattle.sdbt_base.specs.Arrays.{Device, Blocks, committed_with}
 use Rattle.platform.specs.Image.{Image, LeavesOnly, with_page, with_cell, all_synced}
 use Rattle.sdbt_base.specs.Told.{Got, GotPart}
-use Rattle.platform.specs.Calls.{Grows}
 use Rattle.platform.specs.History.{History, Steps, Turns, CellStays}
 use Rattle.platform.proofs.Moments.{During-start, whole-now, Extends-earlier}
 use Rattle.platform.specs.declared.platforms.Platform.{Ghosts as PlatformGhosts}
@@ -38,7 +37,7 @@ use Rattle.device_core.specs.Open.{IsOpen}
 use Rattle.device_core.specs.Holds.{Holds, Follows}
 use Rattle.device_core.specs.Knowing.{HoldsListed}
 use Rattle.device_core.specs.Drawing.{KeepsTree}
-use Rattle.device_core.specs.Publishing.{Commits, Discloses, IsCommitCause}
+use Rattle.device_core.specs.Publishing.{AddsAtMost, Commits, Discloses, IsCommitCause}
 use Rattle.device_core.specs.Replies.{device_after}
 use Rattle.device_core.specs.declared.refusals.CommitReply.{CommitReply}
 use Rattle.device_core.specs.declared.refusals.CommitFault.{CommitFault}
@@ -280,11 +279,11 @@ commits_nothing P T L platform tape ledger session result opened array cause =
       };
       certifies = inl (refl, λ told. still old);
       cause = cause;
-      grows = (record { rises = omega arith; by_one = omega arith; capacity = refl; faults = omega arith }, omega arith, omega arith);
+      grows = (record { rises = omega arith; within = omega arith; capacity = refl; faults = omega arith }, omega arith, omega arith);
     }
 
 -- how many pages there are after an append, and whose count rose
-pub grows_by : {S : Type 0} (P : PlatformGhosts S) (old mid new : S) (told put : Type 0) → P.head old ≤ P.head mid → P.head mid ≤ P.head old + 1 → P.capacity mid ≡ P.capacity old → P.faults old ≤ P.faults mid
-    → P.head new ≡ P.head mid → P.capacity new ≡ P.capacity mid → P.faults mid ≤ P.faults new → told → put → Grows P old new × told × put
-grows_by P old mid new told put rises by_one capacity faults head_then capacity_then faults_then is_told is_put =
-    (record { rises = omega (arith, rises, head_then); by_one = omega (arith, by_one, head_then); capacity = capacity_then ∙ capacity; faults = omega (arith, faults, faults_then) }, is_told, is_put)
+pub grows_by : {S : Type 0} (P : PlatformGhosts S) (most : ℕ) (old mid new : S) (told put : Type 0) → 1 ≤ most → P.head old ≤ P.head mid → P.head mid ≤ P.head old + 1 → P.capacity mid ≡ P.capacity old → P.faults old ≤ P.faults mid
+    → P.head new ≡ P.head mid → P.capacity new ≡ P.capacity mid → P.faults mid ≤ P.faults new → told → put → AddsAtMost P most old new × told × put
+grows_by P most old mid new told put some rises by_one capacity faults head_then capacity_then faults_then is_told is_put =
+    (record { rises = omega (arith, rises, head_then); within = omega (arith, some, by_one, head_then); capacity = capacity_then ∙ capacity; faults = omega (arith, faults, faults_then) }, is_told, is_put)

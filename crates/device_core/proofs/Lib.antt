@@ -9,6 +9,7 @@ pub mod MomentLaws
 pub mod FollowLaws
 pub mod ServedLaws
 pub mod CountLaws
+pub mod NeedLaws
 pub mod KeyLaws
 pub mod ReadingLaws
 pub mod CommitLaws

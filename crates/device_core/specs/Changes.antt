@@ -1,5 +1,5 @@
 -- What a write and a trim make of a session's array, and of what is beside the session.
-use Rattle.std.specs.Prelude.{◌≡◌, ◌+◌, ◌||◌, ℕ, Bool, List, Result, Ok, Err}
+use Rattle.std.specs.Prelude.{◌≡◌, ◌≤◌, ◌+◌, ◌||◌, ℕ, Bool, List, Result, Ok, Err}
 use Rattle.std.specs.FinMap as map
 use Rattle.sdbt_base.specs.Arrays.{Device, Blocks}
 use Rattle.sdbt_base.specs.declared.tapes.Tape.{Ghosts as TapeGhosts}
@@ -8,7 +8,7 @@ use Rattle.platform.specs.Image.{Image}
 use Rattle.node_codec.specs.declared.body.Entry.{Entry}
 use Rattle.device_core.specs.Drawing.{NamesPage}
 use Rattle.device_core.specs.Holds.{Holds}
-use Rattle.device_core.specs.Open.{is_touched}
+use Rattle.device_core.specs.Open.{is_touched, needed_by}
 use Rattle.device_core.specs.Sessions.{Session}
 use Rattle.device_core.specs.declared.refusals.WriteRefusal.{WriteRefusal}
 use Rattle.device_core.specs.declared.refusals.WriteRefusal.TheVariants as write
@@ -33,6 +33,11 @@ TrimsArray session image device contents block touched (Err (trim.BadRecord addr
 TrimsArray session image device contents block touched (Err trim.Range) = Holds session image device contents
 TrimsArray session image device contents block touched (Err trim.Memory) = Holds session image device contents
 TrimsArray session image device contents block touched (Err trim.PlatformFault) = Holds session image device contents
+
+-- a commit needs 41 pages more at most after an update, and as many as before where that was refused
+abbrev pub NeedsMore : {E : Type 0} → Session → Session → Result (Unit {0}) E → Type 0
+NeedsMore session now (Ok done) = needed_by now ≤ needed_by session + 41
+NeedsMore session now (Err refusal) = needed_by now ≡ needed_by session
 
 -- nothing was handed over, and no key was drawn
 pub record AddsNothing {S R : Type 0} (P : PlatformGhosts S) (T : TapeGhosts R) (platform platform_now : S) (tape tape_now : R) : Type 0 where

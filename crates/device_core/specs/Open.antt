@@ -1,5 +1,5 @@
 -- That a session is open on a medium of so many pages, and which blocks it maps.
-use Rattle.std.specs.Prelude.{◌≡◌, ◌≢◌, ℕ, ◌≤◌, Bool, true, All, slice_index_or}
+use Rattle.std.specs.Prelude.{◌≡◌, ◌≢◌, ℕ, ◌≤◌, Bool, true, All, slice_index_or, if◌then◌else◌}
 use Rattle.node_codec.specs.declared.body.Entry.{Entry}
 use Rattle.root_codec.specs.declared.root.Root.{Root}
 use Rattle.device_core.specs.Leaf.{IsServed, AreEntries}
@@ -16,6 +16,10 @@ number_of session = session.root.commit
 -- whether something was changed since
 abbrev pub is_touched : Session → Bool
 is_touched session = session.is_touched
+
+-- how many pages a commit of the session's changes needs
+unfoldable pub needed_by : Session → ℕ
+needed_by session = if session.is_touched then 1 else 0
 
 -- the root record
 abbrev pub root_of : Session → Root

@@ -5,7 +5,6 @@ use Rattle.sdbt_base.specs.Arrays.{Device, Blocks, committed_with}
 use Rattle.sdbt_base.specs.declared.sinks.Sink.{Ghosts as SinkGhosts}
 use Rattle.sdbt_base.specs.declared.tapes.Tape.{Ghosts as TapeGhosts}
 use Rattle.platform.specs.declared.platforms.Platform.{Ghosts as PlatformGhosts}
-use Rattle.platform.specs.Calls.{Grows}
 use Rattle.platform.specs.Image.{LeavesOnly}
 use Rattle.platform.specs.History.{History, During, Turns, CellStays, CellTurns}
 use Rattle.root_codec.specs.RootRecord.{root_bytes}
@@ -19,7 +18,7 @@ use Rattle.device_core.specs.Drawing.{NamesLast, KeepsTree}
 use Rattle.device_core.specs.Holds.{Holds}
 use Rattle.device_core.specs.Knowing.{HoldsListed}
 use Rattle.device_core.specs.Leaf.{IsServedImage}
-use Rattle.device_core.specs.Open.{IsOpen, blocks_of, number_of, root_of, is_touched}
+use Rattle.device_core.specs.Open.{IsOpen, blocks_of, number_of, root_of, is_touched, needed_by}
 use Rattle.device_core.specs.Replies.{device_after}
 use Rattle.device_core.specs.Sessions.{Session}
 use Rattle.device_core.specs.declared.publishing.PublishFault.{PublishFault}
@@ -42,15 +41,17 @@ pub record Discloses (tells : Type 0) (drawn drawn_now : Option (List (List ℕ)
   pub serves : tells → IsServedImage old.present → During old new IsServedImage
   pub forgets : tells → (keys : List (List ℕ)) → Ready keys → Forgets old new
 
--- a commit that raised the number: one page was added, which the root record in the cell names with the key that was drawn last; the session has no
--- data pages that weren't told of, every key that it has is one of the new tree, and nothing of what was read or sealed is left in its buffers
+-- a commit that raised the number: as many pages were added as it needed, the last of which the root record in the cell names with the key that was drawn
+-- last; the session has no data pages that weren't told of, and another commit needs no page; every key that it has is one of the new tree, and nothing of
+-- what was read or sealed is left in its buffers
 pub record HasRaised {S R : Type 0} (P : PlatformGhosts S) (T : TapeGhosts R) (platform platform_now : S) (tape tape_now : R) (session now : Session) (reply : CommitReply) : Type 0 where
   pub replied : reply ≡ Committed (number_of session + 1)
   pub number : number_of now ≡ number_of session + 1
   pub untouched : is_touched now ≡ false
   pub pages : AreDataPages now []
   pub wiped : IsBlank now.buffers
-  pub head : P.head platform_now ≡ P.head platform + 1
+  pub head : P.head platform_now ≡ P.head platform + needed_by session
+  pub settled : needed_by now ≡ 0
   pub names : NamesLast (T.drawn tape) (T.drawn tape_now) (P.head platform_now) (root_of now)
   pub cell : P.tells → (P.history platform_now).present.cell ≡ Some (root_bytes (root_of now))
   pub knows : P.tells → (device : Device) (contents : Blocks) → Holds session (P.history platform).present device contents
@@ -61,18 +62,26 @@ abbrev pub IsPublishCause : Type 0 → Type 0 → PublishFault → Type 0
 IsPublishCause Failed Unput publish.Platform = Failed
 IsPublishCause Failed Unput publish.Ledger = Unput
 
--- a commit fails where the platform, the tape or the ledger failed, or no memory was given. Where no key was drawn nothing was handed over; but for a
--- fault of the platform the cell is as it was at each moment
+-- a commit fails where the platform, the tape or the ledger failed, or no memory was given; then nothing was handed over. But for a fault of the platform
+-- the cell is as it was at each moment
 abbrev pub IsCommitCause : {S R : Type 0} → PlatformGhosts S → TapeGhosts R → S → S → R → R → Type 0 → Type 0 → Type 0 → CommitFault → Type 0
 IsCommitCause P T platform platform_now tape tape_now Failed Undrawn Unput commit.PlatformFault = Failed
 IsCommitCause P T platform platform_now tape tape_now Failed Undrawn Unput commit.TapeFault =
-    Undrawn × AddsNothing P T platform platform_now tape tape_now × (P.tells → CellStays (P.history platform) (P.history platform_now))
+    Undrawn × (P.tells → CellStays (P.history platform) (P.history platform_now))
 IsCommitCause P T platform platform_now tape tape_now Failed Undrawn Unput commit.LedgerFault =
     Unput × (P.tells → CellStays (P.history platform) (P.history platform_now))
 IsCommitCause P T platform platform_now tape tape_now Failed Undrawn Unput commit.Memory =
     AddsNothing P T platform platform_now tape tape_now × (P.tells → CellStays (P.history platform) (P.history platform_now))
 
--- a commit, whatever its answer: a session that goes on has its array still, and is open on the device that the answer tells of
+-- a call that may add so many pages
+pub record AddsAtMost {S : Type 0} (P : PlatformGhosts S) (most : ℕ) (old new : S) : Type 0 where
+  pub rises : P.head old ≤ P.head new
+  pub within : P.head new ≤ P.head old + most
+  pub capacity : P.capacity new ≡ P.capacity old
+  pub faults : P.faults old ≤ P.faults new
+
+-- a commit, whatever its answer: a session that goes on has its array still, and is open on the device that the answer tells of; no more pages are added
+-- than it needs
 pub record Commits {S R W : Type 0} (P : PlatformGhosts S) (T : TapeGhosts R) (L : SinkGhosts W) (platform platform_now : S) (tape tape_now : R) (ledger ledger_now : W) (session now : Session) (result : Result CommitReply CommitFault) : Type 0 where
   pub array : P.tells → (device : Device) (contents : Blocks) → Holds session (P.history platform).present device contents
       → IfOk result (λ reply. Holds now (P.history platform_now).present (device_after reply device contents) contents)
@@ -87,7 +96,7 @@ pub record Commits {S R W : Type 0} (P : PlatformGhosts S) (T : TapeGhosts R) (L
       session.root.head (number_of session + 1) (IsOfCommit session (P.history platform).present (P.history platform_now).present) (IsOk result)
   pub cause : IfErr result (IsCommitCause P T platform platform_now tape tape_now (Rose (P.faults platform) (P.faults platform_now))
       (Rose (T.faults tape) (T.faults tape_now)) (Rose (L.faults ledger) (L.faults ledger_now)))
-  pub grows : Grows P platform platform_now × (T.faults tape ≤ T.faults tape_now) × (L.faults ledger ≤ L.faults ledger_now)
+  pub grows : AddsAtMost P (needed_by session) platform platform_now × (T.faults tape ≤ T.faults tape_now) × (L.faults ledger ≤ L.faults ledger_now)
 
 -- nothing came of a format: no page, no key, and at each moment the cell as it was
 abbrev pub IsUnmade : {S R : Type 0} → PlatformGhosts S → TapeGhosts R → S → S → R → R → Type 0

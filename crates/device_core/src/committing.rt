@@ -1,4 +1,4 @@
-ghost use Rattle.std.specs.Prelude.{◌≡◌, ◌≢◌, ◌<◌, ◌^◌, Some, true, false, IfOk, OnOk, IsOk};
+ghost use Rattle.std.specs.Prelude.{◌≡◌, ◌<◌, ◌≤◌, ◌-◌, ◌^◌, Some, true, false, IfOk, OnOk, IsOk};
 ghost use Rattle.root_codec.specs.RootRecord.{root_bytes};
 ghost use Rattle.device_core.specs.Certifying.{IsCommitEntry};
 ghost use Rattle.device_core.specs.Publishing.{Commits, HasRaised};
@@ -13,15 +13,16 @@ use root_codec::Root;
 use sdbt_base::{Line, Memory, Sink, Tape};
 
 impl Session {
-    ghost use Rattle.device_core.specs.Open.{IsOpen, number_of, root_of, is_touched};
+    ghost use Rattle.device_core.specs.Open.{IsOpen, number_of, root_of, is_touched, needed_by};
     ghost use Rattle.device_core.specs.Holds.{Follows};
 
     /// Makes the session's changes the device's: one new leaf, its certificate, and then the root record that names it.
     ///
     /// Without changes since the mount or the last commit it answers the present number and calls nothing.
-    /// Else `Full` comes exactly where no page is free, and the session is then as before. A fault ends the
+    /// Else `Full` comes exactly where fewer pages are free than the changes need, and the session is then as before. A fault ends the
     /// session: the device is the one from before, or, where the last step failed, that one or the one
     /// after. The ledger gets one entry, in one put, before the root record is replaced.
+    #[tactic(auto, unfolding(crate::specs::Open::needed_by))]
     pub fn commit<P: Platform, T: Tape, L: Sink>(
         &mut self,
         platform: &mut P,
@@ -32,10 +33,10 @@ impl Session {
 
         ensures idle { is_touched self.old ≡ false → (self.new ≡ self.old) × (platform.new ≡ platform.old) × (tape.new ≡ tape.old)
             × (ledger.new ≡ ledger.old) × IfOk result (λ reply. reply ≡ CommitReply.Committed (number_of self.old)) × IsOk result }
-        ensures full { is_touched self.old ≡ true → P.head platform.old ≡ P.capacity platform.old → (self.new ≡ self.old)
+        ensures full { is_touched self.old ≡ true → P.capacity platform.old - P.head platform.old < needed_by self.old → (self.new ≡ self.old)
             × (platform.new ≡ platform.old) × (tape.new ≡ tape.old) × (ledger.new ≡ ledger.old)
-            × IfOk result (λ reply. reply ≡ CommitReply.Full 1 0) × IsOk result }
-        ensures raised { is_touched self.old ≡ true → P.head platform.old ≢ P.capacity platform.old
+            × IfOk result (λ reply. reply ≡ CommitReply.Full (needed_by self.old) (P.capacity platform.old - P.head platform.old)) × IsOk result }
+        ensures raised { is_touched self.old ≡ true → needed_by self.old ≤ P.capacity platform.old - P.head platform.old
             → IfOk result (HasRaised P.Platform T.Tape platform.old platform.new tape.old tape.new self.old self.new) }
         ensures commits { Commits P.Platform T.Tape L.Sink platform.old platform.new tape.old tape.new ledger.old ledger.new self.old self.new result }
         // On any image: what was read of the pages fits still, and a session on the root record in the cell stays on it.

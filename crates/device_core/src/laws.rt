@@ -1,10 +1,10 @@
 //! Laws of sessions. The functions do nothing: each has its law as its contract.
-ghost use Rattle.std.specs.Prelude.{◌≡◌, ℕ, Some, false};
+ghost use Rattle.std.specs.Prelude.{◌≡◌, ◌≤◌, ℕ, Some, true, false};
 ghost use Rattle.std.specs.FinMap as map;
 ghost use Rattle.platform.specs.Image.{Image};
 ghost use Rattle.sdbt_base.specs.Arrays.{Device, Blocks};
 ghost use Rattle.page_store.specs.Stands.{Stands};
-ghost use Rattle.device_core.specs.Open.{IsOpen, blocks_of, number_of, is_touched};
+ghost use Rattle.device_core.specs.Open.{IsOpen, blocks_of, number_of, is_touched, needed_by};
 ghost use Rattle.device_core.specs.Holds.{Holds};
 ghost use Rattle.device_core.specs.Sessions.{Session};
 
@@ -18,4 +18,10 @@ pub fn stands_under_session()
         → is_touched session ≡ false → contents ≡ device.contents }
     ensures mapped { (session : Session) (image : Image) (device : Device) (contents : Blocks) (head : ℕ) → IsOpen session head
         → Holds session image device contents → session.mapped ≡ map.len contents }
+{}
+
+/// A commit needs a page where something was changed, and else none.
+pub fn a_commit_needs_pages()
+    ensures touched { (session : Session) (head : ℕ) → IsOpen session head → is_touched session ≡ true → 1 ≤ needed_by session }
+    ensures untouched { (session : Session) (head : ℕ) → IsOpen session head → is_touched session ≡ false → needed_by session ≡ 0 }
 {}

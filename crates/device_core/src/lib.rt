@@ -20,7 +20,7 @@ mod writing;
 
 pub use erasing::erase;
 pub use formatting::format;
-pub use laws::stands_under_session;
+pub use laws::{a_commit_needs_pages, stands_under_session};
 pub use refusals::{
     CommitFault, CommitReply, EraseRefusal, FormatRefusal, MountRefusal, ReadRefusal, TrimRefusal,
     WriteRefusal,

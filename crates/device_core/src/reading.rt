@@ -20,7 +20,7 @@ use page_store::{Buffers, FetchRefusal, Want, fetch_block};
 use platform::Platform;
 
 impl Session {
-    ghost use Rattle.device_core.specs.Open.{IsOpen, blocks_of, root_of, is_touched};
+    ghost use Rattle.device_core.specs.Open.{IsOpen, blocks_of, root_of, is_touched, needed_by};
     ghost use Rattle.device_core.specs.Holds.{Holds, Follows};
     ghost use Rattle.device_core.specs.Knowing.{HoldsListed};
     ghost use Rattle.device_core.specs.Reading.{IsLeafOf, ReadsAs, ReadsArray, IsFirstMisfit};
@@ -29,7 +29,7 @@ impl Session {
     ///
     /// It allocates nothing, and reads one page for each level and one for the block at most. `Range`
     /// comes exactly where the device has no such block.
-    #[tactic(auto, using(platform::proofs::CallLaws::looks_start, platform::proofs::CallLaws::looks_call, platform::proofs::CallLaws::looks_then))]
+    #[tactic(auto, using(platform::proofs::CallLaws::looks_start, platform::proofs::CallLaws::looks_call, platform::proofs::CallLaws::looks_then), unfolding(crate::specs::Open::needed_by))]
     pub fn read<P: Platform>(
         &mut self,
         platform: &mut P,
@@ -58,7 +58,8 @@ impl Session {
             → HoldsListed self.old (P.history platform.old).present keys → HoldsListed self.new (P.history platform.new).present keys }
         ensures pages { (pages : List Unkept) → AreDataPages self.old pages → AreDataPages self.new pages }
         ensures open { IsOpen self.new (P.head platform.new) }
-        ensures same { (self.new.root ≡ self.old.root) × (self.new.mapped ≡ self.old.mapped) × (is_touched self.new ≡ is_touched self.old) }
+        ensures same { (self.new.root ≡ self.old.root) × (self.new.mapped ≡ self.old.mapped) × (is_touched self.new ≡ is_touched self.old)
+            × (needed_by self.new ≡ needed_by self.old) }
 
         ensures looks { Looks P.Platform platform.old platform.new }
         ensures reads { P.tells → P.reads platform.new ≤ P.reads platform.old + (self.old.root.level + 1) }

@@ -59,7 +59,7 @@ impl Model for Session {
 }
 
 impl Session {
-    ghost use Rattle.device_core.specs.Open.{IsOpen, blocks_of, number_of, is_touched};
+    ghost use Rattle.device_core.specs.Open.{IsOpen, blocks_of, number_of, is_touched, needed_by};
     ghost use Rattle.device_core.specs.Reading.{IsLeafOf};
     ghost use Rattle.device_core.specs.Holds.{Holds, Follows};
     ghost use Rattle.device_core.specs.Knowing.{HoldsListed};
@@ -69,7 +69,7 @@ impl Session {
     /// `cache` is how many nodes are kept; it is 0, since there is no cache yet. `NoDevice` comes exactly
     /// where the cell is empty, `BadRoot` exactly where it is full and holds no root record that can be
     /// served, or one that speaks of more pages than there are.
-    #[tactic(auto, using(platform::proofs::CallLaws::looks_start, platform::proofs::CallLaws::looks_call, platform::proofs::CallLaws::looks_then))]
+    #[tactic(auto, using(platform::proofs::CallLaws::looks_start, platform::proofs::CallLaws::looks_call, platform::proofs::CallLaws::looks_then), unfolding(crate::specs::Open::needed_by))]
     pub fn mount<P: Platform>(
         alloc: Global,
         platform: &mut P,
@@ -79,6 +79,7 @@ impl Session {
 
         ensures open { IfOk result (λ session. IsOpen session (P.head platform.new)) }
         ensures untouched { IfOk result (λ session. is_touched session ≡ false) }
+        ensures settled { IfOk result (λ session. needed_by session ≡ 0) }
         ensures holds { P.tells → (device : Device) → Stands (P.history platform.old).present (Some device)
             → IfOk result (λ session. Holds session (P.history platform.new).present device device.contents) }
         ensures listed { P.tells → (device : Device) → Stands (P.history platform.old).present (Some device)

@@ -9,7 +9,7 @@ ghost use Rattle.page_store.specs.Tree.{Wrong};
 ghost use Rattle.node_codec.specs.declared.body.Entry.{Entry};
 ghost use Rattle.device_core.specs.Damage.{IsDamaged};
 ghost use Rattle.device_core.specs.Causes.{IsWriteCause, IsTrimCause};
-ghost use Rattle.device_core.specs.Changes.{WritesArray, TrimsArray, WriteAdds};
+ghost use Rattle.device_core.specs.Changes.{WritesArray, TrimsArray, WriteAdds, NeedsMore};
 ghost use Rattle.device_core.specs.Certifying.{AreDataPages};
 ghost use Rattle.sdbt_base.specs.declared.lists.Unkept.{Unkept};
 
@@ -32,6 +32,7 @@ impl Session {
     /// `Range` comes exactly where the device has no such block, and else `Full` exactly where no page is
     /// free. `BadRecord` never comes on a sound device; on a forged one it names a page that is not the
     /// record that belongs there, or the root node where a block more would be mapped than there are.
+    #[tactic(auto, unfolding(crate::specs::Open::needed_by))]
     pub fn write<P: Platform, T: Tape>(
         &mut self,
         platform: &mut P,
@@ -46,7 +47,7 @@ impl Session {
             → WritesArray self.new (P.history platform.new).present device contents block (padded content.now) result }
         ensures open { IsOpen self.new (P.head platform.new) }
         ensures same { (self.new.root ≡ self.old.root) × OnOk result (is_touched self.new ≡ true)
-            × OnErr result (is_touched self.new ≡ is_touched self.old) }
+            × OnErr result (is_touched self.new ≡ is_touched self.old) × NeedsMore self.old self.new result }
         // Each moment keeps the keys that the image kept before, with the one that was drawn.
         ensures keeps { KeepsKeys P.tells (T.drawn tape.old) (T.drawn tape.new) (P.history platform.old) (P.history platform.new)
             (HoldsListed self.old (P.history platform.old).present) (HoldsListed self.new (P.history platform.new).present) }
@@ -118,14 +119,15 @@ impl Session {
     /// `Range` comes exactly where the device has no such block. `BadRecord` never comes on a sound device;
     /// on a forged one it names a page that is not the record that belongs there, or the root node where
     /// the root record says that no block is mapped.
-    #[tactic(auto, using(platform::proofs::CallLaws::looks_start, platform::proofs::CallLaws::looks_call, platform::proofs::CallLaws::looks_then))]
+    #[tactic(auto, using(platform::proofs::CallLaws::looks_start, platform::proofs::CallLaws::looks_call, platform::proofs::CallLaws::looks_then), unfolding(crate::specs::Open::needed_by))]
     pub fn trim<P: Platform>(&mut self, platform: &mut P, block: u64) -> Result<(), TrimRefusal>
         requires { IsOpen self.old (P.head platform.old) }
 
         ensures array { P.tells → (device : Device) (contents : Blocks) → Holds self.old (P.history platform.old).present device contents
             → TrimsArray self.new (P.history platform.new).present device contents block (is_touched self.old) result }
         ensures open { IsOpen self.new (P.head platform.new) }
-        ensures same { (self.new.root ≡ self.old.root) × OnErr result (is_touched self.new ≡ is_touched self.old) }
+        ensures same { (self.new.root ≡ self.old.root) × OnErr result (is_touched self.new ≡ is_touched self.old)
+            × NeedsMore self.old self.new result }
         // Where the image keeps the keys, those of the session's data records are listed still.
         ensures listed { P.tells → (keys : List (List ℕ)) → Kept keys (P.history platform.old).present
             → HoldsListed self.old (P.history platform.old).present keys → HoldsListed self.new (P.history platform.new).present keys }

@@ -8,7 +8,9 @@ use Rattle.device_core.proofs.EntryLaws.{AreEntries-later}
 use Rattle.device_core.proofs.HoldLaws.{during_stands, entries_fit, held_stands, commit_fits, commit_served}
 use Rattle.std.specs.Prelude.{◌<◌, ◌≤◌, ◌+◌}
 use Rattle.sdbt_base.proofs.FaultLaws.{Rose-within}
-use Rattle.platform.specs.Calls.{Grows}
+use Rattle.device_core.specs.Open.{needed_by}
+use Rattle.device_core.specs.Publishing.{AddsAtMost}
+use Rattle.device_core.proofs.NeedLaws.{needed_one, needed_none, needed_some}
 use Rattle.std.proofs.lemmas.List.Elements.{All-weaker}
 use Rattle.node_codec.specs.declared.body.Entry.{Entry}
 use Rattle.device_core.proofs.DataPageLaws.{pages_committed}
@@ -31,10 +33,14 @@ calls g c =
     (ap (λ (b : Held). b.body) c.put_node.ensures) c.deref.ensures.0 (λ told. pages told c.args.platform.now) (λ told. pages told c.append.new.platform) (λ told. pages told c.publish.new.platform)
     c.append.ensures.time c.append.ensures.cell c.in-Ok.ensures.appended c.publish.ensures.time
 
+-- a session that was touched needs a page
+touched_needs : (g : Over) (c : After-publish g) → 1 ≤ needed_by (the_view c.self.inside)
+touched_needs g c = needed_some (the_view c.self.inside) (rw (← c.self.view_is) at c.requires.touched)
+
 -- one page more, after all of the calls
-grown : (g : Over) (c : After-publish g) → Grows g.P.Platform c.args.platform.now c.publish.new.platform
+grown : (g : Over) (c : After-publish g) → AddsAtMost g.P.Platform (needed_by (the_view c.self.inside)) c.args.platform.now c.publish.new.platform
     × (g.T.Tape.faults c.args.tape.now ≤ g.T.Tape.faults c.append.new.tape) × (g.L.Sink.faults c.args.ledger.now ≤ g.L.Sink.faults c.publish.new.ledger)
-grown g c = grows_by g.P.Platform _ _ _ _ _ c.append.ensures.head_rises c.append.ensures.head_by_one c.append.ensures.capacity c.append.ensures.platform_faults
+grown g c = grows_by g.P.Platform _ _ _ _ _ _ (touched_needs g c) c.append.ensures.head_rises c.append.ensures.head_by_one c.append.ensures.capacity c.append.ensures.platform_faults
     c.publish.ensures.head c.publish.ensures.capacity c.publish.ensures.faults c.append.ensures.tape_faults c.publish.ensures.ledger_faults
 
 pub put_node-requires : goal.put_node-requires
@@ -65,7 +71,8 @@ returns-clause-raised g c = rw (← c.self.view_is) (
       pages = pages_committed _ (λ i. record { gone = c.clear.ensures.gone i; never = c.clear.ensures.never i })
           (All-weaker (λ (e : Entry). e.addr < g.P.Platform.head c.args.platform.now) (λ (e : Entry). e.addr < c.in-Ok.placed.addr + 1) (λ e less. omega (arith, less, c.in-Ok.ensures.address)) c.self.inside.entries.items all.commit.is_open.entries.below);
       wiped = c.wipe.ensures;
-      head = omega (arith, c.in-Ok.ensures.head_ok, c.publish.ensures.head);
+      head = omega (arith, c.in-Ok.ensures.head_ok, c.publish.ensures.head, needed_one (the_view c.self.inside) (rw (← c.self.view_is) at c.requires.touched));
+      settled = needed_none _ refl;
       names = record {
         earlier = [];
         drew = c.in-Ok.ensures.drew;
@@ -88,10 +95,9 @@ returns-in-Err-TapeFault-clause-commits g c = rw (← c.self.view_is) (
       certifies = inl (refl, λ told. one_call _ _ (c.append.ensures.time told) (c.append.ensures.cell told));
       cause = (
         c.append.ensures.tape_cause (cc),
-        record { head = c.append.ensures.untouched (cc); image = λ told. c.append.ensures.unchanged told (cc); drawn = c.append.ensures.undrawn (cc) },
         λ told. one_call _ _ (c.append.ensures.time told) (c.append.ensures.cell told),
       );
-      grows = grows_by g.P.Platform _ _ _ _ _ c.append.ensures.head_rises c.append.ensures.head_by_one c.append.ensures.capacity c.append.ensures.platform_faults refl refl (omega arith) c.append.ensures.tape_faults (omega arith);
+      grows = grows_by g.P.Platform _ _ _ _ _ _ (needed_some (the_view c.self.inside) (rw (← c.self.view_is) at c.requires.touched)) c.append.ensures.head_rises c.append.ensures.head_by_one c.append.ensures.capacity c.append.ensures.platform_faults refl refl (omega arith) c.append.ensures.tape_faults (omega arith);
     })
 
 pub returns-in-Err-PlatformFault-clause-commits : goal.returns-in-Err-PlatformFault-clause-commits
@@ -105,7 +111,7 @@ returns-in-Err-PlatformFault-clause-commits g c = rw (← c.self.view_is) (
       discloses = append_discloses _ _ _ _ _ _ c.put_node.new.self.body c.head.result _ c.deref.result.now _ is c.append.ensures.keeps (ap (λ (b : Held). b.body) c.put_node.ensures) c.deref.ensures.0 c.head.ensures.value c.append.ensures.time c.append.ensures.cell;
       certifies = inl (refl, λ told. one_call _ _ (c.append.ensures.time told) (c.append.ensures.cell told));
       cause = c.append.ensures.platform_cause (cc);
-      grows = grows_by g.P.Platform _ _ _ _ _ c.append.ensures.head_rises c.append.ensures.head_by_one c.append.ensures.capacity c.append.ensures.platform_faults refl refl (omega arith) c.append.ensures.tape_faults (omega arith);
+      grows = grows_by g.P.Platform _ _ _ _ _ _ (needed_some (the_view c.self.inside) (rw (← c.self.view_is) at c.requires.touched)) c.append.ensures.head_rises c.append.ensures.head_by_one c.append.ensures.capacity c.append.ensures.platform_faults refl refl (omega arith) c.append.ensures.tape_faults (omega arith);
     })
 
 pub returns-in-Err-Ledger-clause-commits : goal.returns-in-Err-Ledger-clause-commits
