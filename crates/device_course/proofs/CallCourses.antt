@@ -1,5 +1,5 @@
 -- Each call of a device is a course: from its public clauses.
-use Rattle.std.proofs.Common.{◌≡◌, inl, inr, ℕ, List, [], ◌∷◌, ◌++◌, Bool, true, false, ◌+◌, ◌<◌, ◌≤◌, Option, None, Some, length, refl, sym, ◌∙◌, subst, ap}
+use Rattle.std.proofs.Common.{◌≡◌, inl, inr, ℕ, List, [], ◌∷◌, ◌++◌, Bool, true, false, ◌+◌, ◌-◌, ◌<◌, ◌≤◌, Option, None, Some, length, refl, sym, ◌∙◌, subst, ap}
 use Rattle.platform.specs.Image.{Image}
 use Rattle.platform.specs.History.{History, Extends, During, Turns}
 use Rattle.platform.proofs.Moments.{During-now, LeavesOnly-now, Extends-earlier}
@@ -14,7 +14,7 @@ use Rattle.page_store.proofs.KeptLaws.{same_during}
 use Rattle.page_store.proofs.KeepingLaws.{keeps_idle, keeps_still, keeps_from}
 use Rattle.page_store.proofs.FloorLaws.{deleted_call, forgets_still}
 use Rattle.device_session.specs.Holds.{Holds}
-use Rattle.device_session.specs.Open.{is_touched, number_of}
+use Rattle.device_session.specs.Open.{is_touched, number_of, needed_by}
 use Rattle.std.proofs.lemmas.Bool.{cases_lt}
 use Rattle.device_session.specs.declared.refusals.CommitReply.TheVariants.{Committed, Full}
 use Rattle.device_session.specs.Keys.{HoldsListed}
@@ -210,33 +210,33 @@ commit_course tells Going old new session now device array touched reply Then c 
     makes tells Going old new (Some session) (Some now) (mounted device (record { contents = array; touched = touched })) (mounted (device_after reply device array) (record { contents = array; touched = false })) (Some (committed_with device array))
     (commit_calls tells Going old new session (Some now) device array touched Then c done) c.time (opens new.history.present now (device_after reply device array) array false holds is)
 
--- which number it has, where a commit needs so many pages and so many are free
-reply_is : (session now : Session) (image : Image) (device : Device) (array : Blocks) (touched : Bool) (reply : CommitReply) (number needed free : ℕ) → Holds session image device array → is_touched session ≡ touched → reply ≡ Committed number
+-- which number it has
+reply_is : (session now : Session) (image : Image) (device : Device) (array : Blocks) (touched : Bool) (reply : CommitReply) (number free : ℕ) → Holds session image device array → is_touched session ≡ touched → reply ≡ Committed number
     → (is_touched session ≡ false → (now ≡ session) × (reply ≡ Committed (number_of session)))
-    → (is_touched session ≡ true → free < needed → reply ≡ Full needed free)
-    → (is_touched session ≡ true → needed ≤ free → (reply ≡ Committed (number_of session + 1)) × (is_touched now ≡ false))
+    → (is_touched session ≡ true → free < needed_by session → reply ≡ Full (needed_by session) free)
+    → (is_touched session ≡ true → needed_by session ≤ free → (reply ≡ Committed (number_of session + 1)) × (is_touched now ≡ false))
     → (device_after reply device array ≡ committed_if touched device (record { contents = array; touched = touched })) × (is_touched now ≡ false)
-reply_is session now image device array false reply number needed free holds same is idle full raised =
+reply_is session now image device array false reply number free holds same is idle full raised =
     let i = idle same in (
       ap (λ (r : CommitReply). device_after r device array) i.1
           ∙ (λ k. record device { number = holds.stands.number k; contents = holds.untouched same k }),
       ap (λ (s : Session). is_touched s) i.0 ∙ same,
     )
-reply_is session now image device array true reply number needed free holds same is idle full raised = elim (cases_lt free needed) [
-  | inl less ↦ absurd (let f = full same less in cc)
-  | inr most ↦
-      let r = raised same most in
+reply_is session now image device array true reply number free holds same is idle full raised = elim (cases_lt free (needed_by session)) [
+  | inl few ↦ absurd (let f = full same few in cc)
+  | inr many ↦
+      let r = raised same many in
       (ap (λ (x : CommitReply). device_after x device array) r.0 ∙ ap (λ (n : ℕ). record device { number = n + 1; contents = array }) holds.stands.number, r.1)
 ]
 
 pub commit_answered : (tells Going : Type 0) (old new : Outside) (session now : Session) (device : Device) (array : Blocks) (touched : Bool) (reply : CommitReply) (number needed free : ℕ) (Then : List (List ℕ) → Type 0) → Commits tells Going old new session device array touched Then
     → ((keys : List (List ℕ)) → Then keys → HoldsListed now new.history.present keys) → Holds now new.history.present (device_after reply device array) array → reply ≡ Committed number
     → (is_touched session ≡ false → (now ≡ session) × (reply ≡ Committed (number_of session)))
-    → (is_touched session ≡ true → free < needed → reply ≡ Full needed free)
-    → (is_touched session ≡ true → needed ≤ free → (reply ≡ Committed (number_of session + 1)) × (is_touched now ≡ false))
+    → (is_touched session ≡ true → old.capacity - old.head < needed_by session → reply ≡ Full (needed_by session) (old.capacity - old.head))
+    → (is_touched session ≡ true → needed_by session ≤ old.capacity - old.head → (reply ≡ Committed (number_of session + 1)) × (is_touched now ≡ false))
     → Part Going old new (Some session) (Some now) (mounted device (record { contents = array; touched = touched })) (Some (committed_if touched device (record { contents = array; touched = touched })) ∷ []) (mounted (committed_if touched device (record { contents = array; touched = touched })) (record { contents = array; touched = false }))
-commit_answered tells Going old new session now device array touched reply number needed free Then c done holds is idle full raised =
-    let r = reply_is session now old.history.present device array touched reply number needed free c.at.there.session.0 c.at.there.session.1 is idle full raised in
+commit_answered tells Going old new session now device array touched reply number Then c done holds is idle full raised =
+    let r = reply_is session now old.history.present device array touched reply number (old.capacity - old.head) c.at.there.session.0 c.at.there.session.1 is idle full raised in
     subst (λ (d : Device). Part Going old new (Some session) (Some now) (mounted device (record { contents = array; touched = touched })) (Some d ∷ []) (mounted d (record { contents = array; touched = false }))) r.0
     (commit_course tells Going old new session now device array touched reply Then c done holds r.1)
 
@@ -250,25 +250,25 @@ commit_full tells Going old new session now device array touched Then c done hol
     (stayed old.history new.history (Some device) (Some (committed_with device array)) c.time (opens new.history.present now device array touched holds is).device) refl (opens new.history.present now device array touched holds is)
 
 -- the session is then as it was
-same_session : (session now : Session) (touched : Bool) (reply : CommitReply) (told left needed free : ℕ) → is_touched session ≡ touched → reply ≡ Full told left
+same_session : (session now : Session) (touched : Bool) (reply : CommitReply) (needed free room : ℕ) → is_touched session ≡ touched → reply ≡ Full needed free
     → (is_touched session ≡ false → reply ≡ Committed (number_of session))
-    → (is_touched session ≡ true → free < needed → now ≡ session)
-    → (is_touched session ≡ true → needed ≤ free → reply ≡ Committed (number_of session + 1))
+    → (is_touched session ≡ true → room < needed_by session → now ≡ session)
+    → (is_touched session ≡ true → needed_by session ≤ room → reply ≡ Committed (number_of session + 1))
     → now ≡ session
-same_session session now false reply told left needed free same is idle full raised = absurd (let i = idle same in cc)
-same_session session now true reply told left needed free same is idle full raised = elim (cases_lt free needed) [
-  | inl less ↦ full same less
-  | inr most ↦ absurd (let r = raised same most in cc)
+same_session session now false reply needed free room same is idle full raised = absurd (let i = idle same in cc)
+same_session session now true reply needed free room same is idle full raised = elim (cases_lt room (needed_by session)) [
+  | inl few ↦ full same few
+  | inr many ↦ absurd (let r = raised same many in cc)
 ]
 
 pub commit_refused : (tells Going : Type 0) (old new : Outside) (session now : Session) (device : Device) (array : Blocks) (touched : Bool) (reply : CommitReply) (told left needed free : ℕ) (Then : List (List ℕ) → Type 0) → Commits tells Going old new session device array touched Then
     → ((keys : List (List ℕ)) → Then keys → HoldsListed now new.history.present keys) → Holds now new.history.present (device_after reply device array) array → reply ≡ Full told left
     → (is_touched session ≡ false → reply ≡ Committed (number_of session))
-    → (is_touched session ≡ true → free < needed → now ≡ session)
-    → (is_touched session ≡ true → needed ≤ free → reply ≡ Committed (number_of session + 1))
+    → (is_touched session ≡ true → old.capacity - old.head < needed_by session → now ≡ session)
+    → (is_touched session ≡ true → needed_by session ≤ old.capacity - old.head → reply ≡ Committed (number_of session + 1))
     → Part Going old new (Some session) (Some now) (mounted device (record { contents = array; touched = touched })) [] (mounted device (record { contents = array; touched = touched }))
-commit_refused tells Going old new session now device array touched reply told left needed free Then c done holds is idle full raised =
-    let same = same_session session now touched reply told left needed free c.at.there.session.1 is idle full raised in
+commit_refused tells Going old new session now device array touched reply needed free Then c done holds is idle full raised =
+    let same = same_session session now touched reply needed free (old.capacity - old.head) c.at.there.session.1 is idle full raised in
     commit_full tells Going old new session now device array touched Then c done (subst (λ (r : CommitReply). Holds now new.history.present (device_after r device array) array) is holds)
     (ap (λ (s : Session). is_touched s) same ∙ c.at.there.session.1)
 
