@@ -4,7 +4,8 @@ ghost use Rattle.std.specs.Prelude.{◌≡◌, ◌≢◌, ◌-◌, ◌^◌, ◌<
 ghost use Rattle.script_lang.specs.Arrays.{Counted, in_limits, number_of, step, trimmed, content_reply};
 ghost use Rattle.script_lang.specs.Answers.{answer, none_counted};
 ghost use Rattle.sdbt_base.specs.Arrays.{State, written, unmapped, padded, content_of};
-ghost use Rattle.std.specs.Prelude.{take};
+ghost use Rattle.std.specs.Prelude.{take, ◌%◌};
+ghost use Rattle.std.specs.Bool.{OnTrue};
 ghost use Rattle.script_lang.specs.Commands as commands;
 ghost use Rattle.script_lang.specs.Commands.{asked, FitsBlock};
 ghost use Rattle.script_lang.specs.Replies.{CanWrite, said, FitsBlock as FitsReply};
@@ -273,8 +274,9 @@ impl Machine {
 }
 
 /// Whether a device may have so many blocks, and this order.
-fn is_in_limits(blocks: u64, order: u64) -> bool
-    ensures { result ≡ in_limits blocks order }
+pub fn is_in_limits(blocks: u64, order: u64) -> bool
+    ensures limits { result ≡ in_limits blocks order }
+    ensures numbers { OnTrue result ((1 ≤ blocks) × (blocks ≤ 1048576) × (4 ≤ order) × (order ≤ 64) × (order % 2 ≡ 0)) }
 {
     1 <= blocks
         && blocks <= MAX_BLOCKS
