@@ -11,7 +11,7 @@ use Rattle.hex.proofs.HexLemmas.{decode_of-encode_lower}
 use Rattle.text_lines.specs.Lines.{HasNone}
 use Rattle.script_lang.specs.Replies.{text_of, line_of, hex_or_dash, IsReply, IsFront}
 use Rattle.script_lang.specs.Replies.{Reply}
-use Rattle.script_lang.specs.Replies.{Formatted, Mounted, Content, Done, Committed, Dropped, Erased, Stat, Seized, Bad, Unmounted, AlreadyMounted, NotEmpty, NoDevice, Range, Full, Unbuilt}
+use Rattle.script_lang.specs.Replies.{Formatted, Mounted, Content, Done, Committed, Dropped, Erased, Stat, Seized, Bad, Unmounted, AlreadyMounted, NotEmpty, NoDevice, Range, Full}
 use Rattle.script_lang.proofs.Spaces.{split_once, no_space}
 use Rattle.script_lang.proofs.Numbers.{number_has_none}
 use Rattle.std.proofs.lemmas.Bool.{cases_Bool, eqb-false}
@@ -52,8 +52,7 @@ reply_of text =
     (cond (begins text == begins (codes "already mounted")) AlreadyMounted
     (cond (begins text == begins (codes "not empty")) NotEmpty
     (cond (begins text == begins (codes "no device")) NoDevice
-    (cond (begins text == begins (codes "range")) Range
-    (cond (begins text == begins (codes "full")) Full Unbuilt)))))))))))))))
+    (cond (begins text == begins (codes "range")) Range Full))))))))))))))
 
 digits_back : (n : ℕ) → n < 2 ^ 64 → digits_value 10 (decimal n) ≡ n
 digits_back n h = (decimal_is_IsNumeral n h).1
@@ -109,7 +108,6 @@ reply_back NotEmpty is = refl
 reply_back NoDevice is = refl
 reply_back Range is = refl
 reply_back Full is = refl
-reply_back Unbuilt is = refl
 
 -- a text is one reply's
 pub one_reply : (a b : Reply) → IsReply a → IsReply b → text_of a ≡ text_of b → a ≡ b
@@ -179,7 +177,6 @@ text_has_no_feed NotEmpty is = none_from_test 10 (codes "not empty") refl
 text_has_no_feed NoDevice is = none_from_test 10 (codes "no device") refl
 text_has_no_feed Range is = none_from_test 10 (codes "range") refl
 text_has_no_feed Full is = none_from_test 10 (codes "full") refl
-text_has_no_feed Unbuilt is = none_from_test 10 (codes "unbuilt") refl
 
 line_then : (text rest : List ℕ) → (text ++ 10 ∷ []) ++ rest ≡ text ++ 10 ∷ rest
 line_then text rest = append_assoc text (10 ∷ []) rest

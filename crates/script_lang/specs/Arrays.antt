@@ -4,7 +4,7 @@ use Rattle.std.specs.FinMap as map
 use Rattle.script_lang.specs.Commands.{Command}
 use Rattle.script_lang.specs.Commands.{Format, Mount, Read, Write, Trim, Commit, Drop, Erase, Stat, Seize}
 use Rattle.script_lang.specs.Replies.{Reply}
-use Rattle.script_lang.specs.Replies.{Formatted, Mounted, Content, Done, Committed, Dropped, Erased, Unmounted, AlreadyMounted, NotEmpty, NoDevice, Range, Full, Unbuilt}
+use Rattle.script_lang.specs.Replies.{Formatted, Mounted, Content, Done, Committed, Dropped, Erased, Seized, Unmounted, AlreadyMounted, NotEmpty, NoDevice, Range}
 use Rattle.script_lang.specs.Replies as replies
 use Rattle.sdbt_base.specs.Arrays.{Device, Session, State, content_of, new_device, session_on, committed, written, unmapped}
 
@@ -46,29 +46,35 @@ in_session (Some device) (Some session) unmounted mounted = mounted device sessi
 abbrev pub with_session : State → Session → State
 with_session state session = record state { session = Some session }
 
--- one step: the reply, and the state that follows
-abbrev pub step : State → Command → Reply × State
-step state (Format blocks order) = on_device state.device
+-- what a seizure counts: pages, and of what it opens of them the nodes and the data records
+pub record Counted : Type 0 where
+  pub pages : ℕ
+  pub nodes : ℕ
+  pub blocks : ℕ
+
+-- one step: the reply, and the state that follows. A seizure tells what it counted, which is no matter of the array, and
+-- leaves the state
+abbrev pub step : Counted → State → Command → Reply × State
+step counted state (Format blocks order) = on_device state.device
     (if in_limits blocks order then (Formatted, record state { device = Some (new_device blocks order) }) else (Range, state))
     (λ device. (NotEmpty, state))
-step state Mount = on_session state.session
+step counted state Mount = on_session state.session
     (on_device state.device (NoDevice, state) (λ device. (Mounted device.number, with_session state (session_on device))))
     (λ session. (AlreadyMounted, state))
-step state (Read block) = in_session state.device state.session (Unmounted, state) (λ device session.
+step counted state (Read block) = in_session state.device state.session (Unmounted, state) (λ device session.
     if nat_lt block device.blocks then (content_reply (content_of session.contents block), state) else (Range, state))
-step state (Write block content) = in_session state.device state.session (Unmounted, state) (λ device session.
+step counted state (Write block content) = in_session state.device state.session (Unmounted, state) (λ device session.
     if nat_lt block device.blocks then (Done, with_session state (written session block content)) else (Range, state))
-step state (Trim block) = in_session state.device state.session (Unmounted, state) (λ device session.
+step counted state (Trim block) = in_session state.device state.session (Unmounted, state) (λ device session.
     if nat_lt block device.blocks then (Done, with_session state (unmapped session block)) else (Range, state))
-step state Commit = in_session state.device state.session (Unmounted, state) (λ device session.
+step counted state Commit = in_session state.device state.session (Unmounted, state) (λ device session.
     if session.touched then (Committed (device.number + 1), record { device = Some (committed device session); session = Some (session_on (committed device session)) })
     else (Committed device.number, state))
-step state Drop = in_session state.device state.session (Unmounted, state) (λ device session. (Dropped, record state { session = None }))
-step state Erase = on_device state.device (NoDevice, state) (λ device. (Erased, record { device = None; session = None }))
-step state Stat = in_session state.device state.session (Unmounted, state) (λ device session.
+step counted state Drop = in_session state.device state.session (Unmounted, state) (λ device session. (Dropped, record state { session = None }))
+step counted state Erase = on_device state.device (NoDevice, state) (λ device. (Erased, record { device = None; session = None }))
+step counted state Stat = in_session state.device state.session (Unmounted, state) (λ device session.
     (replies.Stat (map.len session.contents) device.number, state))
--- a seizure is no matter of the array: its lines are answered outside of it
-step state Seize = (Unbuilt, state)
+step counted state Seize = (Seized counted.pages counted.nodes counted.blocks, state)
 
 -- whether the command is one that is accepted and needs room on the medium
 abbrev pub needs_room : State → Command → Bool
@@ -82,10 +88,6 @@ needs_room state Drop = false
 needs_room state Erase = false
 needs_room state Stat = false
 needs_room state Seize = false
-
--- one step on a medium that is full, or isn't
-abbrev pub step_if : Bool → State → Command → Reply × State
-step_if full state command = if needs_room state command && full then (Full, state) else step state command
 
 -- the commit number of the device, and 0 without one
 abbrev pub number_of : State → ℕ

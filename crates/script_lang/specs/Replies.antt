@@ -23,7 +23,6 @@ pub data Reply : Type 0 where
   NoDevice : Reply
   Range : Reply
   Full : Reply
-  Unbuilt : Reply
 
 -- the reply that was given, whose bytes stand at the front of a buffer
 abbrev pub said : Given → List ℕ → Reply
@@ -43,7 +42,6 @@ said given.NotEmpty buffer = NotEmpty
 said given.NoDevice buffer = NoDevice
 said given.Range buffer = Range
 said given.Full buffer = Full
-said given.Unbuilt buffer = Unbuilt
 
 -- its bytes are those of a block at most
 abbrev pub FitsBlock : Given → Type 0
@@ -73,7 +71,6 @@ text_of NotEmpty = codes "not empty"
 text_of NoDevice = codes "no device"
 text_of Range = codes "range"
 text_of Full = codes "full"
-text_of Unbuilt = codes "unbuilt"
 
 -- a reply of words alone, which gives no number and no bytes
 abbrev pub IsWords : Reply → Type 0
@@ -116,7 +113,6 @@ IsReply NotEmpty = Unit {0}
 IsReply NoDevice = Unit {0}
 IsReply Range = Unit {0}
 IsReply Full = Unit {0}
-IsReply Unbuilt = Unit {0}
 
 -- a block's content in a reply is given without its trailing zeros
 abbrev pub CanWrite : Reply → Type 0

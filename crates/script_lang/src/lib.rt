@@ -13,7 +13,7 @@ mod writing;
 
 pub use commands::{Command, lines_spell_one_command, long_lines_are_bad, parse};
 pub use devices::{Contents, Device, Session};
-pub use machine::{Machine, reply_with_content};
+pub use machine::{Machine, is_in_limits, reply_with_content};
 pub use reading::{read_reply, replies_are_determined};
 pub use replies::Reply;
 pub use writing::ReplyWriter;

@@ -1,9 +1,11 @@
 //! The array machine as plain code.
 
 ghost use Rattle.std.specs.Prelude.{◌≡◌, ◌≢◌, ◌-◌, ◌^◌, ◌<◌, ◌≤◌, ℕ, List, [], length, None, IfOk, OnErr, IsTrue, ◌↔◌, nat_lt, if◌then◌else◌};
-ghost use Rattle.script_lang.specs.Arrays.{in_limits, number_of, step, step_if, trimmed, content_reply};
+ghost use Rattle.script_lang.specs.Arrays.{Counted, in_limits, number_of, step, trimmed, content_reply};
+ghost use Rattle.script_lang.specs.Answers.{answer, none_counted};
 ghost use Rattle.sdbt_base.specs.Arrays.{State, written, unmapped, padded, content_of};
-ghost use Rattle.std.specs.Prelude.{take};
+ghost use Rattle.std.specs.Prelude.{take, ◌%◌};
+ghost use Rattle.std.specs.Bool.{OnTrue};
 ghost use Rattle.script_lang.specs.Commands as commands;
 ghost use Rattle.script_lang.specs.Commands.{asked, FitsBlock};
 ghost use Rattle.script_lang.specs.Replies.{CanWrite, said, FitsBlock as FitsReply};
@@ -68,7 +70,7 @@ impl Machine {
         requires served { command.now ≢ Command.Seize }
         requires fits { FitsBlock command.now }
         requires counted { number_of self.old < 2 ^ 64 - 1 }
-        ensures step { IfOk result (λ reply. (said reply buffer.new, self.new) ≡ step_if full self.old (asked command.now buffer.old)) }
+        ensures step { IfOk result (λ reply. (counted : Counted) → (said reply buffer.new, self.new) ≡ answer full counted self.old (asked command.now buffer.old)) }
         ensures memory { OnErr result (self.new ≡ self.old) }
         // The reply can be written.
         ensures written { IfOk result (λ reply. CanWrite (said reply buffer.new)) }
@@ -89,7 +91,7 @@ impl Machine {
     }
 
     fn format(&mut self, blocks: u64, order: u64, full: bool) -> Reply
-        ensures step { (buffer : List ℕ) → (said result buffer, self.new) ≡ step_if full self.old (commands.Format blocks order) }
+        ensures step { (buffer : List ℕ) → (said result buffer, self.new) ≡ answer full none_counted self.old (commands.Format blocks order) }
         ensures short { FitsReply result }
     {
         if self.device.is_some() {
@@ -111,7 +113,7 @@ impl Machine {
     }
 
     fn mount(&mut self) -> Result<Reply, Memory>
-        ensures step { IfOk result (λ reply. (buffer : List ℕ) → (said reply buffer, self.new) ≡ step self.old commands.Mount) }
+        ensures step { IfOk result (λ reply. (buffer : List ℕ) → (said reply buffer, self.new) ≡ step none_counted self.old commands.Mount) }
         ensures short { IfOk result FitsReply }
         ensures memory { OnErr result (self.new ≡ self.old) }
     {
@@ -131,7 +133,7 @@ impl Machine {
     }
 
     fn read(&self, block: u64, buffer: &mut [u8; BLOCK]) -> Reply
-        ensures step { (said result buffer.new, self.now) ≡ step self.now (commands.Read block) }
+        ensures step { (said result buffer.new, self.now) ≡ step none_counted self.now (commands.Read block) }
         ensures written { CanWrite (said result buffer.new) }
         ensures short { FitsReply result }
     {
@@ -150,7 +152,7 @@ impl Machine {
 
     fn write(&mut self, block: u64, bytes: &[u8], full: bool) -> Result<Reply, Memory>
         requires { length bytes.now ≤ 4096 }
-        ensures step { IfOk result (λ reply. (buffer : List ℕ) → (said reply buffer, self.new) ≡ step_if full self.old (commands.Write block bytes.now)) }
+        ensures step { IfOk result (λ reply. (buffer : List ℕ) → (said reply buffer, self.new) ≡ answer full none_counted self.old (commands.Write block bytes.now)) }
         ensures short { IfOk result FitsReply }
         ensures memory { OnErr result (self.new ≡ self.old) }
     {
@@ -173,7 +175,7 @@ impl Machine {
     }
 
     fn trim(&mut self, block: u64) -> Reply
-        ensures step { (buffer : List ℕ) → (said result buffer, self.new) ≡ step self.old (commands.Trim block) }
+        ensures step { (buffer : List ℕ) → (said result buffer, self.new) ≡ step none_counted self.old (commands.Trim block) }
         ensures short { FitsReply result }
     {
         let Some(device) = &self.device else {
@@ -194,7 +196,7 @@ impl Machine {
 
     fn commit(&mut self, full: bool) -> Result<Reply, Memory>
         requires { number_of self.old < 2 ^ 64 - 1 }
-        ensures step { IfOk result (λ reply. (buffer : List ℕ) → (said reply buffer, self.new) ≡ step_if full self.old commands.Commit) }
+        ensures step { IfOk result (λ reply. (buffer : List ℕ) → (said reply buffer, self.new) ≡ answer full none_counted self.old commands.Commit) }
         ensures short { IfOk result FitsReply }
         ensures memory { OnErr result (self.new ≡ self.old) }
     {
@@ -229,7 +231,7 @@ impl Machine {
     }
 
     fn give_up(&mut self) -> Reply
-        ensures step { (buffer : List ℕ) → (said result buffer, self.new) ≡ step self.old commands.Drop }
+        ensures step { (buffer : List ℕ) → (said result buffer, self.new) ≡ step none_counted self.old commands.Drop }
         ensures short { FitsReply result }
     {
         if self.device.is_none() {
@@ -243,7 +245,7 @@ impl Machine {
     }
 
     fn erase(&mut self) -> Reply
-        ensures step { (buffer : List ℕ) → (said result buffer, self.new) ≡ step self.old commands.Erase }
+        ensures step { (buffer : List ℕ) → (said result buffer, self.new) ≡ step none_counted self.old commands.Erase }
         ensures short { FitsReply result }
     {
         if self.device.is_none() {
@@ -255,7 +257,7 @@ impl Machine {
     }
 
     fn stat(&self) -> Reply
-        ensures step { (buffer : List ℕ) → (said result buffer, self.now) ≡ step self.now commands.Stat }
+        ensures step { (buffer : List ℕ) → (said result buffer, self.now) ≡ step none_counted self.now commands.Stat }
         ensures short { FitsReply result }
     {
         let Some(device) = &self.device else {
@@ -272,8 +274,9 @@ impl Machine {
 }
 
 /// Whether a device may have so many blocks, and this order.
-fn is_in_limits(blocks: u64, order: u64) -> bool
-    ensures { result ≡ in_limits blocks order }
+pub fn is_in_limits(blocks: u64, order: u64) -> bool
+    ensures limits { result ≡ in_limits blocks order }
+    ensures numbers { OnTrue result ((1 ≤ blocks) × (blocks ≤ 1048576) × (4 ≤ order) × (order ≤ 64) × (order % 2 ≡ 0)) }
 {
     1 <= blocks
         && blocks <= MAX_BLOCKS

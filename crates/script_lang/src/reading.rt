@@ -76,7 +76,6 @@ fn read_words(line: &[u8]) -> Option<Reply>
         b"no device" => Some(Reply::NoDevice),
         b"range" => Some(Reply::Range),
         b"full" => Some(Reply::Full),
-        b"unbuilt" => Some(Reply::Unbuilt),
         _ => None,
     }
 }

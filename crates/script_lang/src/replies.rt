@@ -35,6 +35,4 @@ pub enum Reply {
     Range,
     /// The medium has no room for this.
     Full,
-    /// The line is not served yet.
-    Unbuilt,
 }

@@ -4,7 +4,7 @@ ghost use Rattle.std.specs.Prelude.{IfOk};
 ghost use Rattle.script_lang.specs.Replies.{CanWrite, FitsBlock, said};
 
 use super::*;
-use sdbt_base::{BLOCK, MemSink, Memory};
+use sdbt_base::{BLOCK, MemSink};
 use std::alloc::Global;
 use std::test::Fail;
 
@@ -102,7 +102,7 @@ fn replies_to(alloc: Global, script: &[&str]) -> Result<MemSink, Fail> {
     Ok(output)
 }
 
-fn reply_to(machine: &mut Machine, line: &[u8], buffer: &mut [u8; BLOCK]) -> Result<Reply, Memory>
+fn reply_to(machine: &mut Machine, line: &[u8], buffer: &mut [u8; BLOCK]) -> Result<Reply, Fail>
     ensures written { IfOk result (λ reply. CanWrite (said reply buffer.new)) }
     ensures short { IfOk result FitsBlock }
 {
@@ -110,12 +110,12 @@ fn reply_to(machine: &mut Machine, line: &[u8], buffer: &mut [u8; BLOCK]) -> Res
         return Ok(Reply::Bad);
     };
     if let Command::Seize = command {
-        return Ok(Reply::Unbuilt);
+        return Err(Fail::new("a seizure is not the machine's"));
     }
     if machine.number() == u64::MAX {
-        return Ok(Reply::Unbuilt);
+        return Err(Fail::new("too many commits"));
     }
-    machine.step(&command, buffer, false)
+    Ok(machine.step(&command, buffer, false)?)
 }
 
 #[test]
@@ -200,7 +200,6 @@ fn replies_are_read_back(rt: HostRuntime) -> Result<(), Fail> {
         "no device",
         "range",
         "full",
-        "unbuilt",
     ] {
         let reply = read_reply(line.as_bytes(), &mut buffer).ok_or("a reply")?;
         let mut output = MemSink::new(rt.alloc(), &[])?;

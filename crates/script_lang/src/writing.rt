@@ -99,7 +99,6 @@ impl ReplyWriter {
             Reply::NoDevice => self.line.push(b"no device"),
             Reply::Range => self.line.push(b"range"),
             Reply::Full => self.line.push(b"full"),
-            Reply::Unbuilt => self.line.push(b"unbuilt"),
         }
     }
 

@@ -1,7 +1,7 @@
 use Rattle.std.proofs.Common.{◌≢◌, Option, Some, None}
 use Rattle.std.specs.Option.{IfNone}
 use Rattle.script_lang.specs.Replies.{IsReply, text_of}
-use Rattle.script_lang.specs.Replies.{Formatted, Mounted, Content, Done, Committed, Dropped, Erased, Stat, Seized, Bad, Unmounted, AlreadyMounted, NotEmpty, NoDevice, Range, Full, Unbuilt}
+use Rattle.script_lang.specs.Replies.{Formatted, Mounted, Content, Done, Committed, Dropped, Erased, Stat, Seized, Bad, Unmounted, AlreadyMounted, NotEmpty, NoDevice, Range, Full}
 use Rattle.script_lang.proofs.reading.find_reply.Goals as goal
 
 weaker : {X : Type 0} (o : Option X) (P Q : Type 0) → (P → Q) → IfNone o P → IfNone o Q
@@ -29,5 +29,4 @@ returns-clause-none c =
       | NoDevice ↦ λ is. words NoDevice tt
       | Range ↦ λ is. words Range tt
       | Full ↦ λ is. words Full tt
-      | Unbuilt ↦ λ is. words Unbuilt tt
     ]) c.read_seized.ensures.none
