@@ -229,7 +229,7 @@ reply_is session now image device array true reply number free holds same is idl
       (ap (λ (x : CommitReply). device_after x device array) r.0 ∙ ap (λ (n : ℕ). record device { number = n + 1; contents = array }) holds.stands.number, r.1)
 ]
 
-pub commit_answered : (tells Going : Type 0) (old new : Outside) (session now : Session) (device : Device) (array : Blocks) (touched : Bool) (reply : CommitReply) (number needed free : ℕ) (Then : List (List ℕ) → Type 0) → Commits tells Going old new session device array touched Then
+pub commit_answered : (tells Going : Type 0) (old new : Outside) (session now : Session) (device : Device) (array : Blocks) (touched : Bool) (reply : CommitReply) (number : ℕ) (Then : List (List ℕ) → Type 0) → Commits tells Going old new session device array touched Then
     → ((keys : List (List ℕ)) → Then keys → HoldsListed now new.history.present keys) → Holds now new.history.present (device_after reply device array) array → reply ≡ Committed number
     → (is_touched session ≡ false → (now ≡ session) × (reply ≡ Committed (number_of session)))
     → (is_touched session ≡ true → old.capacity - old.head < needed_by session → reply ≡ Full (needed_by session) (old.capacity - old.head))
@@ -261,8 +261,8 @@ same_session session now true reply needed free room same is idle full raised = 
   | inr many ↦ absurd (let r = raised same many in cc)
 ]
 
-pub commit_refused : (tells Going : Type 0) (old new : Outside) (session now : Session) (device : Device) (array : Blocks) (touched : Bool) (reply : CommitReply) (told left needed free : ℕ) (Then : List (List ℕ) → Type 0) → Commits tells Going old new session device array touched Then
-    → ((keys : List (List ℕ)) → Then keys → HoldsListed now new.history.present keys) → Holds now new.history.present (device_after reply device array) array → reply ≡ Full told left
+pub commit_refused : (tells Going : Type 0) (old new : Outside) (session now : Session) (device : Device) (array : Blocks) (touched : Bool) (reply : CommitReply) (needed free : ℕ) (Then : List (List ℕ) → Type 0) → Commits tells Going old new session device array touched Then
+    → ((keys : List (List ℕ)) → Then keys → HoldsListed now new.history.present keys) → Holds now new.history.present (device_after reply device array) array → reply ≡ Full needed free
     → (is_touched session ≡ false → reply ≡ Committed (number_of session))
     → (is_touched session ≡ true → old.capacity - old.head < needed_by session → now ≡ session)
     → (is_touched session ≡ true → needed_by session ≤ old.capacity - old.head → reply ≡ Committed (number_of session + 1))
