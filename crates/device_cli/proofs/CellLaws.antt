@@ -8,6 +8,7 @@ use Rattle.std.proofs.lemmas.List.{length-replicate}
 use Rattle.std.specs.Prelude.{replicate}
 use Rattle.platform.specs.Calls.{Looks}
 use Rattle.platform.specs.declared.platforms.Platform.{Ghosts}
+use Rattle.script_lang.specs.Commands.{Command}
 use Rattle.script_lang.specs.Replies.{CanWrite, FitsBlock, said}
 use Rattle.script_lang.specs.declared.replies.Reply.{Reply as Given}
 use Rattle.script_lang.specs.declared.replies.Reply.TheVariants as given
@@ -24,7 +25,7 @@ use Rattle.device_cli.specs.Desk.{After, IsMounted, IsReady}
 use Rattle.device_cli.specs.Kept.{IsKept}
 use Rattle.device_cli.specs.Replied.{Handled, no_line}
 use Rattle.device_cli.specs.Represents.{Stood}
-use Rattle.device_cli.specs.World.{World}
+use Rattle.device_cli.specs.World.{World, needed_of}
 use Rattle.device_cli.specs.declared.stop.DeviceStop.{DeviceStop}
 
 -- no time has passed
@@ -54,10 +55,10 @@ mounted_still held session now old new is mounted same stays follows =
     }
 
 -- what a command leaves that was answered, and only looked
-pub after_looked : {S : Type 0} (P : Ghosts S) (desk : Desk) (old new : S) (reply : Given) → Looks P old new
+pub after_looked : {S : Type 0} (P : Ghosts S) (before desk : Desk) (old new : S) (command : Command) (reply : Given) → Looks P old new
     → IsReady desk (P.head new) → (P.tells → IfSome desk.session (IsMounted (P.history new).present)) → CanWrite (said reply desk.buffer) → FitsBlock reply
-    → (reply ≡ given.Full → P.head new ≡ P.capacity new) → After P desk old new (Ok reply)
-after_looked P desk old new reply looks ready mounted can fits full = record {
+    → (reply ≡ given.Full → ⊥) → After P before desk old new command (Ok reply)
+after_looked P before desk old new command reply looks ready mounted can fits full = record {
   ready = ready;
   mounted = mounted;
   reply = can;
@@ -65,9 +66,8 @@ after_looked P desk old new reply looks ready mounted can fits full = record {
   bad_root = λ told e. absurd cc;
   capacity = looks.capacity;
   rises = omega (arith, looks.head);
-  by_one = omega (arith, looks.head);
   added = tt;
-  full = full;
+  full = λ e. absurd (full e);
 }
 
 -- a look at the platform leaves a run without a session in its state
@@ -78,7 +78,7 @@ at_looked old new held entry none same at = subst (λ (i : Image). IsAt i held e
 pub handled_through : (tells : Type 0) (old new : World) (last : DeviceStop → List ℕ) (lines : List (List ℕ)) (written written_now : Option (List ℕ)) → Handled tells old new last (Ok tt) lines written written_now
     → tells → (entry : State) → Stood old entry → (now : State) × Stood new now
 handled_through tells old new last lines written written_now h told entry at =
-    let a = h.replied.answered told entry at in
+    let a = h.replied.answered told entry (needed_of old.session) at (omega arith) in
     (a.now, a.ends.0)
 
 kept_text : (kept : Option (List ℕ)) → (text : List ℕ) × IsKept kept text

@@ -1,8 +1,8 @@
--- A run with room for a page a line, a short input and no fault answers each line, and none that no page was free.
-use Rattle.std.proofs.Common.{◌≡◌, ◌≢◌, ℕ, ◌+◌, ◌≤◌, ◌==◌, Bool, true, false, List, [], ◌∷◌, ◌++◌, Option, None, Some, length, ◌⊎◌, inl, inr, refl, sym, ◌∙◌, subst, ap, arith, length-append}
+-- A run with room for 42 pages a line, a short input and no fault answers each line, and none that too few pages were free.
+use Rattle.std.proofs.Common.{◌≡◌, ◌≢◌, ℕ, ◌+◌, ◌-◌, ◌*◌, ◌≤◌, Bool, true, false, List, [], ◌∷◌, ◌++◌, Option, None, Some, length, ◌⊎◌, inl, inr, refl, sym, ◌∙◌, subst, ap, arith, length-append}
 use Rattle.std.specs.Prelude.{All, ◌&&◌, nat_lt, flat_map}
 use Rattle.std.proofs.lemmas.Bool.{cases_Bool}
-use Rattle.std.proofs.lemmas.Bool.Decides.{eqb_tells}
+use Rattle.std.proofs.lemmas.Grind.{common_steps}
 use Rattle.std.proofs.lemmas.List.{append-nil}
 use Rattle.std.proofs.lemmas.List.Elements.{All-nil, All-cons}
 use Rattle.sdbt_base.specs.Told.{Gave, Got, IsAtEnd}
@@ -20,7 +20,7 @@ use Rattle.script_lang.specs.Replies.{Full}
 use Rattle.device_core.specs.Leaf.{IsServedImage}
 use Rattle.device_cli.specs.World.{World}
 use Rattle.device_cli.specs.Represents.{StandsFor}
-use Rattle.device_cli.specs.Pages.{TurnIf, AnswersOn}
+use Rattle.device_cli.specs.Pages.{updates_after, TurnOn, AnswersOn}
 use Rattle.std.proofs.Common.{Ok, Err}
 use Rattle.std.specs.Prelude.{IfErr}
 use Rattle.device_cli.specs.Run.{Counts, NoneRose, HasCause, IsStatus, Took, TookUntil}
@@ -29,7 +29,8 @@ use Rattle.device_cli.specs.declared.stop.Stop.TheVariants as stops
 use Rattle.device_cli.specs.declared.stop.DeviceStop.TheVariants as device
 use Rattle.device_cli.proofs.RanLaws.{exit_of, Took-of}
 use Rattle.device_cli.specs.Ran.{AnswersScript, AnswersFrom, IsAmple, IsComplete}
-use Rattle.device_cli.proofs.PageLaws.{answers_of, one_page}
+use Rattle.device_cli.proofs.PageLaws.{answers_of}
+use Rattle.device_cli.proofs.TurnLaws.{needed_most, line_bound}
 
 -- a state of these parts
 abbrev parts : Option Device → Option OpenSession → State
@@ -105,24 +106,25 @@ answer_room counted state command e = elim (cases_Bool (is_unbuilt state command
   | inr fails ↦ let f = rw fails at e in served_room counted state command f
 ]
 
-turn_room : (full : Bool) (old : State) (pages : ℕ) (line : List ℕ) (reply : Reply) (new : State) (pages_now : ℕ) → full ≡ false → TurnIf full old pages line reply new pages_now → reply ≢ Full
-turn_room full old pages line reply new pages_now room (inl (command, spells, (counted, is), added)) e =
-    answer_room counted old command
-    (subst (λ (b : Bool). (answer b counted old command).0 ≡ Full) room (sym (ap (λ (p : Reply × State). p.0) is) ∙ e))
-turn_room full old pages line reply new pages_now room (inr (bad, is, same, added)) e = cc
+not_less : (free needed : ℕ) → needed ≤ free → nat_lt free needed ≡ false
+not_less free needed h = grind (arith, common_steps)
 
--- with a page for each line
-roomy : (capacity : ℕ) (old : State) (pages : ℕ) (lines : List (List ℕ)) (replies : List Reply) (new : State) (pages_now : ℕ) → pages + length lines ≤ capacity
-    → AnswersOn capacity old pages lines replies new pages_now → All (λ r. r ≢ Full) replies
-roomy capacity old pages lines [] new pages_now room h = All-nil (λ (r : Reply). r ≢ Full)
-roomy capacity old pages [] (reply ∷ replies) new pages_now room h = absurd h
-roomy capacity old pages (line ∷ lines) (reply ∷ replies) new pages_now room (mid, between, turn, rest) =
-    let free : (pages == capacity) ≡ false = elim (eqb_tells pages capacity) [
-      | inl equal ↦ absurd (omega (arith, room, equal.1))
-      | inr differ ↦ differ.0
-    ] in
-    All-cons (λ (r : Reply). r ≢ Full) reply replies (turn_room (pages == capacity) old pages line reply mid between free turn)
-    (roomy capacity mid between lines replies new pages_now (omega (arith, room, one_page (pages == capacity) old pages line reply mid between turn)) rest)
+turn_room : (capacity : ℕ) (old : State) (pages updates : ℕ) (line : List ℕ) (reply : Reply) (new : State) (pages_now : ℕ) → pages + 41 * updates + 1 ≤ capacity
+    → TurnOn capacity old pages updates line reply new pages_now → reply ≢ Full
+turn_room capacity old pages updates line reply new pages_now room (inl (command, spells, needed, needs, (counted, is), added)) e =
+    let free : nat_lt (capacity - pages) needed ≡ false = not_less (capacity - pages) needed (omega (arith, room, needs.within, needed_most command (41 * updates))) in
+    answer_room counted old command
+    (subst (λ (b : Bool). (answer b counted old command).0 ≡ Full) free (sym (ap (λ (p : Reply × State). p.0) is) ∙ e))
+turn_room capacity old pages updates line reply new pages_now room (inr (bad, is, same, added)) e = cc
+
+-- with 42 pages for each line
+roomy : (capacity : ℕ) (old : State) (pages updates : ℕ) (lines : List (List ℕ)) (replies : List Reply) (new : State) (pages_now : ℕ) → pages + 41 * updates + 42 * length lines ≤ capacity
+    → AnswersOn capacity old pages updates lines replies new pages_now → All (λ r. r ≢ Full) replies
+roomy capacity old pages updates lines [] new pages_now room h = All-nil (λ (r : Reply). r ≢ Full)
+roomy capacity old pages updates [] (reply ∷ replies) new pages_now room h = absurd h
+roomy capacity old pages updates (line ∷ lines) (reply ∷ replies) new pages_now room (mid, between, turn, rest) =
+    All-cons (λ (r : Reply). r ≢ Full) reply replies (turn_room capacity old pages updates line reply mid between (omega (arith, room)) turn)
+    (roomy capacity mid between (updates_after reply updates) lines replies new pages_now (omega (arith, room, line_bound capacity old pages updates line reply mid between turn)) rest)
 
 -- what was taken of a text, where nothing is left, is all of it
 all_taken : (text taken : List ℕ) (left left_now : Option (List ℕ)) → left ≡ Some text → Gave left taken left_now → IsAtEnd left_now → taken ≡ text
@@ -154,9 +156,9 @@ complete_at tells old new left left_now written written_now text there script fr
           (ap (λ (part : List ℕ). flat_map line_of script.replies ++ part) none ∙ append-nil (flat_map line_of script.replies)) script.got;
       now = from.now;
       answers = subst (λ (l : List (List ℕ)). Answers (closed there) l script.replies from.now) lines
-          (answers_of old.capacity (closed there) old.head script.lines script.replies from.now from.pages from.answers);
+          (answers_of old.capacity (closed there) old.head 0 script.lines script.replies from.now from.pages from.answers);
       each = all.2 ∙ ap (λ (l : List (List ℕ)). length l) lines;
-      roomy = roomy old.capacity (closed there) old.head script.lines script.replies from.now from.pages
+      roomy = roomy old.capacity (closed there) old.head 0 script.lines script.replies from.now from.pages
           (omega (arith, ample.room, ap (λ (l : List (List ℕ)). length l) lines)) from.answers;
     }
 

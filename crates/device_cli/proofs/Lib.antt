@@ -2,6 +2,8 @@ pub mod CellLaws
 pub mod Choices
 pub mod RunLaws
 pub mod PageLaws
+pub mod TurnLaws
+pub mod EnoughLaws
 pub mod PassLaws
 pub mod SeenLaws
 pub mod RepliedLaws

@@ -5,8 +5,6 @@ use Rattle.sdbt_base.specs.Told.{Got, GotPart}
 use Rattle.sdbt_base.proofs.ToldLaws.{Gave-nothing, Got-nothing, Got-then}
 use Rattle.text_lines.specs.Lines.{whole_lines_of}
 use Rattle.sdbt_base.specs.Arrays.{State}
-use Rattle.script_lang.specs.Replies.{Full}
-use Rattle.std.proofs.lemmas.List.Elements.{All-nil}
 use Rattle.platform.specs.History.{During}
 use Rattle.device_cli.specs.World.{World, IsLater}
 use Rattle.device_course.specs.Marks.{Leaves}
@@ -16,7 +14,6 @@ use Rattle.device_cli.proofs.PassLaws.{AreMarks-none}
 use Rattle.script_lang.specs.Replies.{Reply}
 use Rattle.device_cli.specs.Run.{TookUntil, Took, status_of}
 use Rattle.device_cli.specs.Replied.{Ending, IsBehind, IsDamageAt, IsAhead, IsSound, Answered, no_line, damage_line}
-use Rattle.device_cli.specs.Added.{HasAdded}
 use Rattle.device_cli.specs.Ran.{Ran}
 use Rattle.device_cli.specs.declared.stop.Stop.{Stop}
 use Rattle.device_cli.specs.declared.stop.Stop.TheVariants as stops
@@ -26,19 +23,19 @@ use Rattle.device_cli.proofs.RunLaws.{TookUntil-line}
 
 -- the same after the platform stood still
 pub Ran-after : (tells : Type 0) (old mid new : World) (last : DeviceStop → List ℕ) (ending : Ending) (left left_now a b : Option (List ℕ))
-    → IsLater old mid → mid.head ≡ old.head
+    → IsLater old mid → mid.head ≡ old.head → mid.session ≡ old.session
     → (tells → (entry : State) → Stood old entry → Stood mid entry × During old.history mid.history (Leaves entry.device))
     → Ran tells mid new last ending left left_now a b → Ran tells old new last ending left left_now a b
-Ran-after tells old mid new last ending left left_now a b later same still r = record {
+Ran-after tells old mid new last ending left left_now a b later same held still r = record {
   taken = r.taken;
   lines = r.lines;
   gave = r.gave;
   took = r.took;
   come = r.come;
   handled = Handled-then tells old mid new last ending [] r.lines a a b
-      (record { put = []; got = Got-nothing a; replied = Replied-idle tells old mid last later same still }) r.handled;
+      (record { put = []; got = Got-nothing a; replied = Replied-idle tells old mid last later same held still }) r.handled;
   prompt =
-      let more = count-then tells old mid new last ending [] r.lines a a b (record { put = []; got = Got-nothing a; replied = Replied-idle tells old mid last later same still }) r.handled in
+      let more = count-then tells old mid new last ending [] r.lines a a b (record { put = []; got = Got-nothing a; replied = Replied-idle tells old mid last later same held still }) r.handled in
       let p = r.prompt in
       record { before = p.before; last = p.last; parts = p.parts; piece = p.piece; served = omega (arith, p.served, more) };
 }
@@ -63,15 +60,15 @@ Ran-other tells old new ending left left_now a b other r = let p = r.handled.rep
   handled = record {
     put = r.handled.put;
     got = r.handled.got;
-    replied = record { replies = p.replies; part = p.part; put_is = p.put_is; behind = IsBehind-other ending p.part other p.behind; many = p.many; damage = p.damage; later = p.later; full = p.full; answered = p.answered };
+    replied = record { replies = p.replies; part = p.part; put_is = p.put_is; behind = IsBehind-other ending p.part other p.behind; many = p.many; damage = p.damage; later = p.later; full = p.full; enough = p.enough; answered = p.answered };
   };
   prompt = r.prompt;
 }
 
 -- after a stop of the device what stands behind the replies says nothing of the device
-Answered-part : (old new : World) (stop : DeviceStop) (entry : State) (lines : List (List ℕ)) (replies : List Reply) (part other : List ℕ)
-    → Answered old new (Err (stops.Device stop)) entry lines replies part → Answered old new (Err (stops.Device stop)) entry lines replies other
-Answered-part old new stop entry lines replies part other f =
+Answered-part : (old new : World) (stop : DeviceStop) (entry : State) (updates : ℕ) (lines : List (List ℕ)) (replies : List Reply) (part other : List ℕ)
+    → Answered old new (Err (stops.Device stop)) entry updates lines replies part → Answered old new (Err (stops.Device stop)) entry updates lines replies other
+Answered-part old new stop entry updates lines replies part other f =
     record { now = f.now; pages = f.pages; answers = f.answers; seen = f.seen; ends = f.ends; near = f.near; ahead = f.ahead; is_ahead = f.is_ahead; marks = f.marks; are = f.are; made = f.made }
 
 -- a stop of the device, and then its last line
@@ -95,7 +92,8 @@ Ran-last tells old new stop left left_now a b c r got = let p = r.handled.replie
       damage = p.damage;
       later = p.later;
       full = p.full;
-      answered = λ told entry rep. Answered-part old new stop entry r.lines p.replies p.part (damage_line stop) (p.answered told entry rep);
+      enough = p.enough;
+      answered = λ told entry updates rep enough. Answered-part old new stop entry updates r.lines p.replies p.part (damage_line stop) (p.answered told entry updates rep enough);
     };
   };
   prompt = r.prompt;
@@ -123,7 +121,8 @@ Ran-cut tells old new stop left left_now a b c r (n, got) damaged = let p = r.ha
       damage = tt;
       later = p.later;
       full = p.full;
-      answered = λ told entry rep. absurd (damaged (p.answered told entry rep).ends);
+      enough = p.enough;
+      answered = λ told entry updates rep enough. absurd (damaged (p.answered told entry updates rep enough).ends);
     };
   };
   prompt = r.prompt;
@@ -152,14 +151,15 @@ Ran-refused tells old new stop left written which later same still sound = recor
       many = omega arith;
       damage = no_damage stop which;
       later = later;
-      full = All-nil (λ (r : Reply). r ≡ Full → new.head ≡ new.capacity);
-      answered = λ told entry rep. record {
+      full = λ updates enough. tt;
+      enough = λ updates enough. tt;
+      answered = λ told entry updates rep enough. record {
         now = entry;
         pages = old.head;
         answers = (refl, refl);
         seen = (refl, refl);
         ends = sound told entry rep;
-        near = none_added stop which;
+        near = inl same;
         ahead = [];
         is_ahead = none_ahead stop which;
         marks = [];
@@ -179,14 +179,6 @@ Ran-refused tells old new stop left written which later same still sound = recor
     no_damage device.Memory w = tt
     no_damage (device.BadRecord addr) (inl e) = cc
     no_damage (device.BadRecord addr) (inr e) = cc
-
-    none_added : (s : DeviceStop) → (s ≡ device.BadRoot) ⊎ (s ≡ device.Platform) → HasAdded s old.head new.head
-    none_added device.BadRoot w = same
-    none_added device.Platform w = (later.rises, omega (arith, same))
-    none_added device.Tape w = same
-    none_added device.Ledger w = (later.rises, omega (arith, same))
-    none_added device.Memory w = same
-    none_added (device.BadRecord addr) w = same
 
     none_ahead : (s : DeviceStop) → (s ≡ device.BadRoot) ⊎ (s ≡ device.Platform) → IsAhead (Err (stops.Device s)) []
     none_ahead device.BadRoot w = refl

@@ -1,9 +1,8 @@
 -- How runs compose.
-use Rattle.std.proofs.Common.{◌≡◌, ℕ, ◌≤◌, ◌+◌, List, [], ◌∷◌, ◌++◌, Option, None, Ok, Err, length, take, inl, inr, refl, sym, ◌∙◌, subst, ap, arith, append_assoc, length-append}
-use Rattle.std.specs.Prelude.{All}
+use Rattle.std.proofs.Common.{◌≡◌, ℕ, ◌<◌, ◌≤◌, ◌+◌, ◌-◌, ◌*◌, true, false, List, [], ◌∷◌, ◌++◌, Option, None, Some, Ok, Err, length, take, inl, inr, refl, sym, ◌∙◌, subst, ap, arith, append_assoc, length-append}
+use Rattle.std.specs.Prelude.{IfSome, OnOk}
 use Rattle.std.proofs.lemmas.Grind.{flat_map-append, common_steps}
 use Rattle.std.proofs.lemmas.List.{append-nil}
-use Rattle.std.proofs.lemmas.List.Elements.{All-nil, All-cons, All-append, All-weaker}
 use Rattle.platform.specs.Image.{Image}
 use Rattle.platform.specs.History.{During, Turns, moment}
 use Rattle.platform.proofs.Moments.{LeavesOnly-now, During-now, During-start, Turns-not, Extends-refl}
@@ -12,28 +11,41 @@ use Rattle.sdbt_base.proofs.ToldLaws.{Got-nothing, Got-then}
 use Rattle.script_lang.specs.Grammar.{Spells, IsBad}
 use Rattle.script_lang.specs.Replies.{line_of}
 use Rattle.script_lang.specs.Commands.{Command}
-use Rattle.sdbt_base.specs.Arrays.{State, Device, closed}
+use Rattle.script_lang.specs.Commands.{Format, Write, Commit}
+use Rattle.sdbt_base.specs.Arrays.{State, Device, Session as OpenSession, closed}
 use Rattle.script_lang.specs.Answers.{Turn, answer, none_counted}
 use Rattle.script_lang.specs.Replies.{Reply}
 use Rattle.script_lang.specs.Replies.{Full, Bad}
 use Rattle.device_core.specs.Leaf.{IsServedImage}
+use Rattle.device_core.specs.Open.{IsOpen}
+use Rattle.device_core.specs.Sessions.{Session}
+use Rattle.device_core.proofs.NeedLaws.{needed_some, needed_none}
+use Rattle.device_course.specs.States.{IsSessionOf}
+use Rattle.device_cli.specs.Parts.{added_by}
+use Rattle.device_cli.proofs.TurnLaws.{parts, turning}
+use Rattle.script_lang.specs.Arrays.{needs_room}
 use Rattle.device_cli.specs.Run.{IsOfLine}
-use Rattle.device_cli.specs.World.{World, is_full, IsLater}
+use Rattle.device_cli.specs.World.{World, is_full, needed_of, AreEnough, IsLater}
 use Rattle.device_course.specs.Marks.{Leaves, last_mark}
 use Rattle.device_course.specs.Course.{Made}
 use Rattle.device_course.proofs.MadeLaws.{shut, made_none, made_one, made_stopped, made_then, made_closed}
 use Rattle.device_cli.specs.Represents.{Stood, StandsFor}
-use Rattle.device_cli.specs.Added.{HasAdded}
-use Rattle.device_cli.specs.Pages.{pages_after, TurnIf, AnswersOn}
-use Rattle.device_cli.specs.Replied.{no_line, Ending, AreMany, IsBehind, IfNext, IsDamageAt, IsAhead, AreMarks, EndsIn, Answered, Replied, Handled, AsksForBlock, IsSound, IsOfBlock, IsWrongPage, Halts, Serves, HasPut}
+use Rattle.device_cli.specs.Added.{left_by, HasAdded, IsNear}
+use Rattle.device_cli.specs.Pages.{needed_for, updates_after, updates_of, TurnOn, AnswersOn, IsShort, AreShort, IfNext}
+use Rattle.device_cli.specs.Replied.{no_line, Ending, AreMany, IsBehind, IsDamageAt, IsAhead, AreMarks, EndsIn, Answered, Replied, Handled, AsksForBlock, IsSound, IsOfBlock, IsWrongPage, Halts, Serves, HasPut}
 use Rattle.device_cli.specs.Seen.{Saw, SeenOn}
 use Rattle.device_cli.proofs.SeenLaws.{saw_plain, SeenOn-append, SeenOn-longer}
 use Rattle.device_cli.specs.declared.stop.Stop.{Stop}
 use Rattle.device_cli.specs.declared.stop.Stop.TheVariants as stops
 use Rattle.device_cli.specs.declared.stop.DeviceStop.{DeviceStop}
 use Rattle.device_cli.specs.declared.stop.DeviceStop.TheVariants as device
-use Rattle.device_cli.proofs.PageLaws.{turn_of, one_page, answers_of, AnswersOn-append, AnswersOn-longer}
+use Rattle.device_cli.proofs.PageLaws.{turn_of, near_turn, answers_of, AnswersOn-append, AnswersOn-longer, updates_of-append, AreShort-later, AreShort-append, AreShort-longer}
 use Rattle.device_cli.proofs.PassLaws.{AreMarks-none, AreMarks-one, AreMarks-then, AreMarks-longer}
+
+-- no command needs more where a commit doesn't
+needed_more : (command : Command) (changes more : ℕ) → changes ≤ more → needed_for command changes ≤ needed_for command more
+needed_more Commit changes more less = less
+needed_more _ changes more less = omega arith
 
 -- from one world to itself, and on from one to the next
 pub IsLater-refl : (w : World) → w.head ≤ w.capacity → IsLater w w
@@ -42,10 +54,6 @@ IsLater-refl w room = record { capacity = refl; rises = omega arith; within = ro
 pub IsLater-then : (a b c : World) → IsLater a b → IsLater b c → IsLater a c
 IsLater-then a b c p q = record { capacity = q.capacity ∙ p.capacity; rises = omega (arith, p.rises, q.rises); within = q.within }
 
--- what was full stays so
-full_later : (old new : World) → IsLater old new → old.head ≡ old.capacity → new.head ≡ new.capacity
-full_later old new later full = omega (arith, later.capacity, later.rises, later.within, full)
-
 -- no device was made
 pub made_idle : (old new : World) (entry : State) → Stood old entry → Stood new entry × During old.history new.history (Leaves entry.device)
     → Made old.history new.history None entry [] (closed entry.device)
@@ -53,10 +61,10 @@ made_idle old new entry rep (there, during) =
     made_none old.history new.history None entry (closed entry.device) rep.there.device during refl (shut new.history.present entry.device there.there.device there.served)
 
 -- no lines, and nothing put, while the platform stood still
-pub Replied-idle : (tells : Type 0) (old new : World) (last : DeviceStop → List ℕ) → IsLater old new → new.head ≡ old.head
+pub Replied-idle : (tells : Type 0) (old new : World) (last : DeviceStop → List ℕ) → IsLater old new → new.head ≡ old.head → new.session ≡ old.session
     → (tells → (entry : State) → Stood old entry → Stood new entry × During old.history new.history (Leaves entry.device))
     → Replied tells old new last (Ok tt) [] []
-Replied-idle tells old new last later same still = record {
+Replied-idle tells old new last later same held still = record {
   replies = [];
   part = [];
   put_is = refl;
@@ -64,14 +72,15 @@ Replied-idle tells old new last later same still = record {
   many = refl;
   damage = tt;
   later = later;
-  full = All-nil (λ (r : Reply). r ≡ Full → new.head ≡ new.capacity);
-  answered = λ told entry rep. let both = still told entry rep in record {
+  full = λ updates enough. tt;
+  enough = λ updates enough. subst (λ (session : Option Session). AreEnough session updates) (sym held) enough;
+  answered = λ told entry updates rep enough. let both = still told entry rep in record {
     now = entry;
     pages = new.head;
     answers = (refl, same);
     seen = (refl, same);
     ends = (both.0, refl);
-    near = (omega arith, omega arith);
+    near = refl;
     ahead = [];
     is_ahead = refl;
     marks = [];
@@ -86,12 +95,12 @@ still_there w entry rep = (rep, During-start w.history (Leaves entry.device) (st
 
 -- no lines, and nothing put
 pub Replied-nothing : (tells : Type 0) (w : World) (last : DeviceStop → List ℕ) → w.head ≤ w.capacity → Replied tells w w last (Ok tt) [] []
-Replied-nothing tells w last fits = Replied-idle tells w w last (IsLater-refl w fits) refl (λ told entry rep. still_there w entry rep)
+Replied-nothing tells w last fits = Replied-idle tells w w last (IsLater-refl w fits) refl refl (λ told entry rep. still_there w entry rep)
 
 -- what the serving of a line did from a state: a reply that belongs to it, and the state after it
-abbrev pub Turned : World → World → State → List ℕ → Reply → Type 0
-Turned old new entry line reply =
-    (now : State) × TurnIf (is_full old) entry old.head line reply now new.head × Stood new now × Turns old.history new.history (Leaves entry.device) (Leaves now.device)
+abbrev pub Turned : World → World → State → ℕ → List ℕ → Reply → Type 0
+Turned old new entry updates line reply =
+    (now : State) × TurnOn old.capacity entry old.head updates line reply now new.head × Stood new now × Turns old.history new.history (Leaves entry.device) (Leaves now.device)
     × Saw new.history (moment old.history) entry.device old.head reply
 
 -- the device after it was made
@@ -101,11 +110,24 @@ made_turned old new entry now rep there turns =
     made_closed old.history new.history new.session entry now (now.device ∷ [])
     (made_one old.history new.history new.session entry now now.device rep.there.device turns there)
 
+-- where so many updates are enough before a line, that many with those of its reply are after it
+abbrev pub StaysEnough : World → World → Reply → Type 0
+StaysEnough old new reply = (updates : ℕ) → AreEnough old.session updates → AreEnough new.session (updates_after reply updates)
+
+-- a reply that too few pages are free is true
+abbrev pub TellsShort : World → World → List ℕ → Reply → Type 0
+TellsShort old new line reply =
+    (updates : ℕ) → AreEnough old.session updates → reply ≡ Full → (command : Command) × Spells line command × IsShort command updates new.head new.capacity
+
+-- what a line gives from each state, after so many updates as are enough
+abbrev pub TurnsEach : Type 0 → World → World → List ℕ → Reply → Type 0
+TurnsEach tells old new line reply = tells → (entry : State) (updates : ℕ) → Stood old entry → AreEnough old.session updates → Turned old new entry updates line reply
+
 -- a line with its reply
 pub Replied-line : (tells : Type 0) (old new : World) (last : DeviceStop → List ℕ) (line : List ℕ) (reply : Reply)
-    → IsLater old new → (reply ≡ Full → new.head ≡ new.capacity)
-    → (tells → (entry : State) → Stood old entry → Turned old new entry line reply) → Replied tells old new last (Ok tt) (line ∷ []) (line_of reply)
-Replied-line tells old new last line reply later full turned = record {
+    → IsLater old new → TellsShort old new line reply → StaysEnough old new reply
+    → TurnsEach tells old new line reply → Replied tells old new last (Ok tt) (line ∷ []) (line_of reply)
+Replied-line tells old new last line reply later full enough turned = record {
   replies = reply ∷ [];
   part = [];
   put_is = grind (arith, common_steps);
@@ -113,17 +135,18 @@ Replied-line tells old new last line reply later full turned = record {
   many = refl;
   damage = tt;
   later = later;
-  full = All-cons (λ (r : Reply). r ≡ Full → new.head ≡ new.capacity) reply [] full (All-nil (λ (r : Reply). r ≡ Full → new.head ≡ new.capacity));
-  answered = λ told entry rep.
-      let t = turned told entry rep in
-      let turn = turn_of (is_full old) entry old.head line reply t.0 new.head t.1 in
+  full = λ updates paid. (full updates paid, tt);
+  enough = enough;
+  answered = λ told entry updates rep paid.
+      let t = turned told entry updates rep paid in
+      let turn = turn_of old.capacity entry old.head updates line reply t.0 new.head t.1 in
       record {
         now = t.0;
         pages = new.head;
         answers = (t.0, new.head, t.1, (refl, refl));
         seen = (t.4, t.0, new.head, t.1, (refl, refl));
         ends = (t.2, refl);
-        near = (omega arith, omega arith);
+        near = refl;
         ahead = [];
         is_ahead = refl;
         marks = t.0.device ∷ [];
@@ -134,7 +157,7 @@ Replied-line tells old new last line reply later full turned = record {
 
 -- a line whose reply was put in part
 pub Replied-part : (tells : Type 0) (old new : World) (last : DeviceStop → List ℕ) (line : List ℕ) (reply : Reply) (n : ℕ)
-    → IsLater old new → (tells → (entry : State) → Stood old entry → Turned old new entry line reply)
+    → IsLater old new → TurnsEach tells old new line reply
     → Replied tells old new last (Err stops.Sink) (line ∷ []) (take n (line_of reply))
 Replied-part tells old new last line reply n later turned = record {
   replies = [];
@@ -144,17 +167,18 @@ Replied-part tells old new last line reply n later turned = record {
   many = omega arith;
   damage = tt;
   later = later;
-  full = All-nil (λ (r : Reply). r ≡ Full → new.head ≡ new.capacity);
-  answered = λ told entry rep.
-      let t = turned told entry rep in
-      let turn = turn_of (is_full old) entry old.head line reply t.0 new.head t.1 in
+  full = λ updates enough. tt;
+  enough = λ updates enough. tt;
+  answered = λ told entry updates rep enough.
+      let t = turned told entry updates rep enough in
+      let turn = turn_of old.capacity entry old.head updates line reply t.0 new.head t.1 in
       record {
         now = entry;
         pages = old.head;
         answers = (refl, refl);
         seen = (refl, refl);
         ends = (reply, t.0, (t.0, new.head, t.1, (refl, refl)), (n, refl), t.2.there.device);
-        near = (later.rises, one_page (is_full old) entry old.head line reply t.0 new.head t.1);
+        near = near_turn old.capacity entry old.head updates line reply t.0 new.head t.1;
         ahead = reply ∷ [];
         is_ahead = omega arith;
         marks = t.0.device ∷ [];
@@ -194,16 +218,26 @@ halted_turned old new entry now line reply turn rep served turns = elim (made_st
 halted : (old new : World) (entry : State) (line : List ℕ) (command : Command) (stop : DeviceStop) → Spells line command → Stood old entry → IsServedImage new.history.present
     → Halts old new entry command stop → Halted old new entry line stop
 halted old new entry line command device.Platform spells rep served h =
-    let next = answer (is_full old) none_counted entry command in
-    halted_turned old new entry next.1 line next.0 (inl (command, spells, is_full old, (none_counted, refl))) rep served h
+    let next = answer (is_full old command) none_counted entry command in
+    halted_turned old new entry next.1 line next.0 (inl (command, spells, is_full old command, (none_counted, refl))) rep served h
 halted old new entry line command device.Tape spells rep served h = halted_still old new entry line device.Tape tt refl rep served h
 halted old new entry line command device.Ledger spells rep served h = halted_still old new entry line device.Ledger tt refl rep served h
 halted old new entry line command device.Memory spells rep served h = halted_still old new entry line device.Memory tt refl rep served h
 halted old new entry line command device.BadRoot spells rep served h = absurd h
 halted old new entry line command (device.BadRecord addr) spells rep served h = absurd h
 
+-- a stop leaves no more where a commit needs no more
+left_more : (stop : DeviceStop) (command : Command) (changes more : ℕ) → changes ≤ more → left_by stop command changes ≤ left_by stop command more
+left_more device.Platform command changes more less = needed_more command changes more less
+left_more device.Ledger command changes more less = needed_more command changes more less
+left_more device.Tape Commit changes more less = less
+left_more device.Tape _ changes more less = omega arith
+left_more device.Memory command changes more less = omega arith
+left_more device.BadRoot command changes more less = omega arith
+left_more (device.BadRecord addr) command changes more less = omega arith
+
 -- a line that the device stopped at
-pub Replied-stop : (tells : Type 0) (old new : World) (line : List ℕ) (command : Command) (stop : DeviceStop) → Spells line command → IsLater old new → HasAdded stop old.head new.head
+pub Replied-stop : (tells : Type 0) (old new : World) (line : List ℕ) (command : Command) (stop : DeviceStop) → Spells line command → IsLater old new → new.head ≤ old.head + left_by stop command (needed_of old.session)
     → IsDamageAt tells new.history.present [] (line ∷ []) (Err (stops.Device stop))
     → (tells → IsServedImage new.history.present) → (tells → (entry : State) → Stood old entry → Halts old new entry command stop)
     → Replied tells old new no_line (Err (stops.Device stop)) (line ∷ []) []
@@ -215,8 +249,9 @@ Replied-stop tells old new line command stop spells later added damage served ha
   many = omega arith;
   damage = damage;
   later = later;
-  full = All-nil (λ (r : Reply). r ≡ Full → new.head ≡ new.capacity);
-  answered = λ told entry rep.
+  full = λ updates enough. tt;
+  enough = λ updates enough. tt;
+  answered = λ told entry updates rep enough.
       let h = halted old new entry line command stop spells rep (served told) (halts told entry rep) in
       record {
         now = entry;
@@ -224,7 +259,7 @@ Replied-stop tells old new line command stop spells later added damage served ha
         answers = (refl, refl);
         seen = (refl, refl);
         ends = h.sound;
-        near = added;
+        near = inr (later.rises, (command, spells, omega (arith, added, left_more stop command (needed_of old.session) (41 * updates) enough)));
         ahead = h.ahead;
         is_ahead = h.is_ahead;
         marks = h.marks;
@@ -247,6 +282,30 @@ IfNext-longer P [] more (reply ∷ replies) h = absurd h
 IfNext-longer P (line ∷ lines) more [] h = h
 IfNext-longer P (line ∷ lines) more (reply ∷ replies) h = IfNext-longer P lines more replies h
 
+HasAdded-behind : (most : Command → ℕ) (lines more : List (List ℕ)) (replies others : List Reply) (pages now : ℕ) → length replies ≡ length lines
+    → HasAdded most more others pages now → HasAdded most (lines ++ more) (replies ++ others) pages now
+HasAdded-behind most lines more replies others pages now same (inl e) = inl e
+HasAdded-behind most lines more replies others pages now same (inr (rises, next)) = inr (rises, IfNext-behind _ lines more replies others same next)
+
+IsNear-then : (ending : Ending) (updates : ℕ) (lines more : List (List ℕ)) (replies others : List Reply) (pages now : ℕ) → length replies ≡ length lines
+    → IsNear ending updates more others pages now → IsNear ending updates (lines ++ more) (replies ++ others) pages now
+IsNear-then (Ok done) updates lines more replies others pages now same h = h
+IsNear-then (Err stops.Source) updates lines more replies others pages now same h = h
+IsNear-then (Err stops.Limit) updates lines more replies others pages now same h = h
+IsNear-then (Err stops.Sink) updates lines more replies others pages now same h = HasAdded-behind _ lines more replies others pages now same h
+IsNear-then (Err (stops.Device stop)) updates lines more replies others pages now same h = HasAdded-behind _ lines more replies others pages now same h
+
+HasAdded-longer : (most : Command → ℕ) (lines more : List (List ℕ)) (replies : List Reply) (pages now : ℕ) → HasAdded most lines replies pages now → HasAdded most (lines ++ more) replies pages now
+HasAdded-longer most lines more replies pages now (inl e) = inl e
+HasAdded-longer most lines more replies pages now (inr (rises, next)) = inr (rises, IfNext-longer _ lines more replies next)
+
+IsNear-longer : (stop : Stop) (updates : ℕ) (lines more : List (List ℕ)) (replies : List Reply) (pages now : ℕ)
+    → IsNear (Err stop) updates lines replies pages now → IsNear (Err stop) updates (lines ++ more) replies pages now
+IsNear-longer stops.Source updates lines more replies pages now h = h
+IsNear-longer stops.Limit updates lines more replies pages now h = h
+IsNear-longer stops.Sink updates lines more replies pages now h = HasAdded-longer _ lines more replies pages now h
+IsNear-longer (stops.Device stop) updates lines more replies pages now h = HasAdded-longer _ lines more replies pages now h
+
 AreMany-then : (ending : Ending) (a b c d : ℕ) → a ≡ b → AreMany c d ending → AreMany (a + c) (b + d) ending
 AreMany-then (Ok done) a b c d e h = omega (arith, e, h)
 AreMany-then (Err stops.Source) a b c d e h = omega (arith, e, h)
@@ -268,32 +327,32 @@ IsDamageAt-then tells image (Err (stops.Device device.BadRoot)) lines more repli
 IsDamageAt-then tells image (Err (stops.Device (device.BadRecord addr))) lines more replies others same h =
     (IfNext-behind AsksForBlock lines more replies others same h.0, h.1)
 
-SeenOn-moved : (old middle new : World) (from : ℕ) (mid now : State) (pages pages_now : ℕ) (lines : List (List ℕ)) (replies : List Reply) → middle.capacity ≡ old.capacity → middle.head ≡ pages
-    → SeenOn middle.capacity new.history from mid middle.head lines replies now pages_now → SeenOn old.capacity new.history from mid pages lines replies now pages_now
-SeenOn-moved old middle new from mid now pages pages_now lines replies capacity head h =
-    subst (λ (c : ℕ). SeenOn c new.history from mid pages lines replies now pages_now) capacity
-    (subst (λ (n : ℕ). SeenOn middle.capacity new.history from mid n lines replies now pages_now) head h)
+SeenOn-moved : (old middle new : World) (from : ℕ) (mid now : State) (pages updates pages_now : ℕ) (lines : List (List ℕ)) (replies : List Reply) → middle.capacity ≡ old.capacity → middle.head ≡ pages
+    → SeenOn middle.capacity new.history from mid middle.head updates lines replies now pages_now → SeenOn old.capacity new.history from mid pages updates lines replies now pages_now
+SeenOn-moved old middle new from mid now pages updates pages_now lines replies capacity head h =
+    subst (λ (c : ℕ). SeenOn c new.history from mid pages updates lines replies now pages_now) capacity
+    (subst (λ (n : ℕ). SeenOn middle.capacity new.history from mid n updates lines replies now pages_now) head h)
 
 -- what the second run answers, counted from the first one's start
-AnswersOn-moved : (old middle : World) (mid new : State) (pages pages_now : ℕ) (lines : List (List ℕ)) (replies : List Reply) → middle.capacity ≡ old.capacity → middle.head ≡ pages
-    → AnswersOn middle.capacity mid middle.head lines replies new pages_now → AnswersOn old.capacity mid pages lines replies new pages_now
-AnswersOn-moved old middle mid new pages pages_now lines replies capacity head h =
-    subst (λ (c : ℕ). AnswersOn c mid pages lines replies new pages_now) capacity
-    (subst (λ (n : ℕ). AnswersOn middle.capacity mid n lines replies new pages_now) head h)
+AnswersOn-moved : (old middle : World) (mid new : State) (pages updates pages_now : ℕ) (lines : List (List ℕ)) (replies : List Reply) → middle.capacity ≡ old.capacity → middle.head ≡ pages
+    → AnswersOn middle.capacity mid middle.head updates lines replies new pages_now → AnswersOn old.capacity mid pages updates lines replies new pages_now
+AnswersOn-moved old middle mid new pages updates pages_now lines replies capacity head h =
+    subst (λ (c : ℕ). AnswersOn c mid pages updates lines replies new pages_now) capacity
+    (subst (λ (n : ℕ). AnswersOn middle.capacity mid n updates lines replies new pages_now) head h)
 
-EndsIn-then : (old middle new : World) (ending : Ending) (entry mid now : State) (lines more : List (List ℕ)) (replies others : List Reply) (part : List ℕ) (between pages : ℕ)
-    → middle.capacity ≡ old.capacity → middle.head ≡ between → length replies ≡ length lines → AnswersOn old.capacity entry old.head lines replies mid between
-    → EndsIn middle new mid more others part now pages ending → EndsIn old new entry (lines ++ more) (replies ++ others) part now pages ending
-EndsIn-then old middle new (Ok done) entry mid now lines more replies others part between pages capacity head same h k = k
-EndsIn-then old middle new (Err stops.Source) entry mid now lines more replies others part between pages capacity head same h k = k
-EndsIn-then old middle new (Err stops.Limit) entry mid now lines more replies others part between pages capacity head same h k = k
-EndsIn-then old middle new (Err (stops.Device stop)) entry mid now lines more replies others part between pages capacity head same h k = k
-EndsIn-then old middle new (Err stops.Sink) entry mid now lines more replies others part between pages capacity head same h (reply, next, answers, cut, stands) = (
+EndsIn-then : (old middle new : World) (ending : Ending) (entry mid now : State) (updates : ℕ) (lines more : List (List ℕ)) (replies others : List Reply) (part : List ℕ) (between pages : ℕ)
+    → middle.capacity ≡ old.capacity → middle.head ≡ between → length replies ≡ length lines → AnswersOn old.capacity entry old.head updates lines replies mid between
+    → EndsIn middle new mid (updates_of updates replies) more others part now pages ending → EndsIn old new entry updates (lines ++ more) (replies ++ others) part now pages ending
+EndsIn-then old middle new (Ok done) entry mid now updates lines more replies others part between pages capacity head same h k = k
+EndsIn-then old middle new (Err stops.Source) entry mid now updates lines more replies others part between pages capacity head same h k = k
+EndsIn-then old middle new (Err stops.Limit) entry mid now updates lines more replies others part between pages capacity head same h k = k
+EndsIn-then old middle new (Err (stops.Device stop)) entry mid now updates lines more replies others part between pages capacity head same h k = k
+EndsIn-then old middle new (Err stops.Sink) entry mid now updates lines more replies others part between pages capacity head same h (reply, next, answers, cut, stands) = (
   reply,
   next,
-  subst (λ (all : List Reply). AnswersOn old.capacity entry old.head (lines ++ more) all next new.head) (sym (append_assoc replies others (reply ∷ [])))
-      (AnswersOn-append old.capacity entry old.head mid between next new.head lines more replies (others ++ reply ∷ []) same h
-      (AnswersOn-moved old middle mid next between new.head more (others ++ reply ∷ []) capacity head answers)),
+  subst (λ (all : List Reply). AnswersOn old.capacity entry old.head updates (lines ++ more) all next new.head) (sym (append_assoc replies others (reply ∷ [])))
+      (AnswersOn-append old.capacity entry old.head updates mid between next new.head lines more replies (others ++ reply ∷ []) same h
+      (AnswersOn-moved old middle mid next between (updates_of updates replies) new.head more (others ++ reply ∷ []) capacity head answers)),
   cut,
   stands,
 )
@@ -315,21 +374,22 @@ Made-then first second third entry mid one two stood a b =
     (last, subst (λ (d : Option Device). Made first.history third.history None entry (one ++ two) (closed d)) all.last all)
 
 -- what the first of two runs answered, and then the second from where it ended
-Answered-then : (old mid new : World) (ending : Ending) (entry : State) (lines more : List (List ℕ)) (replies others : List Reply) (none part : List ℕ)
-    → IsLater old mid → length replies ≡ length lines → (p : Answered old mid (Ok tt) entry lines replies none) → Answered mid new ending p.now more others part
-    → Answered old new ending entry (lines ++ more) (replies ++ others) part
-Answered-then old mid new ending entry lines more replies others none part later same p q =
-    let answers = answers_of old.capacity entry old.head lines replies p.now p.pages p.answers in
+Answered-then : (old mid new : World) (ending : Ending) (entry : State) (updates : ℕ) (lines more : List (List ℕ)) (replies others : List Reply) (none part : List ℕ)
+    → IsLater old mid → length replies ≡ length lines → (p : Answered old mid (Ok tt) entry updates lines replies none) → Answered mid new ending p.now (updates_of updates replies) more others part
+    → Answered old new ending entry updates (lines ++ more) (replies ++ others) part
+Answered-then old mid new ending entry updates lines more replies others none part later same p q =
+    let answers = answers_of old.capacity entry old.head updates lines replies p.now p.pages p.answers in
     let made = Made-then old mid new entry p.now p.marks q.marks p.ends.0 p.made q.made in
-    let more_answers = AnswersOn-moved old mid p.now q.now p.pages q.pages more others later.capacity p.ends.1 q.answers in
+    let more_answers = AnswersOn-moved old mid p.now q.now p.pages (updates_of updates replies) q.pages more others later.capacity p.ends.1 q.answers in
     record {
       now = q.now;
       pages = q.pages;
-      answers = AnswersOn-append old.capacity entry old.head p.now p.pages q.now q.pages lines more replies others same p.answers more_answers;
-      seen = SeenOn-append old.capacity mid.history new.history (moment old.history) entry old.head p.now p.pages q.now q.pages lines more replies others q.made.passes.extends
-          p.made.passes.extends.later same p.seen (SeenOn-moved old mid new (moment mid.history) p.now q.now p.pages q.pages more others later.capacity p.ends.1 q.seen);
-      near = q.near;
-      ends = EndsIn-then old mid new ending entry p.now q.now lines more replies others part p.pages q.pages later.capacity p.ends.1 same p.answers q.ends;
+      answers = AnswersOn-append old.capacity entry old.head updates p.now p.pages q.now q.pages lines more replies others same p.answers more_answers;
+      seen = SeenOn-append old.capacity mid.history new.history (moment old.history) entry old.head updates p.now p.pages q.now q.pages lines more replies others q.made.passes.extends
+          p.made.passes.extends.later same p.seen (SeenOn-moved old mid new (moment mid.history) p.now q.now p.pages (updates_of updates replies) q.pages more others later.capacity p.ends.1 q.seen);
+      near = subst (λ (n : ℕ). IsNear ending n (lines ++ more) (replies ++ others) q.pages new.head) (sym (updates_of-append updates replies others))
+          (IsNear-then ending (updates_of (updates_of updates replies) others) lines more replies others q.pages new.head same q.near);
+      ends = EndsIn-then old mid new ending entry p.now q.now updates lines more replies others part p.pages q.pages later.capacity p.ends.1 same p.answers q.ends;
       ahead = q.ahead;
       is_ahead = q.is_ahead;
       marks = p.marks ++ q.marks;
@@ -338,12 +398,15 @@ Answered-then old mid new ending entry lines more replies others none part later
       made = made.1;
     }
 
+enough_then : (ending : Ending) (session : Option Session) (updates : ℕ) (replies others : List Reply) → OnOk ending (AreEnough session (updates_of (updates_of updates replies) others))
+    → OnOk ending (AreEnough session (updates_of updates (replies ++ others)))
+enough_then (Ok done) session updates replies others h = subst (λ (n : ℕ). AreEnough session n) (sym (updates_of-append updates replies others)) h
+enough_then (Err stop) session updates replies others h = tt
+
 -- one run after another, which answered all its lines
 pub Replied-then : (tells : Type 0) (old mid new : World) (last : DeviceStop → List ℕ) (ending : Ending) (lines more : List (List ℕ)) (put others : List ℕ)
     → Replied tells old mid last (Ok tt) lines put → Replied tells mid new last ending more others → Replied tells old new last ending (lines ++ more) (put ++ others)
 Replied-then tells old mid new last ending lines more put others p q =
-    let IsFullOne : Reply → Type 0 = λ r. r ≡ Full → new.head ≡ new.capacity in
-    let earlier : All IsFullOne p.replies = All-weaker (λ (r : Reply). r ≡ Full → mid.head ≡ mid.capacity) IsFullOne (λ r full e. full_later mid new q.later (full e)) p.replies p.full in
     record {
       replies = p.replies ++ q.replies;
       part = q.part;
@@ -352,10 +415,13 @@ Replied-then tells old mid new last ending lines more put others p q =
       many = rw (length-append p.replies q.replies, length-append lines more) (AreMany-then ending _ _ _ _ p.many q.many);
       damage = IsDamageAt-then tells new.history.present ending lines more p.replies q.replies p.many q.damage;
       later = IsLater-then old mid new p.later q.later;
-      full = All-append IsFullOne p.replies q.replies earlier q.full;
-      answered = λ told entry rep.
-          let first = p.answered told entry rep in
-          Answered-then old mid new ending entry lines more p.replies q.replies p.part q.part p.later p.many first (q.answered told first.now first.ends.0);
+      full = λ updates paid. AreShort-append new.head new.capacity updates lines more p.replies q.replies p.many
+          (AreShort-later mid new updates lines p.replies q.later (p.full updates paid)) (q.full (updates_of updates p.replies) (p.enough updates paid));
+      enough = λ updates paid. enough_then ending new.session updates p.replies q.replies (q.enough (updates_of updates p.replies) (p.enough updates paid));
+      answered = λ told entry updates rep paid.
+          let first = p.answered told entry updates rep paid in
+          Answered-then old mid new ending entry updates lines more p.replies q.replies p.part q.part p.later p.many first
+          (q.answered told first.now (updates_of updates p.replies) first.ends.0 (p.enough updates paid));
     }
 
 AreMany-longer : (stop : Stop) (a b c : ℕ) → b ≤ c → IsOfLine stop → AreMany a b (Err stop) → AreMany a c (Err stop)
@@ -376,13 +442,13 @@ IsDamageAt-longer tells image (stops.Device device.Memory) lines more replies h 
 IsDamageAt-longer tells image (stops.Device device.BadRoot) lines more replies h = tt
 IsDamageAt-longer tells image (stops.Device (device.BadRecord addr)) lines more replies h = (IfNext-longer AsksForBlock lines more replies h.0, h.1)
 
-EndsIn-longer : (old new : World) (stop : Stop) (entry now : State) (lines more : List (List ℕ)) (replies : List Reply) (part : List ℕ) (pages : ℕ)
-    → EndsIn old new entry lines replies part now pages (Err stop) → EndsIn old new entry (lines ++ more) replies part now pages (Err stop)
-EndsIn-longer old new stops.Source entry now lines more replies part pages k = k
-EndsIn-longer old new stops.Limit entry now lines more replies part pages k = k
-EndsIn-longer old new (stops.Device stop) entry now lines more replies part pages k = k
-EndsIn-longer old new stops.Sink entry now lines more replies part pages (reply, next, answers, cut, stands) =
-    (reply, next, AnswersOn-longer old.capacity entry old.head next new.head lines more (replies ++ reply ∷ []) answers, cut, stands)
+EndsIn-longer : (old new : World) (stop : Stop) (entry now : State) (updates : ℕ) (lines more : List (List ℕ)) (replies : List Reply) (part : List ℕ) (pages : ℕ)
+    → EndsIn old new entry updates lines replies part now pages (Err stop) → EndsIn old new entry updates (lines ++ more) replies part now pages (Err stop)
+EndsIn-longer old new stops.Source entry now updates lines more replies part pages k = k
+EndsIn-longer old new stops.Limit entry now updates lines more replies part pages k = k
+EndsIn-longer old new (stops.Device stop) entry now updates lines more replies part pages k = k
+EndsIn-longer old new stops.Sink entry now updates lines more replies part pages (reply, next, answers, cut, stands) =
+    (reply, next, AnswersOn-longer old.capacity entry old.head updates next new.head lines more (replies ++ reply ∷ []) answers, cut, stands)
 
 -- a run that stopped at a line may have had more of them
 pub Replied-longer : (tells : Type 0) (old new : World) (last : DeviceStop → List ℕ) (stop : Stop) (lines more : List (List ℕ)) (put : List ℕ)
@@ -395,14 +461,15 @@ Replied-longer tells old new last stop lines more put line p = record {
   many = AreMany-longer stop (length p.replies) (length lines) (length (lines ++ more)) (omega (arith, length-append lines more)) line p.many;
   damage = IsDamageAt-longer tells new.history.present stop lines more p.replies p.damage;
   later = p.later;
-  full = p.full;
-  answered = λ told entry rep. let first = p.answered told entry rep in record {
+  full = λ updates enough. AreShort-longer new.head new.capacity updates lines more p.replies (p.full updates enough);
+  enough = λ updates enough. tt;
+  answered = λ told entry updates rep enough. let first = p.answered told entry updates rep enough in record {
     now = first.now;
     pages = first.pages;
-    answers = AnswersOn-longer old.capacity entry old.head first.now first.pages lines more p.replies first.answers;
-    seen = SeenOn-longer old.capacity new.history (moment old.history) entry old.head first.now first.pages lines more p.replies first.seen;
-    near = first.near;
-    ends = EndsIn-longer old new stop entry first.now lines more p.replies p.part first.pages first.ends;
+    answers = AnswersOn-longer old.capacity entry old.head updates first.now first.pages lines more p.replies first.answers;
+    seen = SeenOn-longer old.capacity new.history (moment old.history) entry old.head updates first.now first.pages lines more p.replies first.seen;
+    near = IsNear-longer stop (updates_of updates p.replies) lines more p.replies first.pages new.head first.near;
+    ends = EndsIn-longer old new stop entry first.now updates lines more p.replies p.part first.pages first.ends;
     ahead = first.ahead;
     is_ahead = first.is_ahead;
     marks = first.marks;
@@ -431,7 +498,7 @@ Handled-longer tells old new last stop lines more a b line p =
 -- lines that have their replies, and then a stop
 stopped : (tells : Type 0) (old new : World) (last : DeviceStop → List ℕ) (stop : Stop) (lines : List (List ℕ)) (put : List ℕ) (p : Replied tells old new last (Ok tt) lines put)
     → IsBehind last p.part (Err stop) → AreMany (length p.replies) (length lines) (Err stop) → IsDamageAt tells new.history.present p.replies lines (Err stop)
-    → ((entry : State) → Answered old new (Ok tt) entry lines p.replies p.part → Answered old new (Err stop) entry lines p.replies p.part)
+    → ((entry : State) (updates : ℕ) → Answered old new (Ok tt) entry updates lines p.replies p.part → Answered old new (Err stop) entry updates lines p.replies p.part)
     → Replied tells old new last (Err stop) lines put
 stopped tells old new last stop lines put p behind many damage answered = record {
   replies = p.replies;
@@ -442,7 +509,8 @@ stopped tells old new last stop lines put p behind many damage answered = record
   damage = damage;
   later = p.later;
   full = p.full;
-  answered = λ told entry rep. answered entry (p.answered told entry rep);
+  enough = λ updates enough. tt;
+  answered = λ told entry updates rep enough. answered entry updates (p.answered told entry updates rep enough);
 }
 
 -- the input ended or failed before a next line: no line is left without its reply
@@ -450,9 +518,9 @@ Replied-cut : (tells : Type 0) (old new : World) (last : DeviceStop → List ℕ
     → Replied tells old new last (Ok tt) lines put → Replied tells old new last (Err stops.Source) lines put × Replied tells old new last (Err stops.Limit) lines put
 Replied-cut tells old new last lines put p = (
   stopped tells old new last stops.Source lines put p p.behind p.many tt
-      (λ entry f. record { now = f.now; pages = f.pages; answers = f.answers; seen = f.seen; ends = f.ends; near = f.near; ahead = f.ahead; is_ahead = f.is_ahead; marks = f.marks; are = f.are; made = f.made }),
+      (λ entry updates f. record { now = f.now; pages = f.pages; answers = f.answers; seen = f.seen; ends = f.ends; near = f.near; ahead = f.ahead; is_ahead = f.is_ahead; marks = f.marks; are = f.are; made = f.made }),
   stopped tells old new last stops.Limit lines put p p.behind p.many tt
-      (λ entry f. record { now = f.now; pages = f.pages; answers = f.answers; seen = f.seen; ends = f.ends; near = f.near; ahead = f.ahead; is_ahead = f.is_ahead; marks = f.marks; are = f.are; made = f.made }),
+      (λ entry updates f. record { now = f.now; pages = f.pages; answers = f.answers; seen = f.seen; ends = f.ends; near = f.near; ahead = f.ahead; is_ahead = f.is_ahead; marks = f.marks; are = f.are; made = f.made }),
 )
 
 pub Handled-cut : (tells : Type 0) (old new : World) (last : DeviceStop → List ℕ) (lines : List (List ℕ)) (a b : Option (List ℕ))
@@ -462,20 +530,20 @@ Handled-cut tells old new last lines a b p = let cut = Replied-cut tells old new
 
 -- a line whose reply was put, whole or in part
 pub Handled-line : (tells : Type 0) (old new : World) (last : DeviceStop → List ℕ) (line : List ℕ) (reply : Reply) (ending : Ending) (a b : Option (List ℕ))
-    → IsLater old new → (reply ≡ Full → new.head ≡ new.capacity)
-    → (tells → (entry : State) → Stood old entry → Turned old new entry line reply) → HasPut (line_of reply) ending a b
+    → IsLater old new → TellsShort old new line reply → StaysEnough old new reply
+    → TurnsEach tells old new line reply → HasPut (line_of reply) ending a b
     → Handled tells old new last ending (line ∷ []) a b
-Handled-line tells old new last line reply (Ok done) a b later full turned put =
-    record { put = line_of reply; got = put; replied = Replied-line tells old new last line reply later full turned }
-Handled-line tells old new last line reply (Err stops.Sink) a b later full turned (n, put) =
+Handled-line tells old new last line reply (Ok done) a b later full enough turned put =
+    record { put = line_of reply; got = put; replied = Replied-line tells old new last line reply later full enough turned }
+Handled-line tells old new last line reply (Err stops.Sink) a b later full enough turned (n, put) =
     record { put = take n (line_of reply); got = put; replied = Replied-part tells old new last line reply n later turned }
-Handled-line tells old new last line reply (Err stops.Source) a b later full turned put = absurd put
-Handled-line tells old new last line reply (Err stops.Limit) a b later full turned put = absurd put
-Handled-line tells old new last line reply (Err (stops.Device stop)) a b later full turned put = absurd put
+Handled-line tells old new last line reply (Err stops.Source) a b later full enough turned put = absurd put
+Handled-line tells old new last line reply (Err stops.Limit) a b later full enough turned put = absurd put
+Handled-line tells old new last line reply (Err (stops.Device stop)) a b later full enough turned put = absurd put
 
 -- a line outside the grammar
-pub turned_bad : (w : World) (entry : State) (line : List ℕ) → IsBad line → Stood w entry → Turned w w entry line Bad
-turned_bad w entry line bad rep = (
+pub turned_bad : (w : World) (entry : State) (updates : ℕ) (line : List ℕ) → IsBad line → Stood w entry → Turned w w entry updates line Bad
+turned_bad w entry updates line bad rep = (
   entry,
   inr (bad, refl, refl, refl),
   rep,
@@ -483,16 +551,41 @@ turned_bad w entry line bad rep = (
   saw_plain w.history w.history entry.device w.head Bad (Extends-refl w.history) (λ told nodes blocks e. cc),
 )
 
+-- a commit of a session needs a page exactly where the state's session was changed
+changes_of : (held : Option Session) (image : Image) (there : Option Device) (opened : Option OpenSession) (head : ℕ) → IfSome held (λ session. IsOpen session head) → IsSessionOf held image there opened
+    → (needs_room (parts there opened) Commit ≡ true → 1 ≤ needed_of held) × (needs_room (parts there opened) Commit ≡ false → needed_of held ≡ 0)
+changes_of None image None None head is h = (λ e. absurd cc, λ e. refl)
+changes_of None image (Some d) None head is h = (λ e. absurd cc, λ e. refl)
+changes_of None image there (Some t) head is h = absurd h
+changes_of (Some session) image there None head is h = absurd h
+changes_of (Some session) image None (Some t) head is h = absurd h
+changes_of (Some session) image (Some d) (Some t) head is h = (λ e. needed_some session (h.1 ∙ e), λ e. needed_none session (h.1 ∙ e))
+
 -- a command's line
-pub turned_command : (old new : World) (entry : State) (line : List ℕ) (command : Command) (reply : Reply) → Spells line command
-    → IsServedImage new.history.present → new.head ≡ pages_after entry command reply old.head → Saw new.history (moment old.history) entry.device old.head reply
-    → Serves old new entry command (Ok reply) → Turned old new entry line reply
-turned_command old new entry line command reply spells served pages saw (now, is, rep, turns) =
-    (now, inl (command, spells, is, pages), record { there = rep; served = served }, turns, saw)
+pub turned_command : (old new : World) (entry : State) (updates : ℕ) (line : List ℕ) (command : Command) (reply : Reply) → Spells line command
+    → IfSome old.session (λ session. IsOpen session old.head) → IsServedImage new.history.present → new.head ≡ old.head + added_by command reply (needed_of old.session)
+    → Saw new.history (moment old.history) entry.device old.head reply → Stood old entry → AreEnough old.session updates
+    → Serves old new entry command (Ok reply) → Turned old new entry updates line reply
+turned_command old new entry updates line command reply spells ready served pages saw rep enough (now, is, after, turns) =
+    let changes = changes_of old.session old.history.present entry.device entry.session old.head ready rep.there.session in
+    let turn = turning entry.device entry.session command (old.capacity - old.head) (needed_of old.session) updates old.head new.head reply now enough changes.0 changes.1 is pages in
+    (now, inl (command, spells, turn.0, turn.1, turn.2, turn.3), record { there = after; served = served }, turns, saw)
+
+-- a reply that too few pages are free is true for so many updates as are enough
+short_of : (command : Command) (changes updates head capacity : ℕ) → changes ≤ 41 * updates → head ≤ capacity → capacity - head < needed_for command changes → IsShort command updates head capacity
+short_of (Format blocks order) changes updates head capacity enough within few = omega (arith, within, few)
+short_of (Write block content) changes updates head capacity enough within few = omega (arith, within, few)
+short_of Commit changes updates head capacity enough within few = omega (arith, enough, few)
+short_of _ changes updates head capacity enough within few = absurd (omega (arith, few))
+
+pub tells_short : (old new : World) (line : List ℕ) (command : Command) (reply : Reply) → Spells line command → IsLater old new
+    → (reply ≡ Full → new.capacity - new.head < needed_for command (needed_of old.session)) → TellsShort old new line reply
+tells_short old new line command reply spells later full updates enough e =
+    (command, spells, short_of command (needed_of old.session) updates new.head new.capacity enough later.within (full e))
 
 -- a line that the device stopped at
 pub Handled-stop : (tells : Type 0) (old new : World) (line : List ℕ) (command : Command) (stop : DeviceStop) (written : Option (List ℕ)) → Spells line command
-    → IsLater old new → HasAdded stop old.head new.head → ((addr : ℕ) → stop ≡ device.BadRecord addr → IsOfBlock command × (tells → IsWrongPage new.history.present addr))
+    → IsLater old new → new.head ≤ old.head + left_by stop command (needed_of old.session) → ((addr : ℕ) → stop ≡ device.BadRecord addr → IsOfBlock command × (tells → IsWrongPage new.history.present addr))
     → (tells → IsServedImage new.history.present) → (tells → (entry : State) → Stood old entry → Halts old new entry command stop)
     → Handled tells old new no_line (Err (stops.Device stop)) (line ∷ []) written written
 Handled-stop tells old new line command stop written spells later added met served halts = record {
@@ -524,8 +617,9 @@ Handled-lines tells old new last ending lines others a b same p = let r = p.repl
     many = subst (λ (ls : List (List ℕ)). AreMany (length r.replies) (length ls) ending) same r.many;
     damage = subst (λ (ls : List (List ℕ)). IsDamageAt tells new.history.present r.replies ls ending) same r.damage;
     later = r.later;
-    full = r.full;
-    answered = λ told entry rep. subst (λ (ls : List (List ℕ)). Answered old new ending entry ls r.replies r.part) same (r.answered told entry rep);
+    full = λ updates enough. subst (λ (ls : List (List ℕ)). AreShort new.head new.capacity updates ls r.replies) same (r.full updates enough);
+    enough = r.enough;
+    answered = λ told entry updates rep enough. subst (λ (ls : List (List ℕ)). Answered old new ending entry updates ls r.replies r.part) same (r.answered told entry updates rep enough);
   };
 }
 

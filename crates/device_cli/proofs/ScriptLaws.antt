@@ -1,6 +1,5 @@
 -- From how a run ends to its exit status.
-use Rattle.std.proofs.Common.{◌≡◌, ◌≢◌, ℕ, ◌≤◌, List, [], ◌∷◌, ◌++◌, Option, None, Ok, Err, length, ◌⊎◌, inl, inr, refl, sym, subst, arith, length-append}
-use Rattle.std.proofs.lemmas.List.Elements.{All-nil}
+use Rattle.std.proofs.Common.{◌≡◌, ◌≢◌, ℕ, ◌+◌, ◌*◌, ◌≤◌, List, [], ◌∷◌, ◌++◌, Option, None, Ok, Err, length, ◌⊎◌, inl, inr, refl, sym, subst, arith, length-append}
 use Rattle.platform.specs.Image.{Image}
 use Rattle.sdbt_base.specs.Told.{Got, IsAtEnd}
 use Rattle.sdbt_base.proofs.ToldLaws.{Gave-nothing, Got-nothing}
@@ -8,7 +7,8 @@ use Rattle.text_lines.specs.Lines.{whole_lines_of, lines_of}
 use Rattle.script_lang.specs.Replies.{line_of}
 use Rattle.sdbt_base.specs.Arrays.{State, Device, closed}
 use Rattle.script_lang.specs.Replies.{Reply}
-use Rattle.script_lang.specs.Replies.{Full}
+use Rattle.script_lang.specs.Commands.{Command}
+use Rattle.script_lang.specs.Commands.{Commit}
 use Rattle.device_core.specs.Leaf.{IsServedImage}
 use Rattle.device_core.specs.Sessions.{Session}
 use Rattle.platform.specs.History.{History}
@@ -16,9 +16,11 @@ use Rattle.device_cli.specs.World.{World, world}
 use Rattle.device_course.specs.States.{IsSessionOf}
 use Rattle.device_cli.specs.Represents.{StandsFor, Represents}
 use Rattle.platform.specs.Runs.{Passes}
-use Rattle.device_cli.specs.Replied.{HasMark, Ending, IsBehind, AreMany, IsDamageAt, IfNext, AsksForBlock, IsWrongPage, IsFirstPart, IsAhead, EndsIn, Answered, damage_line}
-use Rattle.device_cli.specs.Added.{IsNear}
-use Rattle.device_cli.specs.Pages.{IsOneMore}
+use Rattle.device_cli.specs.Replied.{HasMark, Ending, IsBehind, AreMany, IsDamageAt, AsksForBlock, IsWrongPage, IsFirstPart, IsAhead, EndsIn, Answered, damage_line}
+use Rattle.device_cli.specs.Added.{left_by, HasAdded, IsNear}
+use Rattle.device_cli.specs.Pages.{needed_for, updates_of, accepted, AnswersOn, IfNext}
+use Rattle.device_cli.specs.World.{AreEnough}
+use Rattle.device_cli.proofs.TurnLaws.{answers_bound, needed_most}
 use Rattle.device_cli.specs.Ran.{Ran, AreLines, HaveCome, AnswersFrom, AnswersScript}
 use Rattle.device_cli.specs.declared.stop.Stop.TheVariants as stops
 use Rattle.device_cli.specs.declared.stop.DeviceStop.{DeviceStop}
@@ -138,46 +140,46 @@ not_ended n p q r (inl e) = p e
 not_ended n p q r (inr (inl e)) = q e
 not_ended n p q r (inr (inr e)) = r e
 
-ends : (old new : World) (ending : Ending) (entry now : State) (lines : List (List ℕ)) (replies : List Reply) (part : List ℕ) (pages : ℕ)
-    → EndsIn old new entry lines replies part now pages ending → (exit_of ending ≡ 0) ⊎ (exit_of ending ≡ 3) ⊎ (exit_of ending ≡ 12)
+ends : (old new : World) (ending : Ending) (entry now : State) (updates : ℕ) (lines : List (List ℕ)) (replies : List Reply) (part : List ℕ) (pages : ℕ)
+    → EndsIn old new entry updates lines replies part now pages ending → (exit_of ending ≡ 0) ⊎ (exit_of ending ≡ 3) ⊎ (exit_of ending ≡ 12)
     → StandsFor new.history.present now.device × (new.head ≡ pages)
-ends old new (Ok done) entry now lines replies part pages h e = (h.0.there.device, h.1)
-ends old new (Err stops.Source) entry now lines replies part pages h e = (h.0.there.device, h.1)
-ends old new (Err stops.Limit) entry now lines replies part pages h e = (h.0.there.device, h.1)
-ends old new (Err stops.Sink) entry now lines replies part pages h e = absurd (not_ended 4 (λ p. omega (arith, p)) (λ p. omega (arith, p)) (λ p. omega (arith, p)) e)
-ends old new (Err (stops.Device device.Platform)) entry now lines replies part pages h e = absurd (not_ended 5 (λ p. omega (arith, p)) (λ p. omega (arith, p)) (λ p. omega (arith, p)) e)
-ends old new (Err (stops.Device device.Tape)) entry now lines replies part pages h e = absurd (not_ended 6 (λ p. omega (arith, p)) (λ p. omega (arith, p)) (λ p. omega (arith, p)) e)
-ends old new (Err (stops.Device device.Ledger)) entry now lines replies part pages h e = absurd (not_ended 7 (λ p. omega (arith, p)) (λ p. omega (arith, p)) (λ p. omega (arith, p)) e)
-ends old new (Err (stops.Device device.Memory)) entry now lines replies part pages h e = absurd (not_ended 11 (λ p. omega (arith, p)) (λ p. omega (arith, p)) (λ p. omega (arith, p)) e)
-ends old new (Err (stops.Device device.BadRoot)) entry now lines replies part pages h e = absurd h
-ends old new (Err (stops.Device (device.BadRecord addr))) entry now lines replies part pages h e = absurd h
+ends old new (Ok done) entry now updates lines replies part pages h e = (h.0.there.device, h.1)
+ends old new (Err stops.Source) entry now updates lines replies part pages h e = (h.0.there.device, h.1)
+ends old new (Err stops.Limit) entry now updates lines replies part pages h e = (h.0.there.device, h.1)
+ends old new (Err stops.Sink) entry now updates lines replies part pages h e = absurd (not_ended 4 (λ p. omega (arith, p)) (λ p. omega (arith, p)) (λ p. omega (arith, p)) e)
+ends old new (Err (stops.Device device.Platform)) entry now updates lines replies part pages h e = absurd (not_ended 5 (λ p. omega (arith, p)) (λ p. omega (arith, p)) (λ p. omega (arith, p)) e)
+ends old new (Err (stops.Device device.Tape)) entry now updates lines replies part pages h e = absurd (not_ended 6 (λ p. omega (arith, p)) (λ p. omega (arith, p)) (λ p. omega (arith, p)) e)
+ends old new (Err (stops.Device device.Ledger)) entry now updates lines replies part pages h e = absurd (not_ended 7 (λ p. omega (arith, p)) (λ p. omega (arith, p)) (λ p. omega (arith, p)) e)
+ends old new (Err (stops.Device device.Memory)) entry now updates lines replies part pages h e = absurd (not_ended 11 (λ p. omega (arith, p)) (λ p. omega (arith, p)) (λ p. omega (arith, p)) e)
+ends old new (Err (stops.Device device.BadRoot)) entry now updates lines replies part pages h e = absurd h
+ends old new (Err (stops.Device (device.BadRecord addr))) entry now updates lines replies part pages h e = absurd h
 
 -- how an ending of this status is that of a failed output
-next : (old new : World) (ending : Ending) (entry now : State) (lines : List (List ℕ)) (replies : List Reply) (part : List ℕ) (pages : ℕ)
-    → EndsIn old new entry lines replies part now pages ending → exit_of ending ≡ 4 → EndsIn old new entry lines replies part now pages (Err stops.Sink)
-next old new (Ok done) entry now lines replies part pages h e = absurd (omega (arith, e))
-next old new (Err stops.Source) entry now lines replies part pages h e = absurd (omega (arith, e))
-next old new (Err stops.Limit) entry now lines replies part pages h e = absurd (omega (arith, e))
-next old new (Err stops.Sink) entry now lines replies part pages h e = h
-next old new (Err (stops.Device device.Platform)) entry now lines replies part pages h e = absurd (omega (arith, e))
-next old new (Err (stops.Device device.Tape)) entry now lines replies part pages h e = absurd (omega (arith, e))
-next old new (Err (stops.Device device.Ledger)) entry now lines replies part pages h e = absurd (omega (arith, e))
-next old new (Err (stops.Device device.Memory)) entry now lines replies part pages h e = absurd (omega (arith, e))
-next old new (Err (stops.Device device.BadRoot)) entry now lines replies part pages h e = absurd h
-next old new (Err (stops.Device (device.BadRecord addr))) entry now lines replies part pages h e = absurd h
+next : (old new : World) (ending : Ending) (entry now : State) (updates : ℕ) (lines : List (List ℕ)) (replies : List Reply) (part : List ℕ) (pages : ℕ)
+    → EndsIn old new entry updates lines replies part now pages ending → exit_of ending ≡ 4 → EndsIn old new entry updates lines replies part now pages (Err stops.Sink)
+next old new (Ok done) entry now updates lines replies part pages h e = absurd (omega (arith, e))
+next old new (Err stops.Source) entry now updates lines replies part pages h e = absurd (omega (arith, e))
+next old new (Err stops.Limit) entry now updates lines replies part pages h e = absurd (omega (arith, e))
+next old new (Err stops.Sink) entry now updates lines replies part pages h e = h
+next old new (Err (stops.Device device.Platform)) entry now updates lines replies part pages h e = absurd (omega (arith, e))
+next old new (Err (stops.Device device.Tape)) entry now updates lines replies part pages h e = absurd (omega (arith, e))
+next old new (Err (stops.Device device.Ledger)) entry now updates lines replies part pages h e = absurd (omega (arith, e))
+next old new (Err (stops.Device device.Memory)) entry now updates lines replies part pages h e = absurd (omega (arith, e))
+next old new (Err (stops.Device device.BadRoot)) entry now updates lines replies part pages h e = absurd h
+next old new (Err (stops.Device (device.BadRecord addr))) entry now updates lines replies part pages h e = absurd h
 
-sound : (old new : World) (ending : Ending) (entry now : State) (lines : List (List ℕ)) (replies : List Reply) (part : List ℕ) (pages : ℕ)
-    → EndsIn old new entry lines replies part now pages ending → (exit_of ending ≢ 8) × (exit_of ending ≢ 9)
-sound old new (Ok done) entry now lines replies part pages h = (λ e. omega (arith, e), λ e. omega (arith, e))
-sound old new (Err stops.Source) entry now lines replies part pages h = (λ e. omega (arith, e), λ e. omega (arith, e))
-sound old new (Err stops.Limit) entry now lines replies part pages h = (λ e. omega (arith, e), λ e. omega (arith, e))
-sound old new (Err stops.Sink) entry now lines replies part pages h = (λ e. omega (arith, e), λ e. omega (arith, e))
-sound old new (Err (stops.Device device.Platform)) entry now lines replies part pages h = (λ e. omega (arith, e), λ e. omega (arith, e))
-sound old new (Err (stops.Device device.Tape)) entry now lines replies part pages h = (λ e. omega (arith, e), λ e. omega (arith, e))
-sound old new (Err (stops.Device device.Ledger)) entry now lines replies part pages h = (λ e. omega (arith, e), λ e. omega (arith, e))
-sound old new (Err (stops.Device device.Memory)) entry now lines replies part pages h = (λ e. omega (arith, e), λ e. omega (arith, e))
-sound old new (Err (stops.Device device.BadRoot)) entry now lines replies part pages h = absurd h
-sound old new (Err (stops.Device (device.BadRecord addr))) entry now lines replies part pages h = absurd h
+sound : (old new : World) (ending : Ending) (entry now : State) (updates : ℕ) (lines : List (List ℕ)) (replies : List Reply) (part : List ℕ) (pages : ℕ)
+    → EndsIn old new entry updates lines replies part now pages ending → (exit_of ending ≢ 8) × (exit_of ending ≢ 9)
+sound old new (Ok done) entry now updates lines replies part pages h = (λ e. omega (arith, e), λ e. omega (arith, e))
+sound old new (Err stops.Source) entry now updates lines replies part pages h = (λ e. omega (arith, e), λ e. omega (arith, e))
+sound old new (Err stops.Limit) entry now updates lines replies part pages h = (λ e. omega (arith, e), λ e. omega (arith, e))
+sound old new (Err stops.Sink) entry now updates lines replies part pages h = (λ e. omega (arith, e), λ e. omega (arith, e))
+sound old new (Err (stops.Device device.Platform)) entry now updates lines replies part pages h = (λ e. omega (arith, e), λ e. omega (arith, e))
+sound old new (Err (stops.Device device.Tape)) entry now updates lines replies part pages h = (λ e. omega (arith, e), λ e. omega (arith, e))
+sound old new (Err (stops.Device device.Ledger)) entry now updates lines replies part pages h = (λ e. omega (arith, e), λ e. omega (arith, e))
+sound old new (Err (stops.Device device.Memory)) entry now updates lines replies part pages h = (λ e. omega (arith, e), λ e. omega (arith, e))
+sound old new (Err (stops.Device device.BadRoot)) entry now updates lines replies part pages h = absurd h
+sound old new (Err (stops.Device (device.BadRecord addr))) entry now updates lines replies part pages h = absurd h
 
 none_is : (ahead : List Reply) → ahead ≡ [] → length ahead ≤ 1
 none_is [] e = omega arith
@@ -207,47 +209,102 @@ none_ahead (Err (stops.Device device.Memory)) ahead h p q = h
 none_ahead (Err (stops.Device device.BadRoot)) ahead h p q = h
 none_ahead (Err (stops.Device (device.BadRecord addr))) ahead h p q = h
 
-near : (ending : Ending) (pages now : ℕ) → IsNear ending pages now → IsOneMore pages now
-near (Ok done) pages now h = h
-near (Err stops.Source) pages now h = h
-near (Err stops.Limit) pages now h = h
-near (Err stops.Sink) pages now h = h
-near (Err (stops.Device device.Platform)) pages now h = h
-near (Err (stops.Device device.Ledger)) pages now h = h
-near (Err (stops.Device device.Tape)) pages now h = (omega (arith, h), omega (arith, h))
-near (Err (stops.Device device.Memory)) pages now h = (omega (arith, h), omega (arith, h))
-near (Err (stops.Device device.BadRoot)) pages now h = (omega (arith, h), omega (arith, h))
-near (Err (stops.Device (device.BadRecord addr))) pages now h = (omega (arith, h), omega (arith, h))
+-- what a stop leaves is within what the command needs
+left_most : (stop : DeviceStop) (command : Command) (changes : ℕ) → left_by stop command changes ≤ needed_for command changes
+left_most device.Platform command changes = omega arith
+left_most device.Ledger command changes = omega arith
+left_most device.Tape Commit changes = omega arith
+left_most device.Tape _ changes = omega arith
+left_most device.Memory command changes = omega arith
+left_most device.BadRoot command changes = omega arith
+left_most (device.BadRecord addr) command changes = omega arith
 
-no_other : (status : ℕ) → (status ≡ 6 → ⊥) → (status ≡ 11 → ⊥) → (status ≡ 6) ⊎ (status ≡ 11) → ⊥
-no_other status six eleven (inl e) = six e
-no_other status six eleven (inr e) = eleven e
+IfNext-weaker : (P Q : List ℕ → Type 0) (replies : List Reply) (lines : List (List ℕ)) → ((line : List ℕ) → P line → Q line) → IfNext replies lines P → IfNext replies lines Q
+IfNext-weaker P Q [] [] weaker h = h
+IfNext-weaker P Q [] (line ∷ lines) weaker h = weaker line h
+IfNext-weaker P Q (reply ∷ replies) [] weaker h = h
+IfNext-weaker P Q (reply ∷ replies) (line ∷ lines) weaker h = IfNext-weaker P Q replies lines weaker h
 
-exact : (ending : Ending) (pages now : ℕ) → IsNear ending pages now → (exit_of ending ≡ 6) ⊎ (exit_of ending ≡ 11) → now ≡ pages
-exact (Ok done) pages now h e = absurd (no_other 0 (λ p. omega (arith, p)) (λ p. omega (arith, p)) e)
-exact (Err stops.Source) pages now h e = absurd (no_other 3 (λ p. omega (arith, p)) (λ p. omega (arith, p)) e)
-exact (Err stops.Limit) pages now h e = absurd (no_other 12 (λ p. omega (arith, p)) (λ p. omega (arith, p)) e)
-exact (Err stops.Sink) pages now h e = absurd (no_other 4 (λ p. omega (arith, p)) (λ p. omega (arith, p)) e)
-exact (Err (stops.Device device.Platform)) pages now h e = absurd (no_other 5 (λ p. omega (arith, p)) (λ p. omega (arith, p)) e)
-exact (Err (stops.Device device.Ledger)) pages now h e = absurd (no_other 7 (λ p. omega (arith, p)) (λ p. omega (arith, p)) e)
-exact (Err (stops.Device device.Tape)) pages now h e = h
-exact (Err (stops.Device device.Memory)) pages now h e = h
-exact (Err (stops.Device device.BadRoot)) pages now h e = h
-exact (Err (stops.Device (device.BadRecord addr))) pages now h e = h
+IfNext-any : (X : Type 0) (P : List ℕ → Type 0) (replies : List Reply) (lines : List (List ℕ)) → ((line : List ℕ) → P line → X) → IfNext replies lines P → X
+IfNext-any X P [] [] any h = absurd h
+IfNext-any X P [] (line ∷ lines) any h = any line h
+IfNext-any X P (reply ∷ replies) [] any h = absurd h
+IfNext-any X P (reply ∷ replies) (line ∷ lines) any h = IfNext-any X P replies lines any h
+
+HasAdded-more : (less more : Command → ℕ) (lines : List (List ℕ)) (replies : List Reply) (pages now : ℕ) → ((command : Command) → less command ≤ more command)
+    → HasAdded less lines replies pages now → HasAdded more lines replies pages now
+HasAdded-more less more lines replies pages now all (inl e) = inl e
+HasAdded-more less more lines replies pages now all (inr (rises, next)) =
+    inr (rises, IfNext-weaker _ _ replies lines (λ line h. (h.0, h.1, omega (arith, h.2, all h.0))) next)
+
+-- a stop at which no command may leave a page
+HasAdded-none : (most : Command → ℕ) (lines : List (List ℕ)) (replies : List Reply) (pages now : ℕ) → ((command : Command) → most command ≤ 0) → HasAdded most lines replies pages now → now ≡ pages
+HasAdded-none most lines replies pages now none (inl e) = e
+HasAdded-none most lines replies pages now none (inr (rises, next)) =
+    IfNext-any (now ≡ pages) _ replies lines (λ line h. omega (arith, rises, h.2, none h.0)) next
+
+near : (ending : Ending) (updates : ℕ) (lines : List (List ℕ)) (replies : List Reply) (pages now : ℕ) → IsNear ending updates lines replies pages now
+    → HasAdded (λ command. needed_for command (41 * updates)) lines replies pages now
+near (Ok done) updates lines replies pages now h = inl h
+near (Err stops.Source) updates lines replies pages now h = inl h
+near (Err stops.Limit) updates lines replies pages now h = inl h
+near (Err stops.Sink) updates lines replies pages now h = h
+near (Err (stops.Device stop)) updates lines replies pages now h =
+    HasAdded-more (λ command. left_by stop command (41 * updates)) (λ command. needed_for command (41 * updates)) lines replies pages now (λ command. left_most stop command (41 * updates)) h
+
+keyless : (ending : Ending) (updates : ℕ) (lines : List (List ℕ)) (replies : List Reply) (pages now : ℕ) → IsNear ending updates lines replies pages now
+    → exit_of ending ≡ 6 → HasAdded (λ command. left_by device.Tape command (41 * updates)) lines replies pages now
+keyless (Ok done) updates lines replies pages now h e = absurd (omega (arith, e))
+keyless (Err stops.Source) updates lines replies pages now h e = absurd (omega (arith, e))
+keyless (Err stops.Limit) updates lines replies pages now h e = absurd (omega (arith, e))
+keyless (Err stops.Sink) updates lines replies pages now h e = absurd (omega (arith, e))
+keyless (Err (stops.Device device.Tape)) updates lines replies pages now h e = h
+keyless (Err (stops.Device device.Platform)) updates lines replies pages now h e = absurd (omega (arith, e))
+keyless (Err (stops.Device device.Ledger)) updates lines replies pages now h e = absurd (omega (arith, e))
+keyless (Err (stops.Device device.Memory)) updates lines replies pages now h e = absurd (omega (arith, e))
+keyless (Err (stops.Device device.BadRoot)) updates lines replies pages now h e = absurd (omega (arith, e))
+keyless (Err (stops.Device (device.BadRecord addr))) updates lines replies pages now h e = absurd (omega (arith, e))
+
+exact : (ending : Ending) (updates : ℕ) (lines : List (List ℕ)) (replies : List Reply) (pages now : ℕ) → IsNear ending updates lines replies pages now → exit_of ending ≡ 11 → now ≡ pages
+exact (Ok done) updates lines replies pages now h e = absurd (omega (arith, e))
+exact (Err stops.Source) updates lines replies pages now h e = absurd (omega (arith, e))
+exact (Err stops.Limit) updates lines replies pages now h e = absurd (omega (arith, e))
+exact (Err stops.Sink) updates lines replies pages now h e = absurd (omega (arith, e))
+exact (Err (stops.Device device.Memory)) updates lines replies pages now h e = HasAdded-none _ lines replies pages now (λ command. omega arith) h
+exact (Err (stops.Device device.Platform)) updates lines replies pages now h e = absurd (omega (arith, e))
+exact (Err (stops.Device device.Ledger)) updates lines replies pages now h e = absurd (omega (arith, e))
+exact (Err (stops.Device device.Tape)) updates lines replies pages now h e = absurd (omega (arith, e))
+exact (Err (stops.Device device.BadRoot)) updates lines replies pages now h e = absurd (omega (arith, e))
+exact (Err (stops.Device (device.BadRecord addr))) updates lines replies pages now h e = absurd (omega (arith, e))
+
+-- how many pages there are at most, after some replies and with what the command of the next line added
+bound : (capacity before : ℕ) (entry : State) (lines : List (List ℕ)) (replies : List Reply) (state : State) (pages now : ℕ) → AnswersOn capacity entry before 0 lines replies state pages
+    → HasAdded (λ command. needed_for command (41 * updates_of 0 replies)) lines replies pages now
+    → (pages ≤ before + 42 * accepted replies) × (now ≤ before + 42 * accepted replies + 1)
+bound capacity before entry lines replies state pages now answers near =
+    let most = answers_bound capacity entry before 0 lines replies state pages answers in (
+      omega (arith, most),
+      elim near [
+        | inl same ↦ omega (arith, same, most)
+        | inr more ↦ IfNext-any (now ≤ before + 42 * accepted replies + 1) _ replies lines (λ line h. omega (arith, h.2, needed_most h.0 (41 * updates_of 0 replies), most)) more.1
+      ],
+    )
 
 -- what a run answered, by its status
 answers_from : (old new : World) (ending : Ending) (entry : State) (lines : List (List ℕ)) (replies : List Reply) (part : List ℕ)
-    → Answered old new ending entry lines replies part → AnswersFrom old new (exit_of ending) entry lines replies part
+    → Answered old new ending entry 0 lines replies part → AnswersFrom old new (exit_of ending) entry lines replies part
 answers_from old new ending entry lines replies part f = record {
   now = f.now;
   pages = f.pages;
   answers = f.answers;
   seen = f.seen;
-  ends = ends old new ending entry f.now lines replies part f.pages f.ends;
-  next = next old new ending entry f.now lines replies part f.pages f.ends;
-  sound = sound old new ending entry f.now lines replies part f.pages f.ends;
-  near = near ending f.pages new.head f.near;
-  exact = exact ending f.pages new.head f.near;
+  ends = ends old new ending entry f.now 0 lines replies part f.pages f.ends;
+  next = next old new ending entry f.now 0 lines replies part f.pages f.ends;
+  sound = sound old new ending entry f.now 0 lines replies part f.pages f.ends;
+  near = near ending (updates_of 0 replies) lines replies f.pages new.head f.near;
+  keyless = keyless ending (updates_of 0 replies) lines replies f.pages new.head f.near;
+  exact = exact ending (updates_of 0 replies) lines replies f.pages new.head f.near;
+  bound = bound old.capacity old.head entry lines replies f.now f.pages new.head f.answers (near ending (updates_of 0 replies) lines replies f.pages new.head f.near);
   ahead = f.ahead;
   one_ahead = one_ahead ending f.ahead f.is_ahead;
   none_ahead = none_ahead ending f.ahead f.is_ahead;
@@ -268,13 +325,19 @@ forget old session history head capacity status entry lines replies part f = rec
   next = f.next;
   sound = f.sound;
   near = f.near;
+  keyless = f.keyless;
   exact = f.exact;
+  bound = f.bound;
   ahead = f.ahead;
   one_ahead = f.one_ahead;
   none_ahead = f.none_ahead;
   passes = f.passes;
   exits = f.exits;
 }
+
+-- no session needs a page
+enough_alone : (held : Option Session) → held ≡ None → AreEnough held 0
+enough_alone held alone = subst (λ (session : Option Session). AreEnough session 0) (sym alone) (omega arith)
 
 -- a run answers the script, whatever session it ends with
 pub answers_script : (tells : Type 0) (old : World) (session : Option Session) (history : History) (head capacity : ℕ) (ending : Ending) (left left_now written written_now : Option (List ℕ))
@@ -296,11 +359,11 @@ answers_script tells old session history head capacity ending left left_now writ
   bad_root = bad_root ending p.part p.behind;
   bad_record = bad_record tells history.present ending p.part p.replies r.lines p.behind p.damage;
   cut = cut ending p.part p.behind;
-  full = p.full;
+  full = p.full 0 (enough_alone old.session alone);
   answered = λ told there stands served.
       forget old session history head capacity (exit_of ending) (closed there) r.lines p.replies p.part
       (answers_from old (world session history head capacity) ending (closed there) r.lines p.replies p.part
-      (p.answered told (closed there) (record { there = alone_on old there alone stands; served = served })));
+      (p.answered told (closed there) 0 (record { there = alone_on old there alone stands; served = served }) (enough_alone old.session alone)));
 }
 
 -- which devices a run made, whatever session it ends with
@@ -309,7 +372,7 @@ pub made_by : (tells : Type 0) (old : World) (session : Option Session) (history
     → tells → (there : Option Device) → StandsFor old.history.present there → IsServedImage old.history.present
     → (marks : List (Option Device)) × Made old.history history None (closed there) marks (closed (last_mark there marks))
 made_by tells old session history head capacity ending left left_now written written_now alone r told there stands served =
-    let f = r.handled.replied.answered told (closed there) (record { there = alone_on old there alone stands; served = served }) in
+    let f = r.handled.replied.answered told (closed there) 0 (record { there = alone_on old there alone stands; served = served }) (enough_alone old.session alone) in
     (f.marks, f.made)
 
 -- other words: nothing is taken, nothing put, and nothing done
@@ -331,7 +394,7 @@ answers_nothing tells w left written = record {
   bad_root = λ e. absurd (omega (arith, e));
   bad_record = λ e. absurd (omega (arith, e));
   cut = λ e. absurd (omega (arith, e));
-  full = All-nil (λ (r : Reply). r ≡ Full → w.head ≡ w.capacity);
+  full = tt;
   answered = λ told there stands served. record {
     now = closed there;
     pages = w.head;
@@ -340,8 +403,10 @@ answers_nothing tells w left written = record {
     ends = λ e. absurd (not_ended 2 (λ p. omega (arith, p)) (λ p. omega (arith, p)) (λ p. omega (arith, p)) e);
     next = λ e. absurd (omega (arith, e));
     sound = (λ e. omega (arith, e), λ e. omega (arith, e));
-    near = (omega arith, omega arith);
-    exact = λ e. absurd (no_other 2 (λ p. omega (arith, p)) (λ p. omega (arith, p)) e);
+    near = inl refl;
+    keyless = λ e. absurd (omega (arith, e));
+    exact = λ e. absurd (omega (arith, e));
+    bound = (omega arith, omega arith);
     ahead = [];
     one_ahead = omega arith;
     none_ahead = λ p q. refl;

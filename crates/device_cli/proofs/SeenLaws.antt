@@ -5,6 +5,7 @@ use Rattle.platform.specs.History.{History, Extends, image_at, moment}
 use Rattle.sdbt_base.specs.Arrays.{Device, State}
 use Rattle.script_lang.specs.Replies.{Reply}
 use Rattle.script_lang.specs.Replies as replies
+use Rattle.device_cli.specs.Pages.{updates_after, updates_of}
 use Rattle.device_cli.specs.Seen.{IsToldOf, Saw, SeenOn}
 
 -- a reply that no seizure gave belongs to any moment
@@ -47,37 +48,37 @@ saw_later old new from device pages reply extends saw = record {
 }
 
 -- the moments were not before an earlier one either
-pub SeenOn-earlier : (capacity : ℕ) (history : History) (from earlier : ℕ) (old : State) (pages : ℕ) (new : State) (pages_now : ℕ) (lines : List (List ℕ)) (replies : List Reply)
-    → earlier ≤ from → SeenOn capacity history from old pages lines replies new pages_now → SeenOn capacity history earlier old pages lines replies new pages_now
-SeenOn-earlier capacity history from earlier old pages new pages_now lines [] before h = h
-SeenOn-earlier capacity history from earlier old pages new pages_now [] (reply ∷ replies) before h = absurd h
-SeenOn-earlier capacity history from earlier old pages new pages_now (line ∷ lines) (reply ∷ replies) before (saw, state, n, turn, rest) =
+pub SeenOn-earlier : (capacity : ℕ) (history : History) (from earlier : ℕ) (old : State) (pages updates : ℕ) (new : State) (pages_now : ℕ) (lines : List (List ℕ)) (replies : List Reply)
+    → earlier ≤ from → SeenOn capacity history from old pages updates lines replies new pages_now → SeenOn capacity history earlier old pages updates lines replies new pages_now
+SeenOn-earlier capacity history from earlier old pages updates new pages_now lines [] before h = h
+SeenOn-earlier capacity history from earlier old pages updates new pages_now [] (reply ∷ replies) before h = absurd h
+SeenOn-earlier capacity history from earlier old pages updates new pages_now (line ∷ lines) (reply ∷ replies) before (saw, state, n, turn, rest) =
     (record { at = saw.at; later = omega (arith, before, saw.later); within = saw.within; told = saw.told }, state, n, turn, rest)
 
 -- all of some lines in some time, and then more in the time after it
-pub SeenOn-append : (capacity : ℕ) (first second : History) (from : ℕ) (old : State) (pages : ℕ) (mid : State) (between : ℕ) (new : State) (pages_now : ℕ) (lines more : List (List ℕ)) (replies others : List Reply)
-    → Extends first second → from ≤ moment first → length replies ≡ length lines → SeenOn capacity first from old pages lines replies mid between
-    → SeenOn capacity second (moment first) mid between more others new pages_now
-    → SeenOn capacity second from old pages (lines ++ more) (replies ++ others) new pages_now
+pub SeenOn-append : (capacity : ℕ) (first second : History) (from : ℕ) (old : State) (pages updates : ℕ) (mid : State) (between : ℕ) (new : State) (pages_now : ℕ) (lines more : List (List ℕ)) (replies others : List Reply)
+    → Extends first second → from ≤ moment first → length replies ≡ length lines → SeenOn capacity first from old pages updates lines replies mid between
+    → SeenOn capacity second (moment first) mid between (updates_of updates replies) more others new pages_now
+    → SeenOn capacity second from old pages updates (lines ++ more) (replies ++ others) new pages_now
 unfolding saw_later
-SeenOn-append capacity first second from old pages mid between new pages_now [] more [] others extends before same h k =
-    subst (λ (state : State). SeenOn capacity second from state pages more others new pages_now) h.0
-    (subst (λ (n : ℕ). SeenOn capacity second from mid n more others new pages_now) h.1
-    (SeenOn-earlier capacity second (moment first) from mid between new pages_now more others before k))
-SeenOn-append capacity first second from old pages mid between new pages_now [] more (reply ∷ replies) others extends before same h k = absurd h
-SeenOn-append capacity first second from old pages mid between new pages_now (line ∷ lines) more [] others extends before same h k = absurd (omega (arith, same))
-SeenOn-append capacity first second from old pages mid between new pages_now (line ∷ lines) more (reply ∷ replies) others extends before same (saw, state, n, turn, rest) k = (
+SeenOn-append capacity first second from old pages updates mid between new pages_now [] more [] others extends before same h k =
+    subst (λ (state : State). SeenOn capacity second from state pages updates more others new pages_now) h.0
+    (subst (λ (n : ℕ). SeenOn capacity second from mid n updates more others new pages_now) h.1
+    (SeenOn-earlier capacity second (moment first) from mid between updates new pages_now more others before k))
+SeenOn-append capacity first second from old pages updates mid between new pages_now [] more (reply ∷ replies) others extends before same h k = absurd h
+SeenOn-append capacity first second from old pages updates mid between new pages_now (line ∷ lines) more [] others extends before same h k = absurd (omega (arith, same))
+SeenOn-append capacity first second from old pages updates mid between new pages_now (line ∷ lines) more (reply ∷ replies) others extends before same (saw, state, n, turn, rest) k = (
   saw_later first second from old.device pages reply extends saw,
   state,
   n,
   turn,
-  SeenOn-append capacity first second saw.at state n mid between new pages_now lines more replies others extends saw.within (omega (arith, same)) rest k,
+  SeenOn-append capacity first second saw.at state n (updates_after reply updates) mid between new pages_now lines more replies others extends saw.within (omega (arith, same)) rest k,
 )
 
 -- lines may be left over
-pub SeenOn-longer : (capacity : ℕ) (history : History) (from : ℕ) (old : State) (pages : ℕ) (new : State) (pages_now : ℕ) (lines more : List (List ℕ)) (replies : List Reply)
-    → SeenOn capacity history from old pages lines replies new pages_now → SeenOn capacity history from old pages (lines ++ more) replies new pages_now
-SeenOn-longer capacity history from old pages new pages_now lines more [] h = h
-SeenOn-longer capacity history from old pages new pages_now [] more (reply ∷ replies) h = absurd h
-SeenOn-longer capacity history from old pages new pages_now (line ∷ lines) more (reply ∷ replies) (saw, state, n, turn, rest) =
-    (saw, state, n, turn, SeenOn-longer capacity history saw.at state n new pages_now lines more replies rest)
+pub SeenOn-longer : (capacity : ℕ) (history : History) (from : ℕ) (old : State) (pages updates : ℕ) (new : State) (pages_now : ℕ) (lines more : List (List ℕ)) (replies : List Reply)
+    → SeenOn capacity history from old pages updates lines replies new pages_now → SeenOn capacity history from old pages updates (lines ++ more) replies new pages_now
+SeenOn-longer capacity history from old pages updates new pages_now lines more [] h = h
+SeenOn-longer capacity history from old pages updates new pages_now [] more (reply ∷ replies) h = absurd h
+SeenOn-longer capacity history from old pages updates new pages_now (line ∷ lines) more (reply ∷ replies) (saw, state, n, turn, rest) =
+    (saw, state, n, turn, SeenOn-longer capacity history saw.at state n (updates_after reply updates) new pages_now lines more replies rest)

@@ -97,7 +97,7 @@ pub saw_of : (old new : World) (entry : State) (command : Command) (given : Resu
     → IfOk given (Saw new.history (moment old.history) entry.device old.head)
 saw_of old new entry command (Ok reply) other (now, is, rep, turns) =
     saw_plain old.history new.history entry.device old.head reply turns.extends
-    (λ told nodes blocks e. answer_seized (is_full old) is.0 entry command told nodes blocks other (sym (ap (λ (p : Reply × State). p.0) is.1) ∙ e))
+    (λ told nodes blocks e. answer_seized (is_full old command) is.0 entry command told nodes blocks other (sym (ap (λ (p : Reply × State). p.0) is.1) ∙ e))
 saw_of old new entry command (Err stop) other h = tt
 
 -- what a seizure counted of an image that stayed

@@ -1,5 +1,5 @@
 -- What serving a command makes of the state, by the array machine.
-use Rattle.std.proofs.Common.{◌≡◌, ◌≢◌, ℕ, ◌+◌, ◌<◌, ◌≤◌, ◌==◌, Bool, true, false, List, Option, None, Some, Ok, Err, inl, inr, refl, sym, subst, ap, ◌∙◌, arith}
+use Rattle.std.proofs.Common.{◌≡◌, ◌≢◌, ℕ, ◌+◌, ◌-◌, ◌<◌, ◌≤◌, ◌==◌, Bool, true, false, List, Option, None, Some, Ok, Err, inl, inr, refl, sym, subst, ap, ◌∙◌, arith}
 use Rattle.std.specs.Prelude.{nat_lt, nat_le, ◌⊎◌}
 use Rattle.std.specs.FinMap as map
 use Rattle.std.proofs.lemmas.Grind.{common_steps}
@@ -23,7 +23,8 @@ use Rattle.script_lang.specs.Replies as replies
 use Rattle.sdbt_base.specs.Arrays.{Device, Session as OpenSession, State, new_device, session_on, committed, written, unmapped}
 use Rattle.script_lang.specs.Arrays.{content_reply, in_limits}
 use Rattle.script_lang.specs.Answers.{answer, none_counted}
-use Rattle.device_cli.specs.World.{World, is_full}
+use Rattle.device_cli.specs.World.{World, is_full, needed_of}
+use Rattle.device_cli.specs.Pages.{needed_for}
 use Rattle.device_cli.specs.Replied.{Serves, Halts, IsSound}
 use Rattle.device_course.specs.States.{IsSessionOf}
 use Rattle.device_course.specs.Marks.{Leaves}
@@ -93,7 +94,7 @@ pub leaves_still : (old new : World) (entry : State) → Represents old entry �
 leaves_still old new entry rep during = stands_during old.history new.history _ rep.device during
 
 -- a reply of a call that left the cell
-pub serves_still : (old new : World) (entry now : State) (command : Command) (reply : Reply) → Represents old entry → (reply, now) ≡ answer (is_full old) none_counted entry command → Represents new now
+pub serves_still : (old new : World) (entry now : State) (command : Command) (reply : Reply) → Represents old entry → (reply, now) ≡ answer (is_full old command) none_counted entry command → Represents new now
     → During old.history new.history (λ image. image.cell ≡ old.history.present.cell) → Serves old new entry command (Ok reply)
 serves_still old new entry now command reply rep is after during =
     (now, (none_counted, is), after, Turns-not old.history new.history (Leaves entry.device) (Leaves now.device) (leaves_still old new entry rep during))
@@ -102,7 +103,7 @@ serves_still old new entry now command reply rep is after during =
 pub halts_still : (old new : World) (entry : State) (command : Command) (stop : DeviceStop) → IsSound stop → Represents old entry
     → During old.history new.history (λ image. image.cell ≡ old.history.present.cell) → Halts old new entry command stop
 halts_still old new entry command device.Platform sound rep during =
-    Turns-not old.history new.history (Leaves entry.device) (Leaves (answer (is_full old) none_counted entry command).1.device) (leaves_still old new entry rep during)
+    Turns-not old.history new.history (Leaves entry.device) (Leaves (answer (is_full old command) none_counted entry command).1.device) (leaves_still old new entry rep during)
 halts_still old new entry command device.Tape sound rep during = leaves_still old new entry rep during
 halts_still old new entry command device.Ledger sound rep during = leaves_still old new entry rep during
 halts_still old new entry command device.Memory sound rep during = leaves_still old new entry rep during
@@ -112,7 +113,7 @@ halts_still old new entry command (device.BadRecord addr) sound rep during = abs
 -- a block past the device's, at a call that left the array and the cell
 pub serves_range : (old new : World) (session now : Session) (entry : State) (command : Command) (block : ℕ) → old.session ≡ Some session → new.session ≡ Some now → Represents old entry
     → ((d : Device) (t : OpenSession) → Holds session old.history.present d t.contents → Holds now new.history.present d t.contents) → is_touched now ≡ is_touched session → session.root.blocks ≤ block
-    → ((d : Device) (t : OpenSession) → d.blocks ≤ block → (Range, at d t) ≡ answer (is_full old) none_counted (at d t) command)
+    → ((d : Device) (t : OpenSession) → d.blocks ≤ block → (Range, at d t) ≡ answer (is_full old command) none_counted (at d t) command)
     → During old.history new.history (λ image. image.cell ≡ old.history.present.cell) → Serves old new entry command (Ok Range)
 serves_range old new session now entry command block taken going rep kept same past gives during =
     with_session old session entry taken rep (λ state. Serves old new state command (Ok Range))
@@ -127,15 +128,18 @@ pub serves_damaged : (old new : World) (session : Session) (entry : State) (comm
 serves_damaged old new session entry command addr taken rep never =
     with_session old session entry taken rep (λ state. Serves old new state command (Err (device.BadRecord addr))) (λ d t holds touched. absurd (never d t holds))
 
--- whether no page is free
-pub is_full_true : (w : World) → w.head ≡ w.capacity → is_full w ≡ true
-is_full_true w e = let t : (w.head == w.capacity) ≡ true = grind (arith, common_steps) in t
+below : (block blocks : ℕ) → block < blocks → nat_lt block blocks ≡ true
+below block blocks h = grind (arith, common_steps)
 
-pub is_full_false : (w : World) → (w.head ≡ w.capacity → ⊥) → is_full w ≡ false
-is_full_false w other = elim (eqb_tells w.head w.capacity) [
-  | inl equal ↦ absurd (other equal.1)
-  | inr differ ↦ differ.0
-]
+above : (block blocks : ℕ) → blocks ≤ block → nat_lt block blocks ≡ false
+above block blocks h = grind (arith, common_steps)
+
+-- whether fewer pages are free than a command needs
+pub is_full_true : (w : World) (command : Command) → w.capacity - w.head < needed_for command (needed_of w.session) → is_full w command ≡ true
+is_full_true w command few = below (w.capacity - w.head) (needed_for command (needed_of w.session)) few
+
+pub is_full_false : (w : World) (command : Command) → needed_for command (needed_of w.session) ≤ w.capacity - w.head → is_full w command ≡ false
+is_full_false w command many = above (w.capacity - w.head) (needed_for command (needed_of w.session)) many
 
 -- replies without a session
 pub gives_unmounted_read : (full : Bool) (device : Option Device) (block : ℕ) → (Unmounted, closed device) ≡ answer full none_counted (closed device) (Read block)
@@ -161,12 +165,6 @@ gives_unmounted_drop full (Some d) = refl
 pub gives_unmounted_stat : (full : Bool) (device : Option Device) → (Unmounted, closed device) ≡ answer full none_counted (closed device) commands.Stat
 gives_unmounted_stat full None = refl
 gives_unmounted_stat full (Some d) = refl
-
-below : (block blocks : ℕ) → block < blocks → nat_lt block blocks ≡ true
-below block blocks h = grind (arith, common_steps)
-
-above : (block blocks : ℕ) → blocks ≤ block → nat_lt block blocks ≡ false
-above block blocks h = grind (arith, common_steps)
 
 -- and with one
 pub gives_content : (full : Bool) (d : Device) (t : OpenSession) (block : ℕ) (content : List ℕ) → block < d.blocks → content ≡ content_of t.contents block

@@ -1,14 +1,13 @@
 -- What each call of a desk makes of the state that its world stands for.
-use Rattle.std.proofs.Common.{◌≡◌, ◌≢◌, ℕ, ◌+◌, ◌≤◌, Bool, true, false, Option, None, Some, Ok, inl, inr, refl, sym, ◌∙◌, subst, ap}
+use Rattle.std.proofs.Common.{◌≡◌, ◌≢◌, ℕ, ◌+◌, ◌-◌, ◌<◌, ◌≤◌, Bool, true, false, Option, None, Some, Ok, inl, inr, refl, sym, ◌∙◌, subst, ap, arith}
 use Rattle.std.specs.Prelude.{◌⊎◌}
 use Rattle.std.specs.FinMap as map
-use Rattle.std.proofs.lemmas.Bool.{cases_Bool}
-use Rattle.std.proofs.lemmas.Bool.Decides.{eqb_tells}
+use Rattle.std.proofs.lemmas.Bool.{cases_Bool, cases_lt}
 use Rattle.platform.specs.Image.{Image}
 use Rattle.platform.specs.History.{History, During, Turns}
 use Rattle.platform.proofs.Moments.{During-start, Turns-not}
 use Rattle.page_store.proofs.StandsLaws.{stands_leaves}
-use Rattle.device_core.specs.Open.{is_touched, number_of}
+use Rattle.device_core.specs.Open.{is_touched, number_of, needed_by}
 use Rattle.device_core.specs.Holds.{Holds}
 use Rattle.device_core.specs.Replies.{device_after}
 use Rattle.device_core.specs.Sessions.{Session}
@@ -22,7 +21,7 @@ use Rattle.script_lang.specs.Replies.{Formatted, Mounted, Done, Committed, Dropp
 use Rattle.script_lang.specs.Replies as replies
 use Rattle.sdbt_base.specs.Arrays.{Device, Session as OpenSession, State, new_device, session_on, committed, closed}
 use Rattle.script_lang.specs.Answers.{answer, none_counted}
-use Rattle.device_cli.specs.World.{World, is_full, world}
+use Rattle.device_cli.specs.World.{World, is_full, needed_of, world}
 use Rattle.device_cli.specs.Replied.{Serves, Halts}
 use Rattle.device_course.specs.States.{IsSessionOf}
 use Rattle.device_course.specs.Marks.{Leaves}
@@ -42,7 +41,7 @@ keeps_same old new same =
 
 -- a reply that needed no call
 serves_at : (s now : Option Session) (h : History) (head capacity : ℕ) (entry next : State) (command : Command) (reply : Reply) → Represents (world s h head capacity) entry
-    → (reply, next) ≡ answer (is_full (world s h head capacity)) none_counted entry command → Represents (world now h head capacity) next
+    → (reply, next) ≡ answer (is_full (world s h head capacity) command) none_counted entry command → Represents (world now h head capacity) next
     → Serves (world s h head capacity) (world now h head capacity) entry command (Ok reply)
 serves_at s now h head capacity entry next command reply rep is after =
     (next, (none_counted, is), after, Turns-not h h (Leaves entry.device) (Leaves next.device) (During-start h (Leaves entry.device) (stands_leaves h.present _ rep.device)))
@@ -54,7 +53,7 @@ serves_unmounted s now h head capacity entry command none none_now gives rep =
     let old = world s h head capacity in
     without_session old entry none rep (λ state. Serves old (world now h head capacity) state command (Ok Unmounted))
     (λ stands. serves_at s now h head capacity (closed entry.device) (closed entry.device) command Unmounted (has_none old entry.device none stands)
-    (gives (is_full old) entry.device) (has_none (world now h head capacity) entry.device none_now stands))
+    (gives (is_full old command) entry.device) (has_none (world now h head capacity) entry.device none_now stands))
 
 pub serves_drop : (s now : Option Session) (h : History) (head capacity : ℕ) (entry : State) (session : Session) → s ≡ Some session → now ≡ None
     → Represents (world s h head capacity) entry → Serves (world s h head capacity) (world now h head capacity) entry Drop (Ok Dropped)
@@ -72,7 +71,7 @@ serves_stat s h head capacity entry session mapped number some tells rep =
     with_session old session entry some rep (λ state. Serves old old state commands.Stat (Ok (replies.Stat mapped number)))
     (λ d t holds touched. let both = tells d t holds in
     let there = has_session old session d t some holds touched in
-    serves_at s s h head capacity (at d t) (at d t) commands.Stat (replies.Stat mapped number) there (gives_stat (is_full old) d t mapped number both.0 both.1) there)
+    serves_at s s h head capacity (at d t) (at d t) commands.Stat (replies.Stat mapped number) there (gives_stat (is_full old commands.Stat) d t mapped number both.0 both.1) there)
 
 pub serves_already : (s : Option Session) (h : History) (head capacity : ℕ) (entry : State) (session : Session) → s ≡ Some session → Represents (world s h head capacity) entry
     → Serves (world s h head capacity) (world s h head capacity) entry Mount (Ok AlreadyMounted)
@@ -151,7 +150,7 @@ erase_next full (Some d) opened = refl
 
 pub halts_erase : (old new : World) (entry : State) → Turns old.history new.history (Leaves entry.device) (Leaves None) → Halts old new entry Erase device.Platform
 halts_erase old new entry turns =
-    subst (λ (there : Option Device). Turns old.history new.history (Leaves entry.device) (Leaves there)) (sym (erase_next (is_full old) entry.device entry.session)) turns
+    subst (λ (there : Option Device). Turns old.history new.history (Leaves entry.device) (Leaves there)) (sym (erase_next (is_full old Erase) entry.device entry.session)) turns
 
 -- a seizure
 pub serves_seized : (old new : World) (entry : State) (pages nodes blocks : ℕ) → new.session ≡ old.session → new.history.present ≡ old.history.present
@@ -180,7 +179,7 @@ with_nothing w entry empty rep Goal k =
 
 -- a format
 pub serves_formatted : (old new : World) (entry : State) (blocks order : ℕ) → old.history.present.cell ≡ None → new.session ≡ old.session → order ≡ 64 → 1 ≤ blocks → blocks ≤ 64
-    → (old.head ≡ old.capacity → ⊥) → StandsFor new.history.present (Some (new_device blocks 64))
+    → 1 ≤ old.capacity - old.head → StandsFor new.history.present (Some (new_device blocks 64))
     → ((there : Option Device) → StandsFor old.history.present there → Turns old.history new.history (Leaves there) (Leaves (Some (new_device blocks 64))))
     → Represents old entry → Serves old new entry (Format blocks order) (Ok Formatted)
 serves_formatted old new entry blocks order empty session is least most room stands turns rep =
@@ -188,18 +187,18 @@ serves_formatted old new entry blocks order empty session is least most room sta
     (with_nothing old entry empty rep (λ state. Serves old new state (Format blocks 64) (Ok Formatted))
     (λ none. (
       closed (Some (new_device blocks 64)),
-      (none_counted, gives_formatted (is_full old) None blocks (is_full_false old room) least most),
+      (none_counted, gives_formatted (is_full old (Format blocks 64)) None blocks (is_full_false old (Format blocks 64) room) least most),
       has_none new (Some (new_device blocks 64)) (session ∙ none) stands,
       turns None empty,
     )))
 
 pub serves_format_full : (old new : World) (entry : State) (blocks order : ℕ) → old.history.present.cell ≡ None → new.session ≡ old.session → new.history.present ≡ old.history.present
-    → order ≡ 64 → 1 ≤ blocks → blocks ≤ 64 → old.head ≡ old.capacity → KeepsCell old new → Represents old entry → Serves old new entry (Format blocks order) (Ok Full)
+    → order ≡ 64 → 1 ≤ blocks → blocks ≤ 64 → old.capacity - old.head < 1 → KeepsCell old new → Represents old entry → Serves old new entry (Format blocks order) (Ok Full)
 serves_format_full old new entry blocks order empty session image is least most none_free keeps rep =
     subst (λ (n : ℕ). Serves old new entry (Format blocks n) (Ok Full)) (sym is)
     (with_nothing old entry empty rep (λ state. Serves old new state (Format blocks 64) (Ok Full))
     (λ none. serves_still old new (closed None) (closed None) (Format blocks 64) Full (has_none old None none empty)
-    (gives_format_full (is_full old) None blocks (is_full_true old none_free) least most)
+    (gives_format_full (is_full old (Format blocks 64)) None blocks (is_full_true old (Format blocks 64) none_free) least most)
     (has_none new None (session ∙ none) (subst (λ (i : Image). i.cell ≡ None) (sym image) empty)) keeps))
 
 serves_not_empty_at : (old new : World) (there : Option Device) (opened : Option OpenSession) (blocks order : ℕ) → old.history.present.cell ≢ None → StandsFor old.history.present there
@@ -223,33 +222,37 @@ serves_refused old new entry blocks order reply given session image keeps gives 
 serves_refused old new entry blocks order reply given session image keeps gives (inr (e, empty)) rep =
     subst (λ (r : Reply). Serves old new entry (Format blocks order) (Ok r)) (sym e)
     (with_nothing old entry empty rep (λ state. Serves old new state (Format blocks order) (Ok given))
-    (λ none. serves_still old new (closed None) (closed None) (Format blocks order) given (has_none old None none empty) (gives (is_full old) None)
+    (λ none. serves_still old new (closed None) (closed None) (Format blocks order) given (has_none old None none empty) (gives (is_full old (Format blocks order)) None)
     (has_none new None (session ∙ none) (subst (λ (i : Image). i.cell ≡ None) (sym image) empty)) keeps))
 
 -- a format at which the platform failed: where it would have made a device, it may have
 pub halts_format : (old new : World) (entry : State) (blocks order : ℕ) → order ≡ 64 → 1 ≤ blocks → blocks ≤ 64
-    → ((old.history.present.cell ≢ None) ⊎ (old.head ≡ old.capacity) → KeepsCell old new)
+    → ((old.history.present.cell ≢ None) ⊎ (old.capacity - old.head < 1) → KeepsCell old new)
     → ((there : Option Device) → StandsFor old.history.present there → Turns old.history new.history (Leaves there) (Leaves (Some (new_device blocks 64))))
     → Represents old entry → Halts old new entry (Format blocks order) device.Platform
 halts_format old new entry blocks order is least most keeps turns rep =
     subst (λ (n : ℕ). Halts old new entry (Format blocks n) device.Platform) (sym is) (cases entry.device entry.session rep)
   where
-    made : (opened : Option OpenSession) → is_full old ≡ false → (answer (is_full old) none_counted (on None opened) (Format blocks 64)).1.device ≡ Some (new_device blocks 64)
-    made opened room = sym (ap (λ (p : Reply × State). p.1.device) (gives_formatted (is_full old) opened blocks room least most))
+    made : (opened : Option OpenSession) → is_full old (Format blocks 64) ≡ false → (answer (is_full old (Format blocks 64)) none_counted (on None opened) (Format blocks 64)).1.device ≡ Some (new_device blocks 64)
+    made opened room = sym (ap (λ (p : Reply × State). p.1.device) (gives_formatted (is_full old (Format blocks 64)) opened blocks room least most))
 
     cases : (there : Option Device) (opened : Option OpenSession) → Represents old (on there opened) → Halts old new (on there opened) (Format blocks 64) device.Platform
     cases (Some d) opened r = halts_still old new (on (Some d) opened) (Format blocks 64) device.Platform tt r (keeps (inl (λ e. let c = r.device.2.cell in cc)))
-    cases None opened r = elim (eqb_tells old.head old.capacity) [
-      | inl equal ↦ halts_still old new (on None opened) (Format blocks 64) device.Platform tt r (keeps (inr equal.1))
-      | inr differ ↦ subst (λ (there : Option Device). Turns old.history new.history (Leaves None) (Leaves there)) (sym (made opened differ.0)) (turns None r.device)
+    cases None opened r = elim (cases_lt (old.capacity - old.head) 1) [
+      | inl few ↦ halts_still old new (on None opened) (Format blocks 64) device.Platform tt r (keeps (inr few))
+      | inr many ↦ subst (λ (there : Option Device). Turns old.history new.history (Leaves None) (Leaves there)) (sym (made opened (is_full_false old (Format blocks 64) many))) (turns None r.device)
     ]
+
+-- what a commit of the session needs
+pub needed_some : (w : World) (session : Session) → w.session ≡ Some session → needed_of w.session ≡ needed_by session
+needed_some w session some = ap (λ (held : Option Session). needed_of held) some
 
 -- a commit
 pub serves_committed : (old new : World) (entry : State) (session now : Session) (number : ℕ) (reply : CommitReply) → old.session ≡ Some session → new.session ≡ Some now
     → reply ≡ commits.Committed number
     → (is_touched session ≡ false → (reply ≡ commits.Committed (number_of session)) × (now ≡ session) × (new.history.present ≡ old.history.present) × KeepsCell old new)
-    → (is_touched session ≡ true → old.head ≡ old.capacity → reply ≡ commits.Full 1 0)
-    → (is_touched session ≡ true → (old.head ≡ old.capacity → ⊥) → (reply ≡ commits.Committed (number_of session + 1)) × (is_touched now ≡ false))
+    → (is_touched session ≡ true → old.capacity - old.head < needed_by session → reply ≡ commits.Full (needed_by session) (old.capacity - old.head))
+    → (is_touched session ≡ true → needed_by session ≤ old.capacity - old.head → (reply ≡ commits.Committed (number_of session + 1)) × (is_touched now ≡ false))
     → ((d : Device) (t : OpenSession) → Holds session old.history.present d t.contents
     → Holds now new.history.present (device_after reply d t.contents) t.contents
     × Turns old.history new.history (Leaves (Some d)) (Leaves (Some (committed d t))))
@@ -264,15 +267,15 @@ serves_committed old new entry session now number reply some some_now is idle fu
         let i = idle b in
         let e : number ≡ d.number = (let a : commits.Committed number ≡ commits.Committed (number_of session) = sym is ∙ i.0 in let n : number ≡ number_of session = cc in n) ∙ holds.stands.number in
         subst (λ (n : ℕ). Serves old new (at d t) Commit (Ok (Committed n))) (sym e)
-        (serves_still old new (at d t) (at d t) Commit (Committed d.number) (has_session old session d t some holds same) (gives_idle (is_full old) d t (sym same ∙ b))
+        (serves_still old new (at d t) (at d t) Commit (Committed d.number) (has_session old session d t some holds same) (gives_idle (is_full old Commit) d t (sym same ∙ b))
         (has_session new now d t some_now
         (subst (λ (s : Session). Holds s new.history.present d t.contents) (sym i.1) (subst (λ (image : Image). Holds session image d t.contents) (sym i.2) holds))
         (subst (λ (s : Session). is_touched s ≡ t.touched) (sym i.1) same)) i.3)
-    cases d t holds true b same = elim (eqb_tells old.head old.capacity) [
-      | inl equal ↦ absurd (let f = full b equal.1 in cc)
-      | inr differ ↦
-          let room = is_full_false old differ.1 in
-          let both = raised b differ.1 in
+    cases d t holds true b same = elim (cases_lt (old.capacity - old.head) (needed_by session)) [
+      | inl few ↦ absurd (let f = full b few in cc)
+      | inr many ↦
+          let room = is_full_false old Commit (omega (arith, many, needed_some old session some)) in
+          let both = raised b many in
           let a = after d t holds in
           let e : number ≡ d.number + 1 = (let x : commits.Committed number ≡ commits.Committed (number_of session + 1) = sym is ∙ both.0 in let n : number ≡ number_of session + 1 = cc in n)
           ∙ ap (λ (k : ℕ). k + 1) holds.stands.number in
@@ -280,7 +283,7 @@ serves_committed old new entry session now number reply some some_now is idle fu
           let has_now = subst (λ (k : ℕ). Holds now new.history.present (record d { number = k; contents = t.contents }) t.contents) e has in
           subst (λ (n : ℕ). Serves old new (at d t) Commit (Ok (Committed n))) (sym e) (
             at (committed d t) (session_on (committed d t)),
-            (none_counted, gives_raised (is_full old) d t room (sym same ∙ b)),
+            (none_counted, gives_raised (is_full old Commit) d t room (sym same ∙ b)),
             has_session new now (committed d t) (session_on (committed d t)) some_now has_now both.1,
             a.1,
           )
@@ -289,8 +292,8 @@ serves_committed old new entry session now number reply some some_now is idle fu
 pub serves_commit_full : (old new : World) (entry : State) (session now : Session) (needed free : ℕ) (reply : CommitReply) → old.session ≡ Some session → new.session ≡ Some now
     → reply ≡ commits.Full needed free
     → (is_touched session ≡ false → reply ≡ commits.Committed (number_of session))
-    → (is_touched session ≡ true → old.head ≡ old.capacity → (now ≡ session) × (new.history.present ≡ old.history.present) × KeepsCell old new)
-    → (is_touched session ≡ true → (old.head ≡ old.capacity → ⊥) → reply ≡ commits.Committed (number_of session + 1))
+    → (is_touched session ≡ true → old.capacity - old.head < needed_by session → (now ≡ session) × (new.history.present ≡ old.history.present) × KeepsCell old new)
+    → (is_touched session ≡ true → needed_by session ≤ old.capacity - old.head → reply ≡ commits.Committed (number_of session + 1))
     → Represents old entry → Serves old new entry Commit (Ok Full)
 serves_commit_full old new entry session now needed free reply some some_now is idle full raised rep =
     with_session old session entry some rep (λ state. Serves old new state Commit (Ok Full))
@@ -299,19 +302,19 @@ serves_commit_full old new entry session now needed free reply some some_now is 
     cases : (d : Device) (t : OpenSession) → Holds session old.history.present d t.contents → (b : Bool) → is_touched session ≡ b → is_touched session ≡ t.touched
         → Serves old new (at d t) Commit (Ok Full)
     cases d t holds false b same = absurd (let i = idle b in cc)
-    cases d t holds true b same = elim (eqb_tells old.head old.capacity) [
-      | inl equal ↦
-          let f = full b equal.1 in
-          serves_still old new (at d t) (at d t) Commit Full (has_session old session d t some holds same) (gives_commit_full (is_full old) d t (is_full_true old equal.1) (sym same ∙ b))
+    cases d t holds true b same = elim (cases_lt (old.capacity - old.head) (needed_by session)) [
+      | inl few ↦
+          let f = full b few in
+          serves_still old new (at d t) (at d t) Commit Full (has_session old session d t some holds same) (gives_commit_full (is_full old Commit) d t (is_full_true old Commit (omega (arith, few, needed_some old session some))) (sym same ∙ b))
           (has_session new now d t some_now
           (subst (λ (s : Session). Holds s new.history.present d t.contents) (sym f.0) (subst (λ (image : Image). Holds session image d t.contents) (sym f.1) holds))
           (subst (λ (s : Session). is_touched s ≡ t.touched) (sym f.0) same)) f.2
-      | inr differ ↦ absurd (let r = raised b differ.1 in cc)
+      | inr many ↦ absurd (let r = raised b many in cc)
     ]
 
 -- a commit at which the platform failed
 pub halts_commit : (old new : World) (entry : State) (session : Session) → old.session ≡ Some session → (is_touched session ≡ false → ⊥)
-    → (is_touched session ≡ true → old.head ≡ old.capacity → ⊥)
+    → (is_touched session ≡ true → needed_by session ≤ old.capacity - old.head)
     → ((d : Device) (t : OpenSession) → Holds session old.history.present d t.contents → Turns old.history new.history (Leaves (Some d)) (Leaves (Some (committed d t))))
     → Represents old entry → Halts old new entry Commit device.Platform
 halts_commit old new entry session some busy room turns rep =
@@ -319,7 +322,7 @@ halts_commit old new entry session some busy room turns rep =
     (λ d t holds same. elim (cases_Bool (is_touched session)) [
       | inr idle ↦ absurd (busy idle)
       | inl touched ↦
-          let made : (answer (is_full old) none_counted (at d t) Commit).1.device ≡ Some (committed d t) =
-          sym (ap (λ (p : Reply × State). p.1.device) (gives_raised (is_full old) d t (is_full_false old (room touched)) (sym same ∙ touched))) in
+          let made : (answer (is_full old Commit) none_counted (at d t) Commit).1.device ≡ Some (committed d t) =
+          sym (ap (λ (p : Reply × State). p.1.device) (gives_raised (is_full old Commit) d t (is_full_false old Commit (omega (arith, room touched, needed_some old session some))) (sym same ∙ touched))) in
           subst (λ (there : Option Device). Turns old.history new.history (Leaves (Some d)) (Leaves there)) (sym made) (turns d t holds)
     ])

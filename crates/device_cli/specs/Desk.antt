@@ -1,12 +1,15 @@
 -- What a run may rely on between lines.
-use Rattle.std.specs.Prelude.{◌≡◌, ◌≤◌, ◌+◌, ℕ, Some, Result, IfSome, IfOk, IfErr, OnOk, IsErrOf}
+use Rattle.std.specs.Prelude.{◌≡◌, ◌<◌, ◌≤◌, ◌+◌, ◌-◌, ℕ, Some, Result, IfSome, IfOk, IfErr, OnOk, IsErrOf}
 use Rattle.platform.specs.Image.{Image}
 use Rattle.platform.specs.declared.platforms.Platform.{Ghosts}
 use Rattle.device_core.specs.Leaf.{IsServedImage}
 use Rattle.script_lang.specs.Replies.{CanWrite, FitsBlock, said}
 use Rattle.script_lang.specs.declared.replies.Reply.{Reply as Given}
 use Rattle.script_lang.specs.declared.replies.Reply.TheVariants as given
-use Rattle.device_cli.specs.Added.{HasAdded}
+use Rattle.script_lang.specs.Commands.{Command}
+use Rattle.device_cli.specs.Added.{left_by}
+use Rattle.device_cli.specs.Pages.{needed_for}
+use Rattle.device_cli.specs.World.{needed_of}
 use Rattle.device_cli.specs.Run.{IsOfLine}
 use Rattle.device_cli.specs.declared.stop.Stop.{Stop}
 use Rattle.device_cli.specs.declared.stop.Stop.TheVariants as lines
@@ -33,9 +36,8 @@ pub record Before {S : Type 0} (P : Ghosts S) (desk : Desk) (platform : S) : Typ
   pub cell : P.tells → IsServedImage (P.history platform).present
   pub mounted : P.tells → IfSome desk.session (IsMounted (P.history platform).present)
 
--- what each command leaves for the next one. Its reply can be put; one page at most was added, and none at a stop that isn't the platform's or the
--- ledger's; and a reply that no page was free is true
-pub record After {S : Type 0} (P : Ghosts S) (desk : Desk) (old new : S) (result : Result Given DeviceStop) : Type 0 where
+-- what a command leaves for the next one. Its reply can be put; a stop left no more pages than it may; and a reply that too few pages were free is true
+pub record After {S : Type 0} (P : Ghosts S) (before desk : Desk) (old new : S) (command : Command) (result : Result Given DeviceStop) : Type 0 where
   pub ready : OnOk result (IsReady desk (P.head new))
   pub mounted : P.tells → OnOk result (IfSome desk.session (IsMounted (P.history new).present))
   pub reply : IfOk result (λ reply. CanWrite (said reply desk.buffer))
@@ -43,9 +45,8 @@ pub record After {S : Type 0} (P : Ghosts S) (desk : Desk) (old new : S) (result
   pub bad_root : P.tells → IsErrOf result stops.BadRoot → ⊥
   pub capacity : P.capacity new ≡ P.capacity old
   pub rises : P.head old ≤ P.head new
-  pub by_one : P.head new ≤ P.head old + 1
-  pub added : IfErr result (λ stop. HasAdded stop (P.head old) (P.head new))
-  pub full : IfOk result (λ reply. reply ≡ given.Full → P.head new ≡ P.capacity new)
+  pub added : IfErr result (λ stop. P.head new ≤ P.head old + left_by stop command (needed_of before.session))
+  pub full : IfOk result (λ reply. reply ≡ given.Full → P.capacity new - P.head new < needed_for command (needed_of before.session))
 
 -- what each line leaves for the next one; it stops neither for the input nor for a root record that can't be served
 pub record AfterLine {S : Type 0} (P : Ghosts S) (desk : Desk) (platform : S) (result : Result (Unit {0}) Stop) : Type 0 where

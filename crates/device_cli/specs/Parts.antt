@@ -1,5 +1,5 @@
 -- What a part of a run gives, whether it serves a command, a line, or a piece of the input.
-use Rattle.std.specs.Prelude.{◌≡◌, ℕ, List, Option, Result, IsOk, IfOk, OnOk, IsErrOf}
+use Rattle.std.specs.Prelude.{◌≡◌, ℕ, ◌+◌, List, Option, Result, IsOk, IfOk, OnOk, IsErrOf}
 use Rattle.sdbt_base.specs.Arrays.{State}
 use Rattle.sdbt_base.specs.declared.sinks.Sink.{Ghosts as SinkGhosts}
 use Rattle.sdbt_base.specs.declared.tapes.Tape.{Ghosts as TapeGhosts}
@@ -7,15 +7,18 @@ use Rattle.platform.specs.Image.{Image}
 use Rattle.platform.specs.History.{moment}
 use Rattle.platform.specs.declared.platforms.Platform.{Ghosts as PlatformGhosts}
 use Rattle.script_lang.specs.Commands.{Command}
+use Rattle.script_lang.specs.Commands.{Format, Write, Commit}
+use Rattle.script_lang.specs.Replies.{Reply}
+use Rattle.script_lang.specs.Replies.{Formatted, Done, Committed}
 use Rattle.script_lang.specs.declared.replies.Reply.{Reply as Given}
 use Rattle.device_course.specs.Keys.{KeepsOn}
 use Rattle.device_course.specs.States.{IsListed}
-use Rattle.device_cli.specs.Pages.{pages_after}
+use Rattle.device_cli.specs.Pages.{updates_after}
 use Rattle.device_cli.specs.Replied.{IsWrongPage, Serves, outcome}
 use Rattle.device_cli.specs.Represents.{Represents}
 use Rattle.device_cli.specs.Run.{IsBlamedOn, counts}
 use Rattle.device_cli.specs.Seen.{Saw}
-use Rattle.device_cli.specs.World.{World, world_of}
+use Rattle.device_cli.specs.World.{World, world_of, needed_of, AreEnough}
 use Rattle.device_cli.specs.declared.desk.Desk.{Desk}
 use Rattle.device_cli.specs.declared.stop.Stop.{Stop}
 use Rattle.device_cli.specs.declared.stop.DeviceStop.{DeviceStop}
@@ -53,12 +56,24 @@ abbrev pub ServesAny : {S : Type 0} → PlatformGhosts S → Desk → Desk → S
 ServesAny P desk now platform platform_now command result = (entry : State) → Represents (world_at P desk platform) entry
     → Serves (world_at P desk platform) (world_at P now platform_now) entry command (outcome result now.buffer)
 
--- and where it has a reply, there are as many pages then as that reply tells
-abbrev pub AddsPages : {S : Type 0} → PlatformGhosts S → Desk → Desk → S → S → Command → Result Given DeviceStop → Type 0
-AddsPages P desk now platform platform_now command result = (entry : State) → Represents (world_at P desk platform) entry
-    → IfOk (outcome result now.buffer) (λ reply. P.head platform_now ≡ pages_after entry command reply (P.head platform))
+-- how many pages a command adds that has a reply, where a commit needs so many
+abbrev pub added_by : Command → Reply → ℕ → ℕ
+added_by (Format blocks order) Formatted changes = 1
+added_by (Write block content) Done changes = 1
+added_by Commit (Committed number) changes = changes
+added_by _ _ changes = 0
 
--- and its reply belongs to a moment of the call, at which the image stands for the device of that state and has as many pages as before
+-- where a command has a reply, it added so many pages
+abbrev pub AddsPages : {S : Type 0} → PlatformGhosts S → Desk → Desk → S → S → Command → Result Given DeviceStop → Type 0
+AddsPages P desk now platform platform_now command result =
+    IfOk (outcome result now.buffer) (λ reply. P.head platform_now ≡ P.head platform + added_by command reply (needed_of desk.session))
+
+-- and as many updates as there are then are enough for a commit, if they were before
+abbrev pub StaysEnough : Desk → Desk → Result Given DeviceStop → Type 0
+StaysEnough desk now result = (updates : ℕ) → AreEnough desk.session updates
+    → IfOk (outcome result now.buffer) (λ reply. AreEnough now.session (updates_after reply updates))
+
+-- and its reply, if it has one, belongs to a moment of the call, at which the image stands for the device of that state and has as many pages as before
 abbrev pub SeesAny : {S : Type 0} → PlatformGhosts S → Desk → Desk → S → S → Result Given DeviceStop → Type 0
 SeesAny P desk now platform platform_now result = (entry : State) → Represents (world_at P desk platform) entry
     → IfOk (outcome result now.buffer) (Saw (P.history platform_now) (moment (P.history platform)) entry.device (P.head platform))

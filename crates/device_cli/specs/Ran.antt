@@ -1,5 +1,5 @@
 -- A run from its input to its output.
-use Rattle.std.specs.Prelude.{◌≡◌, ◌≢◌, ℕ, ◌+◌, ◌<◌, ◌≤◌, ◌^◌, ◌⊎◌, List, [], ◌∷◌, ◌++◌, All, Option, Some, Ok, Err, length, flat_map}
+use Rattle.std.specs.Prelude.{◌≡◌, ◌≢◌, ℕ, ◌+◌, ◌*◌, ◌<◌, ◌≤◌, ◌^◌, ◌⊎◌, List, [], ◌∷◌, ◌++◌, All, Option, Some, Ok, Err, length, flat_map}
 use Rattle.platform.specs.Runs.{Passes}
 use Rattle.device_core.specs.Leaf.{IsServedImage}
 use Rattle.sdbt_base.specs.Told.{Gave, Got, IsAtEnd}
@@ -11,11 +11,12 @@ use Rattle.script_lang.specs.Replies.{Reply}
 use Rattle.script_lang.specs.Replies.{Full}
 use Rattle.device_cli.specs.World.{World}
 use Rattle.device_cli.specs.Represents.{StandsFor}
-use Rattle.device_cli.specs.Pages.{AnswersOn, IsOneMore}
+use Rattle.device_cli.specs.Pages.{needed_for, updates_of, accepted, AnswersOn, AreShort, IfNext}
+use Rattle.device_cli.specs.Added.{left_by, HasAdded}
 use Rattle.device_cli.specs.Seen.{SeenOn}
 use Rattle.platform.specs.History.{moment}
 use Rattle.device_cli.specs.Run.{TookUntil}
-use Rattle.device_cli.specs.Replied.{Ending, Handled, IsFirstPart, IfNext, AsksForBlock, IsWrongPage, HasMark, ExitsAt, damage_line}
+use Rattle.device_cli.specs.Replied.{Ending, Handled, IsFirstPart, AsksForBlock, IsWrongPage, HasMark, ExitsAt, damage_line}
 use Rattle.device_cli.specs.declared.stop.DeviceStop.{DeviceStop}
 use Rattle.device_cli.specs.declared.stop.DeviceStop.TheVariants as device
 use Rattle.device_cli.specs.declared.stop.Stop.TheVariants as stops
@@ -57,17 +58,20 @@ pub record Ran (tells : Type 0) (old new : World) (last : DeviceStop → List �
 pub record AnswersFrom (old new : World) (status : ℕ) (entry : State) (lines : List (List ℕ)) (replies : List Reply) (part : List ℕ) : Type 0 where
   pub now : State
   pub pages : ℕ
-  pub answers : AnswersOn old.capacity entry old.head lines replies now pages
+  pub answers : AnswersOn old.capacity entry old.head 0 lines replies now pages
   -- a reply to a `seize` line counts what chains of opening come to at a moment of the run, at which the image stands for the device in the state at that
   -- line; these moments ascend in the order of the lines
-  pub seen : SeenOn old.capacity new.history (moment old.history) entry old.head lines replies now pages
+  pub seen : SeenOn old.capacity new.history (moment old.history) entry old.head 0 lines replies now pages
   pub ends : (status ≡ 0) ⊎ (status ≡ 3) ⊎ (status ≡ 12) → StandsFor new.history.present now.device × (new.head ≡ pages)
-  pub next : status ≡ 4 → (reply : Reply) × (then : State) × AnswersOn old.capacity entry old.head lines (replies ++ reply ∷ []) then new.head
+  pub next : status ≡ 4 → (reply : Reply) × (then : State) × AnswersOn old.capacity entry old.head 0 lines (replies ++ reply ∷ []) then new.head
       × IsFirstPart (line_of reply) part × StandsFor new.history.present then.device
   pub sound : (status ≢ 8) × (status ≢ 9)
-  -- a command that was cut short may have added one page more, but none where no key or no memory was given
-  pub near : IsOneMore pages new.head
-  pub exact : (status ≡ 6) ⊎ (status ≡ 11) → new.head ≡ pages
+  -- a command that was cut short may have added the pages that it needs, but none where no memory was given, nor, but for a commit, where no key was
+  pub near : HasAdded (λ command. needed_for command (41 * updates_of 0 replies)) lines replies pages new.head
+  pub keyless : status ≡ 6 → HasAdded (λ command. left_by device.Tape command (41 * updates_of 0 replies)) lines replies pages new.head
+  pub exact : status ≡ 11 → new.head ≡ pages
+  -- an update adds 42 pages at most: one, and 41 with its commit; and one more may be there of a command that was cut short
+  pub bound : (pages ≤ old.head + 42 * accepted replies) × (new.head ≤ old.head + 42 * accepted replies + 1)
   -- at each moment a loss of power leaves a device that the replies passed, in their order; at 4 and 5 perhaps the one
   -- after one more reply. The last moment has the device after all of them, or that one more
   pub ahead : List Reply
@@ -96,13 +100,13 @@ pub record AnswersScript (tells : Type 0) (old new : World) (status : ℕ) (left
   pub bad_root : status ≡ 8 → part ≡ damage_line device.BadRoot
   pub bad_record : status ≡ 9 → (addr : ℕ) × (part ≡ damage_line (device.BadRecord addr)) × IfNext replies lines AsksForBlock × (tells → IsWrongPage new.history.present addr)
   pub cut : status ≡ 4 → ((reply : Reply) × IsFirstPart (line_of reply) part) ⊎ ((stop : DeviceStop) × IsFirstPart (damage_line stop) part)
-  -- a reply that no page was free is true for good
-  pub full : All (λ r. r ≡ Full → new.head ≡ new.capacity) replies
+  -- a reply that too few pages were free is true for good
+  pub full : AreShort new.head new.capacity 0 lines replies
   -- over an image that stands for a device which can be served, from that device on without a session
   pub answered : tells → (there : Option Device) → StandsFor old.history.present there → IsServedImage old.history.present
       → AnswersFrom old new status (closed there) lines replies part
 
--- a run over the whole input: one reply for each line, none of them that no page was free
+-- a run over the whole input: one reply for each line, none of them that too few pages were free
 pub record IsComplete (entry : State) (text : List ℕ) (written written_now : Option (List ℕ)) : Type 0 where
   pub replies : List Reply
   pub got : Got written (flat_map line_of replies) written_now
@@ -111,8 +115,8 @@ pub record IsComplete (entry : State) (text : List ℕ) (written written_now : O
   pub each : length replies ≡ length (lines_of text)
   pub roomy : All (λ r. r ≢ Full) replies
 
--- the input is a text of less than 2^32 bytes, and at least one page is free for each of its lines
+-- the input is a text of less than 2^32 bytes, and at least 42 pages are free for each of its lines
 pub record IsAmple (left : Option (List ℕ)) (text : List ℕ) (head capacity : ℕ) : Type 0 where
   pub text_is : left ≡ Some text
   pub short : length text < 2 ^ 32
-  pub room : head + length (lines_of text) ≤ capacity
+  pub room : head + 42 * length (lines_of text) ≤ capacity

@@ -1,5 +1,5 @@
 -- What a run that handled some lines put, and which replies belong to them.
-use Rattle.std.specs.Prelude.{◌≡◌, ℕ, ◌≤◌, ◌⊎◌, List, [], ◌∷◌, ◌++◌, All, Option, None, Some, Result, Ok, Err, take, length, codes, flat_map}
+use Rattle.std.specs.Prelude.{◌≡◌, ℕ, ◌≤◌, ◌⊎◌, List, [], ◌∷◌, ◌++◌, Option, None, Some, Result, Ok, Err, OnOk, take, length, codes, flat_map}
 use Rattle.std.specs.Fmt.{decimal}
 use Rattle.platform.specs.Image.{Image}
 use Rattle.platform.specs.History.{During, Turns, moment}
@@ -15,12 +15,11 @@ use Rattle.script_lang.specs.Answers.{IsMark, IsAnswer, answer, none_counted}
 use Rattle.script_lang.specs.Commands.{Command}
 use Rattle.script_lang.specs.Commands as commands
 use Rattle.script_lang.specs.Replies.{Reply}
-use Rattle.script_lang.specs.Replies.{Full}
-use Rattle.device_cli.specs.World.{World, is_full, IsLater}
+use Rattle.device_cli.specs.World.{World, is_full, AreEnough, IsLater}
 use Rattle.device_course.specs.Marks.{Leaves, mark_at, last_mark}
 use Rattle.device_course.specs.Course.{Made}
 use Rattle.device_cli.specs.Represents.{Represents, Stood, StandsFor}
-use Rattle.device_cli.specs.Pages.{AnswersOn}
+use Rattle.device_cli.specs.Pages.{updates_of, AnswersOn, AreShort, IfNext}
 use Rattle.device_cli.specs.Seen.{SeenOn}
 use Rattle.device_cli.specs.Added.{IsNear}
 use Rattle.device_cli.specs.declared.stop.Stop.{Stop}
@@ -66,13 +65,6 @@ AreMany replies lines (Err stops.Limit) = replies ≡ lines
 AreMany replies lines (Err (stops.Device stop)) = replies ≤ lines
 AreMany replies lines (Err stops.Sink) = replies ≤ lines
 
--- the line after those that have replies
-abbrev pub IfNext : List Reply → List (List ℕ) → (List ℕ → Type 0) → Type 0
-IfNext [] [] P = ⊥
-IfNext [] (line ∷ lines) P = P line
-IfNext (reply ∷ replies) [] P = ⊥
-IfNext (reply ∷ replies) (line ∷ lines) P = IfNext replies lines P
-
 -- the command reads, writes or trims a block
 abbrev pub IsOfBlock : Command → Type 0
 IsOfBlock (commands.Read block) = Unit {0}
@@ -108,13 +100,13 @@ IsSound device.Memory = Unit {0}
 
 -- how a run over a device that stands ends, after the replies that led to the state `now`: in that state, with so many
 -- pages; by a fault alone; or, where the output failed, with a first part of one more reply's line, for the device after it
-abbrev pub EndsIn : World → World → State → List (List ℕ) → List Reply → List ℕ → State → ℕ → Ending → Type 0
-EndsIn old new entry lines replies part now pages (Ok done) = Stood new now × (new.head ≡ pages)
-EndsIn old new entry lines replies part now pages (Err stops.Source) = Stood new now × (new.head ≡ pages)
-EndsIn old new entry lines replies part now pages (Err stops.Limit) = Stood new now × (new.head ≡ pages)
-EndsIn old new entry lines replies part now pages (Err (stops.Device stop)) = IsSound stop
-EndsIn old new entry lines replies part now pages (Err stops.Sink) =
-    (reply : Reply) × (next : State) × AnswersOn old.capacity entry old.head lines (replies ++ reply ∷ []) next new.head
+abbrev pub EndsIn : World → World → State → ℕ → List (List ℕ) → List Reply → List ℕ → State → ℕ → Ending → Type 0
+EndsIn old new entry updates lines replies part now pages (Ok done) = Stood new now × (new.head ≡ pages)
+EndsIn old new entry updates lines replies part now pages (Err stops.Source) = Stood new now × (new.head ≡ pages)
+EndsIn old new entry updates lines replies part now pages (Err stops.Limit) = Stood new now × (new.head ≡ pages)
+EndsIn old new entry updates lines replies part now pages (Err (stops.Device stop)) = IsSound stop
+EndsIn old new entry updates lines replies part now pages (Err stops.Sink) =
+    (reply : Reply) × (next : State) × AnswersOn old.capacity entry old.head updates lines (replies ++ reply ∷ []) next new.head
     × IsFirstPart (line_of reply) part × StandsFor new.history.present next.device
 
 -- the reply to the line in hand may have come to be where the platform or the output failed, and else none
@@ -147,15 +139,15 @@ pub record AreMarks (entry : State) (lines : List (List ℕ)) (replies : List Re
   pub many : length marks ≡ length replies
   pub each : (k : ℕ) → k ≤ length replies → IsMark entry lines replies k (mark_at entry.device marks k)
 
--- the replies are those of the array, from the state at entry on; those to `seize` lines belong to moments in the order of the lines; and the devices that they
+-- the replies are those of the array, from the state at entry on, after so many updates; those to `seize` lines belong to moments in the order of the lines; and the devices that they
 -- passed, with the one of a reply ahead, were made in their order
-pub record Answered (old new : World) (ending : Ending) (entry : State) (lines : List (List ℕ)) (replies : List Reply) (part : List ℕ) : Type 0 where
+pub record Answered (old new : World) (ending : Ending) (entry : State) (updates : ℕ) (lines : List (List ℕ)) (replies : List Reply) (part : List ℕ) : Type 0 where
   pub now : State
   pub pages : ℕ
-  pub answers : AnswersOn old.capacity entry old.head lines replies now pages
-  pub seen : SeenOn old.capacity new.history (moment old.history) entry old.head lines replies now pages
-  pub ends : EndsIn old new entry lines replies part now pages ending
-  pub near : IsNear ending pages new.head
+  pub answers : AnswersOn old.capacity entry old.head updates lines replies now pages
+  pub seen : SeenOn old.capacity new.history (moment old.history) entry old.head updates lines replies now pages
+  pub ends : EndsIn old new entry updates lines replies part now pages ending
+  pub near : IsNear ending (updates_of updates replies) lines replies pages new.head
   pub ahead : List Reply
   pub is_ahead : IsAhead ending ahead
   pub marks : List (Option Device)
@@ -163,7 +155,7 @@ pub record Answered (old new : World) (ending : Ending) (entry : State) (lines :
   pub made : Made old.history new.history None entry marks (closed (last_mark entry.device marks))
 
 -- a run that handled these lines: what it put is the lines of its replies, and perhaps a part behind them. From each
--- state that the start stood for, the replies are those of the array
+-- state that the start stood for, after so many updates as are enough for its session, the replies are those of the array
 pub record Replied (tells : Type 0) (old new : World) (last : DeviceStop → List ℕ) (ending : Ending) (lines : List (List ℕ)) (put : List ℕ) : Type 0 where
   pub replies : List Reply
   pub part : List ℕ
@@ -172,8 +164,9 @@ pub record Replied (tells : Type 0) (old new : World) (last : DeviceStop → Lis
   pub many : AreMany (length replies) (length lines) ending
   pub damage : IsDamageAt tells new.history.present replies lines ending
   pub later : IsLater old new
-  pub full : All (λ r. r ≡ Full → new.head ≡ new.capacity) replies
-  pub answered : tells → (entry : State) → Stood old entry → Answered old new ending entry lines replies part
+  pub full : (updates : ℕ) → AreEnough old.session updates → AreShort new.head new.capacity updates lines replies
+  pub enough : (updates : ℕ) → AreEnough old.session updates → OnOk ending (AreEnough new.session (updates_of updates replies))
+  pub answered : tells → (entry : State) (updates : ℕ) → Stood old entry → AreEnough old.session updates → Answered old new ending entry updates lines replies part
 
 -- the same of what an output has got
 pub record Handled (tells : Type 0) (old new : World) (last : DeviceStop → List ℕ) (ending : Ending) (lines : List (List ℕ)) (written written_now : Option (List ℕ)) : Type 0 where
@@ -190,18 +183,18 @@ outcome (Err stop) buffer = Err stop
 -- from which on it leaves the device after the command
 abbrev pub Halts : World → World → State → Command → DeviceStop → Type 0
 Halts old new entry command device.Platform =
-    Turns old.history new.history (Leaves entry.device) (Leaves (answer (is_full old) none_counted entry command).1.device)
+    Turns old.history new.history (Leaves entry.device) (Leaves (answer (is_full old command) none_counted entry command).1.device)
 Halts old new entry command device.Tape = During old.history new.history (Leaves entry.device)
 Halts old new entry command device.Ledger = During old.history new.history (Leaves entry.device)
 Halts old new entry command device.Memory = During old.history new.history (Leaves entry.device)
 Halts old new entry command device.BadRoot = ⊥
 Halts old new entry command (device.BadRecord addr) = ⊥
 
--- what the serving of a command did from a state: a reply of the array, full exactly where it needs a page and none is
+-- what the serving of a command did from a state: a reply of the array, full exactly where it needs more pages than are
 -- free, and the state after it; or a stop without damage
 abbrev pub Serves : World → World → State → Command → Result Reply DeviceStop → Type 0
 Serves old new entry command (Ok reply) =
-    (now : State) × IsAnswer (is_full old) entry command reply now × Represents new now
+    (now : State) × IsAnswer (is_full old command) entry command reply now × Represents new now
     × Turns old.history new.history (Leaves entry.device) (Leaves now.device)
 Serves old new entry command (Err stop) = Halts old new entry command stop
 

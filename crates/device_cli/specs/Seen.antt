@@ -1,5 +1,5 @@
 -- To which moments of a run the replies to `seize` lines belong.
-use Rattle.std.specs.Prelude.{◌≡◌, ℕ, ◌≤◌, ◌==◌, List, [], ◌∷◌, ◌++◌, Option, None, Some, length}
+use Rattle.std.specs.Prelude.{◌≡◌, ℕ, ◌≤◌, List, [], ◌∷◌, ◌++◌, Option, None, Some, length}
 use Rattle.std.specs.FinMap as map
 use Rattle.platform.specs.Image.{Image}
 use Rattle.platform.specs.History.{History, image_at, moment}
@@ -12,7 +12,7 @@ use Rattle.device_core.specs.Leaf.{IsServedImage}
 use Rattle.sdbt_base.specs.Arrays.{Device, State}
 use Rattle.script_lang.specs.Replies.{Reply}
 use Rattle.script_lang.specs.Replies as replies
-use Rattle.device_cli.specs.Pages.{TurnIf}
+use Rattle.device_cli.specs.Pages.{updates_after, TurnOn}
 use Rattle.device_cli.specs.Represents.{StandsFor}
 
 -- what a seizure of the image counts: its pages, and the nodes and the data records at which chains of opening from the key of the root
@@ -46,12 +46,12 @@ pub record Saw (history : History) (from : ℕ) (device : Option Device) (pages 
 
 -- these replies belong to the first of these lines, as in `AnswersOn`; and they belong to moments that ascend in the order of the lines: at that of
 -- a `seize` line the image stands for the device in the state at that line, and has as many pages as there are then
-abbrev pub SeenOn : ℕ → History → ℕ → State → ℕ → List (List ℕ) → List Reply → State → ℕ → Type 0
-SeenOn capacity history from old pages lines [] new pages_now = (new ≡ old) × (pages_now ≡ pages)
-SeenOn capacity history from old pages [] (reply ∷ replies) new pages_now = ⊥
-SeenOn capacity history from old pages (line ∷ lines) (reply ∷ replies) new pages_now =
-    (saw : Saw history from old.device pages reply) × (mid : State) × (between : ℕ) × TurnIf (pages == capacity) old pages line reply mid between
-    × SeenOn capacity history saw.at mid between lines replies new pages_now
+abbrev pub SeenOn : ℕ → History → ℕ → State → ℕ → ℕ → List (List ℕ) → List Reply → State → ℕ → Type 0
+SeenOn capacity history from old pages updates lines [] new pages_now = (new ≡ old) × (pages_now ≡ pages)
+SeenOn capacity history from old pages updates [] (reply ∷ replies) new pages_now = ⊥
+SeenOn capacity history from old pages updates (line ∷ lines) (reply ∷ replies) new pages_now =
+    (saw : Saw history from old.device pages reply) × (mid : State) × (between : ℕ) × TurnOn capacity old pages updates line reply mid between
+    × SeenOn capacity history saw.at mid between (updates_after reply updates) lines replies new pages_now
 
 -- how many blocks the device's map has
 abbrev pub mapped_of : Option Device → ℕ

@@ -1,8 +1,11 @@
 -- What a run works on.
-use Rattle.std.specs.Prelude.{◌≡◌, ℕ, ◌≤◌, Bool, ◌==◌, Option}
+use Rattle.std.specs.Prelude.{◌≡◌, ℕ, ◌-◌, ◌*◌, ◌≤◌, Bool, nat_lt, Option, None, Some}
 use Rattle.platform.specs.History.{History}
 use Rattle.platform.specs.declared.platforms.Platform.{Ghosts}
+use Rattle.device_core.specs.Open.{needed_by}
 use Rattle.device_core.specs.Sessions.{Session}
+use Rattle.script_lang.specs.Commands.{Command}
+use Rattle.device_cli.specs.Pages.{needed_for}
 
 -- the session, if one is open; the moments of the platform; how many pages it has, and how many it can have
 pub record World : Type 0 where
@@ -18,9 +21,18 @@ world session history head capacity = record { session = session; history = hist
 abbrev pub world_of : {S : Type 0} → Ghosts S → Option Session → S → World
 world_of P session platform = world session (P.history platform) (P.head platform) (P.capacity platform)
 
--- whether no page is free
-abbrev pub is_full : World → Bool
-is_full w = w.head == w.capacity
+-- how many pages a commit of the session's changes needs
+abbrev pub needed_of : Option Session → ℕ
+needed_of None = 0
+needed_of (Some session) = needed_by session
+
+-- whether fewer pages are free than a command needs
+abbrev pub is_full : World → Command → Bool
+is_full w command = nat_lt (w.capacity - w.head) (needed_for command (needed_of w.session))
+
+-- 41 pages for each of so many updates are enough for a commit of the session's changes
+abbrev pub AreEnough : Option Session → ℕ → Type 0
+AreEnough session updates = needed_of session ≤ 41 * updates
 
 -- the one world comes from the other: pages are only added, and no more than there is room for
 pub record IsLater (old new : World) : Type 0 where

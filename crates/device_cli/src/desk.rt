@@ -35,7 +35,7 @@ pub(crate) struct Desk {
 
 impl Desk {
     ghost use Rattle.device_cli.specs.Desk.{IsReady, Before, After};
-    ghost use Rattle.device_cli.specs.Parts.{AddsPages, Keeps, KeepsFrom, KeepsStill, MeetsDamage, SeesAny, ServesAny};
+    ghost use Rattle.device_cli.specs.Parts.{AddsPages, Keeps, KeepsFrom, KeepsStill, MeetsDamage, SeesAny, ServesAny, StaysEnough};
 
     /// No session.
     pub(crate) fn new(alloc: Global) -> Desk
@@ -60,12 +60,13 @@ impl Desk {
     ) -> Result<Reply, DeviceStop>
         requires before { Before P.Platform self.old platform.old }
         requires fits { FitsCommand command.now }
-        ensures after { After P.Platform self.new platform.old platform.new result }
+        ensures after { After P.Platform self.old self.new platform.old platform.new (asked command.now self.old.buffer) result }
         ensures blame { IsBlamed (counts (P.faults platform.old) (T.faults tape.old) 0 0 (L.faults ledger.old))
             (counts (P.faults platform.new) (T.faults tape.new) 0 0 (L.faults ledger.new)) result }
         ensures of_block { (addr : ℕ) → IsErrOf result (DeviceStop.BadRecord addr) → IsOfBlock (asked command.now self.old.buffer) }
         ensures damage { P.tells → MeetsDamage (P.history platform.new).present result }
-        ensures pages { P.tells → AddsPages P.Platform self.old self.new platform.old platform.new (asked command.now self.old.buffer) result }
+        ensures pages { AddsPages P.Platform self.old self.new platform.old platform.new (asked command.now self.old.buffer) result }
+        ensures enough { StaysEnough self.old self.new result }
         ensures keeps { Keeps P.Platform T.Tape L.Sink self.old self.new platform.old platform.new tape.old tape.new ledger.old ledger.new result }
         ensures answered { P.tells → ServesAny P.Platform self.old self.new platform.old platform.new (asked command.now self.old.buffer) result }
         ensures seen { P.tells → SeesAny P.Platform self.old self.new platform.old platform.new result }
@@ -96,11 +97,12 @@ impl Desk {
         order: u64,
     ) -> Result<Reply, DeviceStop>
         requires { Before P.Platform self.old platform.old }
-        ensures after { After P.Platform self.new platform.old platform.new result }
+        ensures after { After P.Platform self.old self.new platform.old platform.new (commands.Format blocks order) result }
         ensures blame { IsBlamed (counts (P.faults platform.old) (T.faults tape.old) 0 0 (L.faults ledger.old))
             (counts (P.faults platform.new) (T.faults tape.new) 0 0 (L.faults ledger.new)) result }
         ensures damage { (addr : ℕ) → IsErrOf result (DeviceStop.BadRecord addr) → ⊥ }
-        ensures pages { P.tells → AddsPages P.Platform self.old self.new platform.old platform.new (commands.Format blocks order) result }
+        ensures pages { AddsPages P.Platform self.old self.new platform.old platform.new (commands.Format blocks order) result }
+        ensures enough { StaysEnough self.old self.new result }
         ensures keeps { Keeps P.Platform T.Tape L.Sink self.old self.new platform.old platform.new tape.old tape.new ledger.old ledger.new result }
         ensures answered { P.tells → ServesAny P.Platform self.old self.new platform.old platform.new (commands.Format blocks order) result }
     {
@@ -120,10 +122,11 @@ impl Desk {
 
     fn mount<P: Platform>(&mut self, platform: &mut P) -> Result<Reply, DeviceStop>
         requires { Before P.Platform self.old platform.old }
-        ensures after { After P.Platform self.new platform.old platform.new result }
+        ensures after { After P.Platform self.old self.new platform.old platform.new commands.Mount result }
         ensures blame { IsBlamed (counts (P.faults platform.old) 0 0 0 0) (counts (P.faults platform.new) 0 0 0 0) result }
         ensures damage { (addr : ℕ) → IsErrOf result (DeviceStop.BadRecord addr) → ⊥ }
-        ensures pages { P.tells → AddsPages P.Platform self.old self.new platform.old platform.new commands.Mount result }
+        ensures pages { AddsPages P.Platform self.old self.new platform.old platform.new commands.Mount result }
+        ensures enough { StaysEnough self.old self.new result }
         ensures keeps { KeepsStill P.Platform self.old self.new platform.old platform.new result }
         ensures answered { P.tells → ServesAny P.Platform self.old self.new platform.old platform.new commands.Mount result }
     {
@@ -145,10 +148,11 @@ impl Desk {
 
     fn read<P: Platform>(&mut self, platform: &mut P, block: u64) -> Result<Reply, DeviceStop>
         requires { Before P.Platform self.old platform.old }
-        ensures after { After P.Platform self.new platform.old platform.new result }
+        ensures after { After P.Platform self.old self.new platform.old platform.new (commands.Read block) result }
         ensures blame { IsBlamed (counts (P.faults platform.old) 0 0 0 0) (counts (P.faults platform.new) 0 0 0 0) result }
         ensures damage { P.tells → MeetsDamage (P.history platform.new).present result }
-        ensures pages { P.tells → AddsPages P.Platform self.old self.new platform.old platform.new (commands.Read block) result }
+        ensures pages { AddsPages P.Platform self.old self.new platform.old platform.new (commands.Read block) result }
+        ensures enough { StaysEnough self.old self.new result }
         ensures keeps { KeepsStill P.Platform self.old self.new platform.old platform.new result }
         ensures answered { P.tells → ServesAny P.Platform self.old self.new platform.old platform.new (commands.Read block) result }
     {
@@ -172,11 +176,12 @@ impl Desk {
     ) -> Result<Reply, DeviceStop>
         requires size { count ≤ 4096 }
         requires before { Before P.Platform self.old platform.old }
-        ensures after { After P.Platform self.new platform.old platform.new result }
+        ensures after { After P.Platform self.old self.new platform.old platform.new (commands.Write block (take count self.old.buffer)) result }
         ensures blame { IsBlamed (counts (P.faults platform.old) (T.faults tape.old) 0 0 0)
             (counts (P.faults platform.new) (T.faults tape.new) 0 0 0) result }
         ensures damage { P.tells → MeetsDamage (P.history platform.new).present result }
-        ensures pages { P.tells → AddsPages P.Platform self.old self.new platform.old platform.new (commands.Write block (take count self.old.buffer)) result }
+        ensures pages { AddsPages P.Platform self.old self.new platform.old platform.new (commands.Write block (take count self.old.buffer)) result }
+        ensures enough { StaysEnough self.old self.new result }
         ensures keeps { (written : Option (List ℕ))
             → KeepsFrom P.Platform (T.drawn tape.old) (T.drawn tape.new) written written self.old self.new platform.old platform.new result }
         ensures answered { P.tells → ServesAny P.Platform self.old self.new platform.old platform.new (commands.Write block (take count self.old.buffer)) result }
@@ -197,10 +202,11 @@ impl Desk {
 
     fn trim<P: Platform>(&mut self, platform: &mut P, block: u64) -> Result<Reply, DeviceStop>
         requires { Before P.Platform self.old platform.old }
-        ensures after { After P.Platform self.new platform.old platform.new result }
+        ensures after { After P.Platform self.old self.new platform.old platform.new (commands.Trim block) result }
         ensures blame { IsBlamed (counts (P.faults platform.old) 0 0 0 0) (counts (P.faults platform.new) 0 0 0 0) result }
         ensures damage { P.tells → MeetsDamage (P.history platform.new).present result }
-        ensures pages { P.tells → AddsPages P.Platform self.old self.new platform.old platform.new (commands.Trim block) result }
+        ensures pages { AddsPages P.Platform self.old self.new platform.old platform.new (commands.Trim block) result }
+        ensures enough { StaysEnough self.old self.new result }
         ensures keeps { KeepsStill P.Platform self.old self.new platform.old platform.new result }
         ensures answered { P.tells → ServesAny P.Platform self.old self.new platform.old platform.new (commands.Trim block) result }
     {
@@ -223,11 +229,12 @@ impl Desk {
         ledger: &mut L,
     ) -> Result<Reply, DeviceStop>
         requires { Before P.Platform self.old platform.old }
-        ensures after { After P.Platform self.new platform.old platform.new result }
+        ensures after { After P.Platform self.old self.new platform.old platform.new commands.Commit result }
         ensures blame { IsBlamed (counts (P.faults platform.old) (T.faults tape.old) 0 0 (L.faults ledger.old))
             (counts (P.faults platform.new) (T.faults tape.new) 0 0 (L.faults ledger.new)) result }
         ensures damage { (addr : ℕ) → IsErrOf result (DeviceStop.BadRecord addr) → ⊥ }
-        ensures pages { P.tells → AddsPages P.Platform self.old self.new platform.old platform.new commands.Commit result }
+        ensures pages { AddsPages P.Platform self.old self.new platform.old platform.new commands.Commit result }
+        ensures enough { StaysEnough self.old self.new result }
         ensures keeps { Keeps P.Platform T.Tape L.Sink self.old self.new platform.old platform.new tape.old tape.new ledger.old ledger.new result }
         ensures answered { P.tells → ServesAny P.Platform self.old self.new platform.old platform.new commands.Commit result }
     {
@@ -254,6 +261,7 @@ impl Desk {
         ensures short { IfOk result FitsBlock }
         ensures full { IfOk result (λ reply. reply ≡ Reply.Full → ⊥) }
         ensures stop { IfErr result (λ stop. ⊥) }
+        ensures enough { StaysEnough self.old self.new result }
         ensures answered { P.tells → ServesAny P.Platform self.old self.new platform.now platform.now commands.Drop result }
     {
         let _ = platform;
@@ -266,10 +274,11 @@ impl Desk {
 
     fn erase<P: Platform>(&mut self, platform: &mut P) -> Result<Reply, DeviceStop>
         requires { Before P.Platform self.old platform.old }
-        ensures after { After P.Platform self.new platform.old platform.new result }
+        ensures after { After P.Platform self.old self.new platform.old platform.new commands.Erase result }
         ensures blame { IsBlamed (counts (P.faults platform.old) 0 0 0 0) (counts (P.faults platform.new) 0 0 0 0) result }
         ensures damage { (addr : ℕ) → IsErrOf result (DeviceStop.BadRecord addr) → ⊥ }
-        ensures pages { P.tells → AddsPages P.Platform self.old self.new platform.old platform.new commands.Erase result }
+        ensures pages { AddsPages P.Platform self.old self.new platform.old platform.new commands.Erase result }
+        ensures enough { StaysEnough self.old self.new result }
         ensures keeps { KeepsStill P.Platform self.old self.new platform.old platform.new result }
         ensures answered { P.tells → ServesAny P.Platform self.old self.new platform.old platform.new commands.Erase result }
     {
@@ -286,10 +295,11 @@ impl Desk {
     /// Counts what an adversary would open now, who has the root record and every page.
     fn seize<P: Platform>(&self, platform: &mut P) -> Result<Reply, DeviceStop>
         requires { Before P.Platform self.now platform.old }
-        ensures after { After P.Platform self.now platform.old platform.new result }
+        ensures after { After P.Platform self.now self.now platform.old platform.new commands.Seize result }
         ensures blame { IsBlamed (counts (P.faults platform.old) 0 0 0 0) (counts (P.faults platform.new) 0 0 0 0) result }
         ensures damage { (addr : ℕ) → IsErrOf result (DeviceStop.BadRecord addr) → ⊥ }
         ensures head { P.head platform.new ≡ P.head platform.old }
+        ensures enough { StaysEnough self.now self.now result }
         ensures keeps { KeepsStill P.Platform self.now self.now platform.old platform.new result }
         ensures answered { P.tells → ServesAny P.Platform self.now self.now platform.old platform.new commands.Seize result }
         ensures seen { P.tells → SeesAny P.Platform self.now self.now platform.old platform.new result }
@@ -317,6 +327,7 @@ impl Desk {
         ensures short { IfOk result FitsBlock }
         ensures full { IfOk result (λ reply. reply ≡ Reply.Full → ⊥) }
         ensures stop { IfErr result (λ stop. ⊥) }
+        ensures enough { StaysEnough self.now self.now result }
         ensures answered { P.tells → ServesAny P.Platform self.now self.now platform.now platform.now commands.Stat result }
     {
         let _ = platform;

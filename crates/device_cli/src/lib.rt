@@ -108,7 +108,7 @@ pub fn run_main<P: Platform, T: Tape, I: Source, O: Sink, L: Sink>(
         → IsServedImage (P.history platform.old).present
         → LeavesFitting (L.written ledger.old) (L.written ledger.new) (P.history platform.old).present (P.history platform.new).present }
 
-    // With room for a page a line, a short input and no fault, each line has its reply, unless no memory is given.
+    // With room for 42 pages a line, a short input and no fault, each line has its reply, unless no memory is given.
     ensures complete { P.tells → (there : Option Device) → StandsFor (P.history platform.old).present there
         → IsServedImage (P.history platform.old).present → AreRunWords (map string_bytes words.now)
         → (text : List ℕ) → IsAmple (I.left input.old) text (P.head platform.old) (P.capacity platform.old)

@@ -5,7 +5,7 @@ use Rattle.script_lang.specs.declared.replies.Reply.{Reply as Given}
 use Rattle.script_lang.specs.declared.replies.Reply.TheVariants as given
 use Rattle.device_cli.specs.World.{World, IsLater, world_of}
 use Rattle.device_cli.specs.Replied.{no_line}
-use Rattle.device_cli.proofs.RepliedLaws.{IsLater-refl, Handled-line, Handled-stop, turned_bad, turned_command}
+use Rattle.device_cli.proofs.RepliedLaws.{IsLater-refl, Handled-line, Handled-stop, turned_bad, turned_command, tells_short}
 use Rattle.device_cli.proofs.CellLaws.{served_at}
 use Rattle.device_course.proofs.KeysLaws.{on_start, on_done}
 use Rattle.device_cli.proofs.ReachingLaws.{on_ok}
@@ -17,8 +17,8 @@ returns-in_default-clause-handled g c text kept =
     let written = g.O.Sink.written in
     let old : World = world_of P c.args.desk.now.session c.args.platform.now in
     Handled-line P.tells old old no_line text Bad c.put_reply.result (written c.args.output.now) (written c.put_reply.new.output)
-    (IsLater-refl old (g.met.P.Platform.has_room c.args.platform.now)) (λ e. absurd cc)
-    (λ told entry rep. turned_bad old entry text (c.in_default.ensures.none text kept) rep) c.put_reply.ensures.put
+    (IsLater-refl old (g.met.P.Platform.has_room c.args.platform.now)) (λ updates enough e. absurd cc) (λ updates enough. enough)
+    (λ told entry updates rep enough. turned_bad old entry updates text (c.in_default.ensures.none text kept) rep) c.put_reply.ensures.put
 
 -- what is said is that no page was free only where that was given
 full_as_said : (reply : Given) (buffer : List ℕ) (X : Type 0) → (reply ≡ given.Full → X) → said reply buffer ≡ Full → X
@@ -50,10 +50,10 @@ returns-in-Ok-clause-handled g c text kept =
     let command = asked c.in-Some.command c.read_line.new.buffer in
     let reply = said c.in-Ok.reply c.serve.new.self.buffer in
     Handled-line P.tells old new no_line text reply c.put_reply-in-Ok.result (written c.args.output.now) (written c.put_reply-in-Ok.new.output)
-    later (full_as_said c.in-Ok.reply c.serve.new.self.buffer _ c.in-Ok.ensures.after.full)
-    (λ told entry rep. turned_command old new entry text command reply (c.in-Some.ensures.found text kept)
-    (served_at _ _ (c.serve.ensures.keeps.serves told (c.requires.cell told))) (c.in-Ok.ensures.pages told entry rep.there)
-    (c.in-Ok.ensures.seen told entry rep.there) (c.in-Ok.ensures.answered told entry rep.there))
+    later (tells_short old new text command reply (c.in-Some.ensures.found text kept) later (full_as_said c.in-Ok.reply c.serve.new.self.buffer _ c.in-Ok.ensures.after.full)) c.in-Ok.ensures.enough
+    (λ told entry updates rep enough. turned_command old new entry updates text command reply (c.in-Some.ensures.found text kept) c.requires.ready
+    (served_at _ _ (c.serve.ensures.keeps.serves told (c.requires.cell told))) c.in-Ok.ensures.pages
+    (c.in-Ok.ensures.seen told entry rep.there) rep enough (c.in-Ok.ensures.answered told entry rep.there))
     c.put_reply-in-Ok.ensures.put
 
 pub returns-in-Err-clause-handled : goal.returns-in-Err-clause-handled

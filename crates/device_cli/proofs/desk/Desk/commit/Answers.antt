@@ -1,4 +1,5 @@
-use Rattle.std.proofs.Common.{◌≡◌, None, Some, Ok, refl, ap, arith}
+use Rattle.std.proofs.lemmas.Bool.{cases_lt}
+use Rattle.std.proofs.Common.{◌≡◌, ◌-◌, inl, inr, None, Some, Ok, refl, ap, arith}
 use Rattle.std.proofs.lemmas.Grind.{common_steps}
 use Rattle.device_cli.specs.declared.stop.DeviceStop.TheVariants as device
 use Rattle.device_cli.specs.World.{World, world_of}
@@ -9,11 +10,16 @@ use Rattle.device_course.proofs.CertifiedLaws.{certified_going, certified_commit
 use Rattle.device_course.proofs.FitsLaws.{fitting_committed}
 use Rattle.device_course.proofs.KeysLaws.{on_start, on_call, listed_some}
 use Rattle.root_codec.specs.RootRecord.{root_bytes}
-use Rattle.device_core.specs.Open.{IsOpen}
+use Rattle.device_core.specs.Open.{IsOpen, needed_by}
 use Rattle.device_core.specs.declared.refusals.CommitReply.{CommitReply}
 use Rattle.device_core.specs.declared.refusals.CommitFault.{CommitFault}
 use Rattle.device_cli.proofs.desk.Desk.commit.Given.{Over}
 use Rattle.device_cli.proofs.desk.Desk.commit.Goals.{In-Some}
+use Rattle.device_core.specs.Open.{is_touched}
+use Rattle.device_core.proofs.NeedLaws.{needed_none}
+use Rattle.std.proofs.lemmas.Bool.{cases_Bool}
+use Rattle.device_cli.specs.World.{needed_of}
+use Rattle.device_cli.proofs.ServingLaws.{needed_some}
 use Rattle.device_cli.proofs.desk.Desk.commit.Goals as goal
 
 -- the session is open, and on the root record in the cell
@@ -67,7 +73,7 @@ returns-in-Err-TapeFault-clause-answered g c told entry rep =
     let P = g.P.Platform in
     let old : World = world_of P c.args.self.now.session c.args.platform.now in
     let new : World = world_of P (Some c.commit.new.self) c.commit.new.platform in
-    halts_still old new entry Commit device.Tape tt rep ((rw c.in-Err-TapeFault.field-0-is at c.in-Err-TapeFault.ensures.commits.cause).2 told)
+    halts_still old new entry Commit device.Tape tt rep ((rw c.in-Err-TapeFault.field-0-is at c.in-Err-TapeFault.ensures.commits.cause).1 told)
 
 pub returns-in-Err-LedgerFault-clause-answered : goal.returns-in-Err-LedgerFault-clause-answered
 returns-in-Err-LedgerFault-clause-answered g c told entry rep =
@@ -84,7 +90,10 @@ returns-in-Err-PlatformFault-clause-answered g c told entry rep =
     let taken : c.args.self.now.session ≡ Some c.in-Some.session = c.in-Some.is in
     halts_commit old new entry c.in-Some.session taken
     (λ e. let ok = (c.commit.ensures.idle e).5 in grind (arith, common_steps, ok))
-    (λ e f. let ok = (c.commit.ensures.full e f).5 in grind (arith, common_steps, ok))
+    (λ e. elim (cases_lt (old.capacity - old.head) (needed_by c.in-Some.session)) [
+      | inl few ↦ absurd (let ok = (c.commit.ensures.full e few).5 in grind (arith, common_steps, ok))
+      | inr many ↦ many
+    ])
     (λ d t holds. c.commit.ensures.commits.time told d t.contents holds) rep
 
 pub returns-in_default-clause-keeps : goal.returns-in_default-clause-keeps
@@ -119,3 +128,29 @@ pub returns-in-Err-PlatformFault-clause-keeps : goal.returns-in-Err-PlatformFaul
 returns-in-Err-PlatformFault-clause-keeps g c =
     let taken : c.args.self.now.session ≡ Some c.in-Some.session = c.in-Some.is in
     on_call _ _ _ _ _ c.args.self.now.session _ _ _ _ _ _ c.commit.ensures.commits.discloses.keys (λ told keys h. listed_some _ c.in-Some.session _ keys taken h) (λ told keys h. c.commit.ensures.commits.discloses.forgets told keys (listed_some _ c.in-Some.session _ keys taken h)) (λ told keys more h done. tt) c.commit.ensures.commits.discloses.serves (certified_going _ _ _ _ _ _ _ (λ never. absurd cc) (certified_commit _ _ _ _ _ c.in-Some.session _ c.commit.result (is_open g (goal.at.returns-in-Err-PlatformFault-clause-keeps g c).In-Some).served.fits (is_open g (goal.at.returns-in-Err-PlatformFault-clause-keeps g c).In-Some).served.key.0 c.commit.ensures.commits.discloses.turns (cell g (goal.at.returns-in-Err-PlatformFault-clause-keeps g c).In-Some) c.commit.ensures.commits.certifies)) (fitting_committed _ _ _ _ _ c.args.self.now.session c.in-Some.session _ taken (is_open g (goal.at.returns-in-Err-PlatformFault-clause-keeps g c).In-Some).loaded (λ e. let idle = c.commit.ensures.idle e in (ap (λ p. g.P.Platform.history p) idle.1, ap (λ l. g.L.Sink.written l) idle.3)) (λ told keys h. c.commit.ensures.commits.discloses.forgets told keys h) c.commit.ensures.commits.certifies)
+
+-- a commit that raised the number, or had nothing to do, added as many pages as it needed, and the next one needs none
+pub returns-in-Committed-clause-pages : goal.returns-in-Committed-clause-pages
+returns-in-Committed-clause-pages g c =
+    let P = g.P.Platform in
+    let session = c.in-Some.session in
+    let some = needed_some (world_of P c.args.self.now.session c.args.platform.now) session c.in-Some.is in
+    elim (cases_Bool (is_touched session)) [
+      | inr idle ↦ omega (arith, ap P.head (c.in-Ok.ensures.idle idle).1, needed_none session idle, some)
+      | inl touched ↦ elim (cases_lt (P.capacity c.args.platform.now - P.head c.args.platform.now) (needed_by session)) [
+        | inl few ↦ absurd (let full = (c.in-Ok.ensures.full touched few).4 in let is = c.in-Committed.is in cc)
+        | inr many ↦ omega (arith, (c.in-Ok.ensures.raised touched many).head, some)
+      ]
+    ]
+
+pub returns-in-Committed-clause-enough : goal.returns-in-Committed-clause-enough
+returns-in-Committed-clause-enough g c updates enough =
+    let P = g.P.Platform in
+    let session = c.in-Some.session in
+    elim (cases_Bool (is_touched session)) [
+      | inr idle ↦ omega (arith, ap needed_by (c.in-Ok.ensures.idle idle).0, needed_none session idle)
+      | inl touched ↦ elim (cases_lt (P.capacity c.args.platform.now - P.head c.args.platform.now) (needed_by session)) [
+        | inl few ↦ absurd (let full = (c.in-Ok.ensures.full touched few).4 in let is = c.in-Committed.is in cc)
+        | inr many ↦ omega (arith, (c.in-Ok.ensures.raised touched many).settled)
+      ]
+    ]

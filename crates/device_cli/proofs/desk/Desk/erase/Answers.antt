@@ -5,6 +5,7 @@ use Rattle.device_cli.specs.World.{World, world_of}
 use Rattle.device_cli.proofs.ServingLaws.{serves_erased, serves_erase_none, halts_erase}
 use Rattle.device_course.proofs.CertifiedLaws.{certified_emptied}
 use Rattle.device_course.proofs.KeysLaws.{on_kept, listed_image}
+use Rattle.device_cli.proofs.EnoughLaws.{enough_none}
 use Rattle.device_cli.proofs.desk.Desk.erase.Goals as goal
 
 pub returns-in-Ok-clause-answered : goal.returns-in-Ok-clause-answered
@@ -36,3 +37,6 @@ returns-in-Err-NoDevice-clause-keeps g c = λ drawn written. on_kept _ drawn wri
 
 pub returns-in-Err-PlatformFault-clause-keeps : goal.returns-in-Err-PlatformFault-clause-keeps
 returns-in-Err-PlatformFault-clause-keeps g c = λ drawn written. on_kept _ drawn written c.args.self.now.session _ _ _ _ (λ told. (c.erase.ensures.turns told).extends) (λ told. let pages = g.met.P.Platform.counts_pages in pages told c.erase.new.platform ∙ (c.erase.ensures.pages.0 ∙ sym (pages told c.args.platform.now))) c.erase.ensures.keeps c.erase.ensures.forgets (λ told keys h. tt) c.erase.ensures.serves (certified_emptied _ written _ _ _ c.erase.ensures.turns) c.erase.ensures.turns
+
+pub returns-in-Ok-clause-enough : goal.returns-in-Ok-clause-enough
+returns-in-Ok-clause-enough g c updates enough = enough_none c.close.new.self.session updates c.close.ensures

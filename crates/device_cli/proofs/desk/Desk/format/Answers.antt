@@ -1,4 +1,4 @@
-use Rattle.std.proofs.Common.{List, ◌≡◌, ◌≢◌, ◌<◌, ◌≤◌, ℕ, Bool, true, false, Option, None, Some, Ok, Err, inl, inr, refl, sym, ap, subst, rules, []}
+use Rattle.std.proofs.Common.{List, ◌≡◌, ◌≢◌, ◌-◌, ◌<◌, ◌≤◌, ℕ, Bool, true, false, Option, None, Some, Ok, Err, inl, inr, refl, sym, ap, subst, rules, arith, []}
 use Rattle.std.specs.Prelude.{Result, IfOk, IfErr, IsOk, ◌⊎◌}
 use Rattle.sdbt_base.specs.Faults.{Rose}
 use Rattle.sdbt_base.specs.Arrays.{State}
@@ -24,6 +24,8 @@ use Rattle.device_course.proofs.CertifiedLaws.{certified_going, certified_unput,
 use Rattle.device_course.proofs.FitsLaws.{fitting_formatted}
 use Rattle.device_course.proofs.KeysLaws.{on_look, on_call, sound_of, listed_image, listed_keys, format_listed}
 use Rattle.device_cli.proofs.ReachingLaws.{on_ok}
+use Rattle.device_cli.specs.World.{needed_of}
+use Rattle.device_cli.proofs.EnoughLaws.{enough_refused, pages_refused}
 use Rattle.device_cli.proofs.desk.Desk.format.Goals as goal
 
 -- what the looking for a device ended with
@@ -73,7 +75,7 @@ returns-in-Ok-clause-answered g c told entry rep =
     let most : c.args.blocks ≤ 64 = size.1 in
     let is : c.args.order ≡ 64 = size.2 in
     serves_formatted old new entry c.args.blocks c.args.order (c.in-Ok.ensures.cause.0 told) refl is least most
-    c.in-Ok.ensures.cause.1 (c.in-Ok.ensures.made told).0
+    (omega (arith, g.met.P.Platform.has_room c.args.platform.now, c.in-Ok.ensures.cause.1)) (c.in-Ok.ensures.made told).0
     (λ there stands. c.format.ensures.time told there stands) rep
 
 pub returns-in-Err-NotEmpty-clause-answered : goal.returns-in-Err-NotEmpty-clause-answered
@@ -92,7 +94,7 @@ returns-in-Err-Full-clause-answered g c told entry rep =
     let least : 1 ≤ c.args.blocks = size.0 in
     let most : c.args.blocks ≤ 64 = size.1 in
     let is : c.args.order ≡ 64 = size.2 in
-    serves_format_full old new entry c.args.blocks c.args.order ((rw c.in-Err-Full.field-0-is at c.in-Err-Full.ensures.cause).0 told) refl ((rw c.in-Err-Full.field-0-is at c.in-Err-Full.ensures.cause).2.0.image told) is least most (rw c.in-Err-Full.field-0-is at c.in-Err-Full.ensures.cause).1 ((rw c.in-Err-Full.field-0-is at c.in-Err-Full.ensures.cause).2.1 told) rep
+    serves_format_full old new entry c.args.blocks c.args.order ((rw c.in-Err-Full.field-0-is at c.in-Err-Full.ensures.cause).0 told) refl ((rw c.in-Err-Full.field-0-is at c.in-Err-Full.ensures.cause).2.0.image told) is least most (let none = (rw c.in-Err-Full.field-0-is at c.in-Err-Full.ensures.cause).1 in omega (arith, none)) ((rw c.in-Err-Full.field-0-is at c.in-Err-Full.ensures.cause).2.1 told) rep
 
 pub returns-in-Err-Memory-clause-answered : goal.returns-in-Err-Memory-clause-answered
 returns-in-Err-Memory-clause-answered g c told entry rep =
@@ -124,7 +126,9 @@ returns-in-Err-PlatformFault-clause-answered g c told entry rep =
     let least : 1 ≤ c.args.blocks = size.0 in
     let most : c.args.blocks ≤ 64 = size.1 in
     let is : c.args.order ≡ 64 = size.2 in
-    halts_format old new entry c.args.blocks c.args.order is least most (λ before. (c.format.ensures.kept told before).1)
+    let full_or_none : (old.history.present.cell ≢ None) ⊎ (old.capacity - old.head < 1) → (old.history.present.cell ≢ None) ⊎ (old.head ≡ old.capacity) =
+    λ before. elim before [ inl full ↦ inl full | inr none ↦ inr (omega (arith, none, g.met.P.Platform.has_room c.args.platform.now)) ] in
+    halts_format old new entry c.args.blocks c.args.order is least most (λ before. (c.format.ensures.kept told (full_or_none before)).1)
     (λ there stands. c.format.ensures.time told there stands) rep
 
 pub returns-in-Some-clause-answered : goal.returns-in-Some-clause-answered
@@ -161,3 +165,11 @@ returns-in-Err-PlatformFault-clause-keeps g c = on_call _ _ _ _ _ c.args.self.no
 
 pub returns-in-Some-clause-keeps : goal.returns-in-Some-clause-keeps
 returns-in-Some-clause-keeps g c = on_look _ _ _ c.args.self.now.session _ _ _ _ c.refuse_format.ensures.image c.refuse_format.ensures.time (λ told keys kept h. on_ok c.refuse_format.result _ (listed_image _ _ _ keys (c.refuse_format.ensures.image told) h))
+
+pub returns-in-Some-clause-enough : goal.returns-in-Some-clause-enough
+returns-in-Some-clause-enough g c updates enough =
+    enough_refused c.refuse_format.result c.args.self.now.buffer c.in-Some.reply c.args.self.now.session updates c.refuse_format.ensures.either c.in-Some.ensures.either enough
+
+pub returns-in-Some-clause-pages : goal.returns-in-Some-clause-pages
+returns-in-Some-clause-pages g c =
+    pages_refused c.refuse_format.result c.args.self.now.buffer c.in-Some.reply c.args.blocks c.args.order (needed_of c.args.self.now.session) _ _ c.refuse_format.ensures.either c.in-Some.ensures.either c.refuse_format.ensures.head

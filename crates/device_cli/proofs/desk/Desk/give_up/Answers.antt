@@ -7,6 +7,7 @@ use Rattle.device_cli.specs.World.{World, world_of}
 use Rattle.device_cli.proofs.ServedLaws.{gives_unmounted_drop}
 use Rattle.device_cli.proofs.ServingLaws.{serves_unmounted, serves_drop}
 use Rattle.device_cli.proofs.Choices.{some_of}
+use Rattle.device_cli.proofs.EnoughLaws.{enough_none}
 use Rattle.device_cli.proofs.desk.Desk.give_up.Goals as goal
 
 pub returns-then-is_none-clause-answered : goal.returns-then-is_none-clause-answered
@@ -25,3 +26,6 @@ returns-clause-answered g c told entry rep =
     let new : World = world_of P c.close.new.self.session c.args.platform.now in
     some_of held (λ none. grind (arith, common_steps, none, c.is_none.ensures, c.if-is_none.false)) (Serves old new entry commands.Drop (Ok replies.Dropped))
     (λ session some. serves_drop held c.close.new.self.session (P.history c.args.platform.now) (P.head c.args.platform.now) (P.capacity c.args.platform.now) entry session some c.close.ensures rep)
+
+pub returns-clause-enough : goal.returns-clause-enough
+returns-clause-enough g c updates enough = enough_none c.close.new.self.session updates c.close.ensures

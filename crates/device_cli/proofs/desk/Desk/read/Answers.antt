@@ -10,6 +10,9 @@ use Rattle.device_cli.proofs.ServedLaws.{at, with_session, has_session, serves_s
 use Rattle.device_cli.proofs.ServingLaws.{serves_unmounted}
 use Rattle.device_cli.proofs.CellLaws.{after_looked, mounted_still}
 use Rattle.device_course.proofs.KeysLaws.{on_start, on_look, listed_some}
+use Rattle.device_cli.specs.World.{AreEnough}
+use Rattle.device_cli.specs.Pages.{updates_after}
+use Rattle.device_cli.proofs.EnoughLaws.{enough_kept}
 use Rattle.device_cli.proofs.desk.Desk.read.Goals as goal
 
 pub returns-in_default-clause-answered : goal.returns-in_default-clause-answered
@@ -31,14 +34,14 @@ returns-in-Ok-clause-answered g c told entry rep =
     let after = has_session new c.read.new.self d t refl (c.in-Ok.ensures.array told d t.contents holds).0 (c.in-Ok.ensures.same.2 ∙ touched) in
     subst (λ (r : Reply). Serves old new (at d t) (Read c.args.block) (Ok r)) (sym c.reply_with_content.ensures.value)
     (serves_still old new (at d t) (at d t) (Read c.args.block) (content_reply c.read.new.out) (has_session old c.in-Some.session d t taken holds touched)
-    (gives_content (is_full old) d t c.args.block c.read.new.out within (c.in-Ok.ensures.array told d t.contents holds).1) after (c.read.ensures.looks.time told)))
+    (gives_content (is_full old (Read c.args.block)) d t c.args.block c.read.new.out within (c.in-Ok.ensures.array told d t.contents holds).1) after (c.read.ensures.looks.time told)))
 
 pub returns-in-Err-Range-clause-answered : goal.returns-in-Err-Range-clause-answered
 returns-in-Err-Range-clause-answered g c told entry rep =
     let P = g.P.Platform in
     let old = world_of P c.args.self.now.session c.args.platform.now in
     serves_range old (world_of P (Some c.read.new.self) c.read.new.platform) c.in-Some.session c.read.new.self entry (Read c.args.block) c.args.block c.in-Some.is refl rep (λ d t holds. (c.read.ensures.array told d t.contents holds).0) c.read.ensures.same.2
-    (rw c.in-Err-Range.field-0-is at c.in-Err-Range.ensures.cause) (λ d t past. gives_read_range (is_full old) d t c.args.block past) (c.read.ensures.looks.time told)
+    (rw c.in-Err-Range.field-0-is at c.in-Err-Range.ensures.cause) (λ d t past. gives_read_range (is_full old (Read c.args.block)) d t c.args.block past) (c.read.ensures.looks.time told)
 
 pub returns-in-Err-BadRecord-clause-answered : goal.returns-in-Err-BadRecord-clause-answered
 returns-in-Err-BadRecord-clause-answered g c told entry rep =
@@ -67,6 +70,15 @@ pub returns-in-Err-PlatformFault-clause-keeps : goal.returns-in-Err-PlatformFaul
 returns-in-Err-PlatformFault-clause-keeps g c = λ drawn written. on_look _ drawn written c.args.self.now.session _ _ _ _ c.read.ensures.looks.image c.read.ensures.looks.time (λ told keys kept h. tt)
 
 pub returns-in-Ok-clause-after : goal.returns-in-Ok-clause-after
-returns-in-Ok-clause-after g c = after_looked _ _ _ _ _ c.read.ensures.looks c.in-Ok.ensures.open
+returns-in-Ok-clause-after g c = after_looked _ _ _ _ _ _ _ c.read.ensures.looks c.in-Ok.ensures.open
     (λ told. mounted_still _ c.in-Some.session _ _ _ c.in-Some.is (c.requires.mounted told) c.read.ensures.same.0 (c.read.ensures.looks.time told) (c.read.ensures.follows told))
     (search rules) (search rules) (search rules)
+
+pub returns-in-Ok-clause-enough : goal.returns-in-Ok-clause-enough
+returns-in-Ok-clause-enough g c updates enough =
+    subst (λ (r : Reply). AreEnough (Some c.read.new.self) (updates_after r updates)) (sym c.reply_with_content.ensures.value)
+    (enough_kept c.args.self.now.session c.in-Some.session c.read.new.self updates c.in-Some.is c.in-Ok.ensures.same.3 enough)
+
+pub returns-in-Err-Range-clause-enough : goal.returns-in-Err-Range-clause-enough
+returns-in-Err-Range-clause-enough g c updates enough =
+    enough_kept c.args.self.now.session c.in-Some.session c.read.new.self updates c.in-Some.is c.read.ensures.same.3 enough

@@ -17,6 +17,8 @@ use Rattle.device_cli.proofs.SeizingLaws.{saw_seized}
 use Rattle.device_cli.proofs.SeizeWordLaws.{not_bad}
 use Rattle.device_course.proofs.KeysLaws.{on_look, listed_image}
 use Rattle.device_cli.specs.Replied.{Serves}
+use Rattle.device_cli.specs.World.{AreEnough}
+use Rattle.device_cli.specs.Pages.{updates_after}
 use Rattle.device_cli.proofs.desk.Desk.seize.Goals as goal
 
 -- the cell stays where the image does
@@ -88,3 +90,7 @@ returns-in-Err-PlatformFault-clause-keeps g c = λ drawn written. on_look _ draw
 
 pub returns-in-Err-Memory-clause-keeps : goal.returns-in-Err-Memory-clause-keeps
 returns-in-Err-Memory-clause-keeps g c = λ drawn written. on_look _ drawn written c.args.self.now.session _ _ _ _ c.seize.ensures.looks.image (λ told. stays _ _ (c.seize.ensures.looks.time told) (c.seize.ensures.looks.image told)) (λ told keys kept h. tt)
+
+pub returns-in-Ok-clause-enough : goal.returns-in-Ok-clause-enough
+returns-in-Ok-clause-enough g c updates enough =
+    subst (λ (r : Given). AreEnough c.args.self.now.session (updates_after (said r c.args.self.now.buffer) updates)) (sym c.reply_with_counts.ensures) enough

@@ -1,7 +1,7 @@
 use Rattle.std.specs.Prelude.{IfOk}
-use Rattle.device_cli.specs.Pages.{pages_after}
-use Rattle.std.proofs.Common.{◌≡◌, sym, subst, take}
-use Rattle.device_cli.specs.World.{World, world_of}
+use Rattle.device_cli.specs.Parts.{added_by}
+use Rattle.std.proofs.Common.{◌≡◌, ◌+◌, sym, subst, take}
+use Rattle.device_cli.specs.World.{World, needed_of, world_of}
 use Rattle.device_cli.specs.Replied.{Serves, outcome}
 use Rattle.script_lang.specs.Commands.{asked}
 use Rattle.script_lang.specs.declared.commands.Command.{Command as Parsed}
@@ -38,11 +38,11 @@ returns-in-Stat-clause-answered g c told entry rep =
     (c.stat.ensures.answered told entry rep)
 
 pub returns-in-Write-clause-pages : goal.returns-in-Write-clause-pages
-returns-in-Write-clause-pages g c told entry rep =
+returns-in-Write-clause-pages g c =
     let P = g.P.Platform in
     let buffer = c.args.self.now.buffer in
-    subst (λ (command : Parsed). IfOk (outcome c.write.result c.write.new.self.buffer) (λ reply. P.head c.write.new.platform ≡ pages_after entry (asked command buffer) reply (P.head c.args.platform.now))) (sym c.in-Write.is)
-    (c.write.ensures.pages told entry rep)
+    subst (λ (command : Parsed). IfOk (outcome c.write.result c.write.new.self.buffer) (λ reply. P.head c.write.new.platform ≡ P.head c.args.platform.now + added_by (asked command buffer) reply (needed_of c.args.self.now.session))) (sym c.in-Write.is)
+    c.write.ensures.pages
 
 pub returns-in-Drop-clause-keeps : goal.returns-in-Drop-clause-keeps
 returns-in-Drop-clause-keeps g c = on_done _ _ _ _ _ c.args.self.now.session _ _ _ _ _ _ (on_start _ _ _ c.args.self.now.session _ _) (λ going. going) (λ keys h. on_ok c.give_up.result _ (listed_none c.args.self.now.session c.give_up.new.self.session _ keys c.give_up.ensures.session h))

@@ -12,6 +12,7 @@ use Rattle.device_cli.proofs.ServedLaws.{at, with_session, has_session, serves_s
 use Rattle.device_cli.proofs.ServingLaws.{serves_unmounted}
 use Rattle.device_cli.proofs.CellLaws.{after_looked, mounted_still}
 use Rattle.device_course.proofs.KeysLaws.{on_start, on_look, listed_some}
+use Rattle.device_cli.proofs.EnoughLaws.{enough_kept, enough_more}
 use Rattle.device_cli.proofs.desk.Desk.trim.Goals as goal
 
 pub returns-in_default-clause-answered : goal.returns-in_default-clause-answered
@@ -33,14 +34,14 @@ returns-in-Ok-clause-answered g c told entry rep =
     let after = has_session new c.trim.new.self d (unmapped t c.args.block) refl (c.in-Ok.ensures.array told d t.contents holds).0
     ((c.in-Ok.ensures.array told d t.contents holds).1 ∙ ap (λ (b : Bool). b || contains_key t.contents c.args.block) touched) in
     serves_still old new (at d t) (at d (unmapped t c.args.block)) (Trim c.args.block) replies.Done (has_session old c.in-Some.session d t taken holds touched)
-    (gives_trimmed (is_full old) d t c.args.block within) after (c.trim.ensures.looks.time told))
+    (gives_trimmed (is_full old (Trim c.args.block)) d t c.args.block within) after (c.trim.ensures.looks.time told))
 
 pub returns-in-Err-Range-clause-answered : goal.returns-in-Err-Range-clause-answered
 returns-in-Err-Range-clause-answered g c told entry rep =
     let P = g.P.Platform in
     let old = world_of P c.args.self.now.session c.args.platform.now in
     serves_range old (world_of P (Some c.trim.new.self) c.trim.new.platform) c.in-Some.session c.trim.new.self entry (Trim c.args.block) c.args.block c.in-Some.is refl rep (λ d t holds. (rw c.in-Err-Range.field-0-is at c.in-Err-Range.ensures.array) told d t.contents holds) c.in-Err-Range.ensures.same.1
-    (rw c.in-Err-Range.field-0-is at c.in-Err-Range.ensures.cause) (λ d t past. gives_trim_range (is_full old) d t c.args.block past) (c.trim.ensures.looks.time told)
+    (rw c.in-Err-Range.field-0-is at c.in-Err-Range.ensures.cause) (λ d t past. gives_trim_range (is_full old (Trim c.args.block)) d t c.args.block past) (c.trim.ensures.looks.time told)
 
 pub returns-in-Err-BadRecord-clause-answered : goal.returns-in-Err-BadRecord-clause-answered
 returns-in-Err-BadRecord-clause-answered g c told entry rep =
@@ -77,6 +78,14 @@ pub returns-in-Err-PlatformFault-clause-keeps : goal.returns-in-Err-PlatformFaul
 returns-in-Err-PlatformFault-clause-keeps g c = λ drawn written. on_look _ drawn written c.args.self.now.session _ _ _ _ c.trim.ensures.looks.image c.trim.ensures.looks.time (λ told keys kept h. tt)
 
 pub returns-in-Ok-clause-after : goal.returns-in-Ok-clause-after
-returns-in-Ok-clause-after g c = after_looked _ _ _ _ _ c.trim.ensures.looks c.in-Ok.ensures.open
+returns-in-Ok-clause-after g c = after_looked _ _ _ _ _ _ _ c.trim.ensures.looks c.in-Ok.ensures.open
     (λ told. mounted_still _ c.in-Some.session _ _ _ c.in-Some.is (c.requires.mounted told) c.trim.ensures.same.0 (c.trim.ensures.looks.time told) (c.trim.ensures.follows told))
-    (search rules) (search rules) (search rules)
+    (search rules) (search rules) (λ e. cc)
+
+pub returns-in-Ok-clause-enough : goal.returns-in-Ok-clause-enough
+returns-in-Ok-clause-enough g c updates enough =
+    enough_more c.args.self.now.session c.in-Some.session c.trim.new.self updates c.in-Some.is c.in-Ok.ensures.same.2 enough
+
+pub returns-in-Err-Range-clause-enough : goal.returns-in-Err-Range-clause-enough
+returns-in-Err-Range-clause-enough g c updates enough =
+    enough_kept c.args.self.now.session c.in-Some.session c.trim.new.self updates c.in-Some.is c.in-Err-Range.ensures.same.2 enough

@@ -15,6 +15,7 @@ use Rattle.page_store.proofs.FloorLaws.{forgets_still}
 use Rattle.device_course.proofs.CertifiedLaws.{certified_stays}
 use Rattle.device_course.proofs.FitsLaws.{fitting_while}
 use Rattle.device_course.proofs.KeysLaws.{on_start, on_call, sound_of, listed_some}
+use Rattle.device_cli.proofs.EnoughLaws.{enough_kept, enough_more}
 use Rattle.device_cli.proofs.desk.Desk.write.Goals as goal
 
 pub returns-in_default-clause-answered : goal.returns-in_default-clause-answered
@@ -35,10 +36,10 @@ returns-in-Ok-clause-answered g c told entry rep =
     with_session old c.in-Some.session entry taken rep (λ state. Serves old new state (Write c.args.block bytes) (Ok replies.Done))
     (λ d t holds touched.
     let within : c.args.block < d.blocks = subst (λ (n : ℕ). c.args.block < n) holds.stands.blocks c.in-Ok.ensures.cause.0 in
-    let room = is_full_false old c.in-Ok.ensures.cause.1 in
+    let room = is_full_false old (Write c.args.block bytes) (omega (arith, g.met.P.Platform.has_room c.args.platform.now, c.in-Ok.ensures.cause.1)) in
     let after = has_session new c.write.new.self d (written t c.args.block bytes) refl (c.in-Ok.ensures.array told d t.contents holds) c.in-Ok.ensures.same.1 in
     serves_still old new (at d t) (at d (written t c.args.block bytes)) (Write c.args.block bytes) replies.Done (has_session old c.in-Some.session d t taken holds touched)
-    (gives_written (is_full old) d t c.args.block bytes room within) after (c.write.ensures.time told))
+    (gives_written (is_full old (Write c.args.block bytes)) d t c.args.block bytes room within) after (c.write.ensures.time told))
 
 pub returns-in-Err-Range-clause-answered : goal.returns-in-Err-Range-clause-answered
 returns-in-Err-Range-clause-answered g c told entry rep =
@@ -46,7 +47,7 @@ returns-in-Err-Range-clause-answered g c told entry rep =
     let bytes : List ℕ = take c.args.count c.args.self.now.buffer in
     let old = world_of P c.args.self.now.session c.args.platform.now in
     serves_range old (world_of P (Some c.write.new.self) c.write.new.platform) c.in-Some.session c.write.new.self entry (Write c.args.block bytes) c.args.block c.in-Some.is refl rep (λ d t holds. (rw c.in-Err-Range.field-0-is at c.in-Err-Range.ensures.array) told d t.contents holds) c.in-Err-Range.ensures.same.2
-    (rw c.in-Err-Range.field-0-is at c.in-Err-Range.ensures.cause) (λ d t past. gives_write_range (is_full old) d t c.args.block bytes past) (c.write.ensures.time told)
+    (rw c.in-Err-Range.field-0-is at c.in-Err-Range.ensures.cause) (λ d t past. gives_write_range (is_full old (Write c.args.block bytes)) d t c.args.block bytes past) (c.write.ensures.time told)
 
 pub returns-in-Err-Full-clause-answered : goal.returns-in-Err-Full-clause-answered
 returns-in-Err-Full-clause-answered g c told entry rep =
@@ -61,7 +62,7 @@ returns-in-Err-Full-clause-answered g c told entry rep =
     let within : c.args.block < d.blocks = subst (λ (n : ℕ). c.args.block < n) holds.stands.blocks both.0 in
     let after = has_session new c.write.new.self d t refl ((rw c.in-Err-Full.field-0-is at c.in-Err-Full.ensures.array) told d t.contents holds) (c.in-Err-Full.ensures.same.2 ∙ touched) in
     serves_still old new (at d t) (at d t) (Write c.args.block bytes) replies.Full (has_session old c.in-Some.session d t taken holds touched)
-    (gives_write_full (is_full old) d t c.args.block bytes (is_full_true old both.1) within) after (c.write.ensures.time told))
+    (gives_write_full (is_full old (Write c.args.block bytes)) d t c.args.block bytes (is_full_true old (Write c.args.block bytes) (omega (arith, both.1))) within) after (c.write.ensures.time told))
 
 pub returns-in-Err-BadRecord-clause-answered : goal.returns-in-Err-BadRecord-clause-answered
 returns-in-Err-BadRecord-clause-answered g c told entry rep =
@@ -121,7 +122,18 @@ returns-in-Ok-clause-after g c = record {
   bad_root = search rules;
   capacity = search rules;
   rises = search rules;
-  by_one = search rules;
   added = search rules;
   full = search rules;
 }
+
+pub returns-in-Ok-clause-enough : goal.returns-in-Ok-clause-enough
+returns-in-Ok-clause-enough g c updates enough =
+    enough_more c.args.self.now.session c.in-Some.session c.write.new.self updates c.in-Some.is c.in-Ok.ensures.same.3 enough
+
+pub returns-in-Err-Range-clause-enough : goal.returns-in-Err-Range-clause-enough
+returns-in-Err-Range-clause-enough g c updates enough =
+    enough_kept c.args.self.now.session c.in-Some.session c.write.new.self updates c.in-Some.is c.in-Err-Range.ensures.same.3 enough
+
+pub returns-in-Err-Full-clause-enough : goal.returns-in-Err-Full-clause-enough
+returns-in-Err-Full-clause-enough g c updates enough =
+    enough_kept c.args.self.now.session c.in-Some.session c.write.new.self updates c.in-Some.is c.in-Err-Full.ensures.same.3 enough

@@ -1,0 +1,40 @@
+-- How many updates are enough for the commit of a session after a call.
+use Rattle.std.proofs.Common.{◌≡◌, ℕ, ◌+◌, ◌≤◌, List, Option, None, Some, Ok, Err, inl, inr, sym, ◌∙◌, subst, ap, arith}
+use Rattle.std.specs.Prelude.{◌⊎◌, Result, IfOk}
+use Rattle.device_core.specs.Open.{needed_by}
+use Rattle.device_core.specs.Sessions.{Session}
+use Rattle.script_lang.specs.Replies.{said}
+use Rattle.script_lang.specs.Commands.{Format}
+use Rattle.script_lang.specs.declared.replies.Reply.{Reply as Given}
+use Rattle.script_lang.specs.declared.replies.Reply.TheVariants as given
+use Rattle.device_cli.specs.Pages.{updates_after}
+use Rattle.device_cli.specs.Parts.{added_by}
+use Rattle.device_cli.specs.Replied.{outcome}
+use Rattle.device_cli.specs.World.{needed_of, AreEnough}
+use Rattle.device_cli.specs.declared.stop.DeviceStop.{DeviceStop}
+
+-- a session that needs as many pages as before, or 41 more after an update
+pub enough_kept : (held : Option Session) (session now : Session) (updates : ℕ) → held ≡ Some session → needed_by now ≡ needed_by session → AreEnough held updates → AreEnough (Some now) updates
+enough_kept held session now updates is same enough = omega (arith, same, enough, ap (λ (s : Option Session). needed_of s) is)
+
+pub enough_more : (held : Option Session) (session now : Session) (updates : ℕ) → held ≡ Some session → needed_by now ≤ needed_by session + 41 → AreEnough held updates → AreEnough (Some now) (updates + 1)
+enough_more held session now updates is more enough = omega (arith, more, enough, ap (λ (s : Option Session). needed_of s) is)
+
+-- no session
+pub enough_none : (held : Option Session) (updates : ℕ) → held ≡ None → AreEnough held updates
+enough_none held updates none = subst (λ (s : Option Session). AreEnough s updates) (sym none) (omega arith)
+
+-- a format that is refused leaves the session, and adds no page
+pub enough_refused : (result : Result Given DeviceStop) (buffer : List ℕ) (reply : Given) (held : Option Session) (updates : ℕ) → IfOk result (λ now. (now ≡ given.NotEmpty) ⊎ (now ≡ reply))
+    → (reply ≡ given.Range) ⊎ (reply ≡ given.Unbuilt) → AreEnough held updates → IfOk (outcome result buffer) (λ said. AreEnough held (updates_after said updates))
+enough_refused (Ok now) buffer reply held updates (inl e) which enough = subst (λ (r : Given). AreEnough held (updates_after (said r buffer) updates)) (sym e) enough
+enough_refused (Ok now) buffer reply held updates (inr e) (inl f) enough = subst (λ (r : Given). AreEnough held (updates_after (said r buffer) updates)) (sym (e ∙ f)) enough
+enough_refused (Ok now) buffer reply held updates (inr e) (inr f) enough = subst (λ (r : Given). AreEnough held (updates_after (said r buffer) updates)) (sym (e ∙ f)) enough
+enough_refused (Err stop) buffer reply held updates either which enough = tt
+
+pub pages_refused : (result : Result Given DeviceStop) (buffer : List ℕ) (reply : Given) (blocks order changes head head_now : ℕ) → IfOk result (λ now. (now ≡ given.NotEmpty) ⊎ (now ≡ reply))
+    → (reply ≡ given.Range) ⊎ (reply ≡ given.Unbuilt) → head_now ≡ head → IfOk (outcome result buffer) (λ said. head_now ≡ head + added_by (Format blocks order) said changes)
+pages_refused (Ok now) buffer reply blocks order changes head head_now (inl e) which same = subst (λ (r : Given). head_now ≡ head + added_by (Format blocks order) (said r buffer) changes) (sym e) (omega (arith, same))
+pages_refused (Ok now) buffer reply blocks order changes head head_now (inr e) (inl f) same = subst (λ (r : Given). head_now ≡ head + added_by (Format blocks order) (said r buffer) changes) (sym (e ∙ f)) (omega (arith, same))
+pages_refused (Ok now) buffer reply blocks order changes head head_now (inr e) (inr f) same = subst (λ (r : Given). head_now ≡ head + added_by (Format blocks order) (said r buffer) changes) (sym (e ∙ f)) (omega (arith, same))
+pages_refused (Err stop) buffer reply blocks order changes head head_now either which same = tt

@@ -1,0 +1,257 @@
+-- From how many pages a session's commit needs to how many a line adds, and how many pages some lines add at most.
+use Rattle.std.proofs.Common.{◌≡◌, ℕ, ◌+◌, ◌-◌, ◌*◌, ◌≤◌, Bool, true, false, List, [], ◌∷◌, Option, None, Some, inl, inr, refl, sym, ◌∙◌, subst, ap, arith}
+use Rattle.std.specs.Prelude.{◌⊎◌, ◌||◌, ◌==◌, not, nat_lt}
+use Rattle.std.proofs.lemmas.Bool.{cases_Bool}
+use Rattle.sdbt_base.specs.Arrays.{Device, Session as OpenSession, State}
+use Rattle.script_lang.specs.Arrays.{in_limits, needs_room}
+use Rattle.script_lang.specs.Answers.{Counted, IsAnswer, answer}
+use Rattle.script_lang.specs.Commands.{Command}
+use Rattle.script_lang.specs.Commands.{Format, Mount, Read, Write, Trim, Commit, Drop, Erase, Seize}
+use Rattle.script_lang.specs.Commands as commands
+use Rattle.script_lang.specs.Replies.{Reply}
+use Rattle.script_lang.specs.Replies.{Formatted, Mounted, Done, Committed, Full, Unbuilt, Range, Unmounted, NotEmpty}
+use Rattle.device_cli.specs.Pages.{needed_for, Needs, pages_after, updates_after, updates_of, TurnOn, AnswersOn, accepted_by, accepted}
+use Rattle.device_cli.specs.Parts.{added_by}
+use Rattle.device_cli.proofs.PageLaws.{pages_cases}
+
+-- a state of these parts
+abbrev pub parts : Option Device → Option OpenSession → State
+parts there opened = record { device = there; session = opened }
+
+-- a command that needs room is answered so, where it is taken
+abbrev IsTaken : Command → Reply → Type 0
+IsTaken (Format blocks order) reply = reply ≡ Formatted
+IsTaken (Write block content) reply = reply ≡ Done
+IsTaken Commit reply = (number : ℕ) × (reply ≡ Committed number)
+IsTaken _ reply = ⊥
+
+-- too few pages are free, or it isn't served yet, or it is taken
+abbrev AreRoomReplies : Command → Reply → Type 0
+AreRoomReplies command reply = (reply ≡ Full) ⊎ ((reply ≡ Unbuilt) ⊎ IsTaken command reply)
+
+room_format : (opened : Option OpenSession) (blocks order : ℕ) (unbuilt full : Bool) (counted : Counted) (reply : Reply) → (not (order == 64) || nat_lt 64 blocks) ≡ unbuilt
+    → in_limits blocks order ≡ true → reply ≡ (answer full counted (parts None opened) (Format blocks order)).0 → AreRoomReplies (Format blocks order) reply
+room_format opened blocks order true full counted reply u h e = let f : reply ≡ Unbuilt = rw (h, u) at e in inr (inl f)
+room_format opened blocks order false true counted reply u h e = let f : reply ≡ Full = rw (h, u) at e in inl f
+room_format opened blocks order false false counted reply u h e = let f : reply ≡ Formatted = rw (h, u) at e in inr (inr f)
+
+room_write : (d : Device) (t : OpenSession) (block : ℕ) (content : List ℕ) (full : Bool) (counted : Counted) (reply : Reply)
+    → nat_lt block d.blocks ≡ true → reply ≡ (answer full counted (parts (Some d) (Some t)) (Write block content)).0 → AreRoomReplies (Write block content) reply
+room_write d t block content true counted reply h e = let f : reply ≡ Full = rw h at e in inl f
+room_write d t block content false counted reply h e = let f : reply ≡ Done = rw h at e in inr (inr f)
+
+room_commit : (d : Device) (t : OpenSession) (full : Bool) (counted : Counted) (reply : Reply)
+    → t.touched ≡ true → reply ≡ (answer full counted (parts (Some d) (Some t)) Commit).0 → AreRoomReplies Commit reply
+room_commit d t true counted reply h e = let f : reply ≡ Full = rw h at e in inl f
+room_commit d t false counted reply h e = let f : reply ≡ Committed (d.number + 1) = rw h at e in inr (inr (d.number + 1, f))
+
+-- the reply of an answer
+reply_of : (reply : Reply) (now : State) (answered : Reply × State) → (reply, now) ≡ answered → reply ≡ answered.0
+reply_of reply now answered is = ap (λ (p : Reply × State). p.0) is
+
+-- the replies to a command that needs room
+room_replies : (there : Option Device) (opened : Option OpenSession) (command : Command) (full : Bool) (counted : Counted) (reply : Reply) (now : State)
+    → needs_room (parts there opened) command ≡ true → (reply, now) ≡ answer full counted (parts there opened) command → AreRoomReplies command reply
+room_replies None opened (Format blocks order) full counted reply now h is = room_format opened blocks order _ full counted reply refl h (reply_of reply now _ is)
+room_replies (Some d) opened (Format blocks order) full counted reply now h is = absurd cc
+room_replies None opened (Write block content) full counted reply now h is = absurd cc
+room_replies (Some d) None (Write block content) full counted reply now h is = absurd cc
+room_replies (Some d) (Some t) (Write block content) full counted reply now h is = room_write d t block content full counted reply h (reply_of reply now _ is)
+room_replies None opened Commit full counted reply now h is = absurd cc
+room_replies (Some d) None Commit full counted reply now h is = absurd cc
+room_replies (Some d) (Some t) Commit full counted reply now h is = room_commit d t full counted reply h (reply_of reply now _ is)
+room_replies there opened Mount full counted reply now h is = absurd cc
+room_replies there opened (Read block) full counted reply now h is = absurd cc
+room_replies there opened (Trim block) full counted reply now h is = absurd cc
+room_replies there opened Drop full counted reply now h is = absurd cc
+room_replies there opened Erase full counted reply now h is = absurd cc
+room_replies there opened commands.Stat full counted reply now h is = absurd cc
+room_replies there opened Seize full counted reply now h is = absurd cc
+
+-- a format and a write that need no room are refused alike on a full medium, and add nothing
+idle_format : (there : Option Device) (opened : Option OpenSession) (blocks order : ℕ) (full other : Bool) (counted : Counted) (reply : Reply) (now : State) (changes : ℕ)
+    → needs_room (parts there opened) (Format blocks order) ≡ false → (reply, now) ≡ answer full counted (parts there opened) (Format blocks order)
+    → ((reply, now) ≡ answer other counted (parts there opened) (Format blocks order)) × (added_by (Format blocks order) reply changes ≡ 0)
+idle_format None opened blocks order full other counted reply now changes h is =
+    let f : (reply, now) ≡ (Range, parts None opened) = rw h at is in
+    let e : reply ≡ Range = ap (λ (p : Reply × State). p.0) f in
+    (rw h f, subst (λ (r : Reply). added_by (Format blocks order) r changes ≡ 0) (sym e) refl)
+idle_format (Some d) opened blocks order full other counted reply now changes h is =
+    let f : (reply, now) ≡ (NotEmpty, parts (Some d) opened) = is in
+    let e : reply ≡ NotEmpty = ap (λ (p : Reply × State). p.0) f in
+    (is, subst (λ (r : Reply). added_by (Format blocks order) r changes ≡ 0) (sym e) refl)
+
+idle_write : (there : Option Device) (opened : Option OpenSession) (block : ℕ) (content : List ℕ) (full other : Bool) (counted : Counted) (reply : Reply) (now : State) (changes : ℕ)
+    → needs_room (parts there opened) (Write block content) ≡ false → (reply, now) ≡ answer full counted (parts there opened) (Write block content)
+    → ((reply, now) ≡ answer other counted (parts there opened) (Write block content)) × (added_by (Write block content) reply changes ≡ 0)
+idle_write None opened block content full other counted reply now changes h is =
+    let f : (reply, now) ≡ (Unmounted, parts None opened) = is in
+    let e : reply ≡ Unmounted = ap (λ (p : Reply × State). p.0) f in
+    (is, subst (λ (r : Reply). added_by (Write block content) r changes ≡ 0) (sym e) refl)
+idle_write (Some d) None block content full other counted reply now changes h is =
+    let f : (reply, now) ≡ (Unmounted, parts (Some d) None) = is in
+    let e : reply ≡ Unmounted = ap (λ (p : Reply × State). p.0) f in
+    (is, subst (λ (r : Reply). added_by (Write block content) r changes ≡ 0) (sym e) refl)
+idle_write (Some d) (Some t) block content full other counted reply now changes h is =
+    let f : (reply, now) ≡ (Range, parts (Some d) (Some t)) = rw h at is in
+    let e : reply ≡ Range = ap (λ (p : Reply × State). p.0) f in
+    (rw h f, subst (λ (r : Reply). added_by (Write block content) r changes ≡ 0) (sym e) refl)
+
+-- a commit adds no more than it needs
+added_commit : (reply : Reply) (changes : ℕ) → added_by Commit reply changes ≤ changes
+added_commit (Committed number) changes = omega arith
+added_commit _ changes = omega arith
+
+-- what a command that needs so many pages makes of the pages
+abbrev pub Turning : ℕ → State → Command → ℕ → ℕ → Reply → State → ℕ → Type 0
+Turning free state command updates pages reply now pages_now =
+    (needed : ℕ) × Needs state command updates needed × IsAnswer (nat_lt free needed) state command reply now × (pages_now ≡ pages_after reply needed pages)
+
+turning_none : (there : Option Device) (opened : Option OpenSession) (command : Command) (free updates pages pages_now : ℕ) (reply : Reply) (now : State) → needs_room (parts there opened) command ≡ false
+    → IsAnswer (nat_lt free 0) (parts there opened) command reply now → pages_now ≡ pages → Turning free (parts there opened) command updates pages reply now pages_now
+turning_none there opened command free updates pages pages_now reply now none is same = (
+  0,
+  record { within = omega arith; some = λ e. absurd cc; none = λ e. refl },
+  is,
+  elim (pages_cases reply 0 pages) [ inl stays ↦ omega (arith, stays, same) | inr more ↦ omega (arith, more, same) ],
+)
+
+turning_format : (there : Option Device) (opened : Option OpenSession) (blocks order free changes updates pages pages_now : ℕ) (reply : Reply) (now : State) (room : Bool)
+    → needs_room (parts there opened) (Format blocks order) ≡ room → IsAnswer (nat_lt free 1) (parts there opened) (Format blocks order) reply now
+    → pages_now ≡ pages + added_by (Format blocks order) reply changes → Turning free (parts there opened) (Format blocks order) updates pages reply now pages_now
+turning_format there opened blocks order free changes updates pages pages_now reply now false h (counted, is) added =
+    let idle = idle_format there opened blocks order (nat_lt free 1) (nat_lt free 0) counted reply now changes h is in
+    turning_none there opened (Format blocks order) free updates pages pages_now reply now h (counted, idle.0) (omega (arith, added, idle.1))
+turning_format there opened blocks order free changes updates pages pages_now reply now true h (counted, is) added = (
+  1,
+  record { within = omega arith; some = λ e. omega arith; none = λ e. absurd cc },
+  (counted, is),
+  elim (room_replies there opened (Format blocks order) (nat_lt free 1) counted reply now h is) [
+    | inl e ↦ rw e (let f = rw e at added in omega (arith, f))
+    | inr (inl e) ↦ rw e (let f = rw e at added in omega (arith, f))
+    | inr (inr e) ↦ rw e (let f = rw e at added in omega (arith, f))
+  ],
+)
+
+turning_write : (there : Option Device) (opened : Option OpenSession) (block : ℕ) (content : List ℕ) (free changes updates pages pages_now : ℕ) (reply : Reply) (now : State) (room : Bool)
+    → needs_room (parts there opened) (Write block content) ≡ room → IsAnswer (nat_lt free 1) (parts there opened) (Write block content) reply now
+    → pages_now ≡ pages + added_by (Write block content) reply changes → Turning free (parts there opened) (Write block content) updates pages reply now pages_now
+turning_write there opened block content free changes updates pages pages_now reply now false h (counted, is) added =
+    let idle = idle_write there opened block content (nat_lt free 1) (nat_lt free 0) counted reply now changes h is in
+    turning_none there opened (Write block content) free updates pages pages_now reply now h (counted, idle.0) (omega (arith, added, idle.1))
+turning_write there opened block content free changes updates pages pages_now reply now true h (counted, is) added = (
+  1,
+  record { within = omega arith; some = λ e. omega arith; none = λ e. absurd cc },
+  (counted, is),
+  elim (room_replies there opened (Write block content) (nat_lt free 1) counted reply now h is) [
+    | inl e ↦ rw e (let f = rw e at added in omega (arith, f))
+    | inr (inl e) ↦ rw e (let f = rw e at added in omega (arith, f))
+    | inr (inr e) ↦ rw e (let f = rw e at added in omega (arith, f))
+  ],
+)
+
+turning_commit : (there : Option Device) (opened : Option OpenSession) (free changes updates pages pages_now : ℕ) (reply : Reply) (now : State) (room : Bool) → changes ≤ 41 * updates
+    → (needs_room (parts there opened) Commit ≡ true → 1 ≤ changes) → (needs_room (parts there opened) Commit ≡ false → changes ≡ 0)
+    → needs_room (parts there opened) Commit ≡ room → IsAnswer (nat_lt free changes) (parts there opened) Commit reply now
+    → pages_now ≡ pages + added_by Commit reply changes → Turning free (parts there opened) Commit updates pages reply now pages_now
+turning_commit there opened free changes updates pages pages_now reply now false enough some none h (counted, is) added = (
+  changes,
+  record { within = enough; some = some; none = none },
+  (counted, is),
+  elim (pages_cases reply changes pages) [
+    | inl stays ↦ omega (arith, stays, added, none h, added_commit reply changes)
+    | inr more ↦ omega (arith, more, added, none h, added_commit reply changes)
+  ],
+)
+turning_commit there opened free changes updates pages pages_now reply now true enough some none h (counted, is) added = (
+  changes,
+  record { within = enough; some = some; none = none },
+  (counted, is),
+  elim (room_replies there opened Commit (nat_lt free changes) counted reply now h is) [
+    | inl e ↦ rw e (let f = rw e at added in omega (arith, f))
+    | inr (inl e) ↦ rw e (let f = rw e at added in omega (arith, f))
+    | inr (inr (number, e)) ↦ rw e (let f = rw e at added in omega (arith, f))
+  ],
+)
+
+-- a command was served over a session whose commit needs so many pages
+pub turning : (there : Option Device) (opened : Option OpenSession) (command : Command) (free changes updates pages pages_now : ℕ) (reply : Reply) (now : State) → changes ≤ 41 * updates
+    → (needs_room (parts there opened) Commit ≡ true → 1 ≤ changes) → (needs_room (parts there opened) Commit ≡ false → changes ≡ 0)
+    → IsAnswer (nat_lt free (needed_for command changes)) (parts there opened) command reply now
+    → pages_now ≡ pages + added_by command reply changes → Turning free (parts there opened) command updates pages reply now pages_now
+turning there opened (Format blocks order) free changes updates pages pages_now reply now enough some none is added =
+    turning_format there opened blocks order free changes updates pages pages_now reply now _ refl is added
+turning there opened (Write block content) free changes updates pages pages_now reply now enough some none is added =
+    turning_write there opened block content free changes updates pages pages_now reply now _ refl is added
+turning there opened Commit free changes updates pages pages_now reply now enough some none is added =
+    turning_commit there opened free changes updates pages pages_now reply now _ enough some none refl is added
+turning there opened Mount free changes updates pages pages_now reply now enough some none is added = turning_none there opened Mount free updates pages pages_now reply now refl is (omega (arith, added))
+turning there opened (Read block) free changes updates pages pages_now reply now enough some none is added = turning_none there opened (Read block) free updates pages pages_now reply now refl is (omega (arith, added))
+turning there opened (Trim block) free changes updates pages pages_now reply now enough some none is added = turning_none there opened (Trim block) free updates pages pages_now reply now refl is (omega (arith, added))
+turning there opened Drop free changes updates pages pages_now reply now enough some none is added = turning_none there opened Drop free updates pages pages_now reply now refl is (omega (arith, added))
+turning there opened Erase free changes updates pages pages_now reply now enough some none is added = turning_none there opened Erase free updates pages pages_now reply now refl is (omega (arith, added))
+turning there opened commands.Stat free changes updates pages pages_now reply now enough some none is added = turning_none there opened commands.Stat free updates pages pages_now reply now refl is (omega (arith, added))
+turning there opened Seize free changes updates pages pages_now reply now enough some none is added = turning_none there opened Seize free updates pages pages_now reply now refl is (omega (arith, added))
+
+-- ---- how many pages lines add at most
+
+-- one, or as many as a commit needs
+pub needed_most : (command : Command) (changes : ℕ) → needed_for command changes ≤ changes + 1
+needed_most (Format blocks order) changes = omega arith
+needed_most (Write block content) changes = omega arith
+needed_most Commit changes = omega arith
+needed_most _ changes = omega arith
+
+updates_most : (reply : Reply) (updates : ℕ) → updates_after reply updates ≤ updates + accepted_by reply
+updates_most Done updates = omega arith
+updates_most (Mounted number) updates = omega arith
+updates_most (Committed number) updates = omega arith
+updates_most Formatted updates = omega arith
+updates_most _ updates = omega arith
+
+-- with 41 pages kept for each update, a reply takes 42 where it accepts a format or an update, and else none
+abbrev IsBound : ℕ → ℕ → ℕ → Reply → Type 0
+IsBound updates pages needed reply = pages_after reply needed pages + 41 * updates_after reply updates ≤ pages + 41 * updates + 42 * accepted_by reply
+
+bound_taken : (command : Command) (updates pages needed : ℕ) (reply : Reply) → needed ≤ needed_for command (41 * updates) → IsTaken command reply → IsBound updates pages needed reply
+bound_taken (Format blocks order) updates pages needed reply within e = subst (λ (r : Reply). IsBound updates pages needed r) (sym e) (omega (arith, within))
+bound_taken (Write block content) updates pages needed reply within e = subst (λ (r : Reply). IsBound updates pages needed r) (sym e) (omega (arith, within))
+bound_taken Commit updates pages needed reply within (number, e) = subst (λ (r : Reply). IsBound updates pages needed r) (sym e) (omega (arith, within))
+bound_taken _ updates pages needed reply within e = absurd e
+
+bound_command : (there : Option Device) (opened : Option OpenSession) (command : Command) (updates pages needed : ℕ) (full : Bool) (counted : Counted) (reply : Reply) (now : State) (room : Bool)
+    → Needs (parts there opened) command updates needed → needs_room (parts there opened) command ≡ room → (reply, now) ≡ answer full counted (parts there opened) command → IsBound updates pages needed reply
+bound_command there opened command updates pages needed full counted reply now false needs h is = elim (pages_cases reply needed pages) [
+  | inl stays ↦ omega (arith, stays, updates_most reply updates)
+  | inr more ↦ omega (arith, more, needs.none h, updates_most reply updates)
+]
+bound_command there opened command updates pages needed full counted reply now true needs h is = elim (room_replies there opened command full counted reply now h is) [
+  | inl e ↦ subst (λ (r : Reply). IsBound updates pages needed r) (sym e) (omega arith)
+  | inr (inl e) ↦ subst (λ (r : Reply). IsBound updates pages needed r) (sym e) (omega arith)
+  | inr (inr e) ↦ bound_taken command updates pages needed reply needs.within e
+]
+
+turn_bound : (capacity : ℕ) (old : State) (pages updates : ℕ) (line : List ℕ) (reply : Reply) (new : State) (pages_now : ℕ) → TurnOn capacity old pages updates line reply new pages_now
+    → pages_now + 41 * updates_after reply updates ≤ pages + 41 * updates + 42 * accepted_by reply
+turn_bound capacity old pages updates line reply new pages_now (inl (command, spells, needed, needs, (counted, is), added)) =
+    let bound : IsBound updates pages needed reply = bound_command old.device old.session command updates pages needed (nat_lt (capacity - pages) needed) counted reply new _ needs refl is in
+    omega (arith, added, bound)
+turn_bound capacity old pages updates line reply new pages_now (inr (bad, is, same, added)) = rw is (omega (arith, added))
+
+pub answers_bound : (capacity : ℕ) (old : State) (pages updates : ℕ) (lines : List (List ℕ)) (replies : List Reply) (new : State) (pages_now : ℕ) → AnswersOn capacity old pages updates lines replies new pages_now
+    → pages_now + 41 * updates_of updates replies ≤ pages + 41 * updates + 42 * accepted replies
+answers_bound capacity old pages updates lines [] new pages_now h = omega (arith, h.1)
+answers_bound capacity old pages updates [] (reply ∷ replies) new pages_now h = absurd h
+answers_bound capacity old pages updates (line ∷ lines) (reply ∷ replies) new pages_now (mid, between, turn, rest) =
+    omega (arith, turn_bound capacity old pages updates line reply mid between turn, answers_bound capacity mid between (updates_after reply updates) lines replies new pages_now rest)
+
+-- and a line takes 42 at most
+pub accepted_most : (reply : Reply) → accepted_by reply ≤ 1
+accepted_most Formatted = omega arith
+accepted_most Done = omega arith
+accepted_most _ = omega arith
+
+pub line_bound : (capacity : ℕ) (old : State) (pages updates : ℕ) (line : List ℕ) (reply : Reply) (new : State) (pages_now : ℕ) → TurnOn capacity old pages updates line reply new pages_now
+    → pages_now + 41 * updates_after reply updates ≤ pages + 41 * updates + 42
+line_bound capacity old pages updates line reply new pages_now turn =
+    omega (arith, turn_bound capacity old pages updates line reply new pages_now turn, accepted_most reply)
