@@ -14,9 +14,9 @@ use Rattle.script_lang.specs.declared.replies.Reply.{Reply as Given}
 use Rattle.script_lang.specs.declared.replies.Reply.TheVariants as given
 use Rattle.root_codec.specs.declared.root.Root.{Root}
 use Rattle.root_codec.specs.RootRecord.{root_bytes}
-use Rattle.device_core.specs.Holds.{Follows}
-use Rattle.device_core.specs.Leaf.{IsServedImage}
-use Rattle.device_core.specs.Sessions.{Session}
+use Rattle.device_session.specs.Damage.{Follows}
+use Rattle.device_terms.specs.Served.{IsServedImage}
+use Rattle.device_session.specs.Sessions.{Session}
 use Rattle.device_cli.specs.declared.desk.Desk.{Desk}
 use Rattle.sdbt_base.specs.Arrays.{State}
 use Rattle.platform.specs.Image.{Image}

@@ -19,11 +19,11 @@ use Rattle.ledger_check.specs.Judging.{IsWhole}
 use Rattle.sdbt_base.specs.Arrays.{Device, closed}
 use Rattle.page_store.specs.Stands.{Stands}
 use Rattle.page_store.proofs.StandsLaws.{stands_during}
-use Rattle.device_core.proofs.MomentLaws.{one_look}
+use Rattle.device_terms.proofs.MomentLaws.{one_look}
 use Rattle.device_course.specs.Marks.{last_mark}
 use Rattle.device_course.specs.Course.{Made}
 use Rattle.device_course.proofs.MadeLaws.{made_none, shut}
-use Rattle.device_core.specs.Leaf.{IsServedCell, IsServedImage}
+use Rattle.device_terms.specs.Served.{IsServedCell, IsServedImage}
 use Rattle.device_cli.specs.Run.{Counts, counts, NoneRose, HasCause, IsBlamedOn}
 use Rattle.device_cli.specs.Replied.{damage_line}
 use Rattle.device_cli.specs.Checks.{Checks, IsAcceptable, IsInCell, IsSaid, IsSo, finding_line, status_at, status_of_finding}

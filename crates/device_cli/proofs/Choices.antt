@@ -1,6 +1,6 @@
 -- A choice that the calls of a desk share.
 use Rattle.std.proofs.Common.{◌≡◌, Option, None, Some, refl}
-use Rattle.device_core.specs.Sessions.{Session}
+use Rattle.device_session.specs.Sessions.{Session}
 
 -- a session that is not absent is there
 pub some_of : (held : Option Session) → (held ≡ None → ⊥) → (Goal : Type 0) → ((session : Session) → held ≡ Some session → Goal) → Goal

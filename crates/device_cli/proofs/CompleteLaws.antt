@@ -17,7 +17,7 @@ use Rattle.script_lang.specs.Commands as commands
 use Rattle.sdbt_base.specs.Arrays.{Device, Session as OpenSession}
 use Rattle.script_lang.specs.Replies.{Reply}
 use Rattle.script_lang.specs.Replies.{Full}
-use Rattle.device_core.specs.Leaf.{IsServedImage}
+use Rattle.device_terms.specs.Served.{IsServedImage}
 use Rattle.device_cli.specs.World.{World}
 use Rattle.device_cli.specs.Represents.{StandsFor}
 use Rattle.device_cli.specs.Pages.{updates_after, TurnOn, AnswersOn}

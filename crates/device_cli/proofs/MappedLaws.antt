@@ -29,12 +29,12 @@ use Rattle.page_store.proofs.LeafStandsLaws.{stands_by_leaf, leaf_of_stands}
 use Rattle.page_store.proofs.RecordYields.{opens_record, yields_node}
 use Rattle.page_store.proofs.TreeMaps.{tree_closed}
 use Rattle.page_store.proofs.DisclosingLaws.{first_premises}
-use Rattle.device_core.specs.Leaf.{IsServedCell, IsServedImage}
+use Rattle.device_terms.specs.Served.{IsServedCell, IsServedImage}
 use Rattle.device_core.proofs.ArrayLaws.{length-AllZip}
 use Rattle.seizure.specs.Opened.{count_of_kind}
 use Rattle.seizure.specs.Report.{Seized, IsSeizure, Holds, roots_of}
 use Rattle.seizure.proofs.CountLaws.{counted}
-use Rattle.device_core.proofs.CountLaws.{map_len}
+use Rattle.device_session.proofs.CountLaws.{map_len}
 use Rattle.device_cli.specs.Represents.{StandsFor}
 use Rattle.device_cli.specs.Reaching.{DisclosesTree}
 use Rattle.device_cli.specs.Seen.{IsCounted, mapped_of, SeizesMaps}

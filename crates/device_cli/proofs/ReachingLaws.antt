@@ -11,7 +11,7 @@ use Rattle.page_store.specs.Disclosing.{DisclosesBy}
 use Rattle.std.specs.Prelude.{OnOk}
 use Rattle.sdbt_base.specs.Arrays.{Device, closed}
 use Rattle.page_store.specs.Stands.{Stands}
-use Rattle.device_core.specs.Leaf.{IsServedImage}
+use Rattle.device_terms.specs.Served.{IsServedImage}
 use Rattle.device_course.specs.Marks.{last_mark}
 use Rattle.device_course.specs.States.{Outside, IsLater}
 use Rattle.device_course.specs.Fitting.{LeavesFitting}

@@ -16,9 +16,9 @@ use Rattle.sdbt_base.specs.Arrays.{State, Device, Session as OpenSession, closed
 use Rattle.script_lang.specs.Answers.{Turn, answer, none_counted}
 use Rattle.script_lang.specs.Replies.{Reply}
 use Rattle.script_lang.specs.Replies.{Full, Bad}
-use Rattle.device_core.specs.Leaf.{IsServedImage}
-use Rattle.device_core.specs.Open.{IsOpen}
-use Rattle.device_core.specs.Sessions.{Session}
+use Rattle.device_terms.specs.Served.{IsServedImage}
+use Rattle.device_session.specs.Open.{IsOpen}
+use Rattle.device_session.specs.Sessions.{Session}
 use Rattle.device_core.proofs.NeedLaws.{needed_some, needed_none}
 use Rattle.device_course.specs.States.{IsSessionOf}
 use Rattle.device_cli.specs.Parts.{added_by}

@@ -9,8 +9,8 @@ use Rattle.sdbt_base.specs.Arrays.{State, Device, closed}
 use Rattle.script_lang.specs.Replies.{Reply}
 use Rattle.script_lang.specs.Commands.{Command}
 use Rattle.script_lang.specs.Commands.{Commit}
-use Rattle.device_core.specs.Leaf.{IsServedImage}
-use Rattle.device_core.specs.Sessions.{Session}
+use Rattle.device_terms.specs.Served.{IsServedImage}
+use Rattle.device_session.specs.Sessions.{Session}
 use Rattle.platform.specs.History.{History}
 use Rattle.device_cli.specs.World.{World, world}
 use Rattle.device_course.specs.States.{IsSessionOf}

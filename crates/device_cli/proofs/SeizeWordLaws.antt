@@ -6,7 +6,7 @@ use Rattle.sdbt_base.proofs.ToldLaws.{Got-then, GotPart-then}
 use Rattle.platform.specs.Image.{Image}
 use Rattle.page_store.specs.Roots.{IsBadCell}
 use Rattle.seizure.specs.Report.{Begins, Seized}
-use Rattle.device_core.specs.Leaf.{IsServedCell}
+use Rattle.device_terms.specs.Served.{IsServedCell}
 use Rattle.seizure.specs.declared.opened.Opened.{Opened}
 use Rattle.device_cli.specs.Replied.{Ending, HasPut, IsSound, damage_line}
 use Rattle.device_cli.specs.Run.{Counts, counts, NoneRose, HasCause, IsBlamedOn}

@@ -11,9 +11,9 @@ use Rattle.page_store.specs.Leaf.{leaf_parts}
 use Rattle.page_store.proofs.LeafStandsLaws.{stands_by_leaf}
 use Rattle.page_store.proofs.StandsLaws.{stands_during}
 use Rattle.sdbt_base.specs.Arrays.{Blocks, content_of, closed}
-use Rattle.device_core.specs.Open.{is_touched}
-use Rattle.device_core.specs.Holds.{Holds}
-use Rattle.device_core.specs.Sessions.{Session}
+use Rattle.device_session.specs.Open.{is_touched}
+use Rattle.device_session.specs.Holds.{Holds}
+use Rattle.device_session.specs.Sessions.{Session}
 use Rattle.script_lang.specs.Commands.{Command}
 use Rattle.script_lang.specs.Commands.{Format, Mount, Read, Write, Trim, Commit, Drop, Erase, Seize}
 use Rattle.script_lang.specs.Commands as commands

@@ -7,12 +7,12 @@ use Rattle.platform.specs.Image.{Image}
 use Rattle.platform.specs.History.{History, During, Turns}
 use Rattle.platform.proofs.Moments.{During-start, Turns-not}
 use Rattle.page_store.proofs.StandsLaws.{stands_leaves}
-use Rattle.device_core.specs.Open.{is_touched, number_of, needed_by}
-use Rattle.device_core.specs.Holds.{Holds}
-use Rattle.device_core.specs.Replies.{device_after}
-use Rattle.device_core.specs.Sessions.{Session}
-use Rattle.device_core.specs.declared.refusals.CommitReply.{CommitReply}
-use Rattle.device_core.specs.declared.refusals.CommitReply.TheVariants as commits
+use Rattle.device_session.specs.Open.{is_touched, number_of, needed_by}
+use Rattle.device_session.specs.Holds.{Holds}
+use Rattle.device_session.specs.Replies.{device_after}
+use Rattle.device_session.specs.Sessions.{Session}
+use Rattle.device_session.specs.declared.refusals.CommitReply.{CommitReply}
+use Rattle.device_session.specs.declared.refusals.CommitReply.TheVariants as commits
 use Rattle.script_lang.specs.Commands.{Command}
 use Rattle.script_lang.specs.Commands.{Format, Mount, Read, Write, Trim, Commit, Drop, Erase, Seize}
 use Rattle.script_lang.specs.Commands as commands

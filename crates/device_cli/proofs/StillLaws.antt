@@ -5,8 +5,8 @@ use Rattle.platform.specs.History.{Steps, During}
 use Rattle.platform.proofs.Moments.{During-step}
 use Rattle.page_store.proofs.StandsLaws.{stands_during}
 use Rattle.sdbt_base.specs.Arrays.{State}
-use Rattle.device_core.specs.Leaf.{IsServedImage}
-use Rattle.device_core.specs.Sessions.{Session}
+use Rattle.device_terms.specs.Served.{IsServedImage}
+use Rattle.device_session.specs.Sessions.{Session}
 use Rattle.device_cli.specs.World.{World}
 use Rattle.device_course.specs.States.{IsSessionOf}
 use Rattle.device_course.specs.Marks.{Leaves}

@@ -12,7 +12,8 @@ use Rattle.cert_checker.specs.Chain.{Accepted, chain_of}
 use Rattle.cert_checker.specs.First.{First}
 use Rattle.cert_checker.specs.Sound.{IsVerdict}
 use Rattle.ledger_check.specs.Judging.{FromInput, IsWhole}
-use Rattle.device_core.specs.Leaf.{IsServed, IsServedImage}
+use Rattle.page_store.specs.Roots.{IsRootWithin}
+use Rattle.device_terms.specs.Served.{IsServedImage}
 use Rattle.device_cli.specs.Replied.{damage_line}
 use Rattle.device_cli.specs.Run.{Counts, NoneRose, status_of}
 use Rattle.device_cli.specs.declared.checking.Finding.{Finding}

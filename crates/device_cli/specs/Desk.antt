@@ -2,7 +2,7 @@
 use Rattle.std.specs.Prelude.{◌≡◌, ◌<◌, ◌≤◌, ◌+◌, ◌-◌, ℕ, Some, Result, IfSome, IfOk, IfErr, OnOk, IsErrOf}
 use Rattle.platform.specs.Image.{Image}
 use Rattle.platform.specs.declared.platforms.Platform.{Ghosts}
-use Rattle.device_core.specs.Leaf.{IsServedImage}
+use Rattle.device_terms.specs.Served.{IsServedImage}
 use Rattle.script_lang.specs.Replies.{CanWrite, FitsBlock, said}
 use Rattle.script_lang.specs.declared.replies.Reply.{Reply as Given}
 use Rattle.script_lang.specs.declared.replies.Reply.TheVariants as given
@@ -16,9 +16,9 @@ use Rattle.device_cli.specs.declared.stop.Stop.TheVariants as lines
 use Rattle.device_cli.specs.declared.stop.DeviceStop.{DeviceStop}
 use Rattle.device_cli.specs.declared.stop.DeviceStop.TheVariants as stops
 use Rattle.root_codec.specs.RootRecord.{root_bytes}
-use Rattle.device_core.specs.Open.{IsOpen, root_of}
-use Rattle.device_core.specs.Holds.{Follows}
-use Rattle.device_core.specs.Sessions.{Session}
+use Rattle.device_session.specs.Open.{IsOpen, root_of}
+use Rattle.device_session.specs.Damage.{Follows}
+use Rattle.device_session.specs.Sessions.{Session}
 use Rattle.device_cli.specs.declared.desk.Desk.{Desk}
 
 -- the session, if there is one, is open

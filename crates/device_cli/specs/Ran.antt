@@ -1,7 +1,7 @@
 -- A run from its input to its output.
 use Rattle.std.specs.Prelude.{◌≡◌, ◌≢◌, ℕ, ◌+◌, ◌*◌, ◌<◌, ◌≤◌, ◌^◌, ◌⊎◌, List, [], ◌∷◌, ◌++◌, All, Option, Some, Ok, Err, length, flat_map}
 use Rattle.platform.specs.Runs.{Passes}
-use Rattle.device_core.specs.Leaf.{IsServedImage}
+use Rattle.device_terms.specs.Served.{IsServedImage}
 use Rattle.sdbt_base.specs.Told.{Gave, Got, IsAtEnd}
 use Rattle.text_lines.specs.Lines.{whole_lines_of, lines_of}
 use Rattle.script_lang.specs.Replies.{line_of}

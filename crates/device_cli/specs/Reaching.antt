@@ -7,7 +7,7 @@ use Rattle.page_store.specs.Kept.{IsRootOf, Kept}
 use Rattle.page_store.specs.Floors.{IsInTree}
 use Rattle.page_store.specs.Keeping.{DrewAll, HandedOver}
 use Rattle.page_store.specs.Disclosing.{DisclosesBy}
-use Rattle.device_core.specs.Leaf.{IsServedImage}
+use Rattle.device_terms.specs.Served.{IsServedImage}
 use Rattle.sdbt_base.specs.Arrays.{Device}
 use Rattle.page_store.specs.Stands.{Stands}
 

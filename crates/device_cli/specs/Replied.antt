@@ -5,7 +5,7 @@ use Rattle.platform.specs.Image.{Image}
 use Rattle.platform.specs.History.{During, Turns, moment}
 use Rattle.root_codec.specs.declared.root.Root.{Root}
 use Rattle.root_codec.specs.RootRecord.{FitsRoot, root_bytes}
-use Rattle.device_core.specs.Damage.{IsDamaged}
+use Rattle.device_session.specs.Damage.{IsDamaged}
 use Rattle.sdbt_base.specs.Told.{Got, GotPart}
 use Rattle.script_lang.specs.Grammar.{Spells}
 use Rattle.script_lang.specs.Replies.{line_of, said}

@@ -8,7 +8,7 @@ use Rattle.seizure.specs.Opened.{count_of_kind}
 use Rattle.key_graph.specs.Chains.{KeyPremises}
 use Rattle.page_store.specs.Kept.{Kept}
 use Rattle.page_store.specs.Keeping.{DrewAll}
-use Rattle.device_core.specs.Leaf.{IsServedImage}
+use Rattle.device_terms.specs.Served.{IsServedImage}
 use Rattle.sdbt_base.specs.Arrays.{Device, State}
 use Rattle.script_lang.specs.Replies.{Reply}
 use Rattle.script_lang.specs.Replies as replies

@@ -2,8 +2,8 @@
 use Rattle.std.specs.Prelude.{◌≡◌, ℕ, ◌-◌, ◌*◌, ◌≤◌, Bool, nat_lt, Option, None, Some}
 use Rattle.platform.specs.History.{History}
 use Rattle.platform.specs.declared.platforms.Platform.{Ghosts}
-use Rattle.device_core.specs.Open.{needed_by}
-use Rattle.device_core.specs.Sessions.{Session}
+use Rattle.device_session.specs.Open.{needed_by}
+use Rattle.device_session.specs.Sessions.{Session}
 use Rattle.script_lang.specs.Commands.{Command}
 use Rattle.device_cli.specs.Pages.{needed_for}
 

@@ -5,7 +5,7 @@ ghost use Rattle.script_lang.specs.Commands as commands;
 ghost use Rattle.script_lang.specs.Commands.{FitsBlock as FitsCommand, asked};
 ghost use Rattle.script_lang.specs.Replies.{CanWrite, FitsBlock, said};
 ghost use Rattle.script_lang.specs.Arrays.{in_limits};
-ghost use Rattle.device_core.specs.Leaf.{IsServedImage};
+ghost use Rattle.device_terms.specs.Served.{IsServedImage};
 ghost use Rattle.device_cli.specs.Run.{counts, IsBlamed};
 ghost use Rattle.platform.specs.History.{During};
 ghost use Rattle.seizure.specs.Opened.{count_of_kind};

@@ -4,7 +4,8 @@ ghost use Rattle.sdbt_base.specs.Faults.{Rose};
 ghost use Rattle.platform.specs.History.{Steps};
 ghost use Rattle.root_codec.specs.declared.root.Root.{Root};
 ghost use Rattle.root_codec.specs.RootRecord.{root_bytes};
-ghost use Rattle.device_core.specs.Leaf.{IsServed, IsServedImage};
+ghost use Rattle.page_store.specs.Roots.{IsRootWithin};
+ghost use Rattle.device_terms.specs.Served.{IsServedImage};
 ghost use Rattle.device_cli.specs.Checks.{IsInCell};
 
 use crate::stop::DeviceStop;

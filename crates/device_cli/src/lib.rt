@@ -11,7 +11,7 @@ ghost use Rattle.device_cli.specs.Given.{HasBadRecord};
 ghost use Rattle.device_cli.specs.Checks.{Checked};
 ghost use Rattle.device_cli.specs.Seizing.{Seizing};
 ghost use Rattle.platform.specs.History.{During};
-ghost use Rattle.device_core.specs.Leaf.{IsServedImage};
+ghost use Rattle.device_terms.specs.Served.{IsServedImage};
 ghost use Rattle.sdbt_base.specs.Arrays.{Device, closed};
 ghost use Rattle.device_course.specs.Certified.{Certified};
 ghost use Rattle.device_course.specs.Fitting.{LeavesFitting};

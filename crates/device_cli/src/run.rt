@@ -7,8 +7,8 @@ ghost use Rattle.text_lines.specs.Lines.{HasNone, whole_lines_of, rest_of, last_
 ghost use Rattle.script_lang.specs.Commands.{FitsBlock as FitsCommand, asked};
 ghost use Rattle.script_lang.specs.Replies.{CanWrite, FitsBlock, line_of, said};
 ghost use Rattle.platform.specs.History.{During};
-ghost use Rattle.device_core.specs.Leaf.{IsServedImage};
-ghost use Rattle.device_core.specs.Sessions.{Session};
+ghost use Rattle.device_terms.specs.Served.{IsServedImage};
+ghost use Rattle.device_session.specs.Sessions.{Session};
 ghost use Rattle.device_cli.specs.Desk.{Before, AfterLine};
 ghost use Rattle.device_cli.specs.World.{world_of};
 ghost use Rattle.device_cli.specs.Run.{counts, IsBlamedOn, IsRefusal, status_of};

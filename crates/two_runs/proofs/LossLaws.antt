@@ -13,7 +13,7 @@ use Rattle.page_store.proofs.KeepingLaws.{drew_then}
 use Rattle.page_store.proofs.KeptLaws.{kept_left}
 use Rattle.page_store.proofs.DisclosingLaws.{discloses_on}
 use Rattle.page_store.proofs.StandsLaws.{stands_left}
-use Rattle.device_core.specs.Leaf.{IsServedCell, IsServedImage}
+use Rattle.device_terms.specs.Served.{IsServedCell, IsServedImage}
 use Rattle.sdbt_base.specs.Arrays.{State, Device, closed}
 use Rattle.script_lang.specs.Answers.{IsMark}
 use Rattle.script_lang.specs.Replies.{Reply}

@@ -10,7 +10,7 @@ use Rattle.page_store.specs.Disclosing.{DisclosesOn}
 use Rattle.sdbt_base.specs.Arrays.{State, Device, closed}
 use Rattle.script_lang.specs.Answers.{IsMark}
 use Rattle.script_lang.specs.Replies.{Reply}
-use Rattle.device_core.specs.Leaf.{IsServedImage}
+use Rattle.device_terms.specs.Served.{IsServedImage}
 use Rattle.sdbt_base.specs.Faults.{Rose}
 use Rattle.device_cli.specs.Run.{Counts, NoneFell}
 use Rattle.device_cli.specs.World.{World}

@@ -3,7 +3,7 @@
 
 ghost use Rattle.std.specs.Prelude.{◌≡◌, ◌∷◌, [], Option, None, length};
 ghost use Rattle.sdbt_base.specs.Arrays.{Device};
-ghost use Rattle.device_core.specs.Leaf.{IsServedImage};
+ghost use Rattle.device_terms.specs.Served.{IsServedImage};
 ghost use Rattle.device_course.specs.Fitting.{LeavesFitting};
 ghost use Rattle.device_cli.specs.Represents.{StandsFor};
 ghost use Rattle.platform.specs.Mem.{mem_history, image_of_now, capacity_of, faults_of};

@@ -11,19 +11,19 @@ use Rattle.device_cli.specs.declared.stop.DeviceStop.TheVariants as device
 use Rattle.device_cli.proofs.CompleteLaws.{complete_ending}
 use Rattle.device_course.proofs.CertifiedLaws.{certified_start, certified_going, certified_stays}
 use Rattle.device_course.proofs.KeysLaws.{on_start, on_look}
-use Rattle.device_core.proofs.MomentLaws.{one_look}
+use Rattle.device_terms.proofs.MomentLaws.{one_look}
 use Rattle.device_cli.proofs.CheckLaws.{made_look, blame_wide, complete_check, so_bad, bad_line, image_stays}
 use Rattle.device_cli.specs.declared.checking.Finding.{Finding}
 use Rattle.device_cli.proofs.ReachingLaws.{discloses, fits}
 use Rattle.device_cli.proofs.MappedLaws.{seizes_maps}
 use Rattle.platform.proofs.Moments.{During-start, During-step}
-use Rattle.device_core.specs.Leaf.{IsServedImage}
+use Rattle.device_terms.specs.Served.{IsServedImage}
 use Rattle.device_course.specs.States.{around}
 use Rattle.device_course.proofs.MadeLaws.{shut, made_start}
 use Rattle.std.proofs.Common.{List, Option}
 use Rattle.sdbt_base.specs.Told.{Got}
 use Rattle.platform.specs.Image.{Image}
-use Rattle.device_core.specs.Leaf.{IsServedCell}
+use Rattle.device_terms.specs.Served.{IsServedCell}
 use Rattle.device_cli.specs.Replied.{Ending, damage_line}
 use Rattle.device_cli.specs.Seizing.{IsRefused, Seizes}
 use Rattle.device_cli.specs.Given.{HasBadRecord}

@@ -1,7 +1,7 @@
 use Rattle.std.proofs.Common.{None, length}
 use Rattle.platform.specs.Mem.{mem_history, image_of_now, capacity_of}
 use Rattle.platform.proofs.Moments.{During-now}
-use Rattle.device_core.specs.Leaf.{IsServedImage}
+use Rattle.device_terms.specs.Served.{IsServedImage}
 use Rattle.device_cli.specs.World.{World, world}
 use Rattle.device_course.proofs.FitsLaws.{leaves_then}
 use Rattle.two_runs.proofs.LossLaws.{goes_on, anywhere, discloses_twice, served_left}

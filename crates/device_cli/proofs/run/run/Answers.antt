@@ -10,7 +10,7 @@ use Rattle.device_cli.proofs.StillLaws.{still_after}
 use Rattle.device_course.specs.States.{IsListed}
 use Rattle.device_cli.proofs.CellLaws.{at_looked}
 use Rattle.device_course.proofs.KeysLaws.{on_look, on_done, on_then, listed_none, listed_image}
-use Rattle.device_core.proofs.MomentLaws.{one_look}
+use Rattle.device_terms.proofs.MomentLaws.{one_look}
 use Rattle.device_cli.proofs.run.run.Goals as goal
 
 -- why the cell can't be served

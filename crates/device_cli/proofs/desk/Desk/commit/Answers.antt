@@ -10,12 +10,12 @@ use Rattle.device_course.proofs.CertifiedLaws.{certified_going, certified_commit
 use Rattle.device_course.proofs.FitsLaws.{fitting_committed}
 use Rattle.device_course.proofs.KeysLaws.{on_start, on_call, listed_some}
 use Rattle.root_codec.specs.RootRecord.{root_bytes}
-use Rattle.device_core.specs.Open.{IsOpen, needed_by}
-use Rattle.device_core.specs.declared.refusals.CommitReply.{CommitReply}
-use Rattle.device_core.specs.declared.refusals.CommitFault.{CommitFault}
+use Rattle.device_session.specs.Open.{IsOpen, needed_by}
+use Rattle.device_session.specs.declared.refusals.CommitReply.{CommitReply}
+use Rattle.device_session.specs.declared.refusals.CommitFault.{CommitFault}
 use Rattle.device_cli.proofs.desk.Desk.commit.Given.{Over}
 use Rattle.device_cli.proofs.desk.Desk.commit.Goals.{In-Some}
-use Rattle.device_core.specs.Open.{is_touched}
+use Rattle.device_session.specs.Open.{is_touched}
 use Rattle.device_core.proofs.NeedLaws.{needed_none}
 use Rattle.std.proofs.lemmas.Bool.{cases_Bool}
 use Rattle.device_cli.specs.World.{needed_of}

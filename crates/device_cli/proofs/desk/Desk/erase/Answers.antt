@@ -1,5 +1,5 @@
 use Rattle.std.proofs.Common.{Option, None, refl, sym, ◌∙◌, subst}
-use Rattle.device_core.specs.Sessions.{Session}
+use Rattle.device_session.specs.Sessions.{Session}
 use Rattle.device_course.specs.States.{IsListed}
 use Rattle.device_cli.specs.World.{World, world_of}
 use Rattle.device_cli.proofs.ServingLaws.{serves_erased, serves_erase_none, halts_erase}

@@ -6,7 +6,8 @@ use Rattle.script_lang.specs.Replies as replies
 use Rattle.device_cli.specs.Replied.{Serves}
 use Rattle.script_lang.specs.Commands as commands
 use Rattle.std.specs.Prelude.{List}
-use Rattle.device_core.specs.Leaf.{IsServedCell, IsRefusedCell}
+use Rattle.device_terms.specs.Served.{IsServedCell}
+use Rattle.page_store.specs.Roots.{IsBadCell}
 use Rattle.device_cli.proofs.ServedLaws.{halts_still}
 use Rattle.device_cli.proofs.ServingLaws.{serves_already, serves_mounted, serves_no_device}
 use Rattle.device_course.proofs.KeysLaws.{on_start, on_look, listed_image, mount_listed}

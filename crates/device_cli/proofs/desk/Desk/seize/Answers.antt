@@ -2,7 +2,7 @@ use Rattle.std.proofs.Common.{◌≡◌, ℕ, Option, None, Some, Ok, Err, List,
 use Rattle.platform.specs.Image.{Image}
 use Rattle.platform.specs.History.{History, Steps, CellStays, moment}
 use Rattle.platform.proofs.Moments.{During-step}
-use Rattle.device_core.specs.Leaf.{IsServedCell}
+use Rattle.device_terms.specs.Served.{IsServedCell}
 use Rattle.seizure.specs.Opened.{count_of_kind}
 use Rattle.seizure.specs.Report.{Begins}
 use Rattle.script_lang.specs.Replies.{said}

@@ -1,8 +1,8 @@
 use Rattle.std.proofs.Common.{Option, ◌∙◌, subst}
 use Rattle.std.specs.Prelude.{IfSome}
-use Rattle.device_core.specs.Open.{IsOpen}
-use Rattle.device_core.specs.Sessions.{Session}
-use Rattle.device_core.proofs.CountLaws.{mapped_len}
+use Rattle.device_session.specs.Open.{IsOpen}
+use Rattle.device_session.specs.Sessions.{Session}
+use Rattle.device_session.proofs.CountLaws.{mapped_len}
 use Rattle.script_lang.specs.Commands as commands
 use Rattle.device_cli.proofs.ServedLaws.{gives_unmounted_stat}
 use Rattle.device_cli.proofs.ServingLaws.{serves_unmounted, serves_stat}

@@ -9,7 +9,7 @@ use Rattle.sdbt_base.specs.Arrays.{written}
 use Rattle.script_lang.specs.Commands.{Write}
 use Rattle.device_cli.proofs.ServedLaws.{at, with_session, has_session, serves_still, halts_still, serves_range, serves_damaged, is_full_true, is_full_false, gives_unmounted_write, gives_written, gives_write_range, gives_write_full}
 use Rattle.device_cli.proofs.ServingLaws.{serves_unmounted}
-use Rattle.device_core.proofs.ServedLaws.{serves_still as serves_while_cell}
+use Rattle.device_terms.proofs.ServedLaws.{serves_still as serves_while_cell}
 use Rattle.device_cli.proofs.CellLaws.{mounted_still}
 use Rattle.page_store.proofs.FloorLaws.{forgets_still}
 use Rattle.device_course.proofs.CertifiedLaws.{certified_stays}
