@@ -1,5 +1,5 @@
 -- What the word `seize` tells and leaves.
-use Rattle.std.specs.Prelude.{◌≡◌, ◌⊎◌, ◌==◌, if◌then◌else◌, ℕ, List, [], ◌∷◌, ◌++◌, Option, Result, Ok, Err, codes, flat_map}
+use Rattle.std.specs.Prelude.{◌≡◌, ◌⊎◌, ◌==◌, if◌then◌else◌, ℕ, List, [], ◌∷◌, ◌++◌, Option, Ok, Err, codes, flat_map}
 use Rattle.std.specs.Fmt.{decimal}
 use Rattle.sdbt_base.specs.Told.{Got, GotPart}
 use Rattle.platform.specs.Image.{Image}

@@ -18,7 +18,6 @@ use Rattle.device_cli.proofs.desk.Desk.commit.Goals.{In-Some}
 use Rattle.device_session.specs.Open.{is_touched}
 use Rattle.device_core.proofs.NeedLaws.{needed_none}
 use Rattle.std.proofs.lemmas.Bool.{cases_Bool}
-use Rattle.device_cli.specs.World.{needed_of}
 use Rattle.device_cli.proofs.ServingLaws.{needed_some}
 use Rattle.device_cli.proofs.desk.Desk.commit.Goals as goal
 

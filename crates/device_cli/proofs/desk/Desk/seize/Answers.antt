@@ -1,4 +1,4 @@
-use Rattle.std.proofs.Common.{◌≡◌, ℕ, Option, None, Some, Ok, Err, List, [], refl, sym, subst, ap}
+use Rattle.std.proofs.Common.{◌≡◌, ℕ, Ok, Err, [], refl, sym, subst, ap}
 use Rattle.platform.specs.Image.{Image}
 use Rattle.platform.specs.History.{History, Steps, CellStays, moment}
 use Rattle.platform.proofs.Moments.{During-step}
