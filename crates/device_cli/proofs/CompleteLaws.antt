@@ -8,9 +8,9 @@ use Rattle.std.proofs.lemmas.List.Elements.{All-nil, All-cons}
 use Rattle.sdbt_base.specs.Told.{Gave, Got, IsAtEnd}
 use Rattle.text_lines.specs.Lines.{lines_of}
 use Rattle.script_lang.specs.Replies.{line_of}
-use Rattle.script_lang.specs.Arrays.{in_limits, needs_room, step, step_if}
+use Rattle.script_lang.specs.Arrays.{Counted, in_limits, needs_room, step}
 use Rattle.sdbt_base.specs.Arrays.{State, closed}
-use Rattle.script_lang.specs.Answers.{Answers, Counted, answer, served, is_unbuilt}
+use Rattle.script_lang.specs.Answers.{Answers, answer}
 use Rattle.script_lang.specs.Commands.{Command}
 use Rattle.script_lang.specs.Commands.{Format, Mount, Read, Write, Trim, Commit, Drop, Erase, Seize}
 use Rattle.script_lang.specs.Commands as commands
@@ -37,74 +37,56 @@ abbrev parts : Option Device → Option OpenSession → State
 parts there opened = record { device = there; session = opened }
 
 -- the array itself never answers that no page is free
-step_room : (there : Option Device) (opened : Option OpenSession) (command : Command) → (step (parts there opened) command).0 ≡ Full → ⊥
-step_room None opened (Format blocks order) e = elim (cases_Bool (in_limits blocks order)) [
+step_room : (counted : Counted) (there : Option Device) (opened : Option OpenSession) (command : Command) → (step counted (parts there opened) command).0 ≡ Full → ⊥
+step_room counted None opened (Format blocks order) e = elim (cases_Bool (in_limits blocks order)) [
   | inl holds ↦ let f = rw holds at e in cc
   | inr fails ↦ let f = rw fails at e in cc
 ]
-step_room (Some d) opened (Format blocks order) e = cc
-step_room None None Mount e = cc
-step_room (Some d) None Mount e = cc
-step_room there (Some t) Mount e = cc
-step_room None opened (Read block) e = cc
-step_room (Some d) None (Read block) e = cc
-step_room (Some d) (Some t) (Read block) e = elim (cases_Bool (nat_lt block d.blocks)) [
+step_room counted (Some d) opened (Format blocks order) e = cc
+step_room counted None None Mount e = cc
+step_room counted (Some d) None Mount e = cc
+step_room counted there (Some t) Mount e = cc
+step_room counted None opened (Read block) e = cc
+step_room counted (Some d) None (Read block) e = cc
+step_room counted (Some d) (Some t) (Read block) e = elim (cases_Bool (nat_lt block d.blocks)) [
   | inl holds ↦ let f = rw holds at e in cc
   | inr fails ↦ let f = rw fails at e in cc
 ]
-step_room None opened (Write block content) e = cc
-step_room (Some d) None (Write block content) e = cc
-step_room (Some d) (Some t) (Write block content) e = elim (cases_Bool (nat_lt block d.blocks)) [
+step_room counted None opened (Write block content) e = cc
+step_room counted (Some d) None (Write block content) e = cc
+step_room counted (Some d) (Some t) (Write block content) e = elim (cases_Bool (nat_lt block d.blocks)) [
   | inl holds ↦ let f = rw holds at e in cc
   | inr fails ↦ let f = rw fails at e in cc
 ]
-step_room None opened (Trim block) e = cc
-step_room (Some d) None (Trim block) e = cc
-step_room (Some d) (Some t) (Trim block) e = elim (cases_Bool (nat_lt block d.blocks)) [
+step_room counted None opened (Trim block) e = cc
+step_room counted (Some d) None (Trim block) e = cc
+step_room counted (Some d) (Some t) (Trim block) e = elim (cases_Bool (nat_lt block d.blocks)) [
   | inl holds ↦ let f = rw holds at e in cc
   | inr fails ↦ let f = rw fails at e in cc
 ]
-step_room None opened Commit e = cc
-step_room (Some d) None Commit e = cc
-step_room (Some d) (Some t) Commit e = elim (cases_Bool t.touched) [
+step_room counted None opened Commit e = cc
+step_room counted (Some d) None Commit e = cc
+step_room counted (Some d) (Some t) Commit e = elim (cases_Bool t.touched) [
   | inl holds ↦ let f = rw holds at e in cc
   | inr fails ↦ let f = rw fails at e in cc
 ]
-step_room None opened Drop e = cc
-step_room (Some d) None Drop e = cc
-step_room (Some d) (Some t) Drop e = cc
-step_room None opened Erase e = cc
-step_room (Some d) opened Erase e = cc
-step_room None opened commands.Stat e = cc
-step_room (Some d) None commands.Stat e = cc
-step_room (Some d) (Some t) commands.Stat e = cc
-step_room there opened Seize e = cc
+step_room counted None opened Drop e = cc
+step_room counted (Some d) None Drop e = cc
+step_room counted (Some d) (Some t) Drop e = cc
+step_room counted None opened Erase e = cc
+step_room counted (Some d) opened Erase e = cc
+step_room counted None opened commands.Stat e = cc
+step_room counted (Some d) None commands.Stat e = cc
+step_room counted (Some d) (Some t) commands.Stat e = cc
+step_room counted there opened Seize e = cc
 
 and_false : (b : Bool) → (b && false) ≡ false
 and_false true = refl
 and_false false = refl
 
 -- on a medium that is not full no reply says that it is
-step_if_room : (state : State) (command : Command) → (step_if false state command).0 ≡ Full → ⊥
-step_if_room state command e = let f = rw (and_false (needs_room state command)) at e in step_room state.device state.session command f
-
-served_room : (counted : Counted) (state : State) (command : Command) → (served false counted state command).0 ≡ Full → ⊥
-served_room counted state Seize e = cc
-served_room counted state (Format blocks order) e = step_if_room state (Format blocks order) e
-served_room counted state Mount e = step_if_room state Mount e
-served_room counted state (Read block) e = step_if_room state (Read block) e
-served_room counted state (Write block content) e = step_if_room state (Write block content) e
-served_room counted state (Trim block) e = step_if_room state (Trim block) e
-served_room counted state Commit e = step_if_room state Commit e
-served_room counted state Drop e = step_if_room state Drop e
-served_room counted state Erase e = step_if_room state Erase e
-served_room counted state commands.Stat e = step_if_room state commands.Stat e
-
 answer_room : (counted : Counted) (state : State) (command : Command) → (answer false counted state command).0 ≡ Full → ⊥
-answer_room counted state command e = elim (cases_Bool (is_unbuilt state command)) [
-  | inl holds ↦ let f = rw holds at e in cc
-  | inr fails ↦ let f = rw fails at e in served_room counted state command f
-]
+answer_room counted state command e = let f = rw (and_false (needs_room state command)) at e in step_room counted state.device state.session command f
 
 not_less : (free needed : ℕ) → needed ≤ free → nat_lt free needed ≡ false
 not_less free needed h = grind (arith, common_steps)

@@ -6,7 +6,7 @@ use Rattle.script_lang.specs.Answers.{Turn, Answers}
 use Rattle.script_lang.specs.Commands.{Command}
 use Rattle.script_lang.specs.Commands.{Commit}
 use Rattle.script_lang.specs.Replies.{Reply}
-use Rattle.script_lang.specs.Replies.{Full, Unbuilt}
+use Rattle.script_lang.specs.Replies.{Full}
 use Rattle.device_cli.specs.Added.{HasAdded}
 use Rattle.device_cli.specs.Pages.{needed_for, pages_after, updates_after, updates_of, TurnOn, AnswersOn, IsShort, AreShort}
 use Rattle.device_cli.specs.World.{World, IsLater}
@@ -19,7 +19,6 @@ turn_of capacity old pages updates line reply new pages_now (inr (bad, is, same,
 -- none is added, or as many as are needed
 pub pages_cases : (reply : Reply) (needed pages : ℕ) → (pages_after reply needed pages ≡ pages) ⊎ (pages_after reply needed pages ≡ pages + needed)
 pages_cases Full needed pages = inl refl
-pages_cases Unbuilt needed pages = inl refl
 pages_cases _ needed pages = inr refl
 
 -- a line adds no more than its command needs

@@ -27,7 +27,6 @@ told_plain device pages image replies.NotEmpty plain = tt
 told_plain device pages image replies.NoDevice plain = tt
 told_plain device pages image replies.Range plain = tt
 told_plain device pages image replies.Full plain = tt
-told_plain device pages image replies.Unbuilt plain = tt
 
 pub saw_plain : (old new : History) (device : Option Device) (pages : ℕ) (reply : Reply) → Extends old new
     → ((told nodes blocks : ℕ) → reply ≡ replies.Seized told nodes blocks → ⊥) → Saw new (moment old) device pages reply

@@ -5,8 +5,8 @@ use Rattle.std.proofs.lemmas.Bool.{cases_Bool}
 use Rattle.platform.specs.Image.{Image}
 use Rattle.platform.specs.History.{Steps, moment}
 use Rattle.platform.proofs.Moments.{image_at-now}
-use Rattle.script_lang.specs.Arrays.{in_limits, needs_room, step, step_if}
-use Rattle.script_lang.specs.Answers.{Counted, answer, served, is_unbuilt}
+use Rattle.script_lang.specs.Arrays.{Counted, in_limits, needs_room, step}
+use Rattle.script_lang.specs.Answers.{answer}
 use Rattle.script_lang.specs.Commands.{Command}
 use Rattle.script_lang.specs.Commands.{Format, Mount, Read, Write, Trim, Commit, Drop, Erase, Seize}
 use Rattle.script_lang.specs.Commands as commands
@@ -24,72 +24,54 @@ use Rattle.device_cli.proofs.SeenLaws.{saw_plain}
 abbrev parts : Option Device → Option OpenSession → State
 parts there opened = record { device = there; session = opened }
 
--- the array itself never tells what a seizure counts
-step_seized : (there : Option Device) (opened : Option OpenSession) (command : Command) (told nodes blocks : ℕ) → (step (parts there opened) command).0 ≡ Seized told nodes blocks → ⊥
-step_seized None opened (Format size order) told nodes blocks e = elim (cases_Bool (in_limits size order)) [
+-- no other command tells what a seizure counts
+step_seized : (counted : Counted) (there : Option Device) (opened : Option OpenSession) (command : Command) (told nodes blocks : ℕ) → command ≢ Seize → (step counted (parts there opened) command).0 ≡ Seized told nodes blocks → ⊥
+step_seized counted None opened (Format size order) told nodes blocks other e = elim (cases_Bool (in_limits size order)) [
   | inl holds ↦ let f = rw holds at e in cc
   | inr fails ↦ let f = rw fails at e in cc
 ]
-step_seized (Some d) opened (Format size order) told nodes blocks e = cc
-step_seized None None Mount told nodes blocks e = cc
-step_seized (Some d) None Mount told nodes blocks e = cc
-step_seized there (Some t) Mount told nodes blocks e = cc
-step_seized None opened (Read block) told nodes blocks e = cc
-step_seized (Some d) None (Read block) told nodes blocks e = cc
-step_seized (Some d) (Some t) (Read block) told nodes blocks e = elim (cases_Bool (nat_lt block d.blocks)) [
+step_seized counted (Some d) opened (Format size order) told nodes blocks other e = cc
+step_seized counted None None Mount told nodes blocks other e = cc
+step_seized counted (Some d) None Mount told nodes blocks other e = cc
+step_seized counted there (Some t) Mount told nodes blocks other e = cc
+step_seized counted None opened (Read block) told nodes blocks other e = cc
+step_seized counted (Some d) None (Read block) told nodes blocks other e = cc
+step_seized counted (Some d) (Some t) (Read block) told nodes blocks other e = elim (cases_Bool (nat_lt block d.blocks)) [
   | inl holds ↦ let f = rw holds at e in cc
   | inr fails ↦ let f = rw fails at e in cc
 ]
-step_seized None opened (Write block content) told nodes blocks e = cc
-step_seized (Some d) None (Write block content) told nodes blocks e = cc
-step_seized (Some d) (Some t) (Write block content) told nodes blocks e = elim (cases_Bool (nat_lt block d.blocks)) [
+step_seized counted None opened (Write block content) told nodes blocks other e = cc
+step_seized counted (Some d) None (Write block content) told nodes blocks other e = cc
+step_seized counted (Some d) (Some t) (Write block content) told nodes blocks other e = elim (cases_Bool (nat_lt block d.blocks)) [
   | inl holds ↦ let f = rw holds at e in cc
   | inr fails ↦ let f = rw fails at e in cc
 ]
-step_seized None opened (Trim block) told nodes blocks e = cc
-step_seized (Some d) None (Trim block) told nodes blocks e = cc
-step_seized (Some d) (Some t) (Trim block) told nodes blocks e = elim (cases_Bool (nat_lt block d.blocks)) [
+step_seized counted None opened (Trim block) told nodes blocks other e = cc
+step_seized counted (Some d) None (Trim block) told nodes blocks other e = cc
+step_seized counted (Some d) (Some t) (Trim block) told nodes blocks other e = elim (cases_Bool (nat_lt block d.blocks)) [
   | inl holds ↦ let f = rw holds at e in cc
   | inr fails ↦ let f = rw fails at e in cc
 ]
-step_seized None opened Commit told nodes blocks e = cc
-step_seized (Some d) None Commit told nodes blocks e = cc
-step_seized (Some d) (Some t) Commit told nodes blocks e = elim (cases_Bool t.touched) [
+step_seized counted None opened Commit told nodes blocks other e = cc
+step_seized counted (Some d) None Commit told nodes blocks other e = cc
+step_seized counted (Some d) (Some t) Commit told nodes blocks other e = elim (cases_Bool t.touched) [
   | inl holds ↦ let f = rw holds at e in cc
   | inr fails ↦ let f = rw fails at e in cc
 ]
-step_seized None opened Drop told nodes blocks e = cc
-step_seized (Some d) None Drop told nodes blocks e = cc
-step_seized (Some d) (Some t) Drop told nodes blocks e = cc
-step_seized None opened Erase told nodes blocks e = cc
-step_seized (Some d) opened Erase told nodes blocks e = cc
-step_seized None opened commands.Stat told nodes blocks e = cc
-step_seized (Some d) None commands.Stat told nodes blocks e = cc
-step_seized (Some d) (Some t) commands.Stat told nodes blocks e = cc
-step_seized there opened Seize told nodes blocks e = cc
-
-step_if_seized : (full : Bool) (state : State) (command : Command) (told nodes blocks : ℕ) → (step_if full state command).0 ≡ Seized told nodes blocks → ⊥
-step_if_seized full state command told nodes blocks e = elim (cases_Bool (needs_room state command && full)) [
-  | inl holds ↦ let f = rw holds at e in cc
-  | inr fails ↦ let f = rw fails at e in step_seized state.device state.session command told nodes blocks f
-]
-
-served_seized : (full : Bool) (counted : Counted) (state : State) (command : Command) (told nodes blocks : ℕ) → command ≢ Seize → (served full counted state command).0 ≡ Seized told nodes blocks → ⊥
-served_seized full counted state Seize told nodes blocks other e = other refl
-served_seized full counted state (Format size order) told nodes blocks other e = step_if_seized full state (Format size order) told nodes blocks e
-served_seized full counted state Mount told nodes blocks other e = step_if_seized full state Mount told nodes blocks e
-served_seized full counted state (Read block) told nodes blocks other e = step_if_seized full state (Read block) told nodes blocks e
-served_seized full counted state (Write block content) told nodes blocks other e = step_if_seized full state (Write block content) told nodes blocks e
-served_seized full counted state (Trim block) told nodes blocks other e = step_if_seized full state (Trim block) told nodes blocks e
-served_seized full counted state Commit told nodes blocks other e = step_if_seized full state Commit told nodes blocks e
-served_seized full counted state Drop told nodes blocks other e = step_if_seized full state Drop told nodes blocks e
-served_seized full counted state Erase told nodes blocks other e = step_if_seized full state Erase told nodes blocks e
-served_seized full counted state commands.Stat told nodes blocks other e = step_if_seized full state commands.Stat told nodes blocks e
+step_seized counted None opened Drop told nodes blocks other e = cc
+step_seized counted (Some d) None Drop told nodes blocks other e = cc
+step_seized counted (Some d) (Some t) Drop told nodes blocks other e = cc
+step_seized counted None opened Erase told nodes blocks other e = cc
+step_seized counted (Some d) opened Erase told nodes blocks other e = cc
+step_seized counted None opened commands.Stat told nodes blocks other e = cc
+step_seized counted (Some d) None commands.Stat told nodes blocks other e = cc
+step_seized counted (Some d) (Some t) commands.Stat told nodes blocks other e = cc
+step_seized counted there opened Seize told nodes blocks other e = other refl
 
 answer_seized : (full : Bool) (counted : Counted) (state : State) (command : Command) (told nodes blocks : ℕ) → command ≢ Seize → (answer full counted state command).0 ≡ Seized told nodes blocks → ⊥
-answer_seized full counted state command told nodes blocks other e = elim (cases_Bool (is_unbuilt state command)) [
+answer_seized full counted state command told nodes blocks other e = elim (cases_Bool (needs_room state command && full)) [
   | inl holds ↦ let f = rw holds at e in cc
-  | inr fails ↦ let f = rw fails at e in served_seized full counted state command told nodes blocks other f
+  | inr fails ↦ let f = rw fails at e in step_seized counted state.device state.session command told nodes blocks other f
 ]
 
 -- the reply to any other command belongs to any moment

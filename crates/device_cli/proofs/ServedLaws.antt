@@ -18,7 +18,7 @@ use Rattle.script_lang.specs.Commands.{Command}
 use Rattle.script_lang.specs.Commands.{Format, Mount, Read, Write, Trim, Commit, Drop, Erase, Seize}
 use Rattle.script_lang.specs.Commands as commands
 use Rattle.script_lang.specs.Replies.{Reply}
-use Rattle.script_lang.specs.Replies.{Formatted, Mounted, Content, Done, Committed, Dropped, Erased, Unmounted, AlreadyMounted, NotEmpty, NoDevice, Range, Full, Unbuilt}
+use Rattle.script_lang.specs.Replies.{Formatted, Mounted, Content, Done, Committed, Dropped, Erased, Unmounted, AlreadyMounted, NotEmpty, NoDevice, Range, Full}
 use Rattle.script_lang.specs.Replies as replies
 use Rattle.sdbt_base.specs.Arrays.{Device, Session as OpenSession, State, new_device, session_on, committed, written, unmapped}
 use Rattle.script_lang.specs.Arrays.{content_reply, in_limits}
@@ -211,26 +211,10 @@ on device there = record { device = device; session = there }
 pub gives_format_range : (full : Bool) (there : Option OpenSession) (blocks order : ℕ) → in_limits blocks order ≡ false → (Range, on None there) ≡ answer full none_counted (on None there) (Format blocks order)
 gives_format_range full there blocks order out = rw out refl
 
-pub gives_format_unbuilt : (full : Bool) (there : Option OpenSession) (blocks order : ℕ) → in_limits blocks order ≡ true → (order ≢ 64) ⊎ (64 < blocks)
-    → (Unbuilt, on None there) ≡ answer full none_counted (on None there) (Format blocks order)
-gives_format_unbuilt full there blocks order within (inl other) =
-    let e : (order == 64) ≡ false = grind (arith, common_steps) in rw (within, e) refl
-gives_format_unbuilt full there blocks order within (inr large) =
-    elim (eqb_tells order 64) [
-      | inl equal ↦ let e : nat_lt 64 blocks ≡ true = below 64 blocks large in rw (within, equal.0, e) refl
-      | inr differ ↦ rw (within, differ.0) refl
-    ]
+pub gives_formatted : (full : Bool) (there : Option OpenSession) (blocks order : ℕ) → full ≡ false → in_limits blocks order ≡ true
+    → (Formatted, on (Some (new_device blocks order)) there) ≡ answer full none_counted (on None there) (Format blocks order)
+gives_formatted full there blocks order room within = rw (within, room) refl
 
-limits : (blocks : ℕ) → 1 ≤ blocks → blocks ≤ 64 → in_limits blocks 64 ≡ true
-limits blocks least most =
-    let a : nat_le 1 blocks ≡ true = grind (arith, common_steps) in
-    let b : nat_le blocks 1048576 ≡ true = grind (arith, common_steps) in
-    rw (a, b) refl
-
-pub gives_formatted : (full : Bool) (there : Option OpenSession) (blocks : ℕ) → full ≡ false → 1 ≤ blocks → blocks ≤ 64
-    → (Formatted, on (Some (new_device blocks 64)) there) ≡ answer full none_counted (on None there) (Format blocks 64)
-gives_formatted full there blocks room least most = rw (limits blocks least most, above 64 blocks most, room) refl
-
-pub gives_format_full : (full : Bool) (there : Option OpenSession) (blocks : ℕ) → full ≡ true → 1 ≤ blocks → blocks ≤ 64
-    → (Full, on None there) ≡ answer full none_counted (on None there) (Format blocks 64)
-gives_format_full full there blocks none least most = rw (limits blocks least most, above 64 blocks most, none) refl
+pub gives_format_full : (full : Bool) (there : Option OpenSession) (blocks order : ℕ) → full ≡ true → in_limits blocks order ≡ true
+    → (Full, on None there) ≡ answer full none_counted (on None there) (Format blocks order)
+gives_format_full full there blocks order none within = rw (within, none) refl

@@ -2,13 +2,13 @@
 use Rattle.std.proofs.Common.{◌≡◌, ℕ, ◌+◌, ◌-◌, ◌*◌, ◌≤◌, Bool, true, false, List, [], ◌∷◌, Option, None, Some, inl, inr, refl, sym, subst, ap, arith}
 use Rattle.std.specs.Prelude.{◌⊎◌, ◌||◌, ◌==◌, not, nat_lt}
 use Rattle.sdbt_base.specs.Arrays.{Device, Session as OpenSession, State}
-use Rattle.script_lang.specs.Arrays.{in_limits, needs_room}
-use Rattle.script_lang.specs.Answers.{Counted, IsAnswer, answer}
+use Rattle.script_lang.specs.Arrays.{Counted, in_limits, needs_room}
+use Rattle.script_lang.specs.Answers.{IsAnswer, answer}
 use Rattle.script_lang.specs.Commands.{Command}
 use Rattle.script_lang.specs.Commands.{Format, Mount, Read, Write, Trim, Commit, Drop, Erase, Seize}
 use Rattle.script_lang.specs.Commands as commands
 use Rattle.script_lang.specs.Replies.{Reply}
-use Rattle.script_lang.specs.Replies.{Formatted, Mounted, Done, Committed, Full, Unbuilt, Range, Unmounted, NotEmpty}
+use Rattle.script_lang.specs.Replies.{Formatted, Mounted, Done, Committed, Full, Range, Unmounted, NotEmpty}
 use Rattle.device_cli.specs.Pages.{needed_for, Needs, pages_after, updates_after, updates_of, TurnOn, AnswersOn, accepted_by, accepted}
 use Rattle.device_cli.specs.Parts.{added_by}
 use Rattle.device_cli.proofs.PageLaws.{pages_cases}
@@ -24,25 +24,24 @@ IsTaken (Write block content) reply = reply ≡ Done
 IsTaken Commit reply = (number : ℕ) × (reply ≡ Committed number)
 IsTaken _ reply = ⊥
 
--- too few pages are free, or it isn't served yet, or it is taken
+-- too few pages are free, or it is taken
 abbrev AreRoomReplies : Command → Reply → Type 0
-AreRoomReplies command reply = (reply ≡ Full) ⊎ ((reply ≡ Unbuilt) ⊎ IsTaken command reply)
+AreRoomReplies command reply = (reply ≡ Full) ⊎ IsTaken command reply
 
-room_format : (opened : Option OpenSession) (blocks order : ℕ) (unbuilt full : Bool) (counted : Counted) (reply : Reply) → (not (order == 64) || nat_lt 64 blocks) ≡ unbuilt
+room_format : (opened : Option OpenSession) (blocks order : ℕ) (full : Bool) (counted : Counted) (reply : Reply)
     → in_limits blocks order ≡ true → reply ≡ (answer full counted (parts None opened) (Format blocks order)).0 → AreRoomReplies (Format blocks order) reply
-room_format opened blocks order true full counted reply u h e = let f : reply ≡ Unbuilt = rw (h, u) at e in inr (inl f)
-room_format opened blocks order false true counted reply u h e = let f : reply ≡ Full = rw (h, u) at e in inl f
-room_format opened blocks order false false counted reply u h e = let f : reply ≡ Formatted = rw (h, u) at e in inr (inr f)
+room_format opened blocks order true counted reply h e = let f : reply ≡ Full = rw h at e in inl f
+room_format opened blocks order false counted reply h e = let f : reply ≡ Formatted = rw h at e in inr f
 
 room_write : (d : Device) (t : OpenSession) (block : ℕ) (content : List ℕ) (full : Bool) (counted : Counted) (reply : Reply)
     → nat_lt block d.blocks ≡ true → reply ≡ (answer full counted (parts (Some d) (Some t)) (Write block content)).0 → AreRoomReplies (Write block content) reply
 room_write d t block content true counted reply h e = let f : reply ≡ Full = rw h at e in inl f
-room_write d t block content false counted reply h e = let f : reply ≡ Done = rw h at e in inr (inr f)
+room_write d t block content false counted reply h e = let f : reply ≡ Done = rw h at e in inr f
 
 room_commit : (d : Device) (t : OpenSession) (full : Bool) (counted : Counted) (reply : Reply)
     → t.touched ≡ true → reply ≡ (answer full counted (parts (Some d) (Some t)) Commit).0 → AreRoomReplies Commit reply
 room_commit d t true counted reply h e = let f : reply ≡ Full = rw h at e in inl f
-room_commit d t false counted reply h e = let f : reply ≡ Committed (d.number + 1) = rw h at e in inr (inr (d.number + 1, f))
+room_commit d t false counted reply h e = let f : reply ≡ Committed (d.number + 1) = rw h at e in inr (d.number + 1, f)
 
 -- the reply of an answer
 reply_of : (reply : Reply) (now : State) (answered : Reply × State) → (reply, now) ≡ answered → reply ≡ answered.0
@@ -51,7 +50,7 @@ reply_of reply now answered is = ap (λ (p : Reply × State). p.0) is
 -- the replies to a command that needs room
 room_replies : (there : Option Device) (opened : Option OpenSession) (command : Command) (full : Bool) (counted : Counted) (reply : Reply) (now : State)
     → needs_room (parts there opened) command ≡ true → (reply, now) ≡ answer full counted (parts there opened) command → AreRoomReplies command reply
-room_replies None opened (Format blocks order) full counted reply now h is = room_format opened blocks order _ full counted reply refl h (reply_of reply now _ is)
+room_replies None opened (Format blocks order) full counted reply now h is = room_format opened blocks order full counted reply h (reply_of reply now _ is)
 room_replies (Some d) opened (Format blocks order) full counted reply now h is = absurd cc
 room_replies None opened (Write block content) full counted reply now h is = absurd cc
 room_replies (Some d) None (Write block content) full counted reply now h is = absurd cc
@@ -127,8 +126,7 @@ turning_format there opened blocks order free changes updates pages pages_now re
   (counted, is),
   elim (room_replies there opened (Format blocks order) (nat_lt free 1) counted reply now h is) [
     | inl e ↦ rw e (let f = rw e at added in omega (arith, f))
-    | inr (inl e) ↦ rw e (let f = rw e at added in omega (arith, f))
-    | inr (inr e) ↦ rw e (let f = rw e at added in omega (arith, f))
+    | inr e ↦ rw e (let f = rw e at added in omega (arith, f))
   ],
 )
 
@@ -144,8 +142,7 @@ turning_write there opened block content free changes updates pages pages_now re
   (counted, is),
   elim (room_replies there opened (Write block content) (nat_lt free 1) counted reply now h is) [
     | inl e ↦ rw e (let f = rw e at added in omega (arith, f))
-    | inr (inl e) ↦ rw e (let f = rw e at added in omega (arith, f))
-    | inr (inr e) ↦ rw e (let f = rw e at added in omega (arith, f))
+    | inr e ↦ rw e (let f = rw e at added in omega (arith, f))
   ],
 )
 
@@ -168,8 +165,7 @@ turning_commit there opened free changes updates pages pages_now reply now true 
   (counted, is),
   elim (room_replies there opened Commit (nat_lt free changes) counted reply now h is) [
     | inl e ↦ rw e (let f = rw e at added in omega (arith, f))
-    | inr (inl e) ↦ rw e (let f = rw e at added in omega (arith, f))
-    | inr (inr (number, e)) ↦ rw e (let f = rw e at added in omega (arith, f))
+    | inr (number, e) ↦ rw e (let f = rw e at added in omega (arith, f))
   ],
 )
 
@@ -226,8 +222,7 @@ bound_command there opened command updates pages needed full counted reply now f
 ]
 bound_command there opened command updates pages needed full counted reply now true needs h is = elim (room_replies there opened command full counted reply now h is) [
   | inl e ↦ subst (λ (r : Reply). IsBound updates pages needed r) (sym e) (omega arith)
-  | inr (inl e) ↦ subst (λ (r : Reply). IsBound updates pages needed r) (sym e) (omega arith)
-  | inr (inr e) ↦ bound_taken command updates pages needed reply needs.within e
+  | inr e ↦ bound_taken command updates pages needed reply needs.within e
 ]
 
 turn_bound : (capacity : ℕ) (old : State) (pages updates : ℕ) (line : List ℕ) (reply : Reply) (new : State) (pages_now : ℕ) → TurnOn capacity old pages updates line reply new pages_now

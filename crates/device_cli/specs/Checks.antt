@@ -40,7 +40,7 @@ status_of_finding (findings.Accepted commit live deleted) = 0
 -- the cell is empty, or holds this root record, which can be served
 abbrev pub IsInCell : Image → Option Root → Type 0
 IsInCell image None = image.cell ≡ None
-IsInCell image (Some root) = IsServed root (length image.recorded) × (image.cell ≡ Some (root_bytes root))
+IsInCell image (Some root) = IsRootWithin (length image.recorded) root × (image.cell ≡ Some (root_bytes root))
 
 -- the ledger that was taken whole breaks this rule first; or it is accepted, with so many live addresses and so many deleted ones
 abbrev pub IsJudgedAs : Root → List ℕ → Option (List ℕ) → Finding → Type 0

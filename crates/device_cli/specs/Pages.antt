@@ -7,7 +7,7 @@ use Rattle.script_lang.specs.Answers.{IsAnswer}
 use Rattle.script_lang.specs.Commands.{Command}
 use Rattle.script_lang.specs.Commands.{Format, Write, Commit}
 use Rattle.script_lang.specs.Replies.{Reply}
-use Rattle.script_lang.specs.Replies.{Formatted, Mounted, Done, Committed, Bad, Full, Unbuilt}
+use Rattle.script_lang.specs.Replies.{Formatted, Mounted, Done, Committed, Bad, Full}
 
 -- how many pages a command needs that is accepted, where a commit needs so many
 abbrev pub needed_for : Command → ℕ → ℕ
@@ -26,7 +26,6 @@ pub record Needs (state : State) (command : Command) (updates needed : ℕ) : Ty
 -- how many pages there are after a reply to a command that needs so many
 abbrev pub pages_after : Reply → ℕ → ℕ → ℕ
 pages_after Full needed pages = pages
-pages_after Unbuilt needed pages = pages
 pages_after _ needed pages = pages + needed
 
 -- how many updates there are after a reply: one more after an accepted write or trim, and none after a mount and a commit

@@ -11,17 +11,19 @@ ghost use Rattle.platform.specs.History.{During};
 ghost use Rattle.seizure.specs.Opened.{count_of_kind};
 ghost use Rattle.device_cli.specs.Replied.{IsOfBlock};
 
-use crate::entry::MOST_BLOCKS;
 use crate::stop::DeviceStop;
-use device_core::{
-    CommitFault, CommitReply, EraseRefusal, FormatRefusal, MountRefusal, ReadRefusal, Session,
-    TrimRefusal, WriteRefusal,
+use device_core::{EraseRefusal, FormatRefusal};
+use device_session::{
+    CommitFault, CommitReply, MountRefusal, ReadRefusal, Session, TrimRefusal, WriteRefusal,
 };
 use platform::Platform;
-use script_lang::{Command, Reply, ReplyWriter, reply_with_content};
-use sdbt_base::{BLOCK, MAX_BLOCKS, MAX_ORDER, ROOT, Sink, Tape};
+use script_lang::{Command, Reply, ReplyWriter, is_in_limits, reply_with_content};
+use sdbt_base::{BLOCK, ROOT, Sink, Tape};
 use seizure::{Report, SeizeRefusal};
 use std::alloc::Global;
+
+/// How many nodes a session keeps in memory.
+const KEPT_NODES: usize = 256;
 
 /// What a run keeps between lines: the session, if there is one, and the buffers that each line uses again.
 #[derive(Drop)]
@@ -87,7 +89,7 @@ impl Desk {
         }
     }
 
-    /// Makes a device, where the numbers are within the limits of one, and within those that are served yet.
+    /// Makes a device, where the numbers are within the limits of one.
     fn format<P: Platform, T: Tape, L: Sink>(
         &mut self,
         platform: &mut P,
@@ -106,10 +108,10 @@ impl Desk {
         ensures keeps { Keeps P.Platform T.Tape L.Sink self.old self.new platform.old platform.new tape.old tape.new ledger.old ledger.new result }
         ensures answered { P.tells → ServesAny P.Platform self.old self.new platform.old platform.new (commands.Format blocks order) result }
     {
-        if let Some(reply) = refused_size(blocks, order) {
-            return refuse_format(platform, reply);
+        if !is_in_limits(blocks, order) {
+            return refuse_format(platform, Reply::Range);
         }
-        match device_core::format(self.alloc, platform, tape, ledger, blocks, MAX_ORDER) {
+        match device_core::format(self.alloc, platform, tape, ledger, blocks, order as u16) {
             Ok(()) => Ok(Reply::Formatted),
             Err(FormatRefusal::NotEmpty) => Ok(Reply::NotEmpty),
             Err(FormatRefusal::Full) => Ok(Reply::Full),
@@ -133,7 +135,7 @@ impl Desk {
         if self.session.is_some() {
             return Ok(Reply::AlreadyMounted);
         }
-        match Session::mount(self.alloc, platform, 0) {
+        match Session::mount(self.alloc, platform, KEPT_NODES) {
             Ok(session) => {
                 let number = session.number();
                 self.session = Some(session);
@@ -350,25 +352,6 @@ fn reply_with_counts(report: &Report) -> Reply
         nodes: report.nodes(),
         blocks: report.blocks(),
     }
-}
-
-/// The reply to a `format` of these numbers where it is not tried: they are outside the limits of a device, or of
-/// those devices that are served yet.
-fn refused_size(blocks: u64, order: u64) -> Option<Reply>
-    ensures either { IfSome result (λ reply. (reply ≡ Reply.Range) ⊎ (reply ≡ Reply.Unbuilt)) }
-    ensures range { result ≡ Some Reply.Range → in_limits blocks order ≡ false }
-    ensures unbuilt { result ≡ Some Reply.Unbuilt → (in_limits blocks order ≡ true) × ((order ≢ 64) ⊎ (64 < blocks)) }
-    ensures none { IsNone result → (1 ≤ blocks) × (blocks ≤ 64) × (order ≡ 64) }
-{
-    let is_size = (1..=MAX_BLOCKS).contains(&blocks);
-    let is_order = order.is_multiple_of(2) && (4..=u64::from(MAX_ORDER)).contains(&order);
-    if !is_size || !is_order {
-        return Some(Reply::Range);
-    }
-    if order != u64::from(MAX_ORDER) || blocks > MOST_BLOCKS {
-        return Some(Reply::Unbuilt);
-    }
-    None
 }
 
 /// The reply to a `format` that is not done: that there is a device already comes first.

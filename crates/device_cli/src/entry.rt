@@ -11,10 +11,7 @@ ghost use Rattle.device_cli.specs.Checks.{IsInCell};
 use crate::stop::DeviceStop;
 use platform::Platform;
 use root_codec::{Root, decode_root};
-use sdbt_base::{MAX_ORDER, ROOT};
-
-/// The greatest number of blocks of a device that is served.
-pub(crate) const MOST_BLOCKS: u64 = 64;
+use sdbt_base::ROOT;
 
 /// The root record in the cell, if there is one. Refused by `BadRoot` where the cell is full, and not with one that can be served.
 pub(crate) fn check_cell<P: Platform>(platform: &mut P) -> Result<Option<Root>, DeviceStop>
@@ -44,12 +41,11 @@ pub(crate) fn check_cell<P: Platform>(platform: &mut P) -> Result<Option<Root>, 
 /// The root whose record the 128 bytes are, where it can be served with so many pages on the medium.
 fn served_root(bytes: &[u8], head: u64) -> Option<Root>
     requires { length bytes.now ≡ 128 }
-    ensures found { IfSome result (λ root. IsServed root head × (bytes.now ≡ root_bytes root)) }
-    ensures none { IfNone result ((root : Root) → IsServed root head → bytes.now ≡ root_bytes root → ⊥) }
+    ensures found { IfSome result (λ root. IsRootWithin head root × (bytes.now ≡ root_bytes root)) }
+    ensures none { IfNone result ((root : Root) → IsRootWithin head root → bytes.now ≡ root_bytes root → ⊥) }
 {
     let root = decode_root(bytes)?;
-    let is_one_leaf = root.order == MAX_ORDER && root.level == 1 && root.blocks <= MOST_BLOCKS;
-    if is_one_leaf && root.head <= head {
+    if root.head <= head {
         Some(root)
     } else {
         None

@@ -43,7 +43,8 @@ use Rattle.cert_checker.proofs.FitsLaws.{fits_next, fits_waits, fits_first}
 use Rattle.btree_twigs.specs.Stubs.{Stub}
 use Rattle.btree_update.specs.Groves.{places_of}
 use Rattle.grove_accounts.specs.Accounts.{LacksAddress}
-use Rattle.grove_accounts.specs.Below.{want_in, HaveParts}
+use Rattle.btree_update.specs.GroveTree.{want_in}
+use Rattle.grove_accounts.specs.Below.{HaveParts}
 use Rattle.grove_accounts.specs.Certs.{IsOwnStub, page_at}
 use Rattle.device_session.specs.Holds.{Holds}
 use Rattle.device_session.specs.Sessions.{Session}

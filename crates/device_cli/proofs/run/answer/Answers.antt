@@ -38,7 +38,6 @@ full_as_said given.AlreadyMounted buffer X full e = cc
 full_as_said given.NotEmpty buffer X full e = cc
 full_as_said given.NoDevice buffer X full e = cc
 full_as_said given.Range buffer X full e = cc
-full_as_said given.Unbuilt buffer X full e = cc
 
 pub returns-in-Ok-clause-handled : goal.returns-in-Ok-clause-handled
 returns-in-Ok-clause-handled g c text kept =

@@ -15,7 +15,7 @@ use Rattle.device_cli.proofs.Choices.{some_of}
 use Rattle.device_cli.proofs.desk.Desk.mount.Goals as goal
 
 -- a cell that can be served is not one that can't
-refused_served : (cell : Option (List ℕ)) (head : ℕ) → IsServedCell cell head → IsRefusedCell cell head → ⊥
+refused_served : (cell : Option (List ℕ)) (head : ℕ) → IsServedCell cell head → IsBadCell head cell → ⊥
 refused_served None head served refused = refused.full refl
 refused_served (Some bytes) head (root, served, same) refused = refused.bad root served (ap (λ (b : List ℕ). Some b) same)
 
