@@ -25,16 +25,14 @@ pub enough_none : (held : Option Session) (updates : ℕ) → held ≡ None → 
 enough_none held updates none = subst (λ (s : Option Session). AreEnough s updates) (sym none) (omega arith)
 
 -- a format that is refused leaves the session, and adds no page
-pub enough_refused : (result : Result Given DeviceStop) (buffer : List ℕ) (reply : Given) (held : Option Session) (updates : ℕ) → IfOk result (λ now. (now ≡ given.NotEmpty) ⊎ (now ≡ reply))
-    → (reply ≡ given.Range) ⊎ (reply ≡ given.Unbuilt) → AreEnough held updates → IfOk (outcome result buffer) (λ said. AreEnough held (updates_after said updates))
-enough_refused (Ok now) buffer reply held updates (inl e) which enough = subst (λ (r : Given). AreEnough held (updates_after (said r buffer) updates)) (sym e) enough
-enough_refused (Ok now) buffer reply held updates (inr e) (inl f) enough = subst (λ (r : Given). AreEnough held (updates_after (said r buffer) updates)) (sym (e ∙ f)) enough
-enough_refused (Ok now) buffer reply held updates (inr e) (inr f) enough = subst (λ (r : Given). AreEnough held (updates_after (said r buffer) updates)) (sym (e ∙ f)) enough
-enough_refused (Err stop) buffer reply held updates either which enough = tt
+pub enough_refused : (result : Result Given DeviceStop) (buffer : List ℕ) (held : Option Session) (updates : ℕ) → IfOk result (λ now. (now ≡ given.NotEmpty) ⊎ (now ≡ given.Range))
+    → AreEnough held updates → IfOk (outcome result buffer) (λ said. AreEnough held (updates_after said updates))
+enough_refused (Ok now) buffer held updates (inl e) enough = subst (λ (r : Given). AreEnough held (updates_after (said r buffer) updates)) (sym e) enough
+enough_refused (Ok now) buffer held updates (inr e) enough = subst (λ (r : Given). AreEnough held (updates_after (said r buffer) updates)) (sym e) enough
+enough_refused (Err stop) buffer held updates either enough = tt
 
-pub pages_refused : (result : Result Given DeviceStop) (buffer : List ℕ) (reply : Given) (blocks order changes head head_now : ℕ) → IfOk result (λ now. (now ≡ given.NotEmpty) ⊎ (now ≡ reply))
-    → (reply ≡ given.Range) ⊎ (reply ≡ given.Unbuilt) → head_now ≡ head → IfOk (outcome result buffer) (λ said. head_now ≡ head + added_by (Format blocks order) said changes)
-pages_refused (Ok now) buffer reply blocks order changes head head_now (inl e) which same = subst (λ (r : Given). head_now ≡ head + added_by (Format blocks order) (said r buffer) changes) (sym e) (omega (arith, same))
-pages_refused (Ok now) buffer reply blocks order changes head head_now (inr e) (inl f) same = subst (λ (r : Given). head_now ≡ head + added_by (Format blocks order) (said r buffer) changes) (sym (e ∙ f)) (omega (arith, same))
-pages_refused (Ok now) buffer reply blocks order changes head head_now (inr e) (inr f) same = subst (λ (r : Given). head_now ≡ head + added_by (Format blocks order) (said r buffer) changes) (sym (e ∙ f)) (omega (arith, same))
-pages_refused (Err stop) buffer reply blocks order changes head head_now either which same = tt
+pub pages_refused : (result : Result Given DeviceStop) (buffer : List ℕ) (blocks order changes head head_now : ℕ) → IfOk result (λ now. (now ≡ given.NotEmpty) ⊎ (now ≡ given.Range))
+    → head_now ≡ head → IfOk (outcome result buffer) (λ said. head_now ≡ head + added_by (Format blocks order) said changes)
+pages_refused (Ok now) buffer blocks order changes head head_now (inl e) same = subst (λ (r : Given). head_now ≡ head + added_by (Format blocks order) (said r buffer) changes) (sym e) (omega (arith, same))
+pages_refused (Ok now) buffer blocks order changes head head_now (inr e) same = subst (λ (r : Given). head_now ≡ head + added_by (Format blocks order) (said r buffer) changes) (sym e) (omega (arith, same))
+pages_refused (Err stop) buffer blocks order changes head head_now either same = tt

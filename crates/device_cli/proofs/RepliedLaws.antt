@@ -19,7 +19,7 @@ use Rattle.script_lang.specs.Replies.{Full, Bad}
 use Rattle.device_terms.specs.Served.{IsServedImage}
 use Rattle.device_session.specs.Open.{IsOpen}
 use Rattle.device_session.specs.Sessions.{Session}
-use Rattle.device_core.proofs.NeedLaws.{needed_some, needed_none}
+use Rattle.device_session.proofs.CountLaws.{needs_some, needs_none}
 use Rattle.device_course.specs.States.{IsSessionOf}
 use Rattle.device_cli.specs.Parts.{added_by}
 use Rattle.device_cli.proofs.TurnLaws.{parts, turning}
@@ -559,7 +559,7 @@ changes_of None image (Some d) None head is h = (λ e. absurd cc, λ e. refl)
 changes_of None image there (Some t) head is h = absurd h
 changes_of (Some session) image there None head is h = absurd h
 changes_of (Some session) image None (Some t) head is h = absurd h
-changes_of (Some session) image (Some d) (Some t) head is h = (λ e. needed_some session (h.1 ∙ e), λ e. needed_none session (h.1 ∙ e))
+changes_of (Some session) image (Some d) (Some t) head is h = (λ e. needs_some session head is (h.1 ∙ e), λ e. needs_none session head is (h.1 ∙ e))
 
 -- a command's line
 pub turned_command : (old new : World) (entry : State) (updates : ℕ) (line : List ℕ) (command : Command) (reply : Reply) → Spells line command

@@ -23,7 +23,7 @@ use Rattle.device_cli.proofs.GivenLaws.{given_not_bad}
 -- a cell that can be served is none that a seizure refuses
 pub not_bad : (cell : Option (List ℕ)) (pages : ℕ) → IsServedCell cell pages → IsBadCell pages cell → ⊥
 not_bad None pages served bad = bad.full refl
-not_bad (Some bytes) pages (root, served, is) bad = bad.bad root (record { in_range = served.fits; key = served.key; within = served.within }) (ap Some is)
+not_bad (Some bytes) pages (root, served, is) bad = bad.bad root served (ap Some is)
 
 -- nor is one from whose key chains begin
 begun_not_bad : (head : ℕ) (cell : Option (List ℕ)) (keys roots : List (List ℕ)) → Begins head cell keys roots → IsBadCell head cell → ⊥

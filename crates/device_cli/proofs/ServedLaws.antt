@@ -7,8 +7,6 @@ use Rattle.std.proofs.lemmas.Bool.Decides.{eqb_tells}
 use Rattle.platform.specs.Image.{Image}
 use Rattle.platform.specs.History.{During}
 use Rattle.platform.proofs.Moments.{Turns-not}
-use Rattle.page_store.specs.Leaf.{leaf_parts}
-use Rattle.page_store.proofs.LeafStandsLaws.{stands_by_leaf}
 use Rattle.page_store.proofs.StandsLaws.{stands_during}
 use Rattle.sdbt_base.specs.Arrays.{Blocks, content_of, closed}
 use Rattle.device_session.specs.Open.{is_touched}
@@ -64,8 +62,7 @@ without_session w state e rep Goal k =
 
 -- below a session the image stands for its device
 pub holds_stands : (session : Session) (image : Image) (d : Device) (contents : Blocks) → Holds session image d contents → StandsFor image (Some d)
-holds_stands session image d contents holds =
-    (session.root, leaf_parts session.root.addr session.root.key holds.leaf holds.leaf_texts, stands_by_leaf image d session.root holds.leaf holds.leaf_texts holds.stands)
+holds_stands session image d contents holds = (session.root, holds.committed, holds.stands)
 
 pub has_session : (w : World) (session : Session) (d : Device) (t : OpenSession) → w.session ≡ Some session
     → Holds session w.history.present d t.contents → is_touched session ≡ t.touched → Represents w (at d t)

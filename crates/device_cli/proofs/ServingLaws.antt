@@ -17,9 +17,10 @@ use Rattle.script_lang.specs.Commands.{Command}
 use Rattle.script_lang.specs.Commands.{Format, Mount, Read, Write, Trim, Commit, Drop, Erase, Seize}
 use Rattle.script_lang.specs.Commands as commands
 use Rattle.script_lang.specs.Replies.{Reply}
-use Rattle.script_lang.specs.Replies.{Formatted, Mounted, Done, Committed, Dropped, Erased, Unmounted, AlreadyMounted, NotEmpty, NoDevice, Range, Full, Unbuilt, Seized}
+use Rattle.script_lang.specs.Replies.{Formatted, Mounted, Done, Committed, Dropped, Erased, Unmounted, AlreadyMounted, NotEmpty, NoDevice, Range, Full, Seized}
 use Rattle.script_lang.specs.Replies as replies
 use Rattle.sdbt_base.specs.Arrays.{Device, Session as OpenSession, State, new_device, session_on, committed, closed}
+use Rattle.script_lang.specs.Arrays.{in_limits}
 use Rattle.script_lang.specs.Answers.{answer, none_counted}
 use Rattle.device_cli.specs.World.{World, is_full, needed_of, world}
 use Rattle.device_cli.specs.Replied.{Serves, Halts}
@@ -178,28 +179,26 @@ with_nothing w entry empty rep Goal k =
     subst (λ (there : Option Device). Goal (on there entry.session)) (sym is) (subst (λ (opened : Option OpenSession). Goal (on None opened)) (sym none.1) (k none.0))
 
 -- a format
-pub serves_formatted : (old new : World) (entry : State) (blocks order : ℕ) → old.history.present.cell ≡ None → new.session ≡ old.session → order ≡ 64 → 1 ≤ blocks → blocks ≤ 64
-    → 1 ≤ old.capacity - old.head → StandsFor new.history.present (Some (new_device blocks 64))
-    → ((there : Option Device) → StandsFor old.history.present there → Turns old.history new.history (Leaves there) (Leaves (Some (new_device blocks 64))))
+pub serves_formatted : (old new : World) (entry : State) (blocks order : ℕ) → old.history.present.cell ≡ None → new.session ≡ old.session → in_limits blocks order ≡ true
+    → 1 ≤ old.capacity - old.head → StandsFor new.history.present (Some (new_device blocks order))
+    → ((there : Option Device) → StandsFor old.history.present there → Turns old.history new.history (Leaves there) (Leaves (Some (new_device blocks order))))
     → Represents old entry → Serves old new entry (Format blocks order) (Ok Formatted)
-serves_formatted old new entry blocks order empty session is least most room stands turns rep =
-    subst (λ (n : ℕ). Serves old new entry (Format blocks n) (Ok Formatted)) (sym is)
-    (with_nothing old entry empty rep (λ state. Serves old new state (Format blocks 64) (Ok Formatted))
+serves_formatted old new entry blocks order empty session within room stands turns rep =
+    with_nothing old entry empty rep (λ state. Serves old new state (Format blocks order) (Ok Formatted))
     (λ none. (
-      closed (Some (new_device blocks 64)),
-      (none_counted, gives_formatted (is_full old (Format blocks 64)) None blocks (is_full_false old (Format blocks 64) room) least most),
-      has_none new (Some (new_device blocks 64)) (session ∙ none) stands,
+      closed (Some (new_device blocks order)),
+      (none_counted, gives_formatted (is_full old (Format blocks order)) None blocks order (is_full_false old (Format blocks order) room) within),
+      has_none new (Some (new_device blocks order)) (session ∙ none) stands,
       turns None empty,
-    )))
+    ))
 
 pub serves_format_full : (old new : World) (entry : State) (blocks order : ℕ) → old.history.present.cell ≡ None → new.session ≡ old.session → new.history.present ≡ old.history.present
-    → order ≡ 64 → 1 ≤ blocks → blocks ≤ 64 → old.capacity - old.head < 1 → KeepsCell old new → Represents old entry → Serves old new entry (Format blocks order) (Ok Full)
-serves_format_full old new entry blocks order empty session image is least most none_free keeps rep =
-    subst (λ (n : ℕ). Serves old new entry (Format blocks n) (Ok Full)) (sym is)
-    (with_nothing old entry empty rep (λ state. Serves old new state (Format blocks 64) (Ok Full))
-    (λ none. serves_still old new (closed None) (closed None) (Format blocks 64) Full (has_none old None none empty)
-    (gives_format_full (is_full old (Format blocks 64)) None blocks (is_full_true old (Format blocks 64) none_free) least most)
-    (has_none new None (session ∙ none) (subst (λ (i : Image). i.cell ≡ None) (sym image) empty)) keeps))
+    → in_limits blocks order ≡ true → old.capacity - old.head < 1 → KeepsCell old new → Represents old entry → Serves old new entry (Format blocks order) (Ok Full)
+serves_format_full old new entry blocks order empty session image within none_free keeps rep =
+    with_nothing old entry empty rep (λ state. Serves old new state (Format blocks order) (Ok Full))
+    (λ none. serves_still old new (closed None) (closed None) (Format blocks order) Full (has_none old None none empty)
+    (gives_format_full (is_full old (Format blocks order)) None blocks order (is_full_true old (Format blocks order) none_free) within)
+    (has_none new None (session ∙ none) (subst (λ (i : Image). i.cell ≡ None) (sym image) empty)) keeps)
 
 serves_not_empty_at : (old new : World) (there : Option Device) (opened : Option OpenSession) (blocks order : ℕ) → old.history.present.cell ≢ None → StandsFor old.history.present there
     → Represents old (on there opened) → Represents new (on there opened) → KeepsCell old new → Serves old new (on there opened) (Format blocks order) (Ok NotEmpty)
@@ -226,21 +225,20 @@ serves_refused old new entry blocks order reply given session image keeps gives 
     (has_none new None (session ∙ none) (subst (λ (i : Image). i.cell ≡ None) (sym image) empty)) keeps))
 
 -- a format at which the platform failed: where it would have made a device, it may have
-pub halts_format : (old new : World) (entry : State) (blocks order : ℕ) → order ≡ 64 → 1 ≤ blocks → blocks ≤ 64
+pub halts_format : (old new : World) (entry : State) (blocks order : ℕ) → in_limits blocks order ≡ true
     → ((old.history.present.cell ≢ None) ⊎ (old.capacity - old.head < 1) → KeepsCell old new)
-    → ((there : Option Device) → StandsFor old.history.present there → Turns old.history new.history (Leaves there) (Leaves (Some (new_device blocks 64))))
+    → ((there : Option Device) → StandsFor old.history.present there → Turns old.history new.history (Leaves there) (Leaves (Some (new_device blocks order))))
     → Represents old entry → Halts old new entry (Format blocks order) device.Platform
-halts_format old new entry blocks order is least most keeps turns rep =
-    subst (λ (n : ℕ). Halts old new entry (Format blocks n) device.Platform) (sym is) (cases entry.device entry.session rep)
+halts_format old new entry blocks order within keeps turns rep = cases entry.device entry.session rep
   where
-    made : (opened : Option OpenSession) → is_full old (Format blocks 64) ≡ false → (answer (is_full old (Format blocks 64)) none_counted (on None opened) (Format blocks 64)).1.device ≡ Some (new_device blocks 64)
-    made opened room = sym (ap (λ (p : Reply × State). p.1.device) (gives_formatted (is_full old (Format blocks 64)) opened blocks room least most))
+    made : (opened : Option OpenSession) → is_full old (Format blocks order) ≡ false → (answer (is_full old (Format blocks order)) none_counted (on None opened) (Format blocks order)).1.device ≡ Some (new_device blocks order)
+    made opened room = sym (ap (λ (p : Reply × State). p.1.device) (gives_formatted (is_full old (Format blocks order)) opened blocks order room within))
 
-    cases : (there : Option Device) (opened : Option OpenSession) → Represents old (on there opened) → Halts old new (on there opened) (Format blocks 64) device.Platform
-    cases (Some d) opened r = halts_still old new (on (Some d) opened) (Format blocks 64) device.Platform tt r (keeps (inl (λ e. let c = r.device.2.cell in cc)))
+    cases : (there : Option Device) (opened : Option OpenSession) → Represents old (on there opened) → Halts old new (on there opened) (Format blocks order) device.Platform
+    cases (Some d) opened r = halts_still old new (on (Some d) opened) (Format blocks order) device.Platform tt r (keeps (inl (λ e. let c = r.device.2.cell in cc)))
     cases None opened r = elim (cases_lt (old.capacity - old.head) 1) [
-      | inl few ↦ halts_still old new (on None opened) (Format blocks 64) device.Platform tt r (keeps (inr few))
-      | inr many ↦ subst (λ (there : Option Device). Turns old.history new.history (Leaves None) (Leaves there)) (sym (made opened (is_full_false old (Format blocks 64) many))) (turns None r.device)
+      | inl few ↦ halts_still old new (on None opened) (Format blocks order) device.Platform tt r (keeps (inr few))
+      | inr many ↦ subst (λ (there : Option Device). Turns old.history new.history (Leaves None) (Leaves there)) (sym (made opened (is_full_false old (Format blocks order) many))) (turns None r.device)
     ]
 
 -- what a commit of the session needs

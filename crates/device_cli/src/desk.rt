@@ -109,7 +109,7 @@ impl Desk {
         ensures answered { P.tells → ServesAny P.Platform self.old self.new platform.old platform.new (commands.Format blocks order) result }
     {
         if !is_in_limits(blocks, order) {
-            return refuse_format(platform, Reply::Range);
+            return refuse_format(platform);
         }
         match device_core::format(self.alloc, platform, tape, ledger, blocks, order as u16) {
             Ok(()) => Ok(Reply::Formatted),
@@ -354,19 +354,17 @@ fn reply_with_counts(report: &Report) -> Reply
     }
 }
 
-/// The reply to a `format` that is not done: that there is a device already comes first.
-fn refuse_format<P: Platform>(platform: &mut P, reply: Reply) -> Result<Reply, DeviceStop>
-    requires writes { (buffer : List ℕ) → CanWrite (said reply buffer) }
-    requires fits { FitsBlock reply }
-    ensures replies { P.tells → IfOk result (λ now. ((now ≡ Reply.NotEmpty) × ((P.history platform.old).present.cell ≢ None))
-        ⊎ ((now ≡ reply) × ((P.history platform.old).present.cell ≡ None))) }
-    ensures either { IfOk result (λ now. (now ≡ Reply.NotEmpty) ⊎ (now ≡ reply)) }
+/// The reply to a `format` of numbers that no device has: that there is a device already comes first.
+fn refuse_format<P: Platform>(platform: &mut P) -> Result<Reply, DeviceStop>
+    ensures replies { P.tells → IfOk result (λ reply. ((reply ≡ Reply.NotEmpty) × ((P.history platform.old).present.cell ≢ None))
+        ⊎ ((reply ≡ Reply.Range) × ((P.history platform.old).present.cell ≡ None))) }
+    ensures either { IfOk result (λ reply. (reply ≡ Reply.NotEmpty) ⊎ (reply ≡ Reply.Range)) }
     ensures image { P.tells → (P.history platform.new).present ≡ (P.history platform.old).present }
     ensures time { P.tells
         → During (P.history platform.old) (P.history platform.new) (λ image. image.cell ≡ (P.history platform.old).present.cell) }
     ensures head { P.head platform.new ≡ P.head platform.old }
     ensures capacity { P.capacity platform.new ≡ P.capacity platform.old }
-    ensures reply { IfOk result (λ now. (buffer : List ℕ) → CanWrite (said now buffer)) }
+    ensures reply { IfOk result (λ reply. (buffer : List ℕ) → CanWrite (said reply buffer)) }
     ensures short { IfOk result FitsBlock }
     ensures count { P.faults platform.old ≤ P.faults platform.new }
     ensures cause { IfErr result (λ stop. (stop ≡ DeviceStop.Platform) × Rose (P.faults platform.old) (P.faults platform.new)) }
@@ -374,7 +372,7 @@ fn refuse_format<P: Platform>(platform: &mut P, reply: Reply) -> Result<Reply, D
     let mut cell = [0; ROOT];
     match platform.load_root(&mut cell) {
         Ok(true) => Ok(Reply::NotEmpty),
-        Ok(false) => Ok(reply),
+        Ok(false) => Ok(Reply::Range),
         Err(_) => Err(DeviceStop::Platform),
     }
 }

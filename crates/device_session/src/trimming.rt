@@ -42,7 +42,7 @@ impl Session {
         // The pages that the session wrote are those before, also where their blocks are mapped no more.
         ensures pages { P.tells → (device : Device) (contents : Blocks) → Holds self.old (P.history platform.old).present device contents
             → (pages : List Unkept) → AreDataPages self.old pages → AreDataPages self.new pages }
-        ensures needs { needed_by self.new ≤ needed_by self.old + 41 }
+        ensures needs { (needed_by self.new ≤ needed_by self.old + 41) × OnErr result (needed_by self.new ≡ needed_by self.old) }
         ensures looks { Looks P.Platform platform.old platform.new }
         ensures cause { IsTrimCause block (blocks_of self.old) (Rose (P.faults platform.old) (P.faults platform.new)) result }
     {

@@ -59,7 +59,7 @@ impl Session {
         ensures pages { P.tells → (device : Device) (contents : Blocks) → Holds self.old (P.history platform.old).present device contents
             → (pages : List Unkept) → AreDataPages self.old pages → OnErr result (AreDataPages self.new pages)
             × OnOk result (AreDataPages self.new (pages ++ record { block = block; addr = P.head platform.old } ∷ [])) }
-        ensures needs { needed_by self.new ≤ needed_by self.old + 41 }
+        ensures needs { (needed_by self.new ≤ needed_by self.old + 41) × OnErr result (needed_by self.new ≡ needed_by self.old) }
         ensures cause { IsWriteCause block (blocks_of self.old) (P.head platform.old) (P.capacity platform.old)
             (Rose (P.faults platform.old) (P.faults platform.new)) (Rose (T.faults tape.old) (T.faults tape.new)) result }
         ensures time { P.tells → CellStays (P.history platform.old) (P.history platform.new) }
@@ -122,7 +122,7 @@ impl Session {
             → IsReadyFor (P.history platform.old).present.readable block self.old.grove is_mapped
             → (pages : List Unkept) → AreDataPages self.old pages → OnErr result (AreDataPages self.new pages)
             × OnOk result (AreDataPages self.new (pages ++ record { block = block; addr = P.head platform.old } ∷ [])) }
-        ensures needs { needed_by self.new ≤ needed_by self.old + 41 }
+        ensures needs { (needed_by self.new ≤ needed_by self.old + 41) × OnErr result (needed_by self.new ≡ needed_by self.old) }
         ensures cause { IfErr result (IsPutCause (Rose (P.faults platform.old) (P.faults platform.new)) (Rose (T.faults tape.old) (T.faults tape.new))) }
         ensures beside { P.tells → CellStays (P.history platform.old) (P.history platform.new) }
         ensures grows { Grows P.Platform platform.old platform.new × (T.faults tape.old ≤ T.faults tape.new) }

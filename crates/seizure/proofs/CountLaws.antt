@@ -24,20 +24,20 @@ same_place one next addr kind block before = elim before [
 ]
 
 -- what a filter keeps was there, and what passes is kept
-kept_inside : (p : Opened → Bool) (xs : List Opened) (o : Opened) → Contains (filter p xs) o → Contains xs o
-kept_inside p xs o has = All-contains (Contains xs) (filter p xs) o (All-filter p (Contains xs) xs (All-contains_itself xs)) has
+pub kept_inside : {A : Type 0} (p : A → Bool) (xs : List A) (x : A) → Contains (filter p xs) x → Contains xs x
+kept_inside p xs x has = All-contains (Contains xs) (filter p xs) x (All-filter p (Contains xs) xs (All-contains_itself xs)) has
 
-keep_here : (b : Bool) (x : Opened) (kept : List Opened) → b ≡ true → Contains (cond b (x ∷ kept) kept) x
+keep_here : {A : Type 0} (b : Bool) (x : A) (kept : List A) → b ≡ true → Contains (cond b (x ∷ kept) kept) x
 keep_here true x kept is = (0, omega arith, refl)
 keep_here false x kept is = absurd (cc)
 
-keep_there : (b : Bool) (x : Opened) (kept : List Opened) (o : Opened) → Contains kept o → Contains (cond b (x ∷ kept) kept) o
+keep_there : {A : Type 0} (b : Bool) (x : A) (kept : List A) (o : A) → Contains kept o → Contains (cond b (x ∷ kept) kept) o
 keep_there true x kept o has = (suc has.0, omega (arith, has.1), has.2)
 keep_there false x kept o has = has
 
-inside_kept : (p : Opened → Bool) (xs : List Opened) (o : Opened) → Contains xs o → p o ≡ true → Contains (filter p xs) o
+pub inside_kept : {A : Type 0} (p : A → Bool) (xs : List A) (o : A) → Contains xs o → p o ≡ true → Contains (filter p xs) o
 inside_kept p [] o has passes = absurd (omega (arith, has.1))
-inside_kept p (x ∷ xs) o (zero, within, is) passes = subst (Contains (filter p (x ∷ xs))) is (keep_here (p x) x (filter p xs) (subst (λ (y : Opened). p y ≡ true) (sym is) passes))
+inside_kept p (x ∷ xs) o (zero, within, is) passes = subst (Contains (filter p (x ∷ xs))) is (keep_here (p x) x (filter p xs) (subst (λ y. p y ≡ true) (sym is) passes))
 inside_kept p (x ∷ xs) o (suc k, within, is) passes = keep_there (p x) x (filter p xs) o (inside_kept p xs o (k, omega (arith, within), is) passes)
 
 same_bool : (a b : Bool) → (a ≡ true → b ≡ true) → (b ≡ true → a ≡ true) → a ≡ b

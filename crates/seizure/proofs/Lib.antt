@@ -4,3 +4,5 @@ pub mod WorkLaws
 pub mod SearchLaws
 pub mod LooksLaws
 pub mod CountLaws
+pub mod AscendLaws
+pub mod MappedLaws

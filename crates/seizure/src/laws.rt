@@ -1,6 +1,13 @@
 //! Laws of seizures. The functions do nothing: each has its law as its contract.
-ghost use Rattle.std.specs.Prelude.{◌≡◌, ◌≢◌, ◌↔◌, ℕ, List, AllPairs, Contains, length};
-ghost use Rattle.key_graph.specs.Chains.{ReachedBody};
+ghost use Rattle.std.specs.Prelude.{◌≡◌, ◌≢◌, ◌↔◌, ℕ, List, [], ◌∷◌, AllPairs, Contains, length};
+ghost use Rattle.std.specs.FinMap as map;
+ghost use Rattle.sdbt_base.specs.Arrays.{Device};
+ghost use Rattle.platform.specs.Image.{Image};
+ghost use Rattle.root_codec.specs.declared.root.Root.{Root};
+ghost use Rattle.key_graph.specs.Chains.{ReachedBody, KeyPremises};
+ghost use Rattle.page_store.specs.Tree.{Parts};
+ghost use Rattle.page_store.specs.Kept.{Kept};
+ghost use Rattle.page_store.specs.Stands.{StandsBy};
 ghost use Rattle.seizure.specs.Opened.{count_of_kind};
 ghost use Rattle.seizure.specs.Report.{Seized, IsSeizure};
 
@@ -12,4 +19,14 @@ pub fn counted_by_address()
         ((addr : ℕ) → Contains addrs addr ↔ ((block : ℕ) × ReachedBody roots pages addr kind block)) →
         ((addr one other : ℕ) → ReachedBody roots pages addr kind one → ReachedBody roots pages addr kind other → one ≡ other) →
         count_of_kind kind seized.opened ≡ length addrs }
+{}
+
+/// Of an image that stands for a device, whatever number of levels its tree has, a seizure from its root record counts as
+/// many data records as the tree has entries, under the premises on keys; and these are as many as the device has blocks.
+pub fn a_seizure_counts_mapped_blocks()
+    ensures entries { (keys : List (List ℕ)) (image : Image) (device : Device) (root : Root) (parts : Parts) (seized : Seized) → StandsBy image device root parts →
+        Kept keys image → KeyPremises keys image.recorded → image.readable ≡ image.recorded → IsSeizure (root.key ∷ []) image.readable seized →
+        count_of_kind 1 seized.opened ≡ length parts.mapped }
+    ensures blocks { (image : Image) (device : Device) (root : Root) (parts : Parts) → StandsBy image device root parts →
+        length parts.mapped ≡ map.len device.contents }
 {}

@@ -17,7 +17,7 @@ mod report;
 mod seizing;
 mod work;
 
-pub use laws::counted_by_address;
+pub use laws::{a_seizure_counts_mapped_blocks, counted_by_address};
 pub use opened::Opened;
 pub use paging::{seize_pages, seize_pages_all};
 pub use refusals::SeizeRefusal;

@@ -130,13 +130,13 @@ returns-in-Err-clause-discloses g c =
 
 pub returns-in-None-clause-seizes : goal.returns-in-None-clause-seizes
 returns-in-None-clause-seizes g c =
-    seizes_maps _ _ _ _ _ (returns-in-None-clause-discloses g c) (λ told served. During-start _ IsServedImage served)
+    seizes_maps _ _ _ _ _ (returns-in-None-clause-discloses g c)
 
 pub returns-in-Ok-clause-seizes : goal.returns-in-Ok-clause-seizes
-returns-in-Ok-clause-seizes g c = seizes_maps _ _ _ _ _ (returns-in-Ok-clause-discloses g c) c.in-Ok.ensures.keeps.serves
+returns-in-Ok-clause-seizes g c = seizes_maps _ _ _ _ _ (returns-in-Ok-clause-discloses g c)
 
 pub returns-in-Err-clause-seizes : goal.returns-in-Err-clause-seizes
-returns-in-Err-clause-seizes g c = seizes_maps _ _ _ _ _ (returns-in-Err-clause-discloses g c) c.in-Err.ensures.keeps.serves
+returns-in-Err-clause-seizes g c = seizes_maps _ _ _ _ _ (returns-in-Err-clause-discloses g c)
 
 pub returns-in-None-clause-certified : goal.returns-in-None-clause-certified
 returns-in-None-clause-certified g c = certified_start _ _ _ _
@@ -283,10 +283,10 @@ returns-in-Err-check-clause-fits g c told there stands served =
     (λ told device stands served. made_look old.history new.history device stands served (c.check.ensures.time told) (c.check.ensures.image told)) told there stands served
 
 pub returns-in-Ok-check-clause-seizes : goal.returns-in-Ok-check-clause-seizes
-returns-in-Ok-check-clause-seizes g c = seizes_maps _ _ _ _ _ (returns-in-Ok-check-clause-discloses g c) (λ told served. During-step _ _ IsServedImage (c.check.ensures.time told) served (subst IsServedImage (sym (c.check.ensures.image told)) served))
+returns-in-Ok-check-clause-seizes g c = seizes_maps _ _ _ _ _ (returns-in-Ok-check-clause-discloses g c)
 
 pub returns-in-Err-check-clause-seizes : goal.returns-in-Err-check-clause-seizes
-returns-in-Err-check-clause-seizes g c = seizes_maps _ _ _ _ _ (returns-in-Err-check-clause-discloses g c) (λ told served. During-step _ _ IsServedImage (c.check.ensures.time told) served (subst IsServedImage (sym (c.check.ensures.image told)) served))
+returns-in-Err-check-clause-seizes g c = seizes_maps _ _ _ _ _ (returns-in-Err-check-clause-discloses g c)
 
 -- ---- a seizure
 
@@ -318,7 +318,7 @@ returns-in-Ok-seize_word-clause-fits g c told there stands served =
     (λ told device stands served. made_look old.history new.history device stands served (c.seize_word.ensures.time told) (c.seize_word.ensures.image told)) told there stands served
 
 pub returns-in-Ok-seize_word-clause-seizes : goal.returns-in-Ok-seize_word-clause-seizes
-returns-in-Ok-seize_word-clause-seizes g c = seizes_maps _ _ _ _ _ (returns-in-Ok-seize_word-clause-discloses g c) (λ told served. During-step _ _ IsServedImage (c.seize_word.ensures.time told) served (subst IsServedImage (sym (c.seize_word.ensures.image told)) served))
+returns-in-Ok-seize_word-clause-seizes g c = seizes_maps _ _ _ _ _ (returns-in-Ok-seize_word-clause-discloses g c)
 
 pub returns-in-Ok-seize_word-clause-seizing : goal.returns-in-Ok-seize_word-clause-seizing
 returns-in-Ok-seize_word-clause-seizing g c words =
@@ -372,7 +372,7 @@ returns-in-Err-seize_word-clause-fits g c told there stands served =
     (λ told device stands served. made_look old.history new.history device stands served (c.seize_word.ensures.time told) (c.seize_word.ensures.image told)) told there stands served
 
 pub returns-in-Err-seize_word-clause-seizes : goal.returns-in-Err-seize_word-clause-seizes
-returns-in-Err-seize_word-clause-seizes g c = seizes_maps _ _ _ _ _ (returns-in-Err-seize_word-clause-discloses g c) (λ told served. During-step _ _ IsServedImage (c.seize_word.ensures.time told) served (subst IsServedImage (sym (c.seize_word.ensures.image told)) served))
+returns-in-Err-seize_word-clause-seizes g c = seizes_maps _ _ _ _ _ (returns-in-Err-seize_word-clause-discloses g c)
 
 pub returns-in-Err-seize_word-clause-seizing : goal.returns-in-Err-seize_word-clause-seizing
 returns-in-Err-seize_word-clause-seizing g c words =

@@ -16,7 +16,7 @@ use Rattle.device_session.specs.declared.refusals.CommitFault.{CommitFault}
 use Rattle.device_cli.proofs.desk.Desk.commit.Given.{Over}
 use Rattle.device_cli.proofs.desk.Desk.commit.Goals.{In-Some}
 use Rattle.device_session.specs.Open.{is_touched}
-use Rattle.device_core.proofs.NeedLaws.{needed_none}
+use Rattle.device_session.proofs.CountLaws.{needs_none}
 use Rattle.std.proofs.lemmas.Bool.{cases_Bool}
 use Rattle.device_cli.proofs.ServingLaws.{needed_some}
 use Rattle.device_cli.proofs.desk.Desk.commit.Goals as goal
@@ -101,32 +101,32 @@ returns-in_default-clause-keeps g c = on_start _ _ _ c.args.self.now.session _ _
 pub returns-in-Committed-clause-keeps : goal.returns-in-Committed-clause-keeps
 returns-in-Committed-clause-keeps g c =
     let taken : c.args.self.now.session ≡ Some c.in-Some.session = c.in-Some.is in
-    on_call _ _ _ _ _ c.args.self.now.session _ _ _ _ _ _ c.in-Ok.ensures.commits.discloses.keys (λ told keys h. listed_some _ c.in-Some.session _ keys taken h) (λ told keys h. c.commit.ensures.commits.discloses.forgets told keys (listed_some _ c.in-Some.session _ keys taken h)) (λ told keys more h done. done) c.commit.ensures.commits.discloses.serves (certified_commit {X = CommitReply} {Y = CommitFault} _ _ _ _ _ c.in-Some.session _ (Ok c.in-Ok.reply) (is_open g (goal.at.returns-in-Committed-clause-keeps g c).In-Some).served.fits (is_open g (goal.at.returns-in-Committed-clause-keeps g c).In-Some).served.key.0 c.commit.ensures.commits.discloses.turns (cell g (goal.at.returns-in-Committed-clause-keeps g c).In-Some) c.in-Ok.ensures.commits.certifies) (fitting_committed _ _ _ _ _ c.args.self.now.session c.in-Some.session _ taken (is_open g (goal.at.returns-in-Committed-clause-keeps g c).In-Some).loaded (λ e. let idle = c.commit.ensures.idle e in (ap (λ p. g.P.Platform.history p) idle.1, ap (λ l. g.L.Sink.written l) idle.3)) (λ told keys h. c.commit.ensures.commits.discloses.forgets told keys h) c.commit.ensures.commits.certifies)
+    on_call _ _ _ _ _ c.args.self.now.session _ _ _ _ _ _ c.in-Ok.ensures.commits.discloses.keys (λ told keys h. listed_some _ c.in-Some.session _ keys taken h) (λ told keys h. c.commit.ensures.commits.discloses.forgets told keys (listed_some _ c.in-Some.session _ keys taken h)) (λ told keys more h done. done) c.commit.ensures.commits.discloses.serves (certified_commit {X = CommitReply} {Y = CommitFault} _ _ _ _ _ c.in-Some.session _ (Ok c.in-Ok.reply) (is_open g (goal.at.returns-in-Committed-clause-keeps g c).In-Some).served.in_range (is_open g (goal.at.returns-in-Committed-clause-keeps g c).In-Some).served.key.0 c.commit.ensures.commits.discloses.turns (cell g (goal.at.returns-in-Committed-clause-keeps g c).In-Some) c.in-Ok.ensures.commits.certifies) (fitting_committed _ _ _ _ _ c.args.self.now.session c.in-Some.session _ taken (λ told keys h. c.commit.ensures.commits.discloses.forgets told keys h) c.commit.ensures.commits.certifies)
 
 pub returns-in-Full-clause-keeps : goal.returns-in-Full-clause-keeps
 returns-in-Full-clause-keeps g c =
     let taken : c.args.self.now.session ≡ Some c.in-Some.session = c.in-Some.is in
-    on_call _ _ _ _ _ c.args.self.now.session _ _ _ _ _ _ c.in-Ok.ensures.commits.discloses.keys (λ told keys h. listed_some _ c.in-Some.session _ keys taken h) (λ told keys h. c.commit.ensures.commits.discloses.forgets told keys (listed_some _ c.in-Some.session _ keys taken h)) (λ told keys more h done. done) c.commit.ensures.commits.discloses.serves (certified_commit {X = CommitReply} {Y = CommitFault} _ _ _ _ _ c.in-Some.session _ (Ok c.in-Ok.reply) (is_open g (goal.at.returns-in-Full-clause-keeps g c).In-Some).served.fits (is_open g (goal.at.returns-in-Full-clause-keeps g c).In-Some).served.key.0 c.commit.ensures.commits.discloses.turns (cell g (goal.at.returns-in-Full-clause-keeps g c).In-Some) c.in-Ok.ensures.commits.certifies) (fitting_committed _ _ _ _ _ c.args.self.now.session c.in-Some.session _ taken (is_open g (goal.at.returns-in-Full-clause-keeps g c).In-Some).loaded (λ e. let idle = c.commit.ensures.idle e in (ap (λ p. g.P.Platform.history p) idle.1, ap (λ l. g.L.Sink.written l) idle.3)) (λ told keys h. c.commit.ensures.commits.discloses.forgets told keys h) c.commit.ensures.commits.certifies)
+    on_call _ _ _ _ _ c.args.self.now.session _ _ _ _ _ _ c.in-Ok.ensures.commits.discloses.keys (λ told keys h. listed_some _ c.in-Some.session _ keys taken h) (λ told keys h. c.commit.ensures.commits.discloses.forgets told keys (listed_some _ c.in-Some.session _ keys taken h)) (λ told keys more h done. done) c.commit.ensures.commits.discloses.serves (certified_commit {X = CommitReply} {Y = CommitFault} _ _ _ _ _ c.in-Some.session _ (Ok c.in-Ok.reply) (is_open g (goal.at.returns-in-Full-clause-keeps g c).In-Some).served.in_range (is_open g (goal.at.returns-in-Full-clause-keeps g c).In-Some).served.key.0 c.commit.ensures.commits.discloses.turns (cell g (goal.at.returns-in-Full-clause-keeps g c).In-Some) c.in-Ok.ensures.commits.certifies) (fitting_committed _ _ _ _ _ c.args.self.now.session c.in-Some.session _ taken (λ told keys h. c.commit.ensures.commits.discloses.forgets told keys h) c.commit.ensures.commits.certifies)
 
 pub returns-in-Err-Memory-clause-keeps : goal.returns-in-Err-Memory-clause-keeps
 returns-in-Err-Memory-clause-keeps g c =
     let taken : c.args.self.now.session ≡ Some c.in-Some.session = c.in-Some.is in
-    on_call _ _ _ _ _ c.args.self.now.session _ _ _ _ _ _ c.commit.ensures.commits.discloses.keys (λ told keys h. listed_some _ c.in-Some.session _ keys taken h) (λ told keys h. c.commit.ensures.commits.discloses.forgets told keys (listed_some _ c.in-Some.session _ keys taken h)) (λ told keys more h done. tt) c.commit.ensures.commits.discloses.serves (certified_going _ _ _ _ _ _ _ (λ never. absurd cc) (certified_commit _ _ _ _ _ c.in-Some.session _ c.commit.result (is_open g (goal.at.returns-in-Err-Memory-clause-keeps g c).In-Some).served.fits (is_open g (goal.at.returns-in-Err-Memory-clause-keeps g c).In-Some).served.key.0 c.commit.ensures.commits.discloses.turns (cell g (goal.at.returns-in-Err-Memory-clause-keeps g c).In-Some) c.commit.ensures.commits.certifies)) (fitting_committed _ _ _ _ _ c.args.self.now.session c.in-Some.session _ taken (is_open g (goal.at.returns-in-Err-Memory-clause-keeps g c).In-Some).loaded (λ e. let idle = c.commit.ensures.idle e in (ap (λ p. g.P.Platform.history p) idle.1, ap (λ l. g.L.Sink.written l) idle.3)) (λ told keys h. c.commit.ensures.commits.discloses.forgets told keys h) c.commit.ensures.commits.certifies)
+    on_call _ _ _ _ _ c.args.self.now.session _ _ _ _ _ _ c.commit.ensures.commits.discloses.keys (λ told keys h. listed_some _ c.in-Some.session _ keys taken h) (λ told keys h. c.commit.ensures.commits.discloses.forgets told keys (listed_some _ c.in-Some.session _ keys taken h)) (λ told keys more h done. tt) c.commit.ensures.commits.discloses.serves (certified_going _ _ _ _ _ _ _ (λ never. absurd cc) (certified_commit _ _ _ _ _ c.in-Some.session _ c.commit.result (is_open g (goal.at.returns-in-Err-Memory-clause-keeps g c).In-Some).served.in_range (is_open g (goal.at.returns-in-Err-Memory-clause-keeps g c).In-Some).served.key.0 c.commit.ensures.commits.discloses.turns (cell g (goal.at.returns-in-Err-Memory-clause-keeps g c).In-Some) c.commit.ensures.commits.certifies)) (fitting_committed _ _ _ _ _ c.args.self.now.session c.in-Some.session _ taken (λ told keys h. c.commit.ensures.commits.discloses.forgets told keys h) c.commit.ensures.commits.certifies)
 
 pub returns-in-Err-TapeFault-clause-keeps : goal.returns-in-Err-TapeFault-clause-keeps
 returns-in-Err-TapeFault-clause-keeps g c =
     let taken : c.args.self.now.session ≡ Some c.in-Some.session = c.in-Some.is in
-    on_call _ _ _ _ _ c.args.self.now.session _ _ _ _ _ _ c.commit.ensures.commits.discloses.keys (λ told keys h. listed_some _ c.in-Some.session _ keys taken h) (λ told keys h. c.commit.ensures.commits.discloses.forgets told keys (listed_some _ c.in-Some.session _ keys taken h)) (λ told keys more h done. tt) c.commit.ensures.commits.discloses.serves (certified_going _ _ _ _ _ _ _ (λ never. absurd cc) (certified_commit _ _ _ _ _ c.in-Some.session _ c.commit.result (is_open g (goal.at.returns-in-Err-TapeFault-clause-keeps g c).In-Some).served.fits (is_open g (goal.at.returns-in-Err-TapeFault-clause-keeps g c).In-Some).served.key.0 c.commit.ensures.commits.discloses.turns (cell g (goal.at.returns-in-Err-TapeFault-clause-keeps g c).In-Some) c.commit.ensures.commits.certifies)) (fitting_committed _ _ _ _ _ c.args.self.now.session c.in-Some.session _ taken (is_open g (goal.at.returns-in-Err-TapeFault-clause-keeps g c).In-Some).loaded (λ e. let idle = c.commit.ensures.idle e in (ap (λ p. g.P.Platform.history p) idle.1, ap (λ l. g.L.Sink.written l) idle.3)) (λ told keys h. c.commit.ensures.commits.discloses.forgets told keys h) c.commit.ensures.commits.certifies)
+    on_call _ _ _ _ _ c.args.self.now.session _ _ _ _ _ _ c.commit.ensures.commits.discloses.keys (λ told keys h. listed_some _ c.in-Some.session _ keys taken h) (λ told keys h. c.commit.ensures.commits.discloses.forgets told keys (listed_some _ c.in-Some.session _ keys taken h)) (λ told keys more h done. tt) c.commit.ensures.commits.discloses.serves (certified_going _ _ _ _ _ _ _ (λ never. absurd cc) (certified_commit _ _ _ _ _ c.in-Some.session _ c.commit.result (is_open g (goal.at.returns-in-Err-TapeFault-clause-keeps g c).In-Some).served.in_range (is_open g (goal.at.returns-in-Err-TapeFault-clause-keeps g c).In-Some).served.key.0 c.commit.ensures.commits.discloses.turns (cell g (goal.at.returns-in-Err-TapeFault-clause-keeps g c).In-Some) c.commit.ensures.commits.certifies)) (fitting_committed _ _ _ _ _ c.args.self.now.session c.in-Some.session _ taken (λ told keys h. c.commit.ensures.commits.discloses.forgets told keys h) c.commit.ensures.commits.certifies)
 
 pub returns-in-Err-LedgerFault-clause-keeps : goal.returns-in-Err-LedgerFault-clause-keeps
 returns-in-Err-LedgerFault-clause-keeps g c =
     let taken : c.args.self.now.session ≡ Some c.in-Some.session = c.in-Some.is in
-    on_call _ _ _ _ _ c.args.self.now.session _ _ _ _ _ _ c.commit.ensures.commits.discloses.keys (λ told keys h. listed_some _ c.in-Some.session _ keys taken h) (λ told keys h. c.commit.ensures.commits.discloses.forgets told keys (listed_some _ c.in-Some.session _ keys taken h)) (λ told keys more h done. tt) c.commit.ensures.commits.discloses.serves (certified_going _ _ _ _ _ _ _ (λ never. absurd cc) (certified_commit _ _ _ _ _ c.in-Some.session _ c.commit.result (is_open g (goal.at.returns-in-Err-LedgerFault-clause-keeps g c).In-Some).served.fits (is_open g (goal.at.returns-in-Err-LedgerFault-clause-keeps g c).In-Some).served.key.0 c.commit.ensures.commits.discloses.turns (cell g (goal.at.returns-in-Err-LedgerFault-clause-keeps g c).In-Some) c.commit.ensures.commits.certifies)) (fitting_committed _ _ _ _ _ c.args.self.now.session c.in-Some.session _ taken (is_open g (goal.at.returns-in-Err-LedgerFault-clause-keeps g c).In-Some).loaded (λ e. let idle = c.commit.ensures.idle e in (ap (λ p. g.P.Platform.history p) idle.1, ap (λ l. g.L.Sink.written l) idle.3)) (λ told keys h. c.commit.ensures.commits.discloses.forgets told keys h) c.commit.ensures.commits.certifies)
+    on_call _ _ _ _ _ c.args.self.now.session _ _ _ _ _ _ c.commit.ensures.commits.discloses.keys (λ told keys h. listed_some _ c.in-Some.session _ keys taken h) (λ told keys h. c.commit.ensures.commits.discloses.forgets told keys (listed_some _ c.in-Some.session _ keys taken h)) (λ told keys more h done. tt) c.commit.ensures.commits.discloses.serves (certified_going _ _ _ _ _ _ _ (λ never. absurd cc) (certified_commit _ _ _ _ _ c.in-Some.session _ c.commit.result (is_open g (goal.at.returns-in-Err-LedgerFault-clause-keeps g c).In-Some).served.in_range (is_open g (goal.at.returns-in-Err-LedgerFault-clause-keeps g c).In-Some).served.key.0 c.commit.ensures.commits.discloses.turns (cell g (goal.at.returns-in-Err-LedgerFault-clause-keeps g c).In-Some) c.commit.ensures.commits.certifies)) (fitting_committed _ _ _ _ _ c.args.self.now.session c.in-Some.session _ taken (λ told keys h. c.commit.ensures.commits.discloses.forgets told keys h) c.commit.ensures.commits.certifies)
 
 pub returns-in-Err-PlatformFault-clause-keeps : goal.returns-in-Err-PlatformFault-clause-keeps
 returns-in-Err-PlatformFault-clause-keeps g c =
     let taken : c.args.self.now.session ≡ Some c.in-Some.session = c.in-Some.is in
-    on_call _ _ _ _ _ c.args.self.now.session _ _ _ _ _ _ c.commit.ensures.commits.discloses.keys (λ told keys h. listed_some _ c.in-Some.session _ keys taken h) (λ told keys h. c.commit.ensures.commits.discloses.forgets told keys (listed_some _ c.in-Some.session _ keys taken h)) (λ told keys more h done. tt) c.commit.ensures.commits.discloses.serves (certified_going _ _ _ _ _ _ _ (λ never. absurd cc) (certified_commit _ _ _ _ _ c.in-Some.session _ c.commit.result (is_open g (goal.at.returns-in-Err-PlatformFault-clause-keeps g c).In-Some).served.fits (is_open g (goal.at.returns-in-Err-PlatformFault-clause-keeps g c).In-Some).served.key.0 c.commit.ensures.commits.discloses.turns (cell g (goal.at.returns-in-Err-PlatformFault-clause-keeps g c).In-Some) c.commit.ensures.commits.certifies)) (fitting_committed _ _ _ _ _ c.args.self.now.session c.in-Some.session _ taken (is_open g (goal.at.returns-in-Err-PlatformFault-clause-keeps g c).In-Some).loaded (λ e. let idle = c.commit.ensures.idle e in (ap (λ p. g.P.Platform.history p) idle.1, ap (λ l. g.L.Sink.written l) idle.3)) (λ told keys h. c.commit.ensures.commits.discloses.forgets told keys h) c.commit.ensures.commits.certifies)
+    on_call _ _ _ _ _ c.args.self.now.session _ _ _ _ _ _ c.commit.ensures.commits.discloses.keys (λ told keys h. listed_some _ c.in-Some.session _ keys taken h) (λ told keys h. c.commit.ensures.commits.discloses.forgets told keys (listed_some _ c.in-Some.session _ keys taken h)) (λ told keys more h done. tt) c.commit.ensures.commits.discloses.serves (certified_going _ _ _ _ _ _ _ (λ never. absurd cc) (certified_commit _ _ _ _ _ c.in-Some.session _ c.commit.result (is_open g (goal.at.returns-in-Err-PlatformFault-clause-keeps g c).In-Some).served.in_range (is_open g (goal.at.returns-in-Err-PlatformFault-clause-keeps g c).In-Some).served.key.0 c.commit.ensures.commits.discloses.turns (cell g (goal.at.returns-in-Err-PlatformFault-clause-keeps g c).In-Some) c.commit.ensures.commits.certifies)) (fitting_committed _ _ _ _ _ c.args.self.now.session c.in-Some.session _ taken (λ told keys h. c.commit.ensures.commits.discloses.forgets told keys h) c.commit.ensures.commits.certifies)
 
 -- a commit that raised the number, or had nothing to do, added as many pages as it needed, and the next one needs none
 pub returns-in-Committed-clause-pages : goal.returns-in-Committed-clause-pages
@@ -135,7 +135,7 @@ returns-in-Committed-clause-pages g c =
     let session = c.in-Some.session in
     let some = needed_some (world_of P c.args.self.now.session c.args.platform.now) session c.in-Some.is in
     elim (cases_Bool (is_touched session)) [
-      | inr idle ↦ omega (arith, ap P.head (c.in-Ok.ensures.idle idle).1, needed_none session idle, some)
+      | inr idle ↦ omega (arith, ap P.head (c.in-Ok.ensures.idle idle).1, needs_none session (P.head c.args.platform.now) (is_open g (goal.at.returns-in-Committed-clause-pages g c).In-Some) idle, some)
       | inl touched ↦ elim (cases_lt (P.capacity c.args.platform.now - P.head c.args.platform.now) (needed_by session)) [
         | inl few ↦ absurd (let full = (c.in-Ok.ensures.full touched few).4 in let is = c.in-Committed.is in cc)
         | inr many ↦ omega (arith, (c.in-Ok.ensures.raised touched many).head, some)
@@ -147,9 +147,9 @@ returns-in-Committed-clause-enough g c updates enough =
     let P = g.P.Platform in
     let session = c.in-Some.session in
     elim (cases_Bool (is_touched session)) [
-      | inr idle ↦ omega (arith, ap needed_by (c.in-Ok.ensures.idle idle).0, needed_none session idle)
+      | inr idle ↦ omega (arith, ap needed_by (c.in-Ok.ensures.idle idle).0, needs_none session (P.head c.args.platform.now) (is_open g (goal.at.returns-in-Committed-clause-enough g c).In-Some) idle)
       | inl touched ↦ elim (cases_lt (P.capacity c.args.platform.now - P.head c.args.platform.now) (needed_by session)) [
         | inl few ↦ absurd (let full = (c.in-Ok.ensures.full touched few).4 in let is = c.in-Committed.is in cc)
-        | inr many ↦ omega (arith, (c.in-Ok.ensures.raised touched many).settled)
+        | inr many ↦ omega (arith, needs_none c.commit.new.self (P.head c.commit.new.platform) c.in-Ok.ensures.commits.goes_on.0 (c.in-Ok.ensures.raised touched many).untouched)
       ]
     ]

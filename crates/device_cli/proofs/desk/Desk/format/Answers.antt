@@ -1,8 +1,10 @@
+use Rattle.std.proofs.lemmas.Grind.{common_steps}
 use Rattle.std.proofs.Common.{List, ◌≡◌, ◌≢◌, ◌-◌, ◌<◌, ◌≤◌, ℕ, Bool, true, false, Option, None, Some, Ok, Err, inl, inr, refl, sym, ap, subst, rules, arith, []}
 use Rattle.std.specs.Prelude.{Result, IfOk, IfErr, IsOk, ◌⊎◌}
 use Rattle.sdbt_base.specs.Faults.{Rose}
 use Rattle.sdbt_base.specs.Arrays.{State}
 use Rattle.script_lang.specs.Replies.{said}
+use Rattle.script_lang.specs.Replies as replies
 use Rattle.script_lang.specs.declared.replies.Reply.{Reply as Given}
 use Rattle.script_lang.specs.declared.replies.Reply.TheVariants as given
 use Rattle.device_cli.specs.declared.stop.DeviceStop.{DeviceStop}
@@ -12,9 +14,7 @@ use Rattle.device_cli.specs.Replied.{Serves, Halts, outcome}
 use Rattle.device_cli.specs.Represents.{Represents}
 use Rattle.script_lang.specs.Arrays.{in_limits}
 use Rattle.script_lang.specs.Commands.{Format}
-use Rattle.script_lang.specs.Answers.{answer, none_counted}
-use Rattle.sdbt_base.specs.Arrays.{Session as OpenSession}
-use Rattle.device_cli.proofs.ServedLaws.{on, halts_still, gives_format_range, gives_format_unbuilt}
+use Rattle.device_cli.proofs.ServedLaws.{on, halts_still, gives_format_range}
 use Rattle.device_cli.proofs.ServingLaws.{KeepsCell, serves_formatted, serves_format_full, serves_not_empty, serves_refused, halts_format}
 use Rattle.sdbt_base.specs.declared.tapes.Tape.{Ghosts as TapeGhosts}
 use Rattle.platform.specs.declared.platforms.Platform.{Ghosts as PlatformGhosts}
@@ -29,30 +29,18 @@ use Rattle.device_cli.proofs.EnoughLaws.{enough_refused, pages_refused}
 use Rattle.device_cli.proofs.desk.Desk.format.Goals as goal
 
 -- what the looking for a device ended with
-refused_result : (old new : World) (entry : State) (blocks order : ℕ) (reply : Given) (result : Result Given DeviceStop) (buffer : List ℕ) (Risen : Type 0)
-    → IfOk result (λ now. ((now ≡ given.NotEmpty) × (old.history.present.cell ≢ None)) ⊎ ((now ≡ reply) × (old.history.present.cell ≡ None)))
+refused_result : (old new : World) (entry : State) (blocks order : ℕ) (result : Result Given DeviceStop) (buffer : List ℕ) (Risen : Type 0)
+    → IfOk result (λ now. ((now ≡ given.NotEmpty) × (old.history.present.cell ≢ None)) ⊎ ((now ≡ given.Range) × (old.history.present.cell ≡ None)))
     → IfErr result (λ stop. (stop ≡ device.Platform) × Risen) → new.history.present ≡ old.history.present → KeepsCell old new
-    → ((full : Bool) (there : Option OpenSession) → (said reply buffer, on None there) ≡ answer full none_counted (on None there) (Format blocks order))
-    → new.session ≡ old.session → Represents old entry → Serves old new entry (Format blocks order) (outcome result buffer)
-refused_result old new entry blocks order reply (Ok now) buffer Risen replied cause image keeps gives session rep =
-    serves_refused old new entry blocks order (said now buffer) (said reply buffer) session image keeps gives
+    → in_limits blocks order ≡ false → new.session ≡ old.session → Represents old entry → Serves old new entry (Format blocks order) (outcome result buffer)
+refused_result old new entry blocks order (Ok now) buffer Risen replied cause image keeps past session rep =
+    serves_refused old new entry blocks order (said now buffer) replies.Range session image keeps (λ full there. gives_format_range full there blocks order past)
     (elim replied [
       | inl found ↦ inl (ap (λ (r : Given). said r buffer) found.0, found.1)
       | inr none ↦ inr (ap (λ (r : Given). said r buffer) none.0, none.1)
     ]) rep
-refused_result old new entry blocks order reply (Err stop) buffer Risen replied cause image keeps gives session rep =
+refused_result old new entry blocks order (Err stop) buffer Risen replied cause image keeps past session rep =
     subst (λ (s : DeviceStop). Halts old new entry (Format blocks order) s) (sym cause.0) (halts_still old new entry (Format blocks order) device.Platform tt rep keeps)
-
--- what belongs to such numbers where no device is there
-gives_refused : (blocks order : ℕ) (reply : Given) (buffer : List ℕ) → (reply ≡ given.Range) ⊎ (reply ≡ given.Unbuilt)
-    → (reply ≡ given.Range → in_limits blocks order ≡ false)
-    → (reply ≡ given.Unbuilt → (in_limits blocks order ≡ true) × ((order ≢ 64) ⊎ (64 < blocks)))
-    → (full : Bool) (there : Option OpenSession) → (said reply buffer, on None there) ≡ answer full none_counted (on None there) (Format blocks order)
-gives_refused blocks order reply buffer (inl e) range unbuilt full there =
-    subst (λ (r : Given). (said r buffer, on None there) ≡ answer full none_counted (on None there) (Format blocks order)) (sym e) (gives_format_range full there blocks order (range e))
-gives_refused blocks order reply buffer (inr e) range unbuilt full there =
-    let both = unbuilt e in
-    subst (λ (r : Given). (said r buffer, on None there) ≡ answer full none_counted (on None there) (Format blocks order)) (sym e) (gives_format_unbuilt full there blocks order both.0 both.1)
 
 third : {X Y Z : Type 0} → (X → ⊥) → (Y → ⊥) → X ⊎ (Y ⊎ Z) → Z
 third not_one not_two (inl x) = absurd (not_one x)
@@ -70,11 +58,8 @@ returns-in-Ok-clause-answered g c told entry rep =
     let P = g.P.Platform in
     let old : World = world_of P c.args.self.now.session c.args.platform.now in
     let new : World = world_of P c.args.self.now.session c.format.new.platform in
-    let size = c.refused_size.ensures.none (search rules) in
-    let least : 1 ≤ c.args.blocks = size.0 in
-    let most : c.args.blocks ≤ 64 = size.1 in
-    let is : c.args.order ≡ 64 = size.2 in
-    serves_formatted old new entry c.args.blocks c.args.order (c.in-Ok.ensures.cause.0 told) refl is least most
+    let within : in_limits c.args.blocks c.args.order ≡ true = grind (arith, common_steps, c.is_in_limits.ensures.limits, c.if-is_in_limits.false) in
+    serves_formatted old new entry c.args.blocks c.args.order (c.in-Ok.ensures.cause.0 told) refl within
     (omega (arith, g.met.P.Platform.has_room c.args.platform.now, c.in-Ok.ensures.cause.1)) (c.in-Ok.ensures.made told).0
     (λ there stands. c.format.ensures.time told there stands) rep
 
@@ -90,11 +75,8 @@ returns-in-Err-Full-clause-answered g c told entry rep =
     let P = g.P.Platform in
     let old : World = world_of P c.args.self.now.session c.args.platform.now in
     let new : World = world_of P c.args.self.now.session c.format.new.platform in
-    let size = c.refused_size.ensures.none (search rules) in
-    let least : 1 ≤ c.args.blocks = size.0 in
-    let most : c.args.blocks ≤ 64 = size.1 in
-    let is : c.args.order ≡ 64 = size.2 in
-    serves_format_full old new entry c.args.blocks c.args.order ((rw c.in-Err-Full.field-0-is at c.in-Err-Full.ensures.cause).0 told) refl ((rw c.in-Err-Full.field-0-is at c.in-Err-Full.ensures.cause).2.0.image told) is least most (let none = (rw c.in-Err-Full.field-0-is at c.in-Err-Full.ensures.cause).1 in omega (arith, none)) ((rw c.in-Err-Full.field-0-is at c.in-Err-Full.ensures.cause).2.1 told) rep
+    let within : in_limits c.args.blocks c.args.order ≡ true = grind (arith, common_steps, c.is_in_limits.ensures.limits, c.if-is_in_limits.false) in
+    serves_format_full old new entry c.args.blocks c.args.order ((rw c.in-Err-Full.field-0-is at c.in-Err-Full.ensures.cause).0 told) refl ((rw c.in-Err-Full.field-0-is at c.in-Err-Full.ensures.cause).2.0.image told) within (let none = (rw c.in-Err-Full.field-0-is at c.in-Err-Full.ensures.cause).1 in omega (arith, none)) ((rw c.in-Err-Full.field-0-is at c.in-Err-Full.ensures.cause).2.1 told) rep
 
 pub returns-in-Err-Memory-clause-answered : goal.returns-in-Err-Memory-clause-answered
 returns-in-Err-Memory-clause-answered g c told entry rep =
@@ -122,25 +104,20 @@ returns-in-Err-PlatformFault-clause-answered g c told entry rep =
     let P = g.P.Platform in
     let old : World = world_of P c.args.self.now.session c.args.platform.now in
     let new : World = world_of P c.args.self.now.session c.format.new.platform in
-    let size = c.refused_size.ensures.none (search rules) in
-    let least : 1 ≤ c.args.blocks = size.0 in
-    let most : c.args.blocks ≤ 64 = size.1 in
-    let is : c.args.order ≡ 64 = size.2 in
+    let within : in_limits c.args.blocks c.args.order ≡ true = grind (arith, common_steps, c.is_in_limits.ensures.limits, c.if-is_in_limits.false) in
     let full_or_none : (old.history.present.cell ≢ None) ⊎ (old.capacity - old.head < 1) → (old.history.present.cell ≢ None) ⊎ (old.head ≡ old.capacity) =
     λ before. elim before [ inl full ↦ inl full | inr none ↦ inr (omega (arith, none, g.met.P.Platform.has_room c.args.platform.now)) ] in
-    halts_format old new entry c.args.blocks c.args.order is least most (λ before. (c.format.ensures.kept told (full_or_none before)).1)
+    halts_format old new entry c.args.blocks c.args.order within (λ before. (c.format.ensures.kept told (full_or_none before)).1)
     (λ there stands. c.format.ensures.time told there stands) rep
 
-pub returns-in-Some-clause-answered : goal.returns-in-Some-clause-answered
-returns-in-Some-clause-answered g c told entry rep =
+pub returns-then-is_in_limits-clause-answered : goal.returns-then-is_in_limits-clause-answered
+returns-then-is_in_limits-clause-answered g c told entry rep =
     let P = g.P.Platform in
     let old : World = world_of P c.args.self.now.session c.args.platform.now in
     let new : World = world_of P c.args.self.now.session c.refuse_format.new.platform in
-    refused_result old new entry c.args.blocks c.args.order c.in-Some.reply c.refuse_format.result c.args.self.now.buffer (Rose (P.faults c.args.platform.now) (P.faults c.refuse_format.new.platform))
-    (c.refuse_format.ensures.replies told) c.refuse_format.ensures.cause (c.refuse_format.ensures.image told) (c.refuse_format.ensures.time told)
-    (gives_refused c.args.blocks c.args.order c.in-Some.reply c.args.self.now.buffer c.in-Some.ensures.either
-    (λ e. c.in-Some.ensures.range (ap (λ (r : Given). Some r) e)) (λ e. c.in-Some.ensures.unbuilt (ap (λ (r : Given). Some r) e)))
-    refl rep
+    let past : in_limits c.args.blocks c.args.order ≡ false = grind (arith, common_steps, c.is_in_limits.ensures.limits, c.if-is_in_limits.true) in
+    refused_result old new entry c.args.blocks c.args.order c.refuse_format.result c.args.self.now.buffer (Rose (P.faults c.args.platform.now) (P.faults c.refuse_format.new.platform))
+    (c.refuse_format.ensures.replies told) c.refuse_format.ensures.cause (c.refuse_format.ensures.image told) (c.refuse_format.ensures.time told) past refl rep
 
 pub returns-in-Ok-clause-keeps : goal.returns-in-Ok-clause-keeps
 returns-in-Ok-clause-keeps g c = on_call _ _ _ _ _ c.args.self.now.session _ _ _ _ _ _ c.format.ensures.discloses.keys (λ told keys h. sound_of _ _ keys h) (λ told keys h. c.format.ensures.discloses.forgets told keys (sound_of _ _ keys h)) (λ told keys more h done. format_listed _ _ _ keys _ _ (c.in-Ok.ensures.cause.0 told) (c.in-Ok.ensures.made told).0 h) c.format.ensures.discloses.serves (certified_format {X = Unit {0}} {Y = FormatRefusal} _ _ _ _ _ _ _ (Ok (tt {0})) c.format.ensures.discloses.turns (λ told full. (c.format.ensures.kept told (inl full)).1) (λ told ok. c.in-Ok.ensures.cause.0 told) c.in-Ok.ensures.certifies) (fitting_formatted _ _ _ _ _ c.args.self.now.session _ _ (λ told sound. c.format.ensures.discloses.forgets told [] sound) c.format.ensures.certifies)
@@ -163,13 +140,13 @@ returns-in-Err-LedgerFault-clause-keeps g c = on_call _ _ _ _ _ c.args.self.now.
 pub returns-in-Err-PlatformFault-clause-keeps : goal.returns-in-Err-PlatformFault-clause-keeps
 returns-in-Err-PlatformFault-clause-keeps g c = on_call _ _ _ _ _ c.args.self.now.session _ _ _ _ _ _ c.format.ensures.discloses.keys (λ told keys h. sound_of _ _ keys h) (λ told keys h. c.format.ensures.discloses.forgets told keys (sound_of _ _ keys h)) (λ told keys more h done. tt) c.format.ensures.discloses.serves (certified_going _ _ _ _ _ _ _ (λ never. absurd cc) (certified_format _ _ _ _ _ _ _ c.format.result c.format.ensures.discloses.turns (λ told full. (c.format.ensures.kept told (inl full)).1) (empty_where_made g.P.Platform g.T.Tape _ _ _ _ _ _ _ c.format.result c.format.ensures.cause) c.format.ensures.certifies)) (fitting_formatted _ _ _ _ _ c.args.self.now.session _ _ (λ told sound. c.format.ensures.discloses.forgets told [] sound) c.format.ensures.certifies)
 
-pub returns-in-Some-clause-keeps : goal.returns-in-Some-clause-keeps
-returns-in-Some-clause-keeps g c = on_look _ _ _ c.args.self.now.session _ _ _ _ c.refuse_format.ensures.image c.refuse_format.ensures.time (λ told keys kept h. on_ok c.refuse_format.result _ (listed_image _ _ _ keys (c.refuse_format.ensures.image told) h))
+pub returns-then-is_in_limits-clause-keeps : goal.returns-then-is_in_limits-clause-keeps
+returns-then-is_in_limits-clause-keeps g c = on_look _ _ _ c.args.self.now.session _ _ _ _ c.refuse_format.ensures.image c.refuse_format.ensures.time (λ told keys kept h. on_ok c.refuse_format.result _ (listed_image _ _ _ keys (c.refuse_format.ensures.image told) h))
 
-pub returns-in-Some-clause-enough : goal.returns-in-Some-clause-enough
-returns-in-Some-clause-enough g c updates enough =
-    enough_refused c.refuse_format.result c.args.self.now.buffer c.in-Some.reply c.args.self.now.session updates c.refuse_format.ensures.either c.in-Some.ensures.either enough
+pub returns-then-is_in_limits-clause-enough : goal.returns-then-is_in_limits-clause-enough
+returns-then-is_in_limits-clause-enough g c updates enough =
+    enough_refused c.refuse_format.result c.args.self.now.buffer c.args.self.now.session updates c.refuse_format.ensures.either enough
 
-pub returns-in-Some-clause-pages : goal.returns-in-Some-clause-pages
-returns-in-Some-clause-pages g c =
-    pages_refused c.refuse_format.result c.args.self.now.buffer c.in-Some.reply c.args.blocks c.args.order (needed_of c.args.self.now.session) _ _ c.refuse_format.ensures.either c.in-Some.ensures.either c.refuse_format.ensures.head
+pub returns-then-is_in_limits-clause-pages : goal.returns-then-is_in_limits-clause-pages
+returns-then-is_in_limits-clause-pages g c =
+    pages_refused c.refuse_format.result c.args.self.now.buffer c.args.blocks c.args.order (needed_of c.args.self.now.session) _ _ c.refuse_format.ensures.either c.refuse_format.ensures.head

@@ -11,6 +11,7 @@ use Rattle.page_store.specs.Roots.{IsBadCell}
 use Rattle.device_cli.proofs.ServedLaws.{halts_still}
 use Rattle.device_cli.proofs.ServingLaws.{serves_already, serves_mounted, serves_no_device}
 use Rattle.device_course.proofs.KeysLaws.{on_start, on_look, listed_image, mount_listed}
+use Rattle.device_session.proofs.KeyLaws.{listed_fresh}
 use Rattle.device_cli.proofs.Choices.{some_of}
 use Rattle.device_cli.proofs.desk.Desk.mount.Goals as goal
 
@@ -33,7 +34,7 @@ returns-in-Ok-clause-answered g c told entry rep =
     let new : World = world_of P (Some c.in-Ok.session) c.mount.new.platform in
     let none : c.args.self.now.session ≡ None = grind (arith, common_steps, c.is_some.ensures, c.if-is_some.false) in
     let found = c.in-Ok.ensures.found told in
-    serves_mounted old new entry c.in-Ok.session c.number-number.result none (λ e. cc) refl c.in-Ok.ensures.untouched
+    serves_mounted old new entry c.in-Ok.session c.number-number.result none (λ e. cc) refl c.in-Ok.ensures.open.1
     (λ d stands. let holds = c.in-Ok.ensures.holds told d stands in (holds, c.number-number.ensures ∙ holds.stands.number))
     (c.mount.ensures.looks.time told) rep
 
@@ -72,7 +73,7 @@ returns-then-is_some-clause-keeps g c = λ drawn written. on_start _ drawn writt
 pub returns-in-Ok-clause-keeps : goal.returns-in-Ok-clause-keeps
 returns-in-Ok-clause-keeps g c = λ drawn written. on_look _ drawn written c.args.self.now.session _ _ _ _ c.mount.ensures.looks.image c.mount.ensures.looks.time (λ told keys kept h.
     let none : c.args.self.now.session ≡ None = grind (arith, common_steps, c.is_some.ensures, c.if-is_some.false) in
-    mount_listed c.args.self.now.session (g.P.Platform.history c.args.platform.now).present keys keys _ _ none (c.in-Ok.ensures.found told) h (λ device stands. c.in-Ok.ensures.listed told device stands keys))
+    mount_listed c.args.self.now.session (g.P.Platform.history c.args.platform.now).present keys keys _ _ none (c.in-Ok.ensures.found told) h (λ device stands. listed_fresh c.in-Ok.session (g.P.Platform.history c.mount.new.platform).present device device.contents keys c.in-Ok.ensures.open.2 (c.in-Ok.ensures.holds told device stands)))
 
 pub returns-in-Err-NoDevice-clause-keeps : goal.returns-in-Err-NoDevice-clause-keeps
 returns-in-Err-NoDevice-clause-keeps g c = λ drawn written. on_look _ drawn written c.args.self.now.session _ _ _ _ c.mount.ensures.looks.image c.mount.ensures.looks.time (λ told keys kept h. listed_image _ _ _ keys (c.mount.ensures.looks.image told) h)

@@ -1,7 +1,4 @@
-use Rattle.std.proofs.Common.{Option, ◌∙◌, subst}
-use Rattle.std.specs.Prelude.{IfSome}
-use Rattle.device_session.specs.Open.{IsOpen}
-use Rattle.device_session.specs.Sessions.{Session}
+use Rattle.std.proofs.Common.{◌∙◌}
 use Rattle.device_session.proofs.CountLaws.{mapped_len}
 use Rattle.script_lang.specs.Commands as commands
 use Rattle.device_cli.proofs.ServedLaws.{gives_unmounted_stat}
@@ -12,9 +9,8 @@ pub returns-in-Some-clause-answered : goal.returns-in-Some-clause-answered
 returns-in-Some-clause-answered g c told entry rep =
     let P = g.P.Platform in
     let head = P.head c.args.platform.now in
-    let opened = subst (λ (s : Option Session). IfSome s (λ session. IsOpen session head)) c.in-Some.is c.requires.ready in
     serves_stat c.args.self.now.session (P.history c.args.platform.now) head (P.capacity c.args.platform.now) entry c.in-Some.session c.mapped.result c.number.result c.in-Some.is
-    (λ d t holds. (c.mapped.ensures ∙ mapped_len c.in-Some.session (P.history c.args.platform.now).present d t.contents head opened holds, c.number.ensures ∙ holds.stands.number)) rep
+    (λ d t holds. (c.mapped.ensures ∙ mapped_len c.in-Some.session (P.history c.args.platform.now).present d t.contents holds, c.number.ensures ∙ holds.stands.number)) rep
 
 pub returns-in-None-clause-answered : goal.returns-in-None-clause-answered
 returns-in-None-clause-answered g c told entry rep =

@@ -63,10 +63,10 @@ pub returns-in_default-clause-keeps : goal.returns-in_default-clause-keeps
 returns-in_default-clause-keeps g c = λ drawn written. on_start _ drawn written c.args.self.now.session _ _
 
 pub returns-in-Ok-clause-keeps : goal.returns-in-Ok-clause-keeps
-returns-in-Ok-clause-keeps g c = λ drawn written. on_look _ drawn written c.args.self.now.session _ _ _ _ c.trim.ensures.looks.image c.trim.ensures.looks.time (λ told keys kept h. c.trim.ensures.listed told keys kept (listed_some _ c.in-Some.session _ keys c.in-Some.is h))
+returns-in-Ok-clause-keeps g c = λ drawn written. on_look _ drawn written c.args.self.now.session _ _ _ _ c.trim.ensures.looks.image c.trim.ensures.looks.time (λ told keys kept h. c.trim.ensures.listed told keys (listed_some _ c.in-Some.session _ keys c.in-Some.is h))
 
 pub returns-in-Err-Range-clause-keeps : goal.returns-in-Err-Range-clause-keeps
-returns-in-Err-Range-clause-keeps g c = λ drawn written. on_look _ drawn written c.args.self.now.session _ _ _ _ c.trim.ensures.looks.image c.trim.ensures.looks.time (λ told keys kept h. c.trim.ensures.listed told keys kept (listed_some _ c.in-Some.session _ keys c.in-Some.is h))
+returns-in-Err-Range-clause-keeps g c = λ drawn written. on_look _ drawn written c.args.self.now.session _ _ _ _ c.trim.ensures.looks.image c.trim.ensures.looks.time (λ told keys kept h. c.trim.ensures.listed told keys (listed_some _ c.in-Some.session _ keys c.in-Some.is h))
 
 pub returns-in-Err-Memory-clause-keeps : goal.returns-in-Err-Memory-clause-keeps
 returns-in-Err-Memory-clause-keeps g c = λ drawn written. on_look _ drawn written c.args.self.now.session _ _ _ _ c.trim.ensures.looks.image c.trim.ensures.looks.time (λ told keys kept h. tt)
@@ -84,8 +84,8 @@ returns-in-Ok-clause-after g c = after_looked _ _ _ _ _ _ _ c.trim.ensures.looks
 
 pub returns-in-Ok-clause-enough : goal.returns-in-Ok-clause-enough
 returns-in-Ok-clause-enough g c updates enough =
-    enough_more c.args.self.now.session c.in-Some.session c.trim.new.self updates c.in-Some.is c.in-Ok.ensures.same.2 enough
+    enough_more c.args.self.now.session c.in-Some.session c.trim.new.self updates c.in-Some.is c.trim.ensures.needs.0 enough
 
 pub returns-in-Err-Range-clause-enough : goal.returns-in-Err-Range-clause-enough
 returns-in-Err-Range-clause-enough g c updates enough =
-    enough_kept c.args.self.now.session c.in-Some.session c.trim.new.self updates c.in-Some.is c.in-Err-Range.ensures.same.2 enough
+    enough_kept c.args.self.now.session c.in-Some.session c.trim.new.self updates c.in-Some.is c.in-Err-Range.ensures.needs.1 enough

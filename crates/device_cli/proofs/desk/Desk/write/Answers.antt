@@ -128,12 +128,12 @@ returns-in-Ok-clause-after g c = record {
 
 pub returns-in-Ok-clause-enough : goal.returns-in-Ok-clause-enough
 returns-in-Ok-clause-enough g c updates enough =
-    enough_more c.args.self.now.session c.in-Some.session c.write.new.self updates c.in-Some.is c.in-Ok.ensures.same.3 enough
+    enough_more c.args.self.now.session c.in-Some.session c.write.new.self updates c.in-Some.is c.write.ensures.needs.0 enough
 
 pub returns-in-Err-Range-clause-enough : goal.returns-in-Err-Range-clause-enough
 returns-in-Err-Range-clause-enough g c updates enough =
-    enough_kept c.args.self.now.session c.in-Some.session c.write.new.self updates c.in-Some.is c.in-Err-Range.ensures.same.3 enough
+    enough_kept c.args.self.now.session c.in-Some.session c.write.new.self updates c.in-Some.is c.in-Err-Range.ensures.needs.1 enough
 
 pub returns-in-Err-Full-clause-enough : goal.returns-in-Err-Full-clause-enough
 returns-in-Err-Full-clause-enough g c updates enough =
-    enough_kept c.args.self.now.session c.in-Some.session c.write.new.self updates c.in-Some.is c.in-Err-Full.ensures.same.3 enough
+    enough_kept c.args.self.now.session c.in-Some.session c.write.new.self updates c.in-Some.is c.in-Err-Full.ensures.needs.1 enough
