@@ -16,13 +16,6 @@ use Rattle.root_codec.specs.declared.root.Root.{Root}
 use Rattle.root_codec.specs.RootRecord.{root_bytes}
 use Rattle.device_session.specs.Damage.{Follows, IsDamaged}
 use Rattle.device_terms.specs.Served.{IsServedImage}
-use Rattle.std.specs.Prelude.{Contains}
-use Rattle.sdbt_base.specs.Arrays.{Device, Blocks}
-use Rattle.btree_update.specs.declared.groves.Grove.{Grove}
-use Rattle.btree_update.specs.Groves.{places_of}
-use Rattle.grove_accounts.specs.Certs.{IsOwnStub}
-use Rattle.device_session.specs.Holds.{Holds}
-use Rattle.device_session.specs.Keys.{HoldsListed}
 use Rattle.device_session.specs.Open.{IsOpen}
 use Rattle.device_session.specs.Sessions.{Session}
 use Rattle.device_cli.specs.declared.desk.Desk.{Desk}
@@ -99,16 +92,6 @@ pub answered_through : (tells : Type 0) (old new : World) (kept written written_
 answered_through tells old new kept written written_now handled told entry at =
     let text = kept_text kept in
     handled_through tells old new no_line (text.0 ∷ []) written written_now (handled text.0 text.1) told entry at
-
--- a session whose tree and root record stay has its keys listed still
-pub listed_read : (session now : Session) (image after : Image) (keys : List (List ℕ)) → now.root ≡ session.root → now.grove ≡ session.grove
-    → ((device : Device) (contents : Blocks) → Holds session image device contents → Holds now after device contents) → HoldsListed session image keys → HoldsListed now after keys
-listed_read session now image after keys root grove holds h = record {
-  device = h.device;
-  contents = h.contents;
-  holds = holds h.device h.contents h.holds;
-  listed = λ s in own. h.listed s (subst (λ (g : Grove). Contains (places_of g) s) grove in) (subst (λ (r : Root). IsOwnStub r.head s) root own);
-}
 
 -- what a session names that is on the root record in the cell is a wrong page
 pub wrong_page : (held : Option Session) (session : Session) (pages addr : ℕ) (old new : History) → held ≡ Some session → IsOpen session pages → IfSome held (IsMounted old.present)

@@ -1,5 +1,5 @@
 -- How many data records a seizure counts of an image that stands for a device: as many as blocks are mapped, under the premises on keys.
-use Rattle.std.proofs.Common.{◌≡◌, ◌==◌, ◌<◌, true, Bool, ℕ, zero, suc, List, [], ◌∷◌, ◌++◌, Some, map, length, get_or, refl, sym, ◌∙◌, ap, subst, arith}
+use Rattle.std.proofs.Common.{◌≡◌, ◌==◌, ◌<◌, true, Bool, ℕ, zero, suc, List, [], ◌∷◌, ◌++◌, Some, map, length, refl, sym, ◌∙◌, ap, subst, arith}
 use Rattle.std.specs.Prelude.{◌≢◌, All, AllPairs, Contains, slice_get}
 use Rattle.std.specs.List.{filter}
 use Rattle.std.proofs.lemmas.Bool.{eqb-true, eq-eqb}
@@ -18,7 +18,7 @@ use Rattle.key_graph.specs.Chains.{Link, link, OpensAt, YieldsAt, ChainEnds, Rea
 use Rattle.key_graph.specs.Maps.{keys_of, IsClosed, AreListed}
 use Rattle.key_graph.specs.OwnKeys.{HaveOwnKeys}
 use Rattle.key_graph.proofs.ChainLaws.{contains_map, map_contains, one_page}
-use Rattle.key_graph.proofs.SeizureLaws.{chains_found, end_opens}
+use Rattle.key_graph.proofs.SeizureLaws.{chains_found}
 use Rattle.page_store.specs.declared.wants.Want.{Want}
 use Rattle.page_store.specs.Places.{root_want, child_want}
 use Rattle.page_store.specs.Tree.{Place, Mapped, Parts, joined, bound_of, EachChild, Subtree}

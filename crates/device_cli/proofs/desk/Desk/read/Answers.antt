@@ -1,4 +1,4 @@
-use Rattle.std.proofs.Common.{◌≡◌, ◌<◌, ℕ, None, Some, Ok, refl, sym, ◌∙◌, subst, ap, inl, rules, arith}
+use Rattle.std.proofs.Common.{◌≡◌, ◌<◌, ℕ, None, Some, Ok, refl, sym, ◌∙◌, subst, inl, rules, arith}
 use Rattle.std.proofs.lemmas.Grind.{common_steps}
 use Rattle.script_lang.specs.Arrays.{content_reply}
 use Rattle.script_lang.specs.Replies.{Reply, said}
@@ -8,14 +8,14 @@ use Rattle.device_cli.specs.Replied.{Serves}
 use Rattle.script_lang.specs.Commands.{Read}
 use Rattle.device_cli.proofs.ServedLaws.{at, with_session, has_session, serves_still, halts_still, serves_range, serves_damaged, gives_unmounted_read, gives_content, gives_read_range}
 use Rattle.device_cli.proofs.ServingLaws.{serves_unmounted}
-use Rattle.device_cli.proofs.CellLaws.{after_looked, mounted_still, listed_read, wrong_page}
-use Rattle.device_course.proofs.KeysLaws.{on_start, on_look, listed_some}
+use Rattle.device_cli.proofs.CellLaws.{after_looked, mounted_still, wrong_page}
+use Rattle.device_course.proofs.KeysLaws.{on_start, on_look, listed_some, listed_read, needed_read}
 use Rattle.device_cli.specs.World.{AreEnough}
 use Rattle.device_cli.specs.Pages.{updates_after}
 use Rattle.device_cli.proofs.EnoughLaws.{enough_kept}
-use Rattle.btree_update.specs.declared.groves.Grove.{Grove}
-use Rattle.btree_update.specs.Groves.{grown_in}
+use Rattle.platform.specs.Image.{Image}
 use Rattle.page_store.specs.Tree.{Wrong}
+use Rattle.device_session.specs.declared.refusals.ReadRefusal.TheVariants as reads
 use Rattle.device_cli.proofs.desk.Desk.read.Goals as goal
 
 pub returns-in_default-clause-answered : goal.returns-in_default-clause-answered
@@ -80,18 +80,18 @@ returns-in-Ok-clause-after g c = after_looked _ _ _ _ _ _ _ c.read.ensures.looks
 pub returns-in-Ok-clause-enough : goal.returns-in-Ok-clause-enough
 returns-in-Ok-clause-enough g c updates enough =
     subst (λ (r : Reply). AreEnough (Some c.read.new.self) (updates_after r updates)) (sym c.reply_with_content.ensures.value)
-    (enough_kept c.args.self.now.session c.in-Some.session c.read.new.self updates c.in-Some.is (ap (λ (t : Grove). grown_in t) c.in-Ok.ensures.same.3) enough)
+    (enough_kept c.args.self.now.session c.in-Some.session c.read.new.self updates c.in-Some.is (needed_read c.in-Some.session c.read.new.self c.in-Ok.ensures.same.3) enough)
 
 pub returns-in-Err-Range-clause-enough : goal.returns-in-Err-Range-clause-enough
 returns-in-Err-Range-clause-enough g c updates enough =
-    enough_kept c.args.self.now.session c.in-Some.session c.read.new.self updates c.in-Some.is (ap (λ (t : Grove). grown_in t) c.read.ensures.same.3) enough
+    enough_kept c.args.self.now.session c.in-Some.session c.read.new.self updates c.in-Some.is (needed_read c.in-Some.session c.read.new.self c.read.ensures.same.3) enough
 
 -- what is named is a place of the tree below the root record in the cell
 pub returns-in-Err-BadRecord-clause-damage : goal.returns-in-Err-BadRecord-clause-damage
 returns-in-Err-BadRecord-clause-damage g c told addr is =
     let P = g.P.Platform in
-    let same : c.in-Err-BadRecord.addr ≡ addr = cc in
-    wrong_page c.args.self.now.session c.in-Some.session (P.head c.args.platform.now) addr (P.history c.args.platform.now) (P.history c.read.new.platform) c.in-Some.is (rw c.in-Some.is at c.requires.ready) (c.requires.mounted told)
-    (c.read.ensures.looks.time told)
-    (λ follows. inl (subst (λ (pages : List (List ℕ)). Wrong pages c.in-Some.session.root addr) (sym (ap (λ (i : Image). i.readable) (c.read.ensures.looks.image told)))
-    (c.read.ensures.damaged told follows addr (rw c.in-Err-BadRecord.field-0-is at (subst (λ (a : ℕ). IsErrOf c.read.result (reads.BadRecord a)) same refl)))))
+    let root = c.in-Some.session.root in
+    let named : reads.BadRecord c.in-Err-BadRecord.addr ≡ reads.BadRecord addr = cc in
+    wrong_page c.args.self.now.session c.in-Some.session (P.head c.args.platform.now) addr (P.history c.args.platform.now) (P.history c.read.new.platform) c.in-Some.is (rw c.in-Some.is at c.requires.ready)
+    (c.requires.mounted told) (c.read.ensures.looks.time told)
+    (λ follows. inl (subst (λ (i : Image). Wrong i.readable root addr) (sym (c.read.ensures.looks.image told)) ((rw c.in-Err-BadRecord.field-0-is at c.in-Err-BadRecord.ensures.damaged) told follows addr named)))

@@ -10,9 +10,10 @@ use Rattle.sdbt_base.specs.Arrays.{unmapped}
 use Rattle.script_lang.specs.Commands.{Trim}
 use Rattle.device_cli.proofs.ServedLaws.{at, with_session, has_session, serves_still, halts_still, serves_range, serves_damaged, gives_unmounted_trim, gives_trimmed, gives_trim_range}
 use Rattle.device_cli.proofs.ServingLaws.{serves_unmounted}
-use Rattle.device_cli.proofs.CellLaws.{after_looked, mounted_still}
+use Rattle.device_cli.proofs.CellLaws.{after_looked, mounted_still, wrong_page}
 use Rattle.device_course.proofs.KeysLaws.{on_start, on_look, listed_some}
 use Rattle.device_cli.proofs.EnoughLaws.{enough_kept, enough_more}
+use Rattle.device_session.specs.declared.refusals.TrimRefusal.TheVariants as refusals
 use Rattle.device_cli.proofs.desk.Desk.trim.Goals as goal
 
 pub returns-in_default-clause-answered : goal.returns-in_default-clause-answered
@@ -89,3 +90,12 @@ returns-in-Ok-clause-enough g c updates enough =
 pub returns-in-Err-Range-clause-enough : goal.returns-in-Err-Range-clause-enough
 returns-in-Err-Range-clause-enough g c updates enough =
     enough_kept c.args.self.now.session c.in-Some.session c.trim.new.self updates c.in-Some.is c.in-Err-Range.ensures.needs.1 enough
+
+-- what is named is a wrong page below the root record in the cell
+pub returns-in-Err-BadRecord-clause-damage : goal.returns-in-Err-BadRecord-clause-damage
+returns-in-Err-BadRecord-clause-damage g c told addr is =
+    let P = g.P.Platform in
+    let named : refusals.BadRecord c.in-Err-BadRecord.addr ≡ refusals.BadRecord addr = cc in
+    wrong_page c.args.self.now.session c.in-Some.session (P.head c.args.platform.now) addr (P.history c.args.platform.now) (P.history c.trim.new.platform) c.in-Some.is (rw c.in-Some.is at c.requires.ready)
+    (c.requires.mounted told) (c.trim.ensures.looks.time told)
+    (λ follows. ((rw c.in-Err-BadRecord.field-0-is at c.in-Err-BadRecord.ensures.damaged) told follows addr named).1)

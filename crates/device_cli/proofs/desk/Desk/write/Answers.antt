@@ -10,12 +10,13 @@ use Rattle.script_lang.specs.Commands.{Write}
 use Rattle.device_cli.proofs.ServedLaws.{at, with_session, has_session, serves_still, halts_still, serves_range, serves_damaged, is_full_true, is_full_false, gives_unmounted_write, gives_written, gives_write_range, gives_write_full}
 use Rattle.device_cli.proofs.ServingLaws.{serves_unmounted}
 use Rattle.device_terms.proofs.ServedLaws.{serves_still as serves_while_cell}
-use Rattle.device_cli.proofs.CellLaws.{mounted_still}
+use Rattle.device_cli.proofs.CellLaws.{mounted_still, wrong_page}
 use Rattle.page_store.proofs.FloorLaws.{forgets_still}
 use Rattle.device_course.proofs.CertifiedLaws.{certified_stays}
 use Rattle.device_course.proofs.FitsLaws.{fitting_while}
 use Rattle.device_course.proofs.KeysLaws.{on_start, on_call, sound_of, listed_some}
 use Rattle.device_cli.proofs.EnoughLaws.{enough_kept, enough_more}
+use Rattle.device_session.specs.declared.refusals.WriteRefusal.TheVariants as refusals
 use Rattle.device_cli.proofs.desk.Desk.write.Goals as goal
 
 pub returns-in_default-clause-answered : goal.returns-in_default-clause-answered
@@ -137,3 +138,12 @@ returns-in-Err-Range-clause-enough g c updates enough =
 pub returns-in-Err-Full-clause-enough : goal.returns-in-Err-Full-clause-enough
 returns-in-Err-Full-clause-enough g c updates enough =
     enough_kept c.args.self.now.session c.in-Some.session c.write.new.self updates c.in-Some.is c.in-Err-Full.ensures.needs.1 enough
+
+-- what is named is a wrong page below the root record in the cell
+pub returns-in-Err-BadRecord-clause-damage : goal.returns-in-Err-BadRecord-clause-damage
+returns-in-Err-BadRecord-clause-damage g c told addr is =
+    let P = g.P.Platform in
+    let named : refusals.BadRecord c.in-Err-BadRecord.addr ≡ refusals.BadRecord addr = cc in
+    wrong_page c.args.self.now.session c.in-Some.session (P.head c.args.platform.now) addr (P.history c.args.platform.now) (P.history c.write.new.platform) c.in-Some.is (rw c.in-Some.is at c.requires.before.ready)
+    (c.requires.before.mounted told) (c.write.ensures.time told)
+    (λ follows. ((rw c.in-Err-BadRecord.field-0-is at c.in-Err-BadRecord.ensures.damaged) told follows addr named).1)
