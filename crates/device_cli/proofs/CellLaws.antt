@@ -18,6 +18,7 @@ use Rattle.device_session.specs.Damage.{Follows, IsDamaged}
 use Rattle.device_terms.specs.Served.{IsServedImage}
 use Rattle.device_session.specs.Open.{IsOpen}
 use Rattle.device_session.specs.Sessions.{Session}
+use Rattle.device_session.proofs.InsertLaws.{open_later}
 use Rattle.device_cli.specs.declared.desk.Desk.{Desk}
 use Rattle.sdbt_base.specs.Arrays.{State}
 use Rattle.platform.specs.Image.{Image}
@@ -96,11 +97,16 @@ answered_through tells old new kept written written_now handled told entry at =
 -- what a session names that is on the root record in the cell is a wrong page
 pub wrong_page : (held : Option Session) (session : Session) (pages addr : ℕ) (old new : History) → held ≡ Some session → IsOpen session pages → IfSome held (IsMounted old.present)
     → CellStays old new → (Follows session old.present → IsDamaged new.present.readable session.root addr) → IsWrongPage new.present addr
-wrong_page held session pages addr old new is open mounted stays damaged =
+wrong_page held session pages addr old new is there_open mounted stays damaged =
     let there : IsMounted old.present session = subst (λ (s : Option Session). IfSome s (IsMounted old.present)) is mounted in
     record {
       root = session.root;
-      in_range = open.served.in_range;
+      in_range = there_open.served.in_range;
       cell = During-now old new (λ image. image.cell ≡ old.present.cell) stays ∙ there.cell;
       damaged = damaged there.follows;
     }
+
+-- a session that is open stays so as pages are added
+pub ready_later : (held : Option Session) (pages more : ℕ) → pages ≤ more → IfSome held (λ session. IsOpen session pages) → IfSome held (λ session. IsOpen session more)
+ready_later None pages more le ready = tt
+ready_later (Some session) pages more le ready = open_later session pages more le ready

@@ -215,6 +215,9 @@ arrived image later block addr key content whole earlier at small low sized is =
 pub below_more : (pages now : ℕ) (grove : Grove) → pages ≤ now → AreBelow pages (places_of grove) → AreBelow now (places_of grove)
 below_more pages now grove le h = below_later pages now (places_of grove) le h
 
+pub open_later : (session : Session) (pages more : ℕ) → pages ≤ more → IsOpen session pages → IsOpen session more
+open_later session pages more le h = later_open session session.buffers pages more le h
+
 pub level_stays : (is_mapped : Bool) (old new : ℕ) → (IsTrue is_mapped → new ≡ old) → (new ≡ old) ⊎ (new ≡ old + 1) → OnFalse is_mapped (old < 20) → old ≤ 20 → new ≤ 20
 level_stays true old new stays either limit le = let same = stays refl in omega (arith, same, le)
 level_stays false old new stays (inl same) limit le = omega (arith, same, le)

@@ -25,3 +25,8 @@ pub fn changes_need_pages()
     ensures none { (session : Session) (pages : ℕ) → IsOpen session pages → is_touched session ≡ false → needed_by session ≡ 0 }
     ensures some { (session : Session) (pages : ℕ) → IsOpen session pages → is_touched session ≡ true → 1 ≤ needed_by session }
 {}
+
+/// A session that is open stays so as pages are added.
+pub fn more_pages_leave_it_open()
+    ensures { (session : Session) (pages more : ℕ) → pages ≤ more → IsOpen session pages → IsOpen session more }
+{}

@@ -10,7 +10,7 @@ mod session;
 mod trimming;
 mod writing;
 
-pub use laws::{changes_need_pages, stands_under_session};
+pub use laws::{changes_need_pages, more_pages_leave_it_open, stands_under_session};
 pub use refusals::{
     CommitFault, CommitReply, MountRefusal, ReadRefusal, TrimRefusal, WriteRefusal,
 };

@@ -23,6 +23,7 @@ use Rattle.device_core.specs.declared.refusals.FormatRefusal.{FormatRefusal}
 use Rattle.device_course.proofs.CertifiedLaws.{certified_going, certified_unput, certified_format}
 use Rattle.device_course.proofs.FitsLaws.{fitting_formatted}
 use Rattle.device_course.proofs.KeysLaws.{on_look, on_call, sound_of, listed_image, listed_keys, format_listed}
+use Rattle.device_cli.proofs.CellLaws.{ready_later}
 use Rattle.device_cli.proofs.ReachingLaws.{on_ok}
 use Rattle.device_cli.specs.World.{needed_of}
 use Rattle.device_cli.proofs.EnoughLaws.{enough_refused, pages_refused}
@@ -58,7 +59,7 @@ returns-in-Ok-clause-answered g c told entry rep =
     let P = g.P.Platform in
     let old : World = world_of P c.args.self.now.session c.args.platform.now in
     let new : World = world_of P c.args.self.now.session c.format.new.platform in
-    let within : in_limits c.args.blocks c.args.order ≡ true = grind (arith, common_steps, c.is_in_limits.ensures.limits, c.if-is_in_limits.false) in
+    let within : in_limits c.args.blocks c.args.order ≡ true = grind (arith, common_steps, c.is_in_limits.ensures.limits, c.if-not-is_in_limits.false) in
     serves_formatted old new entry c.args.blocks c.args.order (c.in-Ok.ensures.cause.0 told) refl within
     (omega (arith, g.met.P.Platform.has_room c.args.platform.now, c.in-Ok.ensures.cause.1)) (c.in-Ok.ensures.made told).0
     (λ there stands. c.format.ensures.time told there stands) rep
@@ -75,7 +76,7 @@ returns-in-Err-Full-clause-answered g c told entry rep =
     let P = g.P.Platform in
     let old : World = world_of P c.args.self.now.session c.args.platform.now in
     let new : World = world_of P c.args.self.now.session c.format.new.platform in
-    let within : in_limits c.args.blocks c.args.order ≡ true = grind (arith, common_steps, c.is_in_limits.ensures.limits, c.if-is_in_limits.false) in
+    let within : in_limits c.args.blocks c.args.order ≡ true = grind (arith, common_steps, c.is_in_limits.ensures.limits, c.if-not-is_in_limits.false) in
     serves_format_full old new entry c.args.blocks c.args.order ((rw c.in-Err-Full.field-0-is at c.in-Err-Full.ensures.cause).0 told) refl ((rw c.in-Err-Full.field-0-is at c.in-Err-Full.ensures.cause).2.0.image told) within (let none = (rw c.in-Err-Full.field-0-is at c.in-Err-Full.ensures.cause).1 in omega (arith, none)) ((rw c.in-Err-Full.field-0-is at c.in-Err-Full.ensures.cause).2.1 told) rep
 
 pub returns-in-Err-Memory-clause-answered : goal.returns-in-Err-Memory-clause-answered
@@ -104,18 +105,18 @@ returns-in-Err-PlatformFault-clause-answered g c told entry rep =
     let P = g.P.Platform in
     let old : World = world_of P c.args.self.now.session c.args.platform.now in
     let new : World = world_of P c.args.self.now.session c.format.new.platform in
-    let within : in_limits c.args.blocks c.args.order ≡ true = grind (arith, common_steps, c.is_in_limits.ensures.limits, c.if-is_in_limits.false) in
+    let within : in_limits c.args.blocks c.args.order ≡ true = grind (arith, common_steps, c.is_in_limits.ensures.limits, c.if-not-is_in_limits.false) in
     let full_or_none : (old.history.present.cell ≢ None) ⊎ (old.capacity - old.head < 1) → (old.history.present.cell ≢ None) ⊎ (old.head ≡ old.capacity) =
     λ before. elim before [ inl full ↦ inl full | inr none ↦ inr (omega (arith, none, g.met.P.Platform.has_room c.args.platform.now)) ] in
     halts_format old new entry c.args.blocks c.args.order within (λ before. (c.format.ensures.kept told (full_or_none before)).1)
     (λ there stands. c.format.ensures.time told there stands) rep
 
-pub returns-then-is_in_limits-clause-answered : goal.returns-then-is_in_limits-clause-answered
-returns-then-is_in_limits-clause-answered g c told entry rep =
+pub returns-then-not-is_in_limits-clause-answered : goal.returns-then-not-is_in_limits-clause-answered
+returns-then-not-is_in_limits-clause-answered g c told entry rep =
     let P = g.P.Platform in
     let old : World = world_of P c.args.self.now.session c.args.platform.now in
     let new : World = world_of P c.args.self.now.session c.refuse_format.new.platform in
-    let past : in_limits c.args.blocks c.args.order ≡ false = grind (arith, common_steps, c.is_in_limits.ensures.limits, c.if-is_in_limits.true) in
+    let past : in_limits c.args.blocks c.args.order ≡ false = grind (arith, common_steps, c.is_in_limits.ensures.limits, c.if-not-is_in_limits.true) in
     refused_result old new entry c.args.blocks c.args.order c.refuse_format.result c.args.self.now.buffer (Rose (P.faults c.args.platform.now) (P.faults c.refuse_format.new.platform))
     (c.refuse_format.ensures.replies told) c.refuse_format.ensures.cause (c.refuse_format.ensures.image told) (c.refuse_format.ensures.time told) past refl rep
 
@@ -140,13 +141,26 @@ returns-in-Err-LedgerFault-clause-keeps g c = on_call _ _ _ _ _ c.args.self.now.
 pub returns-in-Err-PlatformFault-clause-keeps : goal.returns-in-Err-PlatformFault-clause-keeps
 returns-in-Err-PlatformFault-clause-keeps g c = on_call _ _ _ _ _ c.args.self.now.session _ _ _ _ _ _ c.format.ensures.discloses.keys (λ told keys h. sound_of _ _ keys h) (λ told keys h. c.format.ensures.discloses.forgets told keys (sound_of _ _ keys h)) (λ told keys more h done. tt) c.format.ensures.discloses.serves (certified_going _ _ _ _ _ _ _ (λ never. absurd cc) (certified_format _ _ _ _ _ _ _ c.format.result c.format.ensures.discloses.turns (λ told full. (c.format.ensures.kept told (inl full)).1) (empty_where_made g.P.Platform g.T.Tape _ _ _ _ _ _ _ c.format.result c.format.ensures.cause) c.format.ensures.certifies)) (fitting_formatted _ _ _ _ _ c.args.self.now.session _ _ (λ told sound. c.format.ensures.discloses.forgets told [] sound) c.format.ensures.certifies)
 
-pub returns-then-is_in_limits-clause-keeps : goal.returns-then-is_in_limits-clause-keeps
-returns-then-is_in_limits-clause-keeps g c = on_look _ _ _ c.args.self.now.session _ _ _ _ c.refuse_format.ensures.image c.refuse_format.ensures.time (λ told keys kept h. on_ok c.refuse_format.result _ (listed_image _ _ _ keys (c.refuse_format.ensures.image told) h))
+pub returns-then-not-is_in_limits-clause-keeps : goal.returns-then-not-is_in_limits-clause-keeps
+returns-then-not-is_in_limits-clause-keeps g c = on_look _ _ _ c.args.self.now.session _ _ _ _ c.refuse_format.ensures.image c.refuse_format.ensures.time (λ told keys kept h. on_ok c.refuse_format.result _ (listed_image _ _ _ keys (c.refuse_format.ensures.image told) h))
 
-pub returns-then-is_in_limits-clause-enough : goal.returns-then-is_in_limits-clause-enough
-returns-then-is_in_limits-clause-enough g c updates enough =
+pub returns-then-not-is_in_limits-clause-enough : goal.returns-then-not-is_in_limits-clause-enough
+returns-then-not-is_in_limits-clause-enough g c updates enough =
     enough_refused c.refuse_format.result c.args.self.now.buffer c.args.self.now.session updates c.refuse_format.ensures.either enough
 
-pub returns-then-is_in_limits-clause-pages : goal.returns-then-is_in_limits-clause-pages
-returns-then-is_in_limits-clause-pages g c =
+pub returns-then-not-is_in_limits-clause-pages : goal.returns-then-not-is_in_limits-clause-pages
+returns-then-not-is_in_limits-clause-pages g c =
     pages_refused c.refuse_format.result c.args.self.now.buffer c.args.blocks c.args.order (needed_of c.args.self.now.session) _ _ c.refuse_format.ensures.either c.refuse_format.ensures.head
+
+pub returns-in-Ok-clause-after : goal.returns-in-Ok-clause-after
+returns-in-Ok-clause-after g c = record {
+  ready = ready_later c.args.self.now.session _ _ c.format.ensures.grows.0.rises c.requires.ready;
+  mounted = search rules;
+  reply = search rules;
+  short = search rules;
+  bad_root = search rules;
+  capacity = search rules;
+  rises = search rules;
+  added = search rules;
+  full = search rules;
+}

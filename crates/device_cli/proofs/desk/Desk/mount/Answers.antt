@@ -11,6 +11,7 @@ use Rattle.page_store.specs.Roots.{IsBadCell}
 use Rattle.device_cli.proofs.ServedLaws.{halts_still}
 use Rattle.device_cli.proofs.ServingLaws.{serves_already, serves_mounted, serves_no_device}
 use Rattle.device_course.proofs.KeysLaws.{on_start, on_look, listed_image, mount_listed}
+use Rattle.device_session.proofs.CountLaws.{needs_none}
 use Rattle.device_session.proofs.KeyLaws.{listed_fresh}
 use Rattle.device_cli.proofs.Choices.{some_of}
 use Rattle.device_cli.proofs.desk.Desk.mount.Goals as goal
@@ -86,3 +87,7 @@ returns-in-Err-PlatformFault-clause-keeps g c = λ drawn written. on_look _ draw
 
 pub returns-in-Err-Memory-clause-keeps : goal.returns-in-Err-Memory-clause-keeps
 returns-in-Err-Memory-clause-keeps g c = λ drawn written. on_look _ drawn written c.args.self.now.session _ _ _ _ c.mount.ensures.looks.image c.mount.ensures.looks.time (λ told keys kept h. tt)
+
+pub returns-in-Ok-clause-enough : goal.returns-in-Ok-clause-enough
+returns-in-Ok-clause-enough g c updates enough =
+    omega (arith, needs_none c.in-Ok.session (g.P.Platform.head c.mount.new.platform) c.in-Ok.ensures.open.0 c.in-Ok.ensures.open.1)
