@@ -29,8 +29,8 @@ WORDS
 A folder with the name of one of these words is given as ./--help.
 
 LINES
-  format B M   makes a device of B blocks with nodes of at most M entries; so far M has to be 64,
-               and B at most 64
+  format B M   makes a device of B blocks with nodes of at most M entries: B is 1 to 1,048,576, and
+               M is even and 4 to 64
   mount        opens a session
   read N       shows block N in hex digits, without zeros at its end; - stands for zeros alone
   write N HEX  writes block N: 2 to 8,192 hex digits, and zeros behind them
