@@ -1,24 +1,36 @@
 //! What the ledger gets in the worked rows.
-use crate::run::{Given, ONE_BLOCK, run_over};
+use crate::run::{Given, LOAN_AND_MERGE, ONE_BLOCK, SPLIT, run_over};
 use platform::{CallKind, Failure, MemPlatform};
 use sdbt_base::{Line, Memory};
 use std::alloc::Global;
 use std::test::Fail;
 
 /// The certificate of a format of a blank medium.
-const FIRST: &str =
+pub(crate) const FIRST: &str =
     r#"{"added":[[0,1]],"base":0,"commit":0,"gone":[],"head":1,"never":[],"root":0}"#;
 
 /// That of the commit of its block 3.
-const ONE: &str =
+pub(crate) const ONE: &str =
     r#"{"added":[[1,0,3],[2,1,1]],"base":1,"commit":1,"gone":[0],"head":3,"never":[],"root":2}"#;
 
+/// That of the commit of its blocks 0 to 4, where nodes have four entries at most.
+pub(crate) const FIVE: &str =
+    r#"{"added":[[1,0,0],[2,0,1],[3,0,2],[4,0,3],[5,0,4],[6,1,1,2],[7,1,3,4,5],[8,1,6,7]],"base":1,"commit":1,"gone":[0],"head":9,"never":[],"root":8}"#;
+
+/// That of the commit without block 0 behind it.
+pub(crate) const LOAN: &str =
+    r#"{"added":[[9,1,2,3],[10,1,4,5],[11,1,9,10]],"base":9,"commit":2,"gone":[1,6,7,8],"head":12,"never":[],"root":11}"#;
+
+/// That of the commit without block 1 behind that.
+pub(crate) const MERGE: &str =
+    r#"{"added":[[12,1,3,4,5]],"base":12,"commit":3,"gone":[2,9,10,11],"head":13,"never":[],"root":12}"#;
+
 /// A script, and the certificates that the ledger gets.
-const ROWS: [(&str, &[&str]); 7] = [
+const ROWS: [(&str, &[&str]); 9] = [
     ("mount\nstat\n", &[]),
     (ONE_BLOCK, &[FIRST, ONE]),
     (
-        "format 8 64\nmount\nwrite 3 6869\ncommit\nwrite 3 00ff\ncommit\ncommit\n",
+        "format 8 4\nmount\nwrite 3 6869\ncommit\nwrite 3 00ff\ncommit\ncommit\n",
         &[
             FIRST,
             ONE,
@@ -26,21 +38,21 @@ const ROWS: [(&str, &[&str]); 7] = [
         ],
     ),
     (
-        "format 8 64\nmount\nwrite 3 61\nwrite 3 62\ncommit\n",
+        "format 8 4\nmount\nwrite 3 61\nwrite 3 62\ncommit\n",
         &[
             FIRST,
             r#"{"added":[[2,0,3],[3,1,2]],"base":1,"commit":1,"gone":[0],"head":4,"never":[[3,1]],"root":3}"#,
         ],
     ),
     (
-        "format 8 64\nmount\nwrite 3 78\ndrop\nmount\nwrite 3 79\ncommit\n",
+        "format 8 4\nmount\nwrite 3 78\ndrop\nmount\nwrite 3 79\ncommit\n",
         &[
             FIRST,
             r#"{"added":[[2,0,3],[3,1,2]],"base":1,"commit":1,"gone":[0],"head":4,"never":[],"root":3}"#,
         ],
     ),
     (
-        "format 8 64\nmount\nwrite 3 6869\ncommit\ntrim 3\ncommit\ntrim 3\ncommit\n",
+        "format 8 4\nmount\nwrite 3 6869\ncommit\ntrim 3\ncommit\ntrim 3\ncommit\n",
         &[
             FIRST,
             ONE,
@@ -48,17 +60,19 @@ const ROWS: [(&str, &[&str]); 7] = [
         ],
     ),
     (
-        "format 8 64\nmount\nwrite 3 6869\ncommit\nerase\nformat 8 64\n",
+        "format 8 4\nmount\nwrite 3 6869\ncommit\nerase\nformat 8 4\n",
         &[
             FIRST,
             ONE,
             r#"{"added":[[3,1]],"base":3,"commit":0,"gone":[],"head":4,"never":[],"root":3}"#,
         ],
     ),
+    (SPLIT, &[FIRST, FIVE]),
+    (LOAN_AND_MERGE, &[FIRST, FIVE, LOAN, MERGE]),
 ];
 
 /// The entries of these certificates: each stands on a line of its own, behind an empty one.
-fn entries(alloc: Global, certificates: &[&str]) -> Result<Line, Memory> {
+pub(crate) fn entries(alloc: Global, certificates: &[&str]) -> Result<Line, Memory> {
     let mut text = Line::new(alloc);
     for certificate in certificates {
         text.append(b"\n")?;

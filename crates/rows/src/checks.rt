@@ -1,5 +1,6 @@
 //! What the word `check` says of devices with their own ledgers, and with none.
-use crate::run::{Given, ONE_BLOCK, Ran, run_over};
+use crate::certificates::{FIRST, FIVE, LOAN, MERGE, ONE, entries};
+use crate::run::{Given, LOAN_AND_MERGE, ONE_BLOCK, Ran, SPLIT, run_over};
 use platform::{CallKind, Failure, MemPlatform};
 use sdbt_base::{Line, Memory};
 use std::alloc::Global;
@@ -18,7 +19,7 @@ fn run_on(
 }
 
 /// Checks a ledger, of which so many bytes come a take.
-fn check(
+pub(crate) fn check(
     alloc: Global,
     platform: &mut MemPlatform,
     ledger: &[u8],
@@ -109,7 +110,7 @@ fn own_ledgers(rt: HostRuntime) -> Result<(), Fail> {
         ),
         unstopped(
             "overwrite-before-commit",
-            "format 8 64\nmount\nwrite 3 61\nwrite 3 62\ncommit\n",
+            "format 8 4\nmount\nwrite 3 61\nwrite 3 62\ncommit\n",
             "",
             "accepted commit 1 live 2 deleted 2\n",
         ),
@@ -120,10 +121,12 @@ fn own_ledgers(rt: HostRuntime) -> Result<(), Fail> {
             "accepted commit 2 live 1 deleted 3\n",
         ),
         unstopped("erase", ONE_BLOCK, "erase\n", "refused no device\n"),
+        unstopped("split", SPLIT, "", "accepted commit 1 live 8 deleted 1\n"),
+        unstopped("loan-and-merge", LOAN_AND_MERGE, "", ACCEPTED),
         unstopped(
             "erase-and-format",
             ONE_BLOCK,
-            "erase\nformat 8 64\n",
+            "erase\nformat 8 4\n",
             "accepted commit 0 live 1 deleted 0\n",
         ),
     ] {
@@ -159,43 +162,92 @@ fn own_ledgers_of_stopped_runs(rt: HostRuntime) -> Result<(), Fail> {
     follow_row(&rt, &torn, 4_096)
 }
 
-/// The certificates of `ONE_BLOCK`, and that of `AGAIN` without page 1 in what is gone.
-const FIRST: &str =
-    r#"{"added":[[0,1]],"base":0,"commit":0,"gone":[],"head":1,"never":[],"root":0}"#;
+/// What a check says of these lines for the device that the scripts leave.
+fn says(
+    rt: &(impl Abort + Alloc<A = Global>),
+    scripts: &[&str],
+    lines: &[&str],
+    want: &str,
+) -> Result<(), Fail> {
+    let alloc = rt.alloc();
+    let mut platform = MemPlatform::blank(alloc, 262_144);
+    for script in scripts {
+        let _ = run_over(alloc, &mut platform, &Given::script(script))?;
+    }
+    let ledger = entries(alloc, lines)?;
+    let ran = check(alloc, &mut platform, ledger.bytes(), 4_096)?;
+    assert_eq!(rt; ran.output.bytes(), want.as_bytes());
+    let status = if want.starts_with("accepted") { 0 } else { 10 };
+    assert_eq!(rt; (ran.status, ran.starved), (status, 0), "{want}");
+    Ok(())
+}
 
-const ONE: &str =
-    r#"{"added":[[1,0,3],[2,1,1]],"base":1,"commit":1,"gone":[0],"head":3,"never":[],"root":2}"#;
-
-const LEFT: &str =
-    r#"{"added":[[3,0,3],[4,1,3]],"base":3,"commit":2,"gone":[2],"head":5,"never":[],"root":4}"#;
+/// What is said of the ledger of `LOAN_AND_MERGE`.
+const ACCEPTED: &str = "accepted commit 3 live 4 deleted 9\n";
 
 #[test]
-fn refused_ledgers(rt: HostRuntime) -> Result<(), Fail> {
-    let alloc = rt.alloc();
-    for (next, lines, want) in [
-        ("", [].as_slice(), "refused rule 10 value 1\n"),
-        ("", [FIRST].as_slice(), "refused rule 10 value 1\n"),
-        ("", [ONE].as_slice(), "refused rule 1 value 1\n"),
-        (AGAIN, [FIRST, ONE].as_slice(), "refused rule 10 value 2\n"),
-        (
-            AGAIN,
-            [FIRST, ONE, LEFT].as_slice(),
-            "refused rule 9 value 1\n",
-        ),
-    ] {
-        let mut platform = MemPlatform::blank(alloc, 262_144);
-        let mut ledger = Line::new(alloc);
-        for line in lines {
-            ledger.append(b"\n")?;
-            ledger.append(line.as_bytes())?;
-        }
-        let _ = run_over(alloc, &mut platform, &Given::script(ONE_BLOCK))?;
-        let _ = run_over(alloc, &mut platform, &Given::script(next))?;
-        let ran = check(alloc, &mut platform, ledger.bytes(), 4_096)?;
-        assert_eq!(rt; ran.output.bytes(), want.as_bytes());
-        assert_eq!(rt; (ran.status, ran.starved), (10, 0));
-    }
-    Ok(())
+fn checker(rt: HostRuntime) -> Result<(), Fail> {
+    // Without page 6 among what is gone with the loan.
+    let kept =
+        r#"{"added":[[9,1,2,3],[10,1,4,5],[11,1,9,10]],"base":9,"commit":2,"gone":[1,7,8],"head":12,"never":[],"root":11}"#;
+    // Without page 1 among what is gone with the overwriting.
+    let left =
+        r#"{"added":[[3,0,3],[4,1,3]],"base":3,"commit":2,"gone":[2],"head":5,"never":[],"root":4}"#;
+    let torn = r#"{"added":[[9,1"#;
+    let split = [LOAN_AND_MERGE];
+    says(&rt, &split, &[FIRST, FIVE, LOAN, MERGE], ACCEPTED)?;
+    let broken = "refused rule 5 value 1\n";
+    says(&rt, &split, &[FIRST, FIVE, kept, MERGE], broken)?;
+    says(&rt, &split, &[FIRST, FIVE, torn, LOAN, MERGE], ACCEPTED)?;
+    let broken = "refused rule 9 value 1\n";
+    says(&rt, &[ONE_BLOCK, AGAIN], &[FIRST, ONE, left], broken)?;
+    says(&rt, &[ONE_BLOCK], &[], "refused rule 10 value 1\n")?;
+    says(&rt, &[], &[], "refused no device\n")
+}
+
+#[test]
+fn ledger_twice(rt: HostRuntime) -> Result<(), Fail> {
+    let lines = [FIRST, FIVE, LOAN, MERGE, FIRST, FIVE, LOAN, MERGE];
+    says(&rt, &[LOAN_AND_MERGE], &lines, ACCEPTED)
+}
+
+#[test]
+fn certificates_exchanged(rt: HostRuntime) -> Result<(), Fail> {
+    let lines = [FIRST, LOAN, FIVE, MERGE];
+    says(&rt, &[LOAN_AND_MERGE], &lines, "refused rule 1 value 2\n")
+}
+
+#[test]
+fn ledger_cut(rt: HostRuntime) -> Result<(), Fail> {
+    let lines = [
+        FIRST,
+        FIVE,
+        LOAN,
+        r#"{"added":[[12,1,3,4,5]],"base":12,"co"#,
+    ];
+    says(&rt, &[LOAN_AND_MERGE], &lines, "refused rule 10 value 3\n")
+}
+
+#[test]
+fn ledger_without_first(rt: HostRuntime) -> Result<(), Fail> {
+    let lines = [FIVE, LOAN, MERGE];
+    says(&rt, &[LOAN_AND_MERGE], &lines, "refused rule 1 value 1\n")
+}
+
+#[test]
+fn base_at_maximum(rt: HostRuntime) -> Result<(), Fail> {
+    let largest =
+        r#"{"added":[[12,1,3,4,5]],"base":18446744073709551615,"commit":3,"gone":[2,9,10,11],"head":13,"never":[],"root":12}"#;
+    let want = "refused rule 2 value 18446744073709551615\n";
+    says(&rt, &[LOAN_AND_MERGE], &[FIRST, FIVE, LOAN, largest], want)
+}
+
+#[test]
+fn short_ledgers(rt: HostRuntime) -> Result<(), Fail> {
+    says(&rt, &[ONE_BLOCK], &[FIRST], "refused rule 10 value 1\n")?;
+    says(&rt, &[ONE_BLOCK], &[ONE], "refused rule 1 value 1\n")?;
+    let twice = [ONE_BLOCK, AGAIN];
+    says(&rt, &twice, &[FIRST, ONE], "refused rule 10 value 2\n")
 }
 
 #[test]

@@ -1,34 +1,149 @@
-//! One script that makes each call of the outside, stopped at each of them in turn. The power is lost then, and the
-//! device is looked at in a new run.
-use crate::run::{Given, lose_power, run_over};
-use platform::{CallKind, Failure, MemPlatform};
+//! Scripts that make each call of the outside, stopped at each of them in turn. The power is lost then, the device is looked at in
+//! a new run, and its ledger is checked.
+use crate::checks::check;
+use crate::run::{Given, LOAN_AND_MERGE, LOAN_AND_MERGE_REPLIES, lose_power, run_over};
+use platform::{CallKind, Failure, MemPlatform, Platform};
+use sdbt_base::Line;
 use std::alloc::Global;
 use std::process::Abort;
 use std::test::Fail;
 
-const SCRIPT: &str =
-    "format 8 64\nmount\nwrite 3 6869\ncommit\nwrite 5 61\ntrim 3\ncommit\nmount\ndrop\nmount\n\
-     read 5\nseize\nerase\nformat 8 64\n";
+/// A script, and what a new run finds where it was stopped.
+#[derive(Clone, Copy)]
+struct Course<'a> {
+    script: &'a str,
+    /// What the script is answered where nothing fails.
+    replies: &'a str,
+    /// How many records it seals, and how many entries it puts to the ledger.
+    records: u64,
+    entries: u64,
+    /// What the new run asks, before it counts what a seizure opens.
+    look: &'a str,
+    marks: &'a [Mark<'a>],
+}
 
-/// What the script is answered where nothing fails.
-const REPLIES: &str =
-    "formatted\nmounted 0\nok\ncommitted 1\nok\nok\ncommitted 2\nalready mounted\ndropped\n\
-     mounted 2\ndata 61\nseized pages 5 nodes 1 blocks 1\nerased\nformatted\n";
+/// What the new run is answered once so many lines of the script have been done, up to the next mark, and how many nodes and
+/// blocks a seizure opens then.
+#[derive(Clone, Copy)]
+struct Mark<'a> {
+    lines: usize,
+    answers: &'a str,
+    nodes: u64,
+    blocks: u64,
+}
 
-/// What the new run asks, which comes once the power was lost.
-const LOOK: &str = "mount\nread 3\nread 5\nstat\n";
+/// A device of one leaf, which is erased and made anew.
+const ONE_LEAF: Course<'static> = Course {
+    script: "format 8 4\nmount\nwrite 3 6869\ncommit\nwrite 5 61\ntrim 3\ncommit\nmount\ndrop\nmount\n\
+         read 5\nseize\nerase\nformat 8 4\n",
+    replies: "formatted\nmounted 0\nok\ncommitted 1\nok\nok\ncommitted 2\nalready mounted\ndropped\n\
+         mounted 2\ndata 61\nseized pages 5 nodes 1 blocks 1\nerased\nformatted\n",
+    records: 6,
+    entries: 4,
+    look: "mount\nread 3\nread 5\nstat\nseize\n",
+    marks: &[
+        Mark {
+            lines: 0,
+            answers: "no device\nunmounted\nunmounted\nunmounted\n",
+            nodes: 0,
+            blocks: 0,
+        },
+        Mark {
+            lines: 1,
+            answers: "mounted 0\ndata -\ndata -\nstat mapped 0 commit 0\n",
+            nodes: 1,
+            blocks: 0,
+        },
+        Mark {
+            lines: 4,
+            answers: "mounted 1\ndata 6869\ndata -\nstat mapped 1 commit 1\n",
+            nodes: 1,
+            blocks: 1,
+        },
+        Mark {
+            lines: 7,
+            answers: "mounted 2\ndata -\ndata 61\nstat mapped 1 commit 2\n",
+            nodes: 1,
+            blocks: 1,
+        },
+        Mark {
+            lines: 13,
+            answers: "no device\nunmounted\nunmounted\nunmounted\n",
+            nodes: 0,
+            blocks: 0,
+        },
+        Mark {
+            lines: 14,
+            answers: "mounted 0\ndata -\ndata -\nstat mapped 0 commit 0\n",
+            nodes: 1,
+            blocks: 0,
+        },
+    ],
+};
 
-/// What it is answered once so many lines of the script have been done.
-fn answers_after(lines: usize) -> &'static str {
-    match lines {
-        // no device, before the first format and after the erase
-        0 | 13 => "no device\nunmounted\nunmounted\nunmounted\n",
-        // a new device
-        1..=3 | 14 => "mounted 0\ndata -\ndata -\nstat mapped 0 commit 0\n",
-        4..=6 => "mounted 1\ndata 6869\ndata -\nstat mapped 1 commit 1\n",
-        7..=12 => "mounted 2\ndata -\ndata 61\nstat mapped 1 commit 2\n",
-        _ => "",
+/// A device whose leaf splits, whose leaves lend and merge, and whose root gives way.
+const TWO_LEVELS: Course<'static> = Course {
+    script: LOAN_AND_MERGE,
+    replies: LOAN_AND_MERGE_REPLIES,
+    records: 13,
+    entries: 4,
+    look: "mount\nread 0\nread 1\nread 2\nread 3\nread 4\nread 5\nread 6\nread 7\nseize\n",
+    marks: &[
+        Mark {
+            lines: 0,
+            answers: "no device\nunmounted\nunmounted\nunmounted\nunmounted\nunmounted\nunmounted\nunmounted\n\
+                 unmounted\n",
+            nodes: 0,
+            blocks: 0,
+        },
+        Mark {
+            lines: 1,
+            answers: "mounted 0\ndata -\ndata -\ndata -\ndata -\ndata -\ndata -\ndata -\ndata -\n",
+            nodes: 1,
+            blocks: 0,
+        },
+        Mark {
+            lines: 8,
+            answers: "mounted 1\ndata 60\ndata 61\ndata 62\ndata 63\ndata 64\ndata -\ndata -\ndata -\n",
+            nodes: 3,
+            blocks: 5,
+        },
+        Mark {
+            lines: 10,
+            answers: "mounted 2\ndata -\ndata 61\ndata 62\ndata 63\ndata 64\ndata -\ndata -\ndata -\n",
+            nodes: 3,
+            blocks: 4,
+        },
+        Mark {
+            lines: 12,
+            answers: "mounted 3\ndata -\ndata -\ndata 62\ndata 63\ndata 64\ndata -\ndata -\ndata -\n",
+            nodes: 1,
+            blocks: 3,
+        },
+    ],
+};
+
+/// What the new run is answered once so many lines of the script have been done.
+fn answers_after(
+    alloc: Global,
+    course: &Course<'_>,
+    lines: usize,
+    pages: u64,
+) -> Result<String, Fail> {
+    let mut last = Mark {
+        lines: 0,
+        answers: "",
+        nodes: 0,
+        blocks: 0,
+    };
+    for mark in course.marks {
+        if mark.lines <= lines {
+            last = *mark;
+        }
     }
+    let (answers, nodes, blocks) = (last.answers, last.nodes, last.blocks);
+    let text = format!(in alloc; "{answers}seized pages {pages} nodes {nodes} blocks {blocks}\n")?;
+    Ok(text)
 }
 
 /// How a run is stopped.
@@ -40,9 +155,10 @@ struct Stopped {
     is_done: bool,
 }
 
-/// Runs the script, loses the power and looks at the device. It answers whether the run was stopped.
+/// Runs the script, loses the power, looks at the device and checks its ledger. It answers whether the run was stopped.
 fn is_stopped(
     rt: &(impl Abort + Alloc<A = Global>),
+    course: &Course<'_>,
     given: &Given<'_>,
     failures: &[Failure],
     stopped: &Stopped,
@@ -52,55 +168,139 @@ fn is_stopped(
     let ran = run_over(rt.alloc(), &mut platform, given)?;
     let is_stopped = ran.status != 0;
     let text = ran.output.bytes();
-    assert!(rt; REPLIES.as_bytes().starts_with(text), "{failures:?}");
+    assert!(rt; course.replies.as_bytes().starts_with(text), "{failures:?}");
     if is_stopped {
         assert_eq!(rt; ran.status, stopped.status, "{failures:?}");
     } else {
-        assert_eq!(rt; text, REPLIES.as_bytes(), "{failures:?}");
+        assert_eq!(rt; text, course.replies.as_bytes(), "{failures:?}");
     }
+    assert_eq!(rt; ran.starved, 0);
     let replies = text.iter().filter(|byte| **byte == b'\n').count();
     let more = usize::from(is_stopped && stopped.is_done);
 
     lose_power(&mut platform);
     platform.set_failures(&[])?;
-    let looked = run_over(rt.alloc(), &mut platform, &Given::script(LOOK))?;
-    let want = answers_after(replies.saturating_add(more));
-    assert_eq!(rt;
-        looked.output.bytes(),
-        want.as_bytes(),
-        "{failures:?}, {replies} replies"
-    );
-    assert_eq!(rt; looked.status, 0, "{failures:?}");
-    assert_eq!(rt; (ran.starved, looked.starved), (0, 0));
+    look(rt, course, &mut platform, replies.saturating_add(more))?;
+    accept(rt, &mut platform, &ran.ledger)?;
     Ok(is_stopped)
 }
 
+/// Looks at a device in a new run, once so many lines of the script have been done.
+fn look(
+    rt: &(impl Abort + Alloc<A = Global>),
+    course: &Course<'_>,
+    platform: &mut MemPlatform,
+    lines: usize,
+) -> Result<(), Fail> {
+    let want = answers_after(rt.alloc(), course, lines, platform.head())?;
+    let looked = run_over(rt.alloc(), platform, &Given::script(course.look))?;
+    assert_eq!(rt; looked.output.bytes(), want.as_bytes(), "{lines} lines");
+    assert_eq!(rt; (looked.status, looked.starved), (0, 0), "{lines} lines");
+    Ok(())
+}
+
+/// The ledger is accepted, where there is a device.
+fn accept(
+    rt: &(impl Abort + Alloc<A = Global>),
+    platform: &mut MemPlatform,
+    ledger: &Line,
+) -> Result<(), Fail> {
+    if platform.cell().is_none() {
+        return Ok(());
+    }
+    let ran = check(rt.alloc(), platform, ledger.bytes(), 4_096)?;
+    assert!(rt; ran.output.bytes().starts_with(b"accepted"));
+    assert_eq!(rt; (ran.status, ran.starved), (0, 0));
+    Ok(())
+}
+
+/// Stops the script at each call of a kind in turn, each with or without its effect, and answers at how many.
+fn stops_at(
+    rt: &(impl Abort + Alloc<A = Global>),
+    course: &Course<'_>,
+    call: CallKind,
+    effect: bool,
+) -> Result<u64, Fail> {
+    // Only a replaced or a cleared cell makes another device of what was there.
+    let stopped = Stopped {
+        status: 5,
+        is_done: effect && matches!(call, CallKind::Swap | CallKind::Clear),
+    };
+    for nth in 1..100 {
+        let failures = [Failure { call, nth, effect }];
+        let given = Given::script(course.script);
+        if !is_stopped(rt, course, &given, &failures, &stopped)? {
+            return Ok(nth - 1);
+        }
+    }
+    Err("the script was always stopped".into())
+}
+
+// A seizure reads each page, and once more those that it opens.
 #[test]
 fn fault_table(rt: HostRuntime) -> Result<(), Fail> {
-    for call in [
-        CallKind::Append,
-        CallKind::Read,
-        CallKind::Sync,
-        CallKind::Load,
-        CallKind::Swap,
-        CallKind::Clear,
-    ] {
-        for effect in [false, true] {
-            // Only a replaced or a cleared cell makes another device of what was there.
-            let stopped = Stopped {
-                status: 5,
-                is_done: effect && matches!(call, CallKind::Swap | CallKind::Clear),
-            };
-            let mut last = 0;
-            for nth in 1..100 {
-                last = nth;
-                let failure = Failure { call, nth, effect };
-                if !is_stopped(&rt, &Given::script(SCRIPT), &[failure], &stopped)? {
-                    break;
-                }
-            }
-            assert!(rt; 1 < last && last < 99, "{call:?}");
+    for effect in [false, true] {
+        for (course, call, count) in [
+            (&ONE_LEAF, CallKind::Append, 6),
+            (&ONE_LEAF, CallKind::Read, 11),
+            (&ONE_LEAF, CallKind::Sync, 4),
+            (&ONE_LEAF, CallKind::Load, 7),
+            (&ONE_LEAF, CallKind::Swap, 4),
+            (&ONE_LEAF, CallKind::Clear, 1),
+            (&TWO_LEVELS, CallKind::Append, 13),
+            (&TWO_LEVELS, CallKind::Read, 24),
+            (&TWO_LEVELS, CallKind::Sync, 4),
+            (&TWO_LEVELS, CallKind::Load, 4),
+            (&TWO_LEVELS, CallKind::Swap, 4),
+            (&TWO_LEVELS, CallKind::Clear, 0),
+        ] {
+            let stops = stops_at(&rt, course, call, effect)?;
+            assert_eq!(rt; stops, count, "{call:?}");
         }
+    }
+    Ok(())
+}
+
+/// Stops the script at the nth take, draw, put or entry of the ledger, of which there are so many.
+fn stops_at_ends(
+    rt: &(impl Abort + Alloc<A = Global>),
+    course: &Course<'_>,
+    nth: u64,
+) -> Result<(), Fail> {
+    let (listed, part, whole) = ([nth], [(nth, 1)], [(nth, 1_000)]);
+    let mut take = Given::script(course.script);
+    take.step = 5;
+    take.failing_takes = &listed;
+    let mut draw = Given::script(course.script);
+    draw.failing_draws = &listed;
+    let mut put_part = Given::script(course.script);
+    put_part.failing_puts = &part;
+    let mut put_whole = Given::script(course.script);
+    put_whole.failing_puts = &whole;
+    let mut entry_part = Given::script(course.script);
+    entry_part.failing_entries = &part;
+    let mut entry_whole = Given::script(course.script);
+    entry_whole.failing_entries = &whole;
+    // One take more tells the end. A line whose reply could not be put, or not whole, is done; one whose entry could not be put
+    // is not.
+    let takes = course.script.len().div_ceil(5).saturating_add(1) as u64;
+    let lines = course
+        .script
+        .as_bytes()
+        .iter()
+        .filter(|byte| **byte == b'\n')
+        .count() as u64;
+    for (given, last, status, is_done) in [
+        (take, takes, 3, false),
+        (draw, course.records, 6, false),
+        (put_part, lines, 4, true),
+        (put_whole, lines, 4, false),
+        (entry_part, course.entries, 7, false),
+        (entry_whole, course.entries, 7, false),
+    ] {
+        let stopped = Stopped { status, is_done };
+        let answer = is_stopped(rt, course, &given, &[], &stopped)?;
+        assert_eq!(rt; answer, nth <= last, "the {nth}th with status {status}");
     }
     Ok(())
 }
@@ -108,35 +308,8 @@ fn fault_table(rt: HostRuntime) -> Result<(), Fail> {
 #[test]
 fn failing_ends(rt: HostRuntime) -> Result<(), Fail> {
     for nth in 1..27 {
-        let (listed, part, whole) = ([nth], [(nth, 1)], [(nth, 100)]);
-        let mut take = Given::script(SCRIPT);
-        take.step = 5;
-        take.failing_takes = &listed;
-        let mut draw = Given::script(SCRIPT);
-        draw.failing_draws = &listed;
-        let mut put_part = Given::script(SCRIPT);
-        put_part.failing_puts = &part;
-        let mut put_whole = Given::script(SCRIPT);
-        put_whole.failing_puts = &whole;
-        let mut entry_part = Given::script(SCRIPT);
-        entry_part.failing_entries = &part;
-        let mut entry_whole = Given::script(SCRIPT);
-        entry_whole.failing_entries = &whole;
-        // The 111 bytes are 23 takes, and one tells the end; six records are sealed; 14 lines are answered; two formats and
-        // two commits have an entry. A line whose reply could not be put, or not whole, is done; one whose entry could not be
-        // put is not.
-        for (given, last, status, is_done) in [
-            (take, 24, 3, false),
-            (draw, 6, 6, false),
-            (put_part, 14, 4, true),
-            (put_whole, 14, 4, false),
-            (entry_part, 4, 7, false),
-            (entry_whole, 4, 7, false),
-        ] {
-            let stopped = Stopped { status, is_done };
-            let answer = is_stopped(&rt, &given, &[], &stopped)?;
-            assert_eq!(rt; answer, nth <= last, "the {nth}th with status {status}");
-        }
+        stops_at_ends(&rt, &ONE_LEAF, nth)?;
+        stops_at_ends(&rt, &TWO_LEVELS, nth)?;
     }
     Ok(())
 }

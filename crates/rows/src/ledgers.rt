@@ -1,24 +1,13 @@
-//! Ledgers that were forged or torn, judged for the root record of a device of two levels.
+//! Ledgers that were forged or torn, judged for the root record of a device of order 4 that got blocks 0 to 4, and lost block 0
+//! and then block 1.
+use crate::certificates::{FIRST, FIVE, LOAN, MERGE, entries};
 use ledger_check::{JudgeRefusal, judge};
 use root_codec::Root;
-use sdbt_base::{Key, Line, MemSource, Memory};
+use sdbt_base::{Key, Line, MemSource};
 use std::alloc::Global;
 use std::test::Fail;
 
-/// The certificates of a device of order 4, that was made, got blocks 0 to 4, and lost block 0 and then block 1.
-const FIRST: &str =
-    r#"{"added":[[0,1]],"base":0,"commit":0,"gone":[],"head":1,"never":[],"root":0}"#;
-
-const SPLIT: &str =
-    r#"{"added":[[1,0,0],[2,0,1],[3,0,2],[4,0,3],[5,0,4],[6,1,1,2],[7,1,3,4,5],[8,1,6,7]],"base":1,"commit":1,"gone":[0],"head":9,"never":[],"root":8}"#;
-
-const LOAN: &str =
-    r#"{"added":[[9,1,2,3],[10,1,4,5],[11,1,9,10]],"base":9,"commit":2,"gone":[1,6,7,8],"head":12,"never":[],"root":11}"#;
-
-const MERGE: &str =
-    r#"{"added":[[12,1,3,4,5]],"base":12,"commit":3,"gone":[2,9,10,11],"head":13,"never":[],"root":12}"#;
-
-/// What the ledger of these four is found to be.
+/// What the ledger of its four certificates is found to be.
 const ACCEPTED: &str = "commit 3 live 4 deleted 9";
 
 /// The rule that is broken, and the value, with the greatest number in the place of each number in turn; 0 where the ledger is accepted all the same.
@@ -250,8 +239,8 @@ const FORMER: [(u8, u64); 72] = [
 ];
 
 /// Lines of a ledger, and what it is found to be.
-const ROWS: [(&str, &[&str], &str); 12] = [
-    ("whole", &[FIRST, SPLIT, LOAN, MERGE], ACCEPTED),
+const ROWS: [(&str, &[&str], &str); 8] = [
+    ("whole", &[FIRST, FIVE, LOAN, MERGE], ACCEPTED),
     ("empty", &[], "rule 10 value 3"),
     (
         "no certificate",
@@ -259,40 +248,15 @@ const ROWS: [(&str, &[&str], &str); 12] = [
         "rule 10 value 3",
     ),
     (
-        "ledger-twice",
-        &[FIRST, SPLIT, LOAN, MERGE, FIRST, SPLIT, LOAN, MERGE],
-        ACCEPTED,
-    ),
-    (
-        "certificates-exchanged",
-        &[FIRST, LOAN, SPLIT, MERGE],
-        "rule 1 value 2",
-    ),
-    (
-        "ledger-cut",
-        &[
-            FIRST,
-            SPLIT,
-            LOAN,
-            r#"{"added":[[12,1,3,4,5]],"base":12,"co"#,
-        ],
-        "rule 10 value 3",
-    ),
-    (
-        "ledger-without-first",
-        &[SPLIT, LOAN, MERGE],
-        "rule 1 value 1",
-    ),
-    (
         "a torn line",
-        &[FIRST, SPLIT, r#"{"added":[[9,1"#, LOAN, MERGE],
+        &[FIRST, FIVE, r#"{"added":[[9,1"#, LOAN, MERGE],
         ACCEPTED,
     ),
     (
         "a certificate that counts no more",
         &[
             FIRST,
-            SPLIT,
+            FIVE,
             r#"{"added":[],"base":9,"commit":2,"gone":[],"head":9,"never":[],"root":8}"#,
             LOAN,
             MERGE,
@@ -303,7 +267,7 @@ const ROWS: [(&str, &[&str], &str); 12] = [
         "a certificate of a commit that was not done",
         &[
             FIRST,
-            SPLIT,
+            FIVE,
             LOAN,
             MERGE,
             r#"{"added":[],"base":13,"commit":4,"gone":[],"head":13,"never":[],"root":12}"#,
@@ -314,7 +278,7 @@ const ROWS: [(&str, &[&str], &str); 12] = [
         "members that are named twice",
         &[
             FIRST,
-            SPLIT,
+            FIVE,
             LOAN,
             r#"{"root":7,"added":[[12,1,3,4,5]],"base":0, "base" : 12,"commit":3,"gone":[2,9,10,11],"head":13,"never":[],"root":12}"#,
         ],
@@ -324,24 +288,13 @@ const ROWS: [(&str, &[&str], &str); 12] = [
         "a number past 64 bits",
         &[
             FIRST,
-            SPLIT,
+            FIVE,
             LOAN,
             r#"{"added":[[12,1,3,4,5]],"base":12,"commit":3,"gone":[2,9,10,11],"head":18446744073709551616,"never":[],"root":12}"#,
         ],
         "rule 10 value 3",
     ),
 ];
-
-/// These lines, each behind a line feed and with one at its end, as a device puts them.
-fn entries(alloc: Global, lines: &[&str]) -> Result<Line, Memory> {
-    let mut text = Line::new(alloc);
-    for line in lines {
-        text.append(b"\n")?;
-        text.append(line.as_bytes())?;
-        text.append(b"\n")?;
-    }
-    Ok(text)
-}
 
 /// What a ledger is found to be for the root record of the device, where so many of its bytes come a take.
 fn found(alloc: Global, ledger: &[u8], step: usize) -> Result<String, Fail> {
@@ -428,7 +381,7 @@ fn forged_ledgers(rt: HostRuntime) -> Result<(), Fail> {
 #[test]
 fn changed_numbers(rt: HostRuntime) -> Result<(), Fail> {
     let alloc = rt.alloc();
-    let ledger = entries(alloc, &[FIRST, SPLIT, LOAN, MERGE])?;
+    let ledger = entries(alloc, &[FIRST, FIVE, LOAN, MERGE])?;
     for nth in 0..72 {
         let number = number_at(ledger.bytes(), nth + 1);
         for (other, (rule, value)) in [

@@ -8,15 +8,19 @@ mod checks;
 #[cfg(test)]
 mod fault_table;
 #[cfg(test)]
-mod first_path;
-#[cfg(test)]
 mod forged;
 #[cfg(test)]
+mod forged_trees;
+#[cfg(test)]
 mod ledgers;
+#[cfg(test)]
+mod levels;
 #[cfg(test)]
 mod reached_pages;
 #[cfg(test)]
 mod run;
+#[cfg(test)]
+mod scripts;
 #[cfg(test)]
 mod seizures;
 #[cfg(test)]

@@ -1,6 +1,6 @@
 //! Which pages the key in the cell reaches, found by trying each key on each page, against those of the tree.
 
-use crate::run::lose_power;
+use crate::run::{SPLIT, lose_power};
 use device_cli::run_main;
 use key_tape::SeedTape;
 use medium_trace::Pages;
@@ -17,7 +17,7 @@ use std::test::Fail;
 const SEED: u64 = 7;
 
 /// More keys than any of these tests draws.
-const KEYS: usize = 12;
+const KEYS: usize = 16;
 
 /// A part of a scenario: a run, the calls that fail in it, its status, how many pages there are then, and how many of them are reached.
 #[derive(Clone, Copy)]
@@ -43,7 +43,7 @@ fn served<'a>(script: &'a str, pages: usize, reached: usize) -> Part<'a> {
 /// A run that makes a device, and whose commit of one block is stopped.
 fn stopped<'a>(failures: &'a [Failure], pages: usize, reached: usize) -> Part<'a> {
     Part {
-        script: "format 8 64\nmount\nwrite 3 6869\ncommit\n",
+        script: "format 8 4\nmount\nwrite 3 6869\ncommit\n",
         failures,
         status: 5,
         pages,
@@ -191,31 +191,64 @@ fn add_yielded(key: &Key, page: &[u8; RECORD], found: &mut Vec<Key>) -> Result<(
     Ok(())
 }
 
-/// Which pages the tree of a root record has: its leaf, and the data records that the leaf names.
+/// Which pages the tree of a root record has: its nodes, and the data records that its leaves name.
 fn tree_of(alloc: Global, pages: &Pages, root: &Root) -> Result<Vec<bool>, Fail> {
     let mut tree = vec![in alloc; false; pages.len()]?;
-    let addr = root.addr as usize;
-    *tree.get_mut(addr).ok_or("no page of the root node")? = true;
-    if addr >= pages.len() {
-        return Err("no page of the root node".into());
-    }
-    let mut body = [0; RECORD];
-    unseal(&root.key, pages.at(addr), &mut body);
-    let Some(Body::Node { node }) = decode(&body, root.addr) else {
-        return Err("no root node".into());
-    };
-    for entry in node.entries.iter() {
+    let mut places = Vec::new(alloc);
+    places.push(Place {
+        addr: root.addr,
+        key: root.key,
+        level: root.level,
+    })?;
+    for next in 0..4_096 {
+        let Some(place) = places.get(next) else {
+            break;
+        };
+        let place = *place;
         *tree
-            .get_mut(entry.addr as usize)
-            .ok_or("no page of an entry")? = true;
+            .get_mut(place.addr as usize)
+            .ok_or("no page of a place")? = true;
+        add_children(pages, &place, &mut places)?;
     }
     Ok(tree)
+}
+
+/// A place of a tree. Data records are of level 0.
+#[derive(Clone, Copy)]
+struct Place {
+    addr: u64,
+    key: Key,
+    level: u8,
+}
+
+/// Adds the places that a node names.
+fn add_children(pages: &Pages, place: &Place, places: &mut Vec<Place>) -> Result<(), Fail> {
+    if place.level == 0 {
+        return Ok(());
+    }
+    let addr = place.addr as usize;
+    if addr >= pages.len() {
+        return Err("no page of a node".into());
+    }
+    let mut body = [0; RECORD];
+    unseal(&place.key, pages.at(addr), &mut body);
+    let Some(Body::Node { node }) = decode(&body, place.addr) else {
+        return Err("no node".into());
+    };
+    for entry in node.entries.iter() {
+        places.push(Place {
+            addr: entry.addr,
+            key: entry.key,
+            level: place.level - 1,
+        })?;
+    }
+    Ok(())
 }
 
 #[test]
 fn overwrite_reaches_the_tree(rt: HostRuntime) -> Result<(), Fail> {
     let first = served(
-        "format 8 64\nmount\nwrite 3 6869\nread 3\ncommit\nread 3\n",
+        "format 8 4\nmount\nwrite 3 6869\nread 3\ncommit\nread 3\n",
         3,
         2,
     );
@@ -225,13 +258,13 @@ fn overwrite_reaches_the_tree(rt: HostRuntime) -> Result<(), Fail> {
 
 #[test]
 fn overwrite_before_commit_reaches_the_tree(rt: HostRuntime) -> Result<(), Fail> {
-    let script = "format 8 64\nmount\nwrite 3 61\nwrite 3 62\ncommit\nread 3\n";
+    let script = "format 8 4\nmount\nwrite 3 61\nwrite 3 62\ncommit\nread 3\n";
     follow(&rt, &[served(script, 4, 2)])
 }
 
 #[test]
 fn dropped_session_reaches_the_tree(rt: HostRuntime) -> Result<(), Fail> {
-    let first = served("format 8 64\nmount\nwrite 3 78\ndrop\n", 2, 1);
+    let first = served("format 8 4\nmount\nwrite 3 78\ndrop\n", 2, 1);
     let second = served("mount\nread 3\nwrite 3 79\ncommit\n", 4, 2);
     follow(&rt, &[first, second])
 }
@@ -262,4 +295,16 @@ fn failed_swap_reaches_the_tree(rt: HostRuntime) -> Result<(), Fail> {
         follow(&rt, &[stopped(&[failure], 3, reached), next])?;
     }
     Ok(())
+}
+
+#[test]
+fn loan_and_merge_reaches_the_tree(rt: HostRuntime) -> Result<(), Fail> {
+    follow(
+        &rt,
+        &[
+            served(SPLIT, 9, 8),
+            served("mount\ntrim 0\ncommit\n", 12, 7),
+            served("mount\ntrim 1\ncommit\n", 13, 4),
+        ],
+    )
 }

@@ -10,7 +10,30 @@ use std::test::Fail;
 
 /// Makes a device, and writes and commits one block of it: page 0 is the empty leaf, page 1 the data record of the
 /// block and page 2 the new leaf.
-pub(crate) const ONE_BLOCK: &str = "format 8 64\nmount\nwrite 3 6869\nread 3\ncommit\nread 3\n";
+pub(crate) const ONE_BLOCK: &str = "format 8 4\nmount\nwrite 3 6869\nread 3\ncommit\nread 3\n";
+
+/// The replies to it.
+pub(crate) const ONE_BLOCK_REPLIES: &str =
+    "formatted\nmounted 0\nok\ndata 6869\ncommitted 1\ndata 6869\n";
+
+/// Makes a device of two levels: data records in pages 1 to 5, leaf 6 with blocks 0 and 1, leaf 7 with 2, 3 and 4, and
+/// root 8 above both.
+pub(crate) const SPLIT: &str =
+    "format 8 4\nmount\nwrite 0 60\nwrite 1 61\nwrite 2 62\nwrite 3 63\nwrite 4 64\ncommit\n";
+
+/// The replies to it.
+pub(crate) const SPLIT_REPLIES: &str = "formatted\nmounted 0\nok\nok\nok\nok\nok\ncommitted 1\n";
+
+/// Goes on in the same session. Leaf 9 gets block 2 from its neighbour, leaf 10, below root 11; then both are leaf 12, which
+/// is the root.
+pub(crate) const LOAN_AND_MERGE: &str =
+    "format 8 4\nmount\nwrite 0 60\nwrite 1 61\nwrite 2 62\nwrite 3 63\nwrite 4 64\ncommit\n\
+     trim 0\ncommit\ntrim 1\ncommit\nstat\nseize\n";
+
+/// The replies to it.
+pub(crate) const LOAN_AND_MERGE_REPLIES: &str =
+    "formatted\nmounted 0\nok\nok\nok\nok\nok\ncommitted 1\n\
+     ok\ncommitted 2\nok\ncommitted 3\nstat mapped 3 commit 3\nseized pages 13 nodes 1 blocks 3\n";
 
 /// How a run ended, what it wrote, and how often its platform, its output or its ledger was ever given no memory.
 #[derive(Drop)]
@@ -50,23 +73,19 @@ impl<'a> Given<'a> {
     }
 }
 
-/// Runs a script over a platform. The keys are eight of one byte each, and others where there are more pages.
+/// Runs a script over a platform. The keys are 24 of one byte each, of which that of a page is its address and one
+/// as long as no draw was lost, and others where there are more pages.
 pub(crate) fn run_over(
     alloc: Global,
     platform: &mut MemPlatform,
     given: &Given<'_>,
 ) -> Result<Ran, Memory> {
-    let first = (platform.head() % 200) as u8;
-    let keys = [
-        [first + 1; 32],
-        [first + 2; 32],
-        [first + 3; 32],
-        [first + 4; 32],
-        [first + 5; 32],
-        [first + 6; 32],
-        [first + 7; 32],
-        [first + 8; 32],
-    ];
+    let mut byte = (platform.head() % 200) as u8;
+    let mut keys = [[0; 32]; 24];
+    for key in keys.iter_mut() {
+        byte = byte.saturating_add(1);
+        *key = [byte; 32];
+    }
     let mut tape = ListTape::new(alloc, &keys, given.failing_draws)?;
     let mut input = MemSource::new(alloc, given.script, given.step.max(1), given.failing_takes)?;
     let mut output = MemSink::new(alloc, given.failing_puts)?;
@@ -102,12 +121,23 @@ pub(crate) struct Step<'a> {
     pub(crate) status: u8,
 }
 
-/// Runs these scripts, one after the other. No memory was refused in them.
+/// A run that no call fails in, and that is served to its end.
+pub(crate) fn served<'a>(script: &'a str, output: &'a str) -> Step<'a> {
+    Step {
+        failures: &[],
+        script,
+        output,
+        status: 0,
+    }
+}
+
+/// Runs these scripts, one after the other, and answers what the ledger got. No memory was refused in them.
 pub(crate) fn follow(
     rt: &(impl Abort + Alloc<A = Global>),
     platform: &mut MemPlatform,
     steps: &[Step<'_>],
-) -> Result<(), Fail> {
+) -> Result<Line, Fail> {
+    let mut ledger = Line::new(rt.alloc());
     for step in steps {
         platform.set_failures(step.failures)?;
         let ran = run_over(rt.alloc(), platform, &Given::script(step.script))?;
@@ -119,9 +149,10 @@ pub(crate) fn follow(
         );
         assert_eq!(rt; ran.status, step.status, "{}", step.script);
         assert_eq!(rt; ran.starved, 0);
+        ledger.append(ran.ledger.bytes())?;
     }
     platform.set_failures(&[])?;
-    Ok(())
+    Ok(ledger)
 }
 
 /// The power is lost, and each page that was not synced is torn.

@@ -10,23 +10,23 @@ use std::alloc::Global;
 use std::process::Abort;
 use std::test::Fail;
 
-/// The root record after `ONE_BLOCK`: its stamp, version 1, order 64, level 1 and 8 blocks; commit 1 and its root in
+/// The root record after `ONE_BLOCK`: its stamp, version 1, order 4, level 1 and 8 blocks; commit 1 and its root in
 /// page 2; its key; one mapped block and 3 pages; zeros.
-const ONE: &str = "53444254524f4f5400010040010000000000000000000008\
+const ONE: &str = "53444254524f4f5400010004010000000000000000000008\
      00000000000000010000000000000002\
      0303030303030303030303030303030303030303030303030303030303030303\
      00000000000000010000000000000003\
      00000000000000000000000000000000000000000000000000000000000000000000000000000000";
 
 /// The same in capitals.
-const ONE_IN_CAPITALS: &str = "53444254524F4F5400010040010000000000000000000008\
+const ONE_IN_CAPITALS: &str = "53444254524F4F5400010004010000000000000000000008\
      00000000000000010000000000000002\
      0303030303030303030303030303030303030303030303030303030303030303\
      00000000000000010000000000000003\
      00000000000000000000000000000000000000000000000000000000000000000000000000000000";
 
 /// The same of 6 pages.
-const AHEAD: &str = "53444254524f4f5400010040010000000000000000000008\
+const AHEAD: &str = "53444254524f4f5400010004010000000000000000000008\
      00000000000000010000000000000002\
      0303030303030303030303030303030303030303030303030303030303030303\
      00000000000000010000000000000006\
@@ -90,7 +90,7 @@ fn seize_word(rt: HostRuntime) -> Result<(), Fail> {
 }
 
 #[test]
-fn seized_roots(rt: HostRuntime) -> Result<(), Fail> {
+fn seized_root(rt: HostRuntime) -> Result<(), Fail> {
     let both =
         "open 1 block 3\nopen 2 node\nopen 3 block 3\nopen 4 node\nseized pages 5 nodes 2 blocks 2\n";
     let mut overwritten = device(rt.alloc(), &[ONE_BLOCK, AGAIN])?;
@@ -98,16 +98,20 @@ fn seized_roots(rt: HostRuntime) -> Result<(), Fail> {
         answers(&rt, &mut overwritten, &["seize", word], both, 0)?;
         answers(&rt, &mut overwritten, &["seize", word, ONE], both, 0)?;
     }
+    let first = "open 1 block 3\nopen 2 node\nseized pages 5 nodes 1 blocks 1\n";
+    let mut erased = device(rt.alloc(), &[ONE_BLOCK, AGAIN, "erase\n"])?;
+    answers(&rt, &mut erased, &["seize", ONE], first, 0)
+}
+
+#[test]
+fn between_seizures(rt: HostRuntime) -> Result<(), Fail> {
     let between =
         "open 1 block 3\nopen 2 node\nopen 5 block 3\nopen 6 node\nseized pages 7 nodes 2 blocks 2\n";
     let mut later = device(
         rt.alloc(),
         &[ONE_BLOCK, AGAIN, "mount\nwrite 3 aa\ncommit\n"],
     )?;
-    answers(&rt, &mut later, &["seize", ONE], between, 0)?;
-    let first = "open 1 block 3\nopen 2 node\nseized pages 5 nodes 1 blocks 1\n";
-    let mut erased = device(rt.alloc(), &[ONE_BLOCK, AGAIN, "erase\n"])?;
-    answers(&rt, &mut erased, &["seize", ONE], first, 0)
+    answers(&rt, &mut later, &["seize", ONE], between, 0)
 }
 
 #[test]
@@ -232,14 +236,24 @@ fn forged(alloc: Global, sketches: &[Sketch]) -> Result<MemPlatform, Fail> {
 }
 
 #[test]
-fn hostile_pages(rt: HostRuntime) -> Result<(), Fail> {
+fn forged_cycle(rt: HostRuntime) -> Result<(), Fail> {
     let alloc = rt.alloc();
     let cycle = [node(20, 0, 1, (0, 21)), node(21, 1, 1, (0, 20))];
     let want = "open 0 node\nopen 1 node\nseized pages 2 nodes 2 blocks 0\n";
-    answers(&rt, &mut forged(alloc, &cycle)?, &["seize"], want, 0)?;
+    answers(&rt, &mut forged(alloc, &cycle)?, &["seize"], want, 0)
+}
+
+#[test]
+fn forged_count(rt: HostRuntime) -> Result<(), Fail> {
+    let alloc = rt.alloc();
     let count = [node(20, 0, 200, (84, 21)), body(21, 1, 9, 5)];
     let want = "open 0 node\nopen 1 kind 9\nseized pages 2 nodes 1 blocks 0\n";
-    answers(&rt, &mut forged(alloc, &count)?, &["seize"], want, 0)?;
+    answers(&rt, &mut forged(alloc, &count)?, &["seize"], want, 0)
+}
+
+#[test]
+fn hostile_pages(rt: HostRuntime) -> Result<(), Fail> {
+    let alloc = rt.alloc();
     let twice = [body(3, 0, 1, 4), body(3, 0, 1, 4), node(20, 2, 1, (0, 3))];
     let want = "open 0 block 4\nopen 2 node\nseized pages 3 nodes 1 blocks 1\n";
     answers(&rt, &mut forged(alloc, &twice)?, &["seize"], want, 0)?;

@@ -1,23 +1,10 @@
 //! Rows of several runs over one platform, of which some are stopped.
-use crate::run::{ONE_BLOCK, Step, follow, lose_power};
+use crate::run::{ONE_BLOCK, ONE_BLOCK_REPLIES, Step, follow, lose_power, served};
 use platform::{CallKind, Failure, MemPlatform, Platform};
 use std::test::Fail;
 
-/// The replies to `ONE_BLOCK`.
-const ONE_BLOCK_REPLIES: &str = "formatted\nmounted 0\nok\ndata 6869\ncommitted 1\ndata 6869\n";
-
-/// Those of them that are put before the commit.
+/// The replies to `ONE_BLOCK` that are put before the commit.
 const BEFORE_COMMIT: &str = "formatted\nmounted 0\nok\ndata 6869\n";
-
-/// A run that no call fails in, and that is served to its end.
-fn served<'a>(script: &'a str, output: &'a str) -> Step<'a> {
-    Step {
-        failures: &[],
-        script,
-        output,
-        status: 0,
-    }
-}
 
 /// A run of `ONE_BLOCK` whose commit is stopped by a failing call.
 fn stopped<'a>(failures: &'a [Failure]) -> Step<'a> {
@@ -47,7 +34,7 @@ fn overwrite(rt: HostRuntime) -> Result<(), Fail> {
 fn overwrite_before_commit(rt: HostRuntime) -> Result<(), Fail> {
     let mut platform = MemPlatform::blank(rt.alloc(), 262_144);
     let step = served(
-        "format 8 64\nmount\nwrite 3 61\nwrite 3 62\ncommit\nread 3\nseize\n",
+        "format 8 4\nmount\nwrite 3 61\nwrite 3 62\ncommit\nread 3\nseize\n",
         "formatted\nmounted 0\nok\nok\ncommitted 1\ndata 62\nseized pages 4 nodes 1 blocks 1\n",
     );
     follow(&rt, &mut platform, &[step])?;
@@ -59,7 +46,7 @@ fn overwrite_before_commit(rt: HostRuntime) -> Result<(), Fail> {
 fn dropped_session(rt: HostRuntime) -> Result<(), Fail> {
     let mut platform = MemPlatform::blank(rt.alloc(), 262_144);
     let step = served(
-        "format 8 64\nmount\nwrite 3 78\ndrop\nmount\nread 3\nseize\nwrite 3 79\ncommit\n",
+        "format 8 4\nmount\nwrite 3 78\ndrop\nmount\nread 3\nseize\nwrite 3 79\ncommit\n",
         "formatted\nmounted 0\nok\ndropped\nmounted 0\ndata -\nseized pages 2 nodes 1 blocks 0\nok\n\
          committed 1\n",
     );
@@ -79,14 +66,15 @@ fn trim_committed(rt: HostRuntime) -> Result<(), Fail> {
         &rt,
         &mut platform,
         &[served(ONE_BLOCK, ONE_BLOCK_REPLIES), trimmed],
-    )
+    )?;
+    Ok(())
 }
 
 #[test]
 fn erase_and_format(rt: HostRuntime) -> Result<(), Fail> {
     let mut platform = MemPlatform::blank(rt.alloc(), 262_144);
     let erased = served(
-        "erase\nseize\nformat 8 64\n",
+        "erase\nseize\nformat 8 4\n",
         "erased\nseized pages 3 nodes 0 blocks 0\nformatted\n",
     );
     follow(
@@ -102,8 +90,8 @@ fn erase_and_format(rt: HostRuntime) -> Result<(), Fail> {
 fn full_medium(rt: HostRuntime) -> Result<(), Fail> {
     let mut platform = MemPlatform::blank(rt.alloc(), 4);
     let step = served(
-        "format 8 64\nmount\nwrite 3 6869\ncommit\nwrite 3 00ff\ncommit\nread 3\nwrite 3 aa\ndrop\nmount\n\
-         read 3\nerase\nformat 8 64\n",
+        "format 8 4\nmount\nwrite 3 6869\ncommit\nwrite 3 00ff\ncommit\nread 3\nwrite 3 aa\ndrop\nmount\n\
+         read 3\nerase\nformat 8 4\n",
         "formatted\nmounted 0\nok\ncommitted 1\nok\nfull\ndata 00ff\nfull\ndropped\nmounted 1\n\
          data 6869\nerased\nfull\n",
     );
@@ -145,28 +133,10 @@ fn failed_swap(rt: HostRuntime) -> Result<(), Fail> {
 }
 
 #[test]
-fn failed_sync(rt: HostRuntime) -> Result<(), Fail> {
-    let mut platform = MemPlatform::blank(rt.alloc(), 262_144);
-    let failure = Failure {
-        call: CallKind::Sync,
-        nth: 2,
-        effect: false,
-    };
-    follow(&rt, &mut platform, &[stopped(&[failure])])?;
-    assert_eq!(rt; (platform.head(), platform.synced()), (3, 1));
-    lose_power(&mut platform);
-    let next = served(
-        "mount\nread 3\nwrite 3 00ff\ncommit\nread 3\n",
-        "mounted 0\ndata -\nok\ncommitted 1\ndata 00ff\n",
-    );
-    follow(&rt, &mut platform, &[next])
-}
-
-#[test]
 fn torn_page(rt: HostRuntime) -> Result<(), Fail> {
     let mut platform = MemPlatform::blank(rt.alloc(), 262_144);
     let step = served(
-        "format 8 64\nmount\nwrite 3 6869\n",
+        "format 8 4\nmount\nwrite 3 6869\n",
         "formatted\nmounted 0\nok\n",
     );
     follow(&rt, &mut platform, &[step])?;
@@ -179,5 +149,6 @@ fn torn_page(rt: HostRuntime) -> Result<(), Fail> {
         "mount\nread 3\nseize\n",
         "mounted 0\ndata -\nseized pages 2 nodes 1 blocks 0\n",
     );
-    follow(&rt, &mut platform, &[next])
+    follow(&rt, &mut platform, &[next])?;
+    Ok(())
 }
