@@ -1,6 +1,6 @@
 -- That the cell can be served at each moment, what a call leaves that only looked, and which state a part of a run comes to.
 use Rattle.platform.specs.History.{History, Steps, During}
-use Rattle.std.proofs.Common.{◌≡◌, ℕ, zero, List, [], ◌∷◌, None, Ok, refl, sym, subst, ap, ◌∙◌, arith}
+use Rattle.std.proofs.Common.{◌≡◌, ◌≤◌, ℕ, zero, List, [], ◌∷◌, None, Ok, refl, sym, subst, ap, ◌∙◌, arith}
 use Rattle.platform.proofs.Moments.{During-start, During-step, During-now, During-then}
 use Rattle.std.specs.Prelude.{Option, Some, IfSome}
 use Rattle.platform.specs.History.{CellStays}

@@ -1,4 +1,4 @@
-use Rattle.std.proofs.Common.{◌≡◌, ◌<◌, ℕ, None, Some, Ok, refl, sym, ◌∙◌, subst, inl, rules, arith}
+use Rattle.std.proofs.Common.{◌≡◌, ◌<◌, ℕ, None, Some, Ok, Err, refl, sym, ◌∙◌, subst, ap, inl, rules, arith}
 use Rattle.std.proofs.lemmas.Grind.{common_steps}
 use Rattle.script_lang.specs.Arrays.{content_reply}
 use Rattle.script_lang.specs.Replies.{Reply, said}
@@ -94,4 +94,4 @@ returns-in-Err-BadRecord-clause-damage g c told addr is =
     let named : reads.BadRecord c.in-Err-BadRecord.addr ≡ reads.BadRecord addr = cc in
     wrong_page c.args.self.now.session c.in-Some.session (P.head c.args.platform.now) addr (P.history c.args.platform.now) (P.history c.read.new.platform) c.in-Some.is (rw c.in-Some.is at c.requires.ready)
     (c.requires.mounted told) (c.read.ensures.looks.time told)
-    (λ follows. inl (subst (λ (i : Image). Wrong i.readable root addr) (sym (c.read.ensures.looks.image told)) ((rw c.in-Err-BadRecord.field-0-is at c.in-Err-BadRecord.ensures.damaged) told follows addr named)))
+    (λ follows. inl (subst (λ (i : Image). Wrong i.readable root addr) (sym (c.read.ensures.looks.image told)) ((rw c.in-Err-BadRecord.field-0-is at c.in-Err-BadRecord.ensures.damaged) told follows addr (ap Err named))))

@@ -1,4 +1,4 @@
-use Rattle.std.proofs.Common.{◌≡◌, ◌<◌, ℕ, None, Some, Ok, refl, rules, ◌∙◌, subst, arith, List, take}
+use Rattle.std.proofs.Common.{◌≡◌, ◌<◌, ℕ, None, Some, Ok, Err, refl, rules, ◌∙◌, subst, ap, arith, List, take}
 use Rattle.std.proofs.lemmas.Grind.{common_steps}
 use Rattle.device_cli.specs.declared.stop.DeviceStop.TheVariants as device
 use Rattle.device_cli.specs.World.{World, is_full, world_of}
@@ -146,4 +146,4 @@ returns-in-Err-BadRecord-clause-damage g c told addr is =
     let named : refusals.BadRecord c.in-Err-BadRecord.addr ≡ refusals.BadRecord addr = cc in
     wrong_page c.args.self.now.session c.in-Some.session (P.head c.args.platform.now) addr (P.history c.args.platform.now) (P.history c.write.new.platform) c.in-Some.is (rw c.in-Some.is at c.requires.before.ready)
     (c.requires.before.mounted told) (c.write.ensures.time told)
-    (λ follows. ((rw c.in-Err-BadRecord.field-0-is at c.in-Err-BadRecord.ensures.damaged) told follows addr named).1)
+    (λ follows. ((rw c.in-Err-BadRecord.field-0-is at c.in-Err-BadRecord.ensures.damaged) told follows addr (ap Err named)).1)
