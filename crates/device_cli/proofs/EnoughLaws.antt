@@ -1,5 +1,5 @@
 -- How many updates are enough for the commit of a session after a call.
-use Rattle.std.proofs.Common.{◌≡◌, ℕ, ◌+◌, ◌≤◌, List, Option, None, Some, Ok, Err, inl, inr, sym, ◌∙◌, subst, ap, arith}
+use Rattle.std.proofs.Common.{◌≡◌, ℕ, ◌+◌, ◌≤◌, List, Option, None, Some, Ok, Err, inl, inr, sym, subst, ap, arith}
 use Rattle.std.specs.Prelude.{◌⊎◌, Result, IfOk}
 use Rattle.device_session.specs.Open.{needed_by}
 use Rattle.device_session.specs.Sessions.{Session}

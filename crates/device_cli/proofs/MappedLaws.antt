@@ -1,5 +1,5 @@
 -- How many data records a seizure counts of an image that stands: as many as the device has mapped blocks, under the premises on keys.
-use Rattle.std.proofs.Common.{◌≡◌, ℕ, List, [], ◌∷◌, ◌++◌, Option, None, Some, length, refl, sym, ◌∙◌, ap, subst, arith}
+use Rattle.std.proofs.Common.{◌≡◌, ℕ, List, [], ◌∷◌, ◌++◌, Option, None, Some, length, sym, ◌∙◌, subst, arith}
 use Rattle.std.proofs.lemmas.List.{append-nil}
 use Rattle.platform.specs.Image.{Image}
 use Rattle.platform.specs.History.{History, image_at}

@@ -1,6 +1,6 @@
 -- From how many pages a session's commit needs to how many a line adds, and how many pages some lines add at most.
 use Rattle.std.proofs.Common.{◌≡◌, ℕ, ◌+◌, ◌-◌, ◌*◌, ◌≤◌, Bool, true, false, List, [], ◌∷◌, Option, None, Some, inl, inr, refl, sym, subst, ap, arith}
-use Rattle.std.specs.Prelude.{◌⊎◌, ◌||◌, ◌==◌, not, nat_lt}
+use Rattle.std.specs.Prelude.{◌⊎◌, nat_lt}
 use Rattle.sdbt_base.specs.Arrays.{Device, Session as OpenSession, State}
 use Rattle.script_lang.specs.Arrays.{Counted, in_limits, needs_room}
 use Rattle.script_lang.specs.Answers.{IsAnswer, answer}

@@ -45,9 +45,5 @@ fn served_root(bytes: &[u8], head: u64) -> Option<Root>
     ensures none { IfNone result ((root : Root) → IsRootWithin head root → bytes.now ≡ root_bytes root → ⊥) }
 {
     let root = decode_root(bytes)?;
-    if root.head <= head {
-        Some(root)
-    } else {
-        None
-    }
+    if root.head <= head { Some(root) } else { None }
 }

@@ -41,7 +41,9 @@ fn filled(
 ) -> Option<CommitReply> {
     let mut session = Session::mount(alloc, platform, 4).ok()?;
     for block in blocks {
-        session.write(platform, tape, u64::from(*block), &[*block]).ok()?;
+        session
+            .write(platform, tape, u64::from(*block), &[*block])
+            .ok()?;
     }
     session.commit(platform, tape, ledger).ok()
 }

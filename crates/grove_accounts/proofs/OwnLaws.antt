@@ -232,9 +232,9 @@ insertion_written image root committed old new each block addr key May pages h l
         | inr own ↦ more other (subst (Contains pages) (sym own.3) (w.named own.0 (were own.0 own.2 (in_mid own.0 own.1)) own.2))
       ]) new.never.items (All-contains_itself new.never.items);
       only = all_and_last pages (All-weaker (λ other. Contains old.never.items other ⊎ ((s : Stub) × Contains (places_of old) s × IsOwnStub root.head s × (other ≡ page_at s))) IsOf (λ other is. elim is [
-          | inl never ↦ inl (lets.more other never)
-          | inr own ↦ stays other own.0 own.2 own.3 (subst (λ ss. Contains ss own.0) p.was (opens_keep image.readable old.order root.head g.places (places_of old) g.opened own.0 g.opens own.2 own.1)) lets
-        ]) pages w.only);
+        | inl never ↦ inl (lets.more other never)
+        | inr own ↦ stays other own.0 own.2 own.3 (subst (λ ss. Contains ss own.0) p.was (opens_keep image.readable old.order root.head g.places (places_of old) g.opened own.0 g.opens own.2 own.1)) lets
+      ]) pages w.only);
     }
   where
     IsOf : Unkept → Type 0

@@ -16,8 +16,6 @@ use Rattle.device_cli.proofs.CheckLaws.{made_look, blame_wide, complete_check, s
 use Rattle.device_cli.specs.declared.checking.Finding.{Finding}
 use Rattle.device_cli.proofs.ReachingLaws.{discloses, fits}
 use Rattle.device_cli.proofs.MappedLaws.{seizes_maps}
-use Rattle.platform.proofs.Moments.{During-start, During-step}
-use Rattle.device_terms.specs.Served.{IsServedImage}
 use Rattle.device_course.specs.States.{around}
 use Rattle.device_course.proofs.MadeLaws.{shut, made_start}
 use Rattle.std.proofs.Common.{List, Option}

@@ -1,5 +1,5 @@
 use Rattle.std.proofs.lemmas.Grind.{common_steps}
-use Rattle.std.proofs.Common.{List, ◌≡◌, ◌≢◌, ◌-◌, ◌<◌, ◌≤◌, ℕ, Bool, true, false, Option, None, Some, Ok, Err, inl, inr, refl, sym, ap, subst, rules, arith, []}
+use Rattle.std.proofs.Common.{List, ◌≡◌, ◌≢◌, ◌-◌, ◌<◌, ℕ, true, false, None, Ok, Err, inl, inr, refl, sym, ap, subst, rules, arith, []}
 use Rattle.std.specs.Prelude.{Result, IfOk, IfErr, IsOk, ◌⊎◌}
 use Rattle.sdbt_base.specs.Faults.{Rose}
 use Rattle.sdbt_base.specs.Arrays.{State}
@@ -14,7 +14,7 @@ use Rattle.device_cli.specs.Replied.{Serves, Halts, outcome}
 use Rattle.device_cli.specs.Represents.{Represents}
 use Rattle.script_lang.specs.Arrays.{in_limits}
 use Rattle.script_lang.specs.Commands.{Format}
-use Rattle.device_cli.proofs.ServedLaws.{on, halts_still, gives_format_range}
+use Rattle.device_cli.proofs.ServedLaws.{halts_still, gives_format_range}
 use Rattle.device_cli.proofs.ServingLaws.{KeepsCell, serves_formatted, serves_format_full, serves_not_empty, serves_refused, halts_format}
 use Rattle.sdbt_base.specs.declared.tapes.Tape.{Ghosts as TapeGhosts}
 use Rattle.platform.specs.declared.platforms.Platform.{Ghosts as PlatformGhosts}
