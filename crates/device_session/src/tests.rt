@@ -31,20 +31,19 @@ fn made(alloc: Global, platform: &mut MemPlatform, tape: &mut ListTape) -> Optio
     platform.swap_root(&bytes).ok()
 }
 
-/// Writes these blocks, each with its number as its one byte, and commits; none where anything is refused.
+/// Writes blocks 1 to 5, each with its number as its one byte, and commits; none where anything is refused.
 fn filled(
     alloc: Global,
     platform: &mut MemPlatform,
     tape: &mut ListTape,
     ledger: &mut MemSink,
-    blocks: &[u8],
 ) -> Option<CommitReply> {
     let mut session = Session::mount(alloc, platform, 4).ok()?;
-    for block in blocks {
-        session
-            .write(platform, tape, u64::from(*block), &[*block])
-            .ok()?;
-    }
+    session.write(platform, tape, 1, &[1]).ok()?;
+    session.write(platform, tape, 2, &[2]).ok()?;
+    session.write(platform, tape, 3, &[3]).ok()?;
+    session.write(platform, tape, 4, &[4]).ok()?;
+    session.write(platform, tape, 5, &[5]).ok()?;
     session.commit(platform, tape, ledger).ok()
 }
 
@@ -69,11 +68,10 @@ fn changes_are_the_devices_with_a_commit(rt: HostRuntime) -> Result<(), Fail> {
     let mut ledger = MemSink::new(rt.alloc(), &[])?;
     made(rt.alloc(), &mut platform, &mut tape).ok_or("no device")?;
     // Five blocks are two leaves below a root.
-    let blocks = [1, 2, 3, 4, 5];
-    let reply = filled(rt.alloc(), &mut platform, &mut tape, &mut ledger, &blocks);
+    let reply = filled(rt.alloc(), &mut platform, &mut tape, &mut ledger);
     assert!(rt; reply == Some(CommitReply::Committed { number: 1 }));
     assert!(rt; platform.head() == 9);
-    for block in blocks {
+    for block in [1, 2, 3, 4, 5] {
         assert!(rt; look(rt.alloc(), &mut platform, u64::from(block)) == Some(block));
     }
     assert!(rt; look(rt.alloc(), &mut platform, 6) == Some(0));
