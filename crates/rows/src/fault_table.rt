@@ -123,25 +123,19 @@ const TWO_LEVELS: Course<'static> = Course {
     ],
 };
 
-/// What the new run is answered once so many lines of the script have been done.
+/// What the new run is answered once so many lines of the script have been done, and the medium has so many pages.
 fn answers_after(
     alloc: Global,
     course: &Course<'_>,
     lines: usize,
     pages: u64,
 ) -> Result<String, Fail> {
-    let mut last = Mark {
-        lines: 0,
-        answers: "",
-        nodes: 0,
-        blocks: 0,
+    let marks = course.marks;
+    let passed = marks.iter().filter(|mark| mark.lines <= lines).count();
+    let Some(mark) = marks.get(passed.saturating_sub(1)) else {
+        return Err("the course has no mark".into());
     };
-    for mark in course.marks {
-        if mark.lines <= lines {
-            last = *mark;
-        }
-    }
-    let (answers, nodes, blocks) = (last.answers, last.nodes, last.blocks);
+    let (answers, nodes, blocks) = (mark.answers, mark.nodes, mark.blocks);
     let text = format!(in alloc; "{answers}seized pages {pages} nodes {nodes} blocks {blocks}\n")?;
     Ok(text)
 }
@@ -268,19 +262,32 @@ fn stops_at_ends(
     nth: u64,
 ) -> Result<(), Fail> {
     let (listed, part, whole) = ([nth], [(nth, 1)], [(nth, 1_000)]);
-    let mut take = Given::script(course.script);
-    take.step = 5;
-    take.failing_takes = &listed;
-    let mut draw = Given::script(course.script);
-    draw.failing_draws = &listed;
-    let mut put_part = Given::script(course.script);
-    put_part.failing_puts = &part;
-    let mut put_whole = Given::script(course.script);
-    put_whole.failing_puts = &whole;
-    let mut entry_part = Given::script(course.script);
-    entry_part.failing_entries = &part;
-    let mut entry_whole = Given::script(course.script);
-    entry_whole.failing_entries = &whole;
+    let plain = Given::script(course.script);
+    let take = Given {
+        step: 5,
+        failing_takes: &listed,
+        ..plain
+    };
+    let draw = Given {
+        failing_draws: &listed,
+        ..plain
+    };
+    let put_part = Given {
+        failing_puts: &part,
+        ..plain
+    };
+    let put_whole = Given {
+        failing_puts: &whole,
+        ..plain
+    };
+    let entry_part = Given {
+        failing_entries: &part,
+        ..plain
+    };
+    let entry_whole = Given {
+        failing_entries: &whole,
+        ..plain
+    };
     // One take more tells the end. A line whose reply could not be put, or not whole, is done; one whose entry could not be put
     // is not.
     let takes = course.script.len().div_ceil(5).saturating_add(1) as u64;

@@ -169,8 +169,8 @@ fn tall_tree(alloc: Global) -> Result<MemPlatform, Fail> {
         let below = level.saturating_sub(1);
         let next = if level == 1 { 1 } else { low };
         let three = [(0, below), (next, below), (next.saturating_add(1), below)];
-        let entries = if level == 0 { &three[..0] } else { &three[..] };
-        let page = page_of(&node(level, level, entries));
+        let count = if level == 0 { 0 } else { three.len() };
+        let page = page_of(&node(level, level, &three[..count]));
         if platform.head() < platform.capacity() {
             let _ = platform.append(&page);
         }
