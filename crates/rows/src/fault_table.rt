@@ -255,61 +255,76 @@ fn fault_table(rt: HostRuntime) -> Result<(), Fail> {
     Ok(())
 }
 
+/// A script that is run without a word, in takes of five bytes, of which these takes, draws, puts and entries fail.
+fn failing<'a>(
+    script: &'a str,
+    takes: &'a [u64],
+    draws: &'a [u64],
+    puts: &'a [(u64, usize)],
+    entries: &'a [(u64, usize)],
+) -> Given<'a> {
+    Given {
+        words: &[],
+        script: script.as_bytes(),
+        step: 5,
+        failing_takes: takes,
+        failing_puts: puts,
+        failing_entries: entries,
+        failing_draws: draws,
+    }
+}
+
+/// Runs the script with what fails, which stops it with this status, or doesn't.
+fn ends(
+    rt: &(impl Abort + Alloc<A = Global>),
+    course: &Course<'_>,
+    given: &Given<'_>,
+    stopped: &Stopped,
+    is_met: bool,
+) -> Result<(), Fail> {
+    let answer = is_stopped(rt, course, given, &[], stopped)?;
+    assert_eq!(rt; answer, is_met, "status {}", stopped.status);
+    Ok(())
+}
+
 /// Stops the script at the nth take, draw, put or entry of the ledger, of which there are so many.
 fn stops_at_ends(
     rt: &(impl Abort + Alloc<A = Global>),
-    course: &Course<'_>,
+    course: &Course<'static>,
     nth: u64,
 ) -> Result<(), Fail> {
     let (listed, part, whole) = ([nth], [(nth, 1)], [(nth, 1_000)]);
-    let plain = Given::script(course.script);
-    let take = Given {
-        step: 5,
-        failing_takes: &listed,
-        ..plain
-    };
-    let draw = Given {
-        failing_draws: &listed,
-        ..plain
-    };
-    let put_part = Given {
-        failing_puts: &part,
-        ..plain
-    };
-    let put_whole = Given {
-        failing_puts: &whole,
-        ..plain
-    };
-    let entry_part = Given {
-        failing_entries: &part,
-        ..plain
-    };
-    let entry_whole = Given {
-        failing_entries: &whole,
-        ..plain
-    };
+    let script = course.script;
+    let stopped = |status: u8, is_done: bool| Stopped { status, is_done };
     // One take more tells the end. A line whose reply could not be put, or not whole, is done; one whose entry could not be put
     // is not.
-    let takes = course.script.len().div_ceil(5).saturating_add(1) as u64;
-    let lines = course
-        .script
-        .as_bytes()
-        .iter()
-        .filter(|byte| **byte == b'\n')
-        .count() as u64;
-    for (given, last, status, is_done) in [
-        (take, takes, 3, false),
-        (draw, course.records, 6, false),
-        (put_part, lines, 4, true),
-        (put_whole, lines, 4, false),
-        (entry_part, course.entries, 7, false),
-        (entry_whole, course.entries, 7, false),
-    ] {
-        let stopped = Stopped { status, is_done };
-        let answer = is_stopped(rt, course, &given, &[], &stopped)?;
-        assert_eq!(rt; answer, nth <= last, "the {nth}th with status {status}");
-    }
-    Ok(())
+    let takes = script.len().div_ceil(5).saturating_add(1) as u64;
+    let bytes = script.as_bytes().iter();
+    let lines = bytes.filter(|byte| **byte == b'\n').count() as u64;
+    let take = failing(script, &listed, &[], &[], &[]);
+    ends(rt, course, &take, &stopped(3, false), nth <= takes)?;
+    let draw = failing(script, &[], &listed, &[], &[]);
+    ends(rt, course, &draw, &stopped(6, false), nth <= course.records)?;
+    let put_part = failing(script, &[], &[], &part, &[]);
+    ends(rt, course, &put_part, &stopped(4, true), nth <= lines)?;
+    let put_whole = failing(script, &[], &[], &whole, &[]);
+    ends(rt, course, &put_whole, &stopped(4, false), nth <= lines)?;
+    let entry_part = failing(script, &[], &[], &[], &part);
+    ends(
+        rt,
+        course,
+        &entry_part,
+        &stopped(7, false),
+        nth <= course.entries,
+    )?;
+    let entry_whole = failing(script, &[], &[], &[], &whole);
+    ends(
+        rt,
+        course,
+        &entry_whole,
+        &stopped(7, false),
+        nth <= course.entries,
+    )
 }
 
 #[test]
