@@ -7,10 +7,11 @@ use Rattle.node_codec.specs.declared.body.Entry.{Entry}
 use Rattle.node_codec.specs.Record.{NodeRecord, FitsNode}
 use Rattle.page_store.specs.declared.wants.Want.{Want}
 use Rattle.node_cache.specs.declared.slots.Kept.{Kept}
-use Rattle.node_cache.specs.Kept.{IsOnlyKept}
+use Rattle.node_cache.specs.Kept.{Cached, IsOnlyKept}
+use Rattle.btree_walk.specs.declared.turns.Turn.{Turn}
 use Rattle.btree_walk.specs.Ways.{GoesBelow}
 use Rattle.btree_walk.specs.Sights.{NodeFits, KeptFits}
-use Rattle.btree_walk.specs.Finds.{AsksFor}
+use Rattle.btree_walk.specs.Finds.{AsksFor, UsesNode}
 use Rattle.btree_walk.specs.Looks.{Looks}
 use Rattle.btree_walk.proofs.WayLaws.{way_entry}
 
@@ -40,6 +41,10 @@ fits_too kept want key node entries only is = subst (NodeFits want) (only.only i
 
 div_some : (n : ℕ) → 2 ≤ n → 1 ≤ n / 2
 div_some n two = omega arith
+
+-- the node that was used is in range
+pub used_range : (want : Want) (key : List ℕ) (block : ℕ) (old new : Cached) (turn : Turn) (used : UsesNode want key block old new turn) → FitsNode want.addr want.level used.node.entries.items
+used_range want key block old new turn used = subst (λ n. FitsNode want.addr n used.node.entries.items) used.fits.wanted.same_level used.fits.in_range
 
 -- where a look-up goes on, it can go on
 pub asks_next : (want next : Want) (key : List ℕ) (entries : List Entry) (block : ℕ) → AsksFor want block → FitsNode want.addr want.level entries → GoesBelow want entries block next key → AsksFor next block

@@ -1,28 +1,40 @@
 -- A look at one node, and then a look-up below it.
-use Rattle.std.proofs.Common.{◌≡◌, ℕ, zero, suc, ◌-◌, ◌<◌, ◌≤◌, ◌^◌, List, [], ◌∷◌, ◌++◌, Option, None, Some, Result, Ok, Err, IfOk, IfSome, sym, ap, subst, ◌∙◌, arith, length-append}
+use Rattle.std.proofs.Common.{◌≡◌, ℕ, zero, suc, ◌+◌, ◌-◌, ◌<◌, ◌≤◌, ◌^◌, List, [], ◌∷◌, ◌++◌, Option, None, Some, Result, Ok, Err, IfOk, IfSome, Contains, sym, ap, subst, ◌∙◌, arith, length-append}
 use Rattle.node_codec.specs.declared.body.Entry.{Entry}
 use Rattle.node_codec.specs.Record.{NodeRecord}
 use Rattle.page_store.specs.declared.wants.Want.{Want}
 use Rattle.page_store.specs.Places.{child_want}
+use Rattle.node_cache.specs.declared.slots.Kept.{Kept}
 use Rattle.node_cache.specs.Kept.{Cached, kept_node}
+use Rattle.btree_walk.specs.declared.turns.Turn.{Turn}
 use Rattle.btree_walk.specs.declared.turns.Turn.TheVariants.{Found, Below}
 use Rattle.btree_walk.specs.Ways.{IsTurn}
 use Rattle.btree_walk.specs.Sights.{KeptFits, Sees, Misses, KeepsOnly, StillKeeps}
-use Rattle.btree_walk.specs.Finds.{Finds, Stops, SeesTurn, UsesPlace, IsFound}
+use Rattle.btree_walk.specs.Finds.{Finds, Stops, SeesTurn, StaysEarly, UsesNode, IsFound}
 use Rattle.btree_walk.proofs.WayLaws.{way_is_one, entry_is_one}
 use Rattle.btree_walk.proofs.SightLaws.{in_range_of, sees_before, misses_before, sees_range}
-use Rattle.btree_walk.proofs.RecentLaws.{comes_leaf, comes_on}
+use Rattle.btree_walk.proofs.RecentLaws.{comes_leaf, comes_on, capacity_used, early_kept, first_made, early_used, early_on}
 use Rattle.btree_walk.proofs.LookLaws.{next_below, next_less}
 use Rattle.btree_walk.proofs.FindLaws.{finds_map, stops_map, finds_leaf, finds_on, stops_on, first_fits, leaf_inverse, inner_inverse}
 
 module _ (pages : List (List ℕ)) (start : Want) (key : List ℕ) (block : ℕ) (c0 c1 : Cached) where
+  -- where the node that was used is kept, it fits there
+  used_fits : (turn : Turn) (used : UsesNode start key block c0 c1 turn) (kept : List Kept) → Contains kept (kept_node start.addr key used.node) → KeptFits kept start key (NodeRecord start.level used.node.entries.items)
+  used_fits turn used kept here = record { node = used.node; here = here; fits = used.fits; is = ap (λ n. NodeRecord n used.node.entries.items) (sym used.fits.wanted.same_level) }
+
   -- the node is a leaf
-  pub found_leaf : (found : Option Entry) → UsesPlace start.addr c0 c1 → SeesTurn c0.kept pages start key block (Found found) → IsFound pages start key block c0 c1 found
+  pub found_leaf : (found : Option Entry) → UsesNode start key block c0 c1 (Found found) → SeesTurn c0.kept pages start key block (Found found) → IsFound pages start key block c0 c1 found
   found_leaf found used seen = record {
     path = start.addr ∷ [];
     finds = finds_leaf (Sees c0.kept pages) block start key seen.entries seen.sees found seen.is.0 seen.is.1;
     levels = sym seen.is.0;
-    recent = comes_leaf start.addr c0 c1 used;
+    recent = comes_leaf (kept_node start.addr key used.node) c0 c1 used.first;
+    early = subst (λ n. StaysEarly start.addr n c0 c1) (sym seen.is.0) (early_used (kept_node start.addr key used.node) c0 c1 used.first);
+    warm = λ room.
+        (let k = kept_node start.addr key used.node in
+        let leaf = seen.is.0 in
+        let here = early_kept 1 c1.kept k (first_made k c0 c1 used.first (omega arith)) in
+        finds_leaf (KeptFits c1.kept) block start key used.node.entries.items (used_fits (Found found) used c1.kept here) found used.is.0 used.is.1);
   }
 
   module _ (next : Want) (next_key : List ℕ) (keeps : KeepsOnly pages c0 c1) (seen : SeesTurn c0.kept pages start key block (Below next next_key)) where
@@ -30,7 +42,7 @@ module _ (pages : List (List ℕ)) (start : Want) (key : List ℕ) (block : ℕ)
     less = next_below start next next_key seen.entries block (sees_range c0.kept pages start key start.level seen.entries seen.sees) seen.is
 
     -- it goes on below, and a block is found there
-    pub found_on : (c2 : Cached) (found : Option Entry) → UsesPlace start.addr c0 c1 → IsFound pages next next_key block c1 c2 found → IsFound pages start key block c0 c2 found
+    pub found_on : (c2 : Cached) (found : Option Entry) → UsesNode start key block c0 c1 (Below next next_key) → IsFound pages next next_key block c1 c2 found → IsFound pages start key block c0 c2 found
     found_on c2 found used is =
         let small : next.addr < start.addr = less in
         let level = next_less start next next_key seen.entries block seen.is in
@@ -44,7 +56,13 @@ module _ (pages : List (List ℕ)) (start : Want) (key : List ℕ) (block : ℕ)
               (λ want k value below s. sees_before pages c0 c1 want k value keeps s)
               found (next.level - 1) next next_key is.path small is.finds);
           levels = omega arith;
-          recent = comes_on start.addr next.addr is.path c0 c1 c2 small used is.recent;
+          recent = comes_on (kept_node start.addr key used.node) next.addr is.path c0 c1 c2 small used.first is.recent;
+          early = early_on (kept_node start.addr key used.node) next.addr next.level start.level c0 c1 c2 level small used.first is.early;
+          warm = λ room.
+              (let k = kept_node start.addr key used.node in
+              let cap = capacity_used k c0 c1 used.first in
+              let here = early_kept (1 + next.level) c2.kept k (is.early 1 k small (omega arith) (first_made k c0 c1 used.first (omega arith))) in
+              finds_on (KeptFits c2.kept) block start key used.node.entries.items (used_fits (Below next next_key) used c2.kept here) next next_key used.is found is.path (is.warm (omega arith)));
         }
 
     -- and where it stops there

@@ -1,5 +1,5 @@
 -- That the path of a look-up comes first in the cache.
-use Rattle.std.proofs.Common.{◌≡◌, ◌≢◌, ◌⊎◌, ℕ, zero, suc, ◌<◌, ◌≤◌, List, [], ◌∷◌, ◌++◌, All, Contains, Some, length, map, take, refl, sym, ap, subst, inl, inr, ◌∙◌, arith, length-append, append_assoc}
+use Rattle.std.proofs.Common.{◌≡◌, ◌≢◌, ◌⊎◌, ℕ, zero, suc, ◌<◌, ◌≤◌, ◌+◌, List, [], ◌∷◌, ◌++◌, All, Contains, Some, length, map, take, refl, sym, ap, subst, inl, inr, ◌∙◌, arith, length-append, append_assoc}
 use Rattle.std.proofs.lemmas.Bool.Decides.{eqb_tells}
 use Rattle.std.proofs.lemmas.List.{take-map}
 use Rattle.std.proofs.lemmas.List.Elements.{All-cons, All-head, All-tail, All-weaker}
@@ -8,7 +8,7 @@ use Rattle.node_cache.specs.declared.slots.Kept.{Kept}
 use Rattle.node_codec.specs.declared.body.NodeBody.{NodeBody}
 use Rattle.node_cache.specs.Kept.{Cached, Uses, kept_node, without, touched, filled}
 use Rattle.btree_walk.specs.Sights.{StillKeeps}
-use Rattle.btree_walk.specs.Finds.{UsesPlace, BeginsWith, ComesFirst, addresses_of}
+use Rattle.btree_walk.specs.Finds.{MakesFirst, StaysEarly, BeginsWith, ComesFirst, addresses_of}
 
 abbrev addrs : List Kept → List ℕ
 addrs kept = map (λ k. k.addr) kept
@@ -26,7 +26,7 @@ begins_without addr (a ∷ front) (k ∷ ks) above is =
       | inr other ↦ rw (other.0, head) (ap (λ r. a ∷ r) (begins_without addr front ks (All-tail (λ (x : ℕ). addr < x) a front above) tail))
     ]
 
-take_less : (n m : ℕ) (xs : List ℕ) → n ≤ m → take n (take m xs) ≡ take n xs
+take_less : {A : Type 0} (n m : ℕ) (xs : List A) → n ≤ m → take n (take m xs) ≡ take n xs
 take_less zero m xs le = refl
 take_less (suc n) zero xs le = absurd (omega arith)
 take_less (suc n) (suc m) [] le = refl
@@ -41,36 +41,89 @@ begins_filled old k front room above is =
     ∙ take_less (suc (length front)) old.capacity (addrs (k ∷ without k.addr old.kept)) room
     ∙ begins_touched old k front above is
 
--- a place that was used comes first, and behind it what came first and lies above it
-pub begins_used : (addr : ℕ) (old new : Cached) (front : List ℕ) → UsesPlace addr old new → suc (length front) ≤ old.capacity → All (λ a. addr < a) front → BeginsWith front (addresses_of old) → BeginsWith (addr ∷ front) (addresses_of new)
-begins_used addr old new front used room above is =
-    let above' = subst (λ x. All (λ a. x < a) front) (sym used.place) above in
-    subst (λ x. BeginsWith (x ∷ front) (addresses_of new)) used.place (from used.is above')
-  where
-    from : (new ≡ touched old used.kept) ⊎ (new ≡ filled old used.kept) → All (λ a. used.kept.addr < a) front → BeginsWith (used.kept.addr ∷ front) (addresses_of new)
-    from (inl same) above' = subst (λ (c : Cached). BeginsWith (used.kept.addr ∷ front) (addresses_of c)) (sym same) (begins_touched old used.kept front above' is)
-    from (inr same) above' = subst (λ (c : Cached). BeginsWith (used.kept.addr ∷ front) (addresses_of c)) (sym same) (begins_filled old used.kept front room above' is)
+-- a node that was used comes first, and behind it what came first and lies above it
+begins_used : (k : Kept) (old new : Cached) (front : List ℕ) → MakesFirst k old new → suc (length front) ≤ old.capacity → All (λ a. k.addr < a) front → BeginsWith front (addresses_of old) → BeginsWith (k.addr ∷ front) (addresses_of new)
+begins_used k old new front (inl same) room above is = subst (λ (c : Cached). BeginsWith (k.addr ∷ front) (addresses_of c)) (sym same) (begins_touched old k front above is)
+begins_used k old new front (inr same) room above is = subst (λ (c : Cached). BeginsWith (k.addr ∷ front) (addresses_of c)) (sym same) (begins_filled old k front room above is)
 
-pub capacity_used : (addr : ℕ) (old new : Cached) → UsesPlace addr old new → new.capacity ≡ old.capacity
-capacity_used addr old new used = from used.is
-  where
-    from : (new ≡ touched old used.kept) ⊎ (new ≡ filled old used.kept) → new.capacity ≡ old.capacity
-    from (inl same) = ap (λ (c : Cached). c.capacity) same
-    from (inr same) = ap (λ (c : Cached). c.capacity) same
+pub capacity_used : (k : Kept) (old new : Cached) → MakesFirst k old new → new.capacity ≡ old.capacity
+capacity_used k old new (inl same) = ap (λ (c : Cached). c.capacity) same
+capacity_used k old new (inr same) = ap (λ (c : Cached). c.capacity) same
 
 -- the path of one leaf
-pub comes_leaf : (addr : ℕ) (old new : Cached) → UsesPlace addr old new → ComesFirst addr (addr ∷ []) old new
-comes_leaf addr old new used front above is room = begins_used addr old new front used (omega arith) above is
+pub comes_leaf : (k : Kept) (old new : Cached) → MakesFirst k old new → ComesFirst k.addr (k.addr ∷ []) old new
+comes_leaf k old new used front above is room = begins_used k old new front used (omega arith) above is
 
 -- a path that goes on below a place
-pub comes_on : (addr next : ℕ) (rest : List ℕ) (old mid new : Cached) → next < addr → UsesPlace addr old mid → ComesFirst next rest mid new → ComesFirst addr (rest ++ addr ∷ []) old new
-comes_on addr next rest old mid new less used comes front above is room =
-    let size = length-append rest (addr ∷ []) in
-    let cap = capacity_used addr old mid used in
-    let first = begins_used addr old mid front used (omega arith) above is in
-    let above' = All-cons (λ (a : ℕ). next < a) addr front less (All-weaker (λ (a : ℕ). addr < a) (λ (a : ℕ). next < a) (λ a h. omega arith) front above) in
-    let both = comes (addr ∷ front) above' first (omega arith) in
-    subst (λ l. BeginsWith l (addresses_of new)) (sym (append_assoc rest (addr ∷ []) front)) both
+pub comes_on : (k : Kept) (next : ℕ) (rest : List ℕ) (old mid new : Cached) → next < k.addr → MakesFirst k old mid → ComesFirst next rest mid new → ComesFirst k.addr (rest ++ k.addr ∷ []) old new
+comes_on k next rest old mid new less used comes front above is room =
+    let size = length-append rest (k.addr ∷ []) in
+    let cap = capacity_used k old mid used in
+    let first = begins_used k old mid front used (omega arith) above is in
+    let above' = All-cons (λ (a : ℕ). next < a) k.addr front less (All-weaker (λ (a : ℕ). k.addr < a) (λ (a : ℕ). next < a) (λ a h. omega arith) front above) in
+    let both = comes (k.addr ∷ front) above' first (omega arith) in
+    subst (λ l. BeginsWith l (addresses_of new)) (sym (append_assoc rest (k.addr ∷ []) front)) both
+
+-- ---- what stays among the first nodes
+
+more_early : (few more : ℕ) (ks : List Kept) (j : Kept) → few ≤ more → Contains (take few ks) j → Contains (take more ks) j
+more_early zero more ks j le in' = absurd (Contains-nil j in')
+more_early (suc few) zero ks j le in' = absurd (omega arith)
+more_early (suc few) (suc more) [] j le in' = absurd (Contains-nil j in')
+more_early (suc few) (suc more) (k ∷ ks) j le in' = elim (Contains-cons k (take few ks) j in') [
+  | inl here ↦ subst (Contains (k ∷ take more ks)) here (Contains-head k (take more ks))
+  | inr later ↦ Contains-tail k (take more ks) j (more_early few more ks j (omega arith) later)
+]
+
+-- a node among the first ones is kept
+pub early_kept : (few : ℕ) (ks : List Kept) (j : Kept) → Contains (take few ks) j → Contains ks j
+early_kept zero ks j in' = absurd (Contains-nil j in')
+early_kept (suc few) [] j in' = absurd (Contains-nil j in')
+early_kept (suc few) (k ∷ ks) j in' = elim (Contains-cons k (take few ks) j in') [
+  | inl here ↦ subst (Contains (k ∷ ks)) here (Contains-head k ks)
+  | inr later ↦ Contains-tail k ks j (early_kept few ks j later)
+]
+
+-- where an address is taken out, the others are as early
+early_without : (addr few : ℕ) (j : Kept) (ks : List Kept) → j.addr ≢ addr → Contains (take few ks) j → Contains (take few (without addr ks)) j
+early_without addr zero j ks other in' = absurd (Contains-nil j in')
+early_without addr (suc few) j [] other in' = absurd (Contains-nil j in')
+early_without addr (suc few) j (k ∷ ks) other in' = elim (eqb_tells k.addr addr) [
+  | inl same ↦ rw same.0 (elim (Contains-cons k (take few ks) j in') [
+    | inl here ↦ absurd (other (ap (λ (i : Kept). i.addr) (sym here) ∙ same.1))
+    | inr later ↦ more_early few (suc few) (without addr ks) j (omega arith) (early_without addr few j ks other later)
+  ])
+  | inr differs ↦ rw differs.0 (elim (Contains-cons k (take few ks) j in') [
+    | inl here ↦ subst (Contains (k ∷ take few (without addr ks))) here (Contains-head k (take few (without addr ks)))
+    | inr later ↦ Contains-tail k (take few (without addr ks)) j (early_without addr few j ks other later)
+  ])
+]
+
+-- what is early behind a node that is made the first one, is so in the cache
+early_made : (few : ℕ) (k j : Kept) (old new : Cached) → MakesFirst k old new → suc few ≤ old.capacity → Contains (take (suc few) (k ∷ without k.addr old.kept)) j → Contains (take (suc few) new.kept) j
+early_made few k j old new (inl same) room in' = subst (λ (c : Cached). Contains (take (suc few) c.kept) j) (sym same) in'
+early_made few k j old new (inr same) room in' =
+    subst (λ (c : Cached). Contains (take (suc few) c.kept) j) (sym same)
+    (subst (λ ks. Contains ks j) (sym (take_less (suc few) old.capacity (k ∷ without k.addr old.kept) room)) in')
+
+-- that node comes first
+pub first_made : (k : Kept) (old new : Cached) → MakesFirst k old new → 1 ≤ old.capacity → Contains (take 1 new.kept) k
+first_made k old new made room = early_made 0 k k old new made room (Contains-head k [])
+
+-- and the others come behind it
+pub early_used : (k : Kept) (old new : Cached) → MakesFirst k old new → StaysEarly k.addr 1 old new
+early_used k old new made few j above room in' =
+    let one : suc few ≡ few + 1 = omega arith in
+    subst (λ n. Contains (take n new.kept) j) one
+    (early_made few k j old new made (omega arith) (Contains-tail k (take few (without k.addr old.kept)) j (early_without k.addr few j old.kept (λ h. omega arith) in')))
+
+-- and so it is where that goes on below
+pub early_on : (k : Kept) (next more all : ℕ) (old mid new : Cached) → more + 1 ≡ all → next < k.addr → MakesFirst k old mid → StaysEarly next more mid new → StaysEarly k.addr all old new
+early_on k next more all old mid new all_is less made stays few j above room in' =
+    let cap = capacity_used k old mid made in
+    let one = early_used k old mid made few j above (omega arith) in' in
+    let sum : few + 1 + more ≡ few + all = omega arith in
+    subst (λ n. Contains (take n new.kept) j) sum (stays (few + 1) j (omega arith) (omega arith) one)
 
 -- ---- what stays kept where a node was used again
 

@@ -1,18 +1,19 @@
 -- How a block is found below a place: through nodes that fit, to its leaf, or to the first place where nothing fits.
-use Rattle.std.specs.Prelude.{◌≡◌, ◌⊎◌, ◌<◌, ◌≤◌, ◌+◌, ◌-◌, ℕ, zero, suc, List, [], ◌∷◌, ◌++◌, Option, Result, All, IfOk, IsErrOf, length, map, take}
+use Rattle.std.specs.Prelude.{◌≡◌, ◌⊎◌, ◌<◌, ◌≤◌, ◌+◌, ◌-◌, ℕ, zero, suc, List, [], ◌∷◌, ◌++◌, Option, Result, All, Contains, IfOk, IsErrOf, length, map, take}
 use Rattle.sdbt_base.specs.Faults.{Rose}
 use Rattle.platform.specs.declared.platforms.Platform.{Ghosts}
 use Rattle.node_codec.specs.declared.body.Entry.{Entry}
-use Rattle.node_codec.specs.Record.{Record, NodeRecord, FitsNode}
+use Rattle.node_codec.specs.declared.body.NodeBody.{NodeBody}
+use Rattle.node_codec.specs.Record.{Record, NodeRecord}
 use Rattle.page_store.specs.declared.refusals.FetchRefusal.{FetchRefusal}
 use Rattle.page_store.specs.declared.refusals.FetchRefusal.TheVariants as refusals
 use Rattle.page_store.specs.declared.wants.Want.{Want}
 use Rattle.page_store.specs.Places.{child_want}
 use Rattle.node_cache.specs.declared.slots.Kept.{Kept}
-use Rattle.node_cache.specs.Kept.{Cached, touched, filled}
+use Rattle.node_cache.specs.Kept.{Cached, kept_node, touched, filled}
 use Rattle.btree_walk.specs.declared.turns.Turn.{Turn}
 use Rattle.btree_walk.specs.Ways.{IsWay, IsEntryOf, IsTurn}
-use Rattle.btree_walk.specs.Sights.{Sees, Misses, KeepsOnly}
+use Rattle.btree_walk.specs.Sights.{NodeFits, KeptFits, Sees, Misses, KeepsOnly}
 use Rattle.btree_walk.specs.Looks.{Looks}
 
 -- nothing that is wanted is at the place, which has this address
@@ -74,11 +75,20 @@ abbrev pub ComesFirst : ℕ → List ℕ → Cached → Cached → Type 0
 ComesFirst top path old new =
     (front : List ℕ) → All (λ a. top < a) front → BeginsWith front (addresses_of old) → length path + length front ≤ old.capacity → BeginsWith (path ++ front) (addresses_of new)
 
--- the cache has a node of the place as its most recent one
-pub record UsesPlace (addr : ℕ) (old new : Cached) : Type 0 where
-  pub kept : Kept
-  pub place : kept.addr ≡ addr
-  pub is : (new ≡ touched old kept) ⊎ (new ≡ filled old kept)
+-- of the nodes for higher addresses, those among the first few are among the first ones still, behind at most so many more, where there is room for all
+abbrev pub StaysEarly : ℕ → ℕ → Cached → Cached → Type 0
+StaysEarly top more old new = (few : ℕ) (k : Kept) → top < k.addr → few + more ≤ old.capacity → Contains (take few old.kept) k → Contains (take (few + more) new.kept) k
+
+-- the cache has the node as its most recent one
+abbrev pub MakesFirst : Kept → Cached → Cached → Type 0
+MakesFirst kept old new = (new ≡ touched old kept) ⊎ (new ≡ filled old kept)
+
+-- the cache has as its most recent node one that is wanted at the place, and that says this of a block
+pub record UsesNode (want : Want) (key : List ℕ) (block : ℕ) (old new : Cached) (turn : Turn) : Type 0 where
+  pub node : NodeBody
+  pub fits : NodeFits want node
+  pub is : IsTurn want node.entries.items block turn
+  pub first : MakesFirst (kept_node want.addr key node) old new
 
 -- the node that is seen at a place says this of a block
 pub record SeesTurn (kept : List Kept) (pages : List (List ℕ)) (want : Want) (key : List ℕ) (block : ℕ) (turn : Turn) : Type 0 where
@@ -86,29 +96,26 @@ pub record SeesTurn (kept : List Kept) (pages : List (List ℕ)) (want : Want) (
   pub sees : Sees kept pages want key (NodeRecord want.level entries)
   pub is : IsTurn want entries block turn
 
--- some node in range at a place says this of a block
-pub record FitsTurn (want : Want) (block : ℕ) (turn : Turn) : Type 0 where
-  pub entries : List Entry
-  pub in_range : FitsNode want.addr want.level entries
-  pub is : IsTurn want entries block turn
-
 -- a look at the node of a place for a block: what it tells of the cache and the pages that were there, and what it leaves; the one read
 -- is of the page, where the cache keeps no node for the place
 pub record LooksFor {S : Type 0} (P : Ghosts S) (want : Want) (key : List ℕ) (block : ℕ) (platform after : S) (old new : Cached) (told : Result Turn FetchRefusal) : Type 0 where
   pub seen : P.tells → IfOk told (SeesTurn old.kept (P.history platform).present.readable want key block)
-  pub fits : IfOk told (FitsTurn want block)
   pub bad : P.tells → (addr : ℕ) → IsErrOf told (refusals.BadRecord addr) → StopsHere (Misses old.kept (P.history platform).present.readable) addr want key
-  pub used : IfOk told (λ _. UsesPlace want.addr old new)
+  pub used : IfOk told (UsesNode want key block old new)
+  pub capacity : new.capacity ≡ old.capacity
   pub keeps : P.tells → KeepsOnly (P.history platform).present.readable old new
   pub looks : Looks P 1 platform after
   pub cause : IsErrOf told refusals.PlatformFault → Rose (P.faults platform) (P.faults after)
 
--- what a look-up found below a place: where the cache and the pages lead, and that the path is what was used last
+-- what a look-up found below a place: where the cache and the pages lead, and that the path is what was used last. Where there is room for a node of each
+-- level, the cache keeps each node of the way then
 pub record IsFound (pages : List (List ℕ)) (start : Want) (key : List ℕ) (block : ℕ) (old new : Cached) (found : Option Entry) : Type 0 where
   pub path : List ℕ
   pub finds : Finds (Sees old.kept pages) start.most block found (start.level - 1) start key path
   pub levels : length path ≡ start.level
   pub recent : ComesFirst start.addr path old new
+  pub early : StaysEarly start.addr start.level old new
+  pub warm : start.level ≤ old.capacity → Finds (KeptFits new.kept) start.most block found (start.level - 1) start key path
 
 -- a block can be looked for below a place
 pub record AsksFor (start : Want) (block : ℕ) : Type 0 where

@@ -17,8 +17,8 @@ use sdbt_base::Key;
 ///
 /// `start` says what is wanted of the node, and its greatest number of entries is the order of the tree. A node that the
 /// cache keeps for an address and key stands in the place of that page. There are at most `start.level` reads of pages,
-/// and none where the cache keeps each node of the way. `BadRecord` comes exactly where the way comes to a place
-/// that does not fit, with that address.
+/// and none where the cache keeps each node of the way, as it does after an `Ok` where it has room for `start.level`
+/// nodes. `BadRecord` comes exactly where the way comes to a place that does not fit, with that address.
 pub fn find<P: Platform>(
     platform: &mut P,
     cache: &mut NodeCache,
@@ -42,6 +42,7 @@ pub fn find<P: Platform>(
         (platform.new ≡ platform.old) × (result ≡ Ok found) }
 
     ensures keeps { P.tells → KeepsOnly (P.history platform.old).present.readable cache.old cache.new }
+    ensures capacity { cache.new.capacity ≡ cache.old.capacity }
     ensures looks { Looks P.Platform start.now.level platform.old platform.new }
     ensures cause { IsErrOf result FetchRefusal.PlatformFault → Rose (P.faults platform.old) (P.faults platform.new) }
 {

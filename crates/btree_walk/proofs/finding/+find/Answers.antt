@@ -6,9 +6,9 @@ use Rattle.page_store.specs.declared.refusals.FetchRefusal.TheVariants.{BadRecor
 use Rattle.btree_walk.specs.declared.turns.Turn.{Turn}
 use Rattle.btree_walk.specs.Ways.{IsTurn}
 use Rattle.btree_walk.specs.Sights.{KeptFits, Sees, Misses}
-use Rattle.btree_walk.specs.Finds.{SeesTurn, FitsTurn, Stops, IsFound}
+use Rattle.btree_walk.specs.Finds.{SeesTurn, UsesNode, Stops, IsFound}
 use Rattle.btree_walk.proofs.FindLaws.{stops_first}
-use Rattle.btree_walk.proofs.LookLaws.{asks_next, next_below, next_less}
+use Rattle.btree_walk.proofs.LookLaws.{used_range, asks_next, next_below, next_less}
 use Rattle.btree_walk.proofs.OnLaws.{found_leaf, found_on, stopped_on, first_kept, same_found, kept_on, IfOk_map, entry_below}
 use Rattle.btree_walk.proofs.finding.+find.Goals as goal
 
@@ -28,10 +28,12 @@ returns-in_err-found-clause-kept g t c = λ found path is.
 pub find-requires : goal.find-requires
 find-requires g t c =
     let start = c.args.start.now in let next = c.in-Below.next in let key = c.in-Below.next_key in
-    let told = subst (λ (turn : Turn). FitsTurn start c.args.block turn) c.in-Below.is c.in_ok-found.ensures.look.fits in
-    let asks = asks_next start next key told.entries c.args.block c.requires.asks told.in_range told.is in
-    let below = next_below start next key told.entries c.args.block told.in_range told.is in
-    let less : next.level + 1 ≡ start.level = next_less start next key told.entries c.args.block told.is in
+    let told = subst (UsesNode start c.args.key.now c.args.block c.args.cache.now c.look.new.cache) c.in-Below.is c.in_ok-found.ensures.look.used in
+    let entries = told.node.entries.items in
+    let range = used_range start c.args.key.now c.args.block c.args.cache.now c.look.new.cache _ told in
+    let asks = asks_next start next key entries c.args.block c.requires.asks range told.is in
+    let below = next_below start next key entries c.args.block range told.is in
+    let less : next.level + 1 ≡ start.level = next_less start next key entries c.args.block told.is in
     let head = c.in_ok-found.ensures.look.looks.head in
     λ κs lives. (first_of (omega arith, search rules), (lives, (omega (arith, below, head, c.requires.within), asks)))
 
@@ -39,7 +41,7 @@ pub returns-in-Found-clause-found : goal.returns-in-Found-clause-found
 returns-in-Found-clause-found g t c = λ tells.
     (let kept = c.args.cache.now.kept in let start = c.args.start.now in let pages = (g.P.Platform.history c.args.platform.now).present.readable in
     let seen = subst (λ (turn : Turn). SeesTurn kept pages start c.args.key.now c.args.block turn) c.in-Found.is (c.in_ok-found.ensures.look.seen tells) in
-    found_leaf pages start c.args.key.now c.args.block c.args.cache.now c.look.new.cache c.in-Found.found c.in_ok-found.ensures.look.used seen)
+    found_leaf pages start c.args.key.now c.args.block c.args.cache.now c.look.new.cache c.in-Found.found (subst (UsesNode start c.args.key.now c.args.block c.args.cache.now c.look.new.cache) c.in-Found.is c.in_ok-found.ensures.look.used) seen)
 
 pub returns-in-Found-clause-kept : goal.returns-in-Found-clause-kept
 returns-in-Found-clause-kept g t c = λ found path is.
@@ -57,7 +59,7 @@ returns-in-Below-clause-found g t c = λ tells.
     let same : (g.P.Platform.history c.look.new.platform).present.readable ≡ pages = ap (λ i. i.readable) (c.in_ok-found.ensures.look.looks.image tells) in
     IfOk_map (IsFound (g.P.Platform.history c.look.new.platform).present.readable next key c.args.block c.look.new.cache c.find.new.cache)
     (IsFound pages start c.args.key.now c.args.block c.args.cache.now c.find.new.cache) c.find.result
-    (λ found is. found_on pages start c.args.key.now c.args.block c.args.cache.now c.look.new.cache next key (c.in_ok-found.ensures.look.keeps tells) seen c.find.new.cache found c.in_ok-found.ensures.look.used
+    (λ found is. found_on pages start c.args.key.now c.args.block c.args.cache.now c.look.new.cache next key (c.in_ok-found.ensures.look.keeps tells) seen c.find.new.cache found (subst (UsesNode start c.args.key.now c.args.block c.args.cache.now c.look.new.cache) c.in-Below.is c.in_ok-found.ensures.look.used)
     (subst (λ (p : List (List ℕ)). IsFound p next key c.args.block c.look.new.cache c.find.new.cache found) same is))
     (c.find.ensures.found tells))
 
@@ -74,8 +76,8 @@ returns-in-Below-clause-bad g t c = λ tells addr is.
 pub returns-in-Below-clause-entry : goal.returns-in-Below-clause-entry
 returns-in-Below-clause-entry g t c =
     let start = c.args.start.now in let next = c.in-Below.next in let key = c.in-Below.next_key in
-    let told = subst (λ (turn : Turn). FitsTurn start c.args.block turn) c.in-Below.is c.in_ok-found.ensures.look.fits in
-    let below = next_below start next key told.entries c.args.block told.in_range told.is in
+    let told = subst (UsesNode start c.args.key.now c.args.block c.args.cache.now c.look.new.cache) c.in-Below.is c.in_ok-found.ensures.look.used in
+    let below = next_below start next key told.node.entries.items c.args.block (used_range start c.args.key.now c.args.block c.args.cache.now c.look.new.cache _ told) told.is in
     IfOk_map _ _ c.find.result (entry_below c.args.block next.addr start.addr below) c.find.ensures.entry
 
 pub returns-in-Below-clause-kept : goal.returns-in-Below-clause-kept

@@ -1,4 +1,4 @@
-use Rattle.std.proofs.Common.{rules, ◌≡◌, true, refl, sym, subst}
+use Rattle.std.proofs.Common.{rules, ◌≡◌, true, refl, sym, ap, subst, inl}
 use Rattle.std.proofs.Common.{Option, Bor}
 use Rattle.std.specs.Option.{option_copied}
 use Rattle.node_codec.specs.declared.body.NodeBody.{NodeBody}
@@ -20,9 +20,9 @@ returns-then-fits-clause-look g c =
     let uses = subst (λ (r : Option (Bor NodeBody)). Uses c.args.cache.now c.args.want.now.addr c.args.key.now (option_copied r) c.get.follows.lender-at-none) c.in-Some.is c.get.follows.holds-at-none in
     record {
       seen = search rules;
-      fits = search rules;
       bad = search rules;
-      used = search rules;
+      used = record { node = c.in-Some.node.now; fits = c.fits.ensures.0 c.if-fits.true; is = c.turn_at.ensures; first = inl uses.1 };
+      capacity = ap (λ (c : Cached). c.capacity) uses.1;
       keeps = λ tells. keeps_used (g.P.Platform.history c.args.platform.now).present.readable c.args.cache.now c.get.follows.lender-at-none c.args.want.now.addr c.args.key.now c.in-Some.node.now uses;
       looks = looks_still g.P.Platform c.args.platform.now;
       cause = search rules;
@@ -36,9 +36,9 @@ returns-else-fits-clause-look g c =
     let uses = subst (λ (r : Option (Bor NodeBody)). Uses c.args.cache.now c.args.want.now.addr c.args.key.now (option_copied r) c.get.follows.lender-at-none) c.in-Some.is c.get.follows.holds-at-none in
     record {
       seen = search rules;
-      fits = search rules;
       bad = search rules;
-      used = search rules;
+      used = tt;
+      capacity = ap (λ (c : Cached). c.capacity) uses.1;
       keeps = λ tells. keeps_used (g.P.Platform.history c.args.platform.now).present.readable c.args.cache.now c.get.follows.lender-at-none c.args.want.now.addr c.args.key.now c.in-Some.node.now uses;
       looks = looks_still g.P.Platform c.args.platform.now;
       cause = search rules;

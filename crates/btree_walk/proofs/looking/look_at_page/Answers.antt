@@ -2,7 +2,7 @@ use Rattle.std.proofs.Common.{rules, ◌≡◌, ap, refl, sym, subst, inr, Err}
 use Rattle.std.proofs.lemmas.Result.{err_from_is_err_and}
 use Rattle.page_store.specs.declared.refusals.FetchRefusal.TheVariants.{BadRecord}
 use Rattle.node_codec.specs.declared.body.NodeBody.{NodeBody}
-use Rattle.node_cache.specs.Kept.{kept_node}
+use Rattle.node_cache.specs.Kept.{Cached, kept_node}
 use Rattle.btree_walk.specs.Sights.{KeepsOnly}
 use Rattle.btree_walk.proofs.SightLaws.{keeps_filled}
 use Rattle.btree_walk.proofs.looking.look_at_page.Goals as goal
@@ -12,11 +12,11 @@ returns-in_err-fetch_node g c =
     let p = err_from_is_err_and c.from_residual.result c.from_residual.ensures.1 in
     rw (p.1, p.2) record {
       seen = λ tells. tt;
-      fits = tt;
       bad = λ tells addr is.
           (let same : c.in_err-fetch_node.field-0.0 ≡ BadRecord addr = cc in
           record { here = c.in_err-fetch_node.ensures.bad addr (ap Err same); misfits = inr (c.in_err-fetch_node.ensures.nothing_fits tells addr (ap Err same)) });
       used = tt;
+      capacity = search rules;
       keeps = search rules;
       looks = search rules;
       cause = λ is. c.in_err-fetch_node.ensures.cause (cc);
@@ -29,9 +29,9 @@ returns g c =
     let pages = (g.P.Platform.history c.args.platform.now).present.readable in
     record {
       seen = search rules;
-      fits = search rules;
       bad = search rules;
-      used = record { kept = kept; place = refl; is = inr c.put.ensures.kept };
+      used = record { node = node; fits = search rules; is = c.turn_at-turn.ensures; first = inr c.put.ensures.kept };
+      capacity = ap (λ (c : Cached). c.capacity) c.put.ensures.kept;
       keeps = λ tells. subst (KeepsOnly pages c.args.cache.now) (sym c.put.ensures.kept) (keeps_filled pages c.args.cache.now kept (inr (c.in_ok-fetch_node.ensures.fits tells).0));
       looks = search rules;
       cause = search rules;
