@@ -120,7 +120,7 @@ module _ (pages : List (List ℕ)) (order block : ℕ) where
       subst (λ xs. IsMappedAs xs block (Some e)) (sym (one.2 ∙ ap (λ (p : Parts). p.mapped) one.1.has)) (refl, (content, Contains-head (mapped_as e content) []))
 
   pub spot_maps : (high : ℕ) (ss : List Stub) (mapped : List Mapped) (spot : Spot) (found : Option Entry) → Tiles 0 high ss → block < high → AreBelow (2 ^ 64) ss → IsSpot block ss spot → Maps pages order ss mapped →
-      FindsFrom pages order block spot found → IsMappedAs mapped block found
+      FindsFrom (FitsAt pages) order block spot found → IsMappedAs mapped block found
   spot_maps high ss mapped (Found addr key) found tiles lt small is maps f =
       subst (IsMappedAs mapped block) (sym f) (at_maps pages order block high ss (datum block addr key ∷ []) mapped (Some (record { low = block; addr = addr; key = key })) tiles lt is maps (datum_maps addr key))
   spot_maps high ss mapped Absent found tiles lt small is maps f =
@@ -156,7 +156,7 @@ twig_tiles order level least most high twig h =
 
 module _ (pages : List (List ℕ)) (order block level high : ℕ) where
   root_maps_by : (x : Child-F Child Twig) (mapped : List Mapped) (found : Option Entry) → IsRootBy order level high x → block < high → AreBelow (2 ^ 64) (stubs_in (stubs level) (suc level) high x) →
-      MapsIn pages order (top_least level) level high x mapped → RootFindsBy pages order block level high x found → IsMappedAs mapped block found
+      MapsIn pages order (top_least level) level high x mapped → RootFindsBy (FitsAt pages) order block level high x found → IsMappedAs mapped block found
   root_maps_by (Kept low addr key) mapped found root lt small maps f =
       subst (λ m. IsMappedAs m block found) (sym maps.2) (found_is_mapped pages order level block (top_want order high (suc level) addr) key f.0 maps.0 found small.0 (subst (λ w. Subtree pages order (suc level) w key maps.0) (root_want order level low high addr root) maps.1)
       (subst (λ n. Finds (FitsAt pages) order block found n (top_want order high (suc level) addr) key f.0) (one_less level) f.1))
@@ -171,7 +171,7 @@ module _ (pages : List (List ℕ)) (order block level high : ℕ) where
 
   -- what is found below a root is what it maps
   pub root_found : (top : Child) (mapped : List Mapped) (found : Option Entry) → IsRootBy order level high (out-Child top) → block < high → AreBelow (2 ^ 64) (stubs (suc level) high top) →
-      RootMaps pages order level high top mapped → RootFindsBy pages order block level high (out-Child top) found → IsMappedAs mapped block found
+      RootMaps pages order level high top mapped → RootFindsBy (FitsAt pages) order block level high (out-Child top) found → IsMappedAs mapped block found
   unfolding stubs
   root_found top mapped found root lt small maps f = root_maps_by (out-Child top) mapped found root lt small maps f
 

@@ -25,3 +25,4 @@ pub mod FitsLaws
 pub mod DatumLaws
 pub mod ManyLaws
 pub mod AscendLaws
+pub mod KeptWay

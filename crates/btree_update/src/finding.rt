@@ -1,9 +1,10 @@
 ghost use Rattle.std.specs.Prelude.{◌≡◌, ◌<◌, ◌-◌, ℕ, IfOk, IfSome, IsErrOf};
 ghost use Rattle.sdbt_base.specs.Faults.{Rose};
+ghost use Rattle.page_store.specs.Places.{FitsAt};
 ghost use Rattle.btree_walk.specs.Looks.{Looks};
 ghost use Rattle.btree_walk.specs.Sights.{StandsOver};
 ghost use Rattle.btree_update.specs.Holding.{CanHoldRoot};
-ghost use Rattle.btree_update.specs.Finding.{FindsFrom, StopsFrom, RootFinds, RootStops, level_from, CanGoOn};
+ghost use Rattle.btree_update.specs.Finding.{FindsFrom, StopsFrom, RootFinds, RootStops, KeepsFrom, RootKeeps, UsesCache, level_from, CanGoOn};
 
 use crate::holding::least_of_root;
 use btree_twigs::{Child, Spot};
@@ -26,13 +27,14 @@ pub(crate) fn find_root<P: Platform>(
 ) -> Result<Option<Entry>, FetchRefusal>
     requires can { CanHoldRoot order level block high (P.head platform.old) top.now }
     ensures found { P.tells → StandsOver (P.history platform.old).present.readable cache.old →
-        IfOk result (RootFinds (P.history platform.old).present.readable order block (level - 1) high top.now) }
+        IfOk result (RootFinds (FitsAt (P.history platform.old).present.readable) order block (level - 1) high top.now) }
     ensures bad { P.tells → StandsOver (P.history platform.old).present.readable cache.old → (addr : ℕ) → IsErrOf result (FetchRefusal.BadRecord addr) →
         RootStops (P.history platform.old).present.readable order block addr (level - 1) high top.now }
     ensures entry { IfOk result (λ found. IfSome found (λ e. (e.low ≡ block) × (e.addr < P.head platform.old))) }
     ensures stands { P.tells → StandsOver (P.history platform.old).present.readable cache.old → StandsOver (P.history platform.old).present.readable cache.new }
     ensures looks { Looks P.Platform level platform.old platform.new }
     ensures cause { IsErrOf result FetchRefusal.PlatformFault → Rose (P.faults platform.old) (P.faults platform.new) }
+    ensures uses { UsesCache P.Platform (λ kept. RootKeeps kept order block (level - 1) high top.now) level platform.old platform.new cache.old cache.new result }
 {
     match top {
         Child::Grown { twig, .. } => {
@@ -65,13 +67,14 @@ fn find_from<P: Platform>(
 ) -> Result<Option<Entry>, FetchRefusal>
     requires can { CanGoOn order block (P.head platform.old) spot }
     ensures found { P.tells → StandsOver (P.history platform.old).present.readable cache.old →
-        IfOk result (FindsFrom (P.history platform.old).present.readable order block spot) }
+        IfOk result (FindsFrom (FitsAt (P.history platform.old).present.readable) order block spot) }
     ensures bad { P.tells → StandsOver (P.history platform.old).present.readable cache.old → (addr : ℕ) → IsErrOf result (FetchRefusal.BadRecord addr) →
         StopsFrom (P.history platform.old).present.readable order block addr spot }
     ensures entry { IfOk result (λ found. IfSome found (λ e. (e.low ≡ block) × (e.addr < P.head platform.old))) }
     ensures stands { P.tells → StandsOver (P.history platform.old).present.readable cache.old → StandsOver (P.history platform.old).present.readable cache.new }
     ensures looks { Looks P.Platform (level_from spot) platform.old platform.new }
     ensures cause { IsErrOf result FetchRefusal.PlatformFault → Rose (P.faults platform.old) (P.faults platform.new) }
+    ensures uses { UsesCache P.Platform (λ kept. KeepsFrom kept order block spot) (level_from spot) platform.old platform.new cache.old cache.new result }
 {
     match spot {
         Spot::Found { addr, key } => {

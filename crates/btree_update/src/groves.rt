@@ -21,7 +21,7 @@ ghost use Rattle.btree_walk.specs.Sights.{StandsOver};
 ghost use Rattle.btree_twigs.specs.declared.twigs.Child.{Child};
 ghost use Rattle.btree_update.specs.declared.refusals.ReadyRefusal.{ReadyRefusal};
 ghost use Rattle.btree_update.specs.Held.{AreBelow};
-ghost use Rattle.btree_update.specs.Finding.{GroveFinds, GroveStops};
+ghost use Rattle.btree_update.specs.Finding.{GroveFinds, GroveStops, KeepsWay, UsesCache};
 ghost use Rattle.btree_update.specs.Groves.{KeepsTree, IsSound, IsReadFrom, IsReadBeside, IsReadBesideAt, HasLevels, IsWrongOnWay, CanInsert, CanRemove, GroveMaps, places_of, grown_in, IsAddressOf, LetsGo, Goes};
 
 use crate::counting::count;
@@ -124,7 +124,8 @@ impl Grove {
     }
 
     /// The entry of a block, or `None` where it isn't mapped: from the nodes in memory, and below them from the medium, through the
-    /// cache. `BadRecord` names a node on the way to the block that does not fit.
+    /// cache. `BadRecord` names a node on the way to the block that does not fit. No page is read where the cache keeps the way, as it does
+    /// after an `Ok` where it has room for a node of each level.
     pub fn find<P: Platform>(
         &self,
         block: u64,
@@ -147,6 +148,7 @@ impl Grove {
         ensures stands { P.tells → StandsOver (P.history platform.old).present.readable cache.old → StandsOver (P.history platform.old).present.readable cache.new }
         ensures looks { Looks P.Platform self.now.level platform.old platform.new }
         ensures cause { IsErrOf result FetchRefusal.PlatformFault → Rose (P.faults platform.old) (P.faults platform.new) }
+        ensures uses { UsesCache P.Platform (λ kept. KeepsWay kept block self.now) self.now.level platform.old platform.new cache.old cache.new result }
     {
         find_root(
             platform,
@@ -192,6 +194,7 @@ impl Grove {
         ensures stands { P.tells → StandsOver (P.history platform.old).present.readable cache.old → StandsOver (P.history platform.old).present.readable cache.new }
         ensures looks { Looks P.Platform (2 * self.old.level) platform.old platform.new }
         ensures cause { IsErrOf result ReadyRefusal.PlatformFault → Rose (P.faults platform.old) (P.faults platform.new) }
+        ensures capacity { cache.new.capacity ≡ cache.old.capacity }
     {
         self.held.clear();
         self.beside.clear();

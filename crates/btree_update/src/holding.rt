@@ -6,6 +6,7 @@ ghost use Rattle.btree_walk.specs.Sights.{StandsOver};
 ghost use Rattle.btree_update.specs.Held.{AnyRead, IsReadAs, OnWay, HeldFor, HeldFrom};
 ghost use Rattle.btree_twigs.specs.Top.{top_least};
 ghost use Rattle.btree_twigs.specs.Stubs.{stubs_below, children_of};
+ghost use Rattle.page_store.specs.Places.{FitsAt};
 ghost use Rattle.page_store.specs.Tree.{Mapped};
 ghost use Rattle.btree_update.specs.GroveTree.{Maps, MapsFrom};
 ghost use Rattle.btree_update.specs.Wrong.{WrongUnder, WrongFrom};
@@ -52,10 +53,11 @@ pub(crate) fn hold_way<P: Platform>(
     ensures mapped { P.tells → StandsOver (P.history platform.old).present.readable cache.old →
         IfOk result (λ left. (mapped : List Mapped) → MapsFrom (P.history platform.old).present.readable order least (level - 1) high child.now mapped → IsMappedBy block mapped left) }
     ensures finds { P.tells → StandsOver (P.history platform.old).present.readable cache.old →
-        IfOk result (IsFoundBy (ChildFinds (P.history platform.old).present.readable order least block (level - 1) high child.now)) }
+        IfOk result (IsFoundBy (ChildFinds (FitsAt (P.history platform.old).present.readable) order least block (level - 1) high child.now)) }
     ensures stands { P.tells → StandsOver (P.history platform.old).present.readable cache.old → StandsOver (P.history platform.old).present.readable cache.new }
     ensures looks { Looks P.Platform (2 * level - 1) platform.old platform.new }
     ensures cause { IsErrOf result ReadyRefusal.PlatformFault → Rose (P.faults platform.old) (P.faults platform.new) }
+    ensures capacity { cache.new.capacity ≡ cache.old.capacity }
 {
     match child {
         Child::Grown { twig, .. } => hold_below(
@@ -122,10 +124,11 @@ pub(crate) fn hold_below<P: Platform>(
     ensures mapped { P.tells → StandsOver (P.history platform.old).present.readable cache.old →
         IfOk result (λ left. (mapped : List Mapped) → Maps (P.history platform.old).present.readable order (stubs_below level high twig.now) mapped → IsMappedBy block mapped left) }
     ensures finds { P.tells → StandsOver (P.history platform.old).present.readable cache.old →
-        IfOk result (IsFoundBy (FindsAmong (P.history platform.old).present.readable order block (stubs_below level high twig.now))) }
+        IfOk result (IsFoundBy (FindsAmong (FitsAt (P.history platform.old).present.readable) order block (stubs_below level high twig.now))) }
     ensures stands { P.tells → StandsOver (P.history platform.old).present.readable cache.old → StandsOver (P.history platform.old).present.readable cache.new }
     ensures looks { Looks P.Platform (2 * level) platform.old platform.new }
     ensures cause { IsErrOf result ReadyRefusal.PlatformFault → Rose (P.faults platform.old) (P.faults platform.new) }
+    ensures capacity { cache.new.capacity ≡ cache.old.capacity }
 {
     let at = place(&twig.children, block);
     if at == 0 {

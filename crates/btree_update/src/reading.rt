@@ -40,6 +40,7 @@ pub(crate) fn read_node<P: Platform>(
     ensures stands { P.tells → StandsOver (P.history platform.old).present.readable cache.old → StandsOver (P.history platform.old).present.readable cache.new }
     ensures looks { Looks P.Platform 1 platform.old platform.new }
     ensures cause { IsErrOf result ReadyRefusal.PlatformFault → Rose (P.faults platform.old) (P.faults platform.new) }
+    ensures capacity { cache.new.capacity ≡ cache.old.capacity }
 {
     if let Some(node) = cache.get(want.addr, key) {
         if !fits(want, node) {

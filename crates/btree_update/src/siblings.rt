@@ -70,6 +70,7 @@ pub(crate) fn hold_beside<P: Platform>(
     ensures stands { P.tells → StandsOver (P.history platform.old).present.readable cache.old → StandsOver (P.history platform.old).present.readable cache.new }
     ensures looks { Looks P.Platform 1 platform.old platform.new }
     ensures cause { IsErrOf result ReadyRefusal.PlatformFault → Rose (P.faults platform.old) (P.faults platform.new) }
+    ensures capacity { cache.new.capacity ≡ cache.old.capacity }
 {
     match left {
         Left::Unmapped => Ok(Left::Unmapped),
@@ -168,6 +169,7 @@ fn read_help<P: Platform>(
     ensures stands { P.tells → StandsOver (P.history platform.old).present.readable cache.old → StandsOver (P.history platform.old).present.readable cache.new }
     ensures looks { Looks P.Platform 1 platform.old platform.new }
     ensures cause { IsErrOf result ReadyRefusal.PlatformFault → Rose (P.faults platform.old) (P.faults platform.new) }
+    ensures capacity { cache.new.capacity ≡ cache.old.capacity }
 {
     match child {
         Child::Grown { twig, .. } => Ok(Help {

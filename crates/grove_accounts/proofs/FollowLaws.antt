@@ -6,7 +6,7 @@ use Rattle.std.proofs.lemmas.Bool.{eq-eqb}
 use Rattle.node_codec.specs.declared.body.Entry.{Entry}
 use Rattle.node_codec.specs.Record.{DataRecord}
 use Rattle.root_codec.specs.declared.root.Root.{Root}
-use Rattle.page_store.specs.Places.{NothingFits, block_want}
+use Rattle.page_store.specs.Places.{FitsAt, NothingFits, block_want}
 use Rattle.page_store.specs.Tree.{Wrong}
 use Rattle.btree_twigs.specs.declared.twigs.Child.{Child, Child-F, out-Child}
 use Rattle.btree_twigs.specs.declared.twigs.Child.TheOpen.{Kept, Grown}
@@ -131,7 +131,7 @@ module _ (pages : List (List ℕ)) (root : Root) (order below high : ℕ) (order
           let f = spot_each (Follows pages root (suc below)) block (stubs_below below high twig) s is.3 each in
           stops_wrong pages root order order_is block wrong (level - 1) (want_of order s) key (inner_reached level low end addr key is.0 le f) h
 
-  top_finds : (block : ℕ) (e : Entry) (x : Child-F Child Twig) → IsRootBy order below high x → AllByRecursion (Follows pages root (suc below)) (stubs_in (stubs below) (suc below) high x) → RootFindsBy pages order block below high x (Some e) →
+  top_finds : (block : ℕ) (e : Entry) (x : Child-F Child Twig) → IsRootBy order below high x → AllByRecursion (Follows pages root (suc below)) (stubs_in (stubs below) (suc below) high x) → RootFindsBy (FitsAt pages) order block below high x (Some e) →
       NothingFits pages (block_want e.addr block) e.key → Wrong pages root e.addr
   top_finds block e (Kept low addr key) shaped each h nothing = finds_wrong pages root order order_is block (suc below - 1) (top_want order high (suc below) addr) key h.0 e (root_reached low addr key shaped each.0) h.1 nothing
   top_finds block e (Grown low twig) shaped each h nothing = at h.spot h.is h.finds
@@ -141,7 +141,7 @@ module _ (pages : List (List ℕ)) (root : Root) (order below high : ℕ) (order
           reached_misfit pages root (want_at root.order 0 block from.high addr (least_at root.order (suc below) 0)) key from.reached (block_misfits pages root order order_is addr block (least_at root.order (suc below) 0) root.order from.high key nothing)
       data_wrong addr key (inr own) nothing = absurd (nothing (DataRecord block own.content) (own.there, (refl, refl)))
 
-      at : (spot : Spot) → IsSpot block (stubs_below below high twig) spot → FindsFrom pages order block spot (Some e) → Wrong pages root e.addr
+      at : (spot : Spot) → IsSpot block (stubs_below below high twig) spot → FindsFrom (FitsAt pages) order block spot (Some e) → Wrong pages root e.addr
       at (spots.Found addr key) is h =
           let same : e ≡ record { low = block; addr = addr; key = key } = cc in
           let here = data_wrong addr key (spot_each (Follows pages root (suc below)) block (stubs_below below high twig) (datum block addr key) is each) in

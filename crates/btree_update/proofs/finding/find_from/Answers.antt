@@ -1,18 +1,22 @@
-use Rattle.std.proofs.Common.{◌<◌, ◌-◌, ◌^◌, IfOk, sym, subst, arith}
+use Rattle.std.proofs.Common.{◌<◌, ◌≤◌, ◌-◌, ◌^◌, IfOk, Some, None, refl, sym, subst, arith}
+use Rattle.page_store.specs.Places.{FitsAt}
+use Rattle.btree_walk.specs.Sights.{KeptFits}
+use Rattle.btree_walk.specs.Finds.{Finds}
 use Rattle.btree_walk.proofs.OnLaws.{IfOk_map}
 use Rattle.btree_walk.proofs.MappedLaws.{finds_page, stops_page}
 use Rattle.btree_update.specs.GroveTree.{want_of}
 use Rattle.btree_update.specs.Held.{stub_at}
-use Rattle.btree_update.specs.Finding.{FindsBelow, ComesToWrong, FindsFrom, StopsFrom, CanGoOn}
+use Rattle.btree_update.specs.Finding.{FindsBelow, ComesToWrong, FindsFrom, StopsFrom, KeepsFrom, level_from, CanGoOn}
+use Rattle.btree_update.proofs.KeptWay.{OnOk_from}
 use Rattle.btree_update.proofs.finding.find_from.Goals as goal
 
 pub returns-in-Below-clause-found : goal.returns-in-Below-clause-found
 returns-in-Below-clause-found g c = λ tells stands.
     (let pages = (g.P.Platform.history c.args.platform.now).present.readable in
     let want = want_of c.args.order (stub_at c.in-Below.level c.in-Below.low c.in-Below.high c.in-Below.addr c.in-Below.key) in
-    subst (λ s. IfOk c.find.result (FindsFrom pages c.args.order c.args.block s)) (sym c.in-Below.is)
+    subst (λ s. IfOk c.find.result (FindsFrom (FitsAt pages) c.args.order c.args.block s)) (sym c.in-Below.is)
     (IfOk_map _ _ c.find.result
-    (λ found h. subst (λ k. FindsBelow pages c.args.block want k found) c.from_bytes-key.ensures
+    (λ found h. subst (λ k. FindsBelow (FitsAt pages) c.args.block want k found) c.from_bytes-key.ensures
     (h.path, finds_page pages c.args.cache.now c.args.order (c.in-Below.level - 1) c.args.block want c.from_bytes-key.result h.path found stands h.finds))
     (c.find.ensures.found tells)))
 
@@ -25,3 +29,37 @@ returns-in-Below-clause-bad g c = λ tells stands addr is.
     subst (StopsFrom pages c.args.order c.args.block addr) (sym c.in-Below.is)
     (subst (λ k. ComesToWrong pages c.args.block addr want k) c.from_bytes-key.ensures
     (stops_page pages c.args.cache.now c.args.order (c.in-Below.level - 1) c.args.block addr want c.from_bytes-key.result small stands (c.find.ensures.bad tells addr is))))
+
+-- ---- what the cache keeps
+
+pub returns-in-Found-clause-uses : goal.returns-in-Found-clause-uses
+returns-in-Found-clause-uses g c = record {
+  warm = λ keeps. refl;
+  fills = λ tells room. subst (KeepsFrom c.args.cache.now.kept c.args.order c.args.block) (sym c.in-Found.is) (Some (record { low = c.args.block; addr = c.in-Found.addr; key = c.in-Found.key }), refl);
+  capacity = refl;
+}
+
+pub returns-in-Absent-clause-uses : goal.returns-in-Absent-clause-uses
+returns-in-Absent-clause-uses g c = record {
+  warm = λ keeps. refl;
+  fills = λ tells room. subst (KeepsFrom c.args.cache.now.kept c.args.order c.args.block) (sym c.in-Absent.is) (None, refl);
+  capacity = refl;
+}
+
+pub returns-in-Below-clause-uses : goal.returns-in-Below-clause-uses
+returns-in-Below-clause-uses g c =
+    let old = c.args.cache.now.kept in
+    let new = c.find.new.cache.kept in
+    let want = want_of c.args.order (stub_at c.in-Below.level c.in-Below.low c.in-Below.high c.in-Below.addr c.in-Below.key) in
+    record {
+      warm = λ keeps.
+          (let at = subst (KeepsFrom old c.args.order c.args.block) c.in-Below.is keeps in
+          (c.find.ensures.kept at.0 at.1.0 (subst (λ k. Finds (KeptFits old) c.args.order c.args.block at.0 (c.in-Below.level - 1) want k at.1.0) (sym c.from_bytes-key.ensures) at.1.1)).0);
+      fills = λ tells. OnOk_from _ _ c.find.result
+          (λ found h room.
+          let level = subst (λ s. level_from s ≤ c.find.new.cache.capacity) c.in-Below.is room in
+          subst (KeepsFrom new c.args.order c.args.block) (sym c.in-Below.is)
+          (found, subst (λ k. FindsBelow (KeptFits new) c.args.block want k found) c.from_bytes-key.ensures (h.path, h.warm (omega (arith, level, c.find.ensures.capacity)))))
+          (c.find.ensures.found tells);
+      capacity = c.find.ensures.capacity;
+    }

@@ -1,4 +1,7 @@
 use Rattle.std.proofs.Common.{◌≡◌, ◌<◌, ◌≤◌, ◌-◌, ◌^◌, ℕ, suc, List, IfOk, sym, subst, arith}
+use Rattle.page_store.specs.Places.{FitsAt}
+use Rattle.btree_walk.specs.Sights.{KeptFits}
+use Rattle.btree_walk.specs.Finds.{Finds}
 use Rattle.btree_walk.proofs.OnLaws.{IfOk_map, entry_below}
 use Rattle.btree_walk.proofs.MappedLaws.{finds_page, stops_page}
 use Rattle.btree_twigs.specs.declared.twigs.Child.{Child}
@@ -12,9 +15,10 @@ use Rattle.btree_twigs.specs.Top.{top_least}
 use Rattle.btree_update.specs.GroveTree.{want_at, top_want}
 use Rattle.btree_update.specs.Roots.{IsRootBy}
 use Rattle.btree_update.specs.Holding.{CanHoldRoot}
-use Rattle.btree_update.specs.Finding.{FindsBelow, ComesToWrong, RootFinds, RootFindsBy, RootStops, RootStopsBy}
+use Rattle.btree_update.specs.Finding.{FindsBelow, ComesToWrong, RootFinds, RootFindsBy, RootStops, RootStopsBy, RootKeeps}
 use Rattle.btree_update.proofs.RootHolds.{root_grown, root_lt}
 use Rattle.btree_update.proofs.FoundLaws.{looks_more, up_twig, goes_on, from_level, want_is}
+use Rattle.btree_update.proofs.KeptWay.{finds_there, OnOk_from, OnOk_map}
 use Rattle.btree_update.proofs.finding.find_root.Goals as goal
 
 -- where the search in the nodes in memory ends
@@ -46,9 +50,9 @@ pub returns-in-Grown-clause-found : goal.returns-in-Grown-clause-found
 returns-in-Grown-clause-found g c = λ tells stands.
     (let pages = (g.P.Platform.history c.args.platform.now).present.readable in
     let spot = spot_is c.args.order c.args.level c.args.block c.args.high (g.P.Platform.head c.args.platform.now) c.in-Grown.low c.in-Grown.twig c.args.top.now c.find-spot.result c.requires.can c.in-Grown.is c.find-spot.ensures in
-    subst (λ x. IfOk c.find_from.result (RootFinds pages c.args.order c.args.block (c.args.level - 1) c.args.high x)) (sym c.in-Grown.is)
+    subst (λ x. IfOk c.find_from.result (RootFinds (FitsAt pages) c.args.order c.args.block (c.args.level - 1) c.args.high x)) (sym c.in-Grown.is)
     (IfOk_map _ _ c.find_from.result
-    (λ found f. subst (λ y. RootFindsBy pages c.args.order c.args.block (c.args.level - 1) c.args.high y found) (sym (made.outs-Grown c.in-Grown.low c.in-Grown.twig)) (record { spot = c.find-spot.result; is = spot; finds = f }))
+    (λ found f. subst (λ y. RootFindsBy (FitsAt pages) c.args.order c.args.block (c.args.level - 1) c.args.high y found) (sym (made.outs-Grown c.in-Grown.low c.in-Grown.twig)) (record { spot = c.find-spot.result; is = spot; finds = f }))
     (c.find_from.ensures.found tells stands)))
 
 pub returns-in-Grown-clause-bad : goal.returns-in-Grown-clause-bad
@@ -77,11 +81,11 @@ returns-in-Kept-clause-found g c = λ tells stands.
     (let pages = (g.P.Platform.history c.args.platform.now).present.readable in
     let want = want_at c.args.order c.args.level c.in-Kept.low c.args.high c.in-Kept.addr c.least_of_root.result in
     let same = root_want_is c.args.order c.args.level c.args.block c.args.high (g.P.Platform.head c.args.platform.now) c.in-Kept.low c.in-Kept.addr c.least_of_root.result c.in-Kept.key c.args.top.now c.requires.can c.in-Kept.is c.least_of_root.ensures in
-    subst (λ x. IfOk c.find.result (RootFinds pages c.args.order c.args.block (c.args.level - 1) c.args.high x)) (sym c.in-Kept.is)
+    subst (λ x. IfOk c.find.result (RootFinds (FitsAt pages) c.args.order c.args.block (c.args.level - 1) c.args.high x)) (sym c.in-Kept.is)
     (IfOk_map _ _ c.find.result
-    (λ found h. subst (λ y. RootFindsBy pages c.args.order c.args.block (c.args.level - 1) c.args.high y found) (sym (made.outs-Kept c.in-Kept.low c.in-Kept.addr c.in-Kept.key))
-    (subst (λ w. FindsBelow pages c.args.block w c.in-Kept.key found) same
-    (subst (λ k. FindsBelow pages c.args.block want k found) c.from_bytes-key.ensures
+    (λ found h. subst (λ y. RootFindsBy (FitsAt pages) c.args.order c.args.block (c.args.level - 1) c.args.high y found) (sym (made.outs-Kept c.in-Kept.low c.in-Kept.addr c.in-Kept.key))
+    (subst (λ w. FindsBelow (FitsAt pages) c.args.block w c.in-Kept.key found) same
+    (subst (λ k. FindsBelow (FitsAt pages) c.args.block want k found) c.from_bytes-key.ensures
     (h.path, finds_page pages c.args.cache.now c.args.order (c.args.level - 1) c.args.block want c.from_bytes-key.result h.path found stands h.finds))))
     (c.find.ensures.found tells)))
 
@@ -104,3 +108,49 @@ returns-in-Kept-clause-entry g c =
     let head = g.P.Platform.head c.args.platform.now in
     let lt = root_lt c.args.order c.args.level c.args.block c.args.high head c.in-Kept.low c.in-Kept.addr c.in-Kept.key (subst (CanHoldRoot c.args.order c.args.level c.args.block c.args.high head) c.in-Kept.is c.requires.can) in
     IfOk_map _ _ c.find.result (entry_below c.args.block c.in-Kept.addr head lt) c.find.ensures.entry
+
+-- ---- what the cache keeps
+
+pub returns-in-Grown-clause-uses : goal.returns-in-Grown-clause-uses
+returns-in-Grown-clause-uses g c =
+    let old = c.args.cache.now.kept in
+    let new = c.find_from.new.cache.kept in
+    let order = c.args.order in let block = c.args.block in let below = c.args.level - 1 in let high = c.args.high in
+    let spot = c.find-spot.result in
+    let twig = c.in-Grown.twig in
+    let is = spot_is order c.args.level block high (g.P.Platform.head c.args.platform.now) c.in-Grown.low twig c.args.top.now spot c.requires.can c.in-Grown.is c.find-spot.ensures in
+    record {
+      warm = λ keeps.
+          (let at = subst (RootKeeps old order block below high) c.in-Grown.is keeps in
+          let among = subst (λ y. RootFindsBy (KeptFits old) order block below high y at.0) (made.outs-Grown c.in-Grown.low twig) at.1 in
+          c.find_from.ensures.uses.warm (at.0, finds_there (KeptFits old) order block (stubs_below below high twig) spot at.0 is among));
+      fills = λ tells. OnOk_map _ _ c.find_from.result
+          (λ keeps room.
+          let at = keeps (omega (arith, room, from_level block below (stubs_below below high twig) spot is (up_twig below high twig))) in
+          subst (RootKeeps new order block below high) (sym c.in-Grown.is)
+          (at.0, subst (λ y. RootFindsBy (KeptFits new) order block below high y at.0) (sym (made.outs-Grown c.in-Grown.low twig)) (record { spot = spot; is = is; finds = at.1 })))
+          (c.find_from.ensures.uses.fills tells);
+      capacity = c.find_from.ensures.uses.capacity;
+    }
+
+pub returns-in-Kept-clause-uses : goal.returns-in-Kept-clause-uses
+returns-in-Kept-clause-uses g c =
+    let old = c.args.cache.now.kept in
+    let new = c.find.new.cache.kept in
+    let order = c.args.order in let block = c.args.block in let below = c.args.level - 1 in let high = c.args.high in
+    let want = want_at order c.args.level c.in-Kept.low high c.in-Kept.addr c.least_of_root.result in
+    let same = root_want_is order c.args.level block high (g.P.Platform.head c.args.platform.now) c.in-Kept.low c.in-Kept.addr c.least_of_root.result c.in-Kept.key c.args.top.now c.requires.can c.in-Kept.is c.least_of_root.ensures in
+    record {
+      warm = λ keeps.
+          (let at = subst (RootKeeps old order block below high) c.in-Kept.is keeps in
+          let by = subst (λ y. RootFindsBy (KeptFits old) order block below high y at.0) (made.outs-Kept c.in-Kept.low c.in-Kept.addr c.in-Kept.key) at.1 in
+          let from = subst (λ w. FindsBelow (KeptFits old) block w c.in-Kept.key at.0) (sym same) by in
+          (c.find.ensures.kept at.0 from.0 (subst (λ k. Finds (KeptFits old) order block at.0 below want k from.0) (sym c.from_bytes-key.ensures) from.1)).0);
+      fills = λ tells. OnOk_from _ _ c.find.result
+          (λ found h room.
+          let from = subst (λ k. FindsBelow (KeptFits new) block want k found) c.from_bytes-key.ensures (h.path, h.warm (omega (arith, room, c.find.ensures.capacity))) in
+          subst (RootKeeps new order block below high) (sym c.in-Kept.is)
+          (found, subst (λ y. RootFindsBy (KeptFits new) order block below high y found) (sym (made.outs-Kept c.in-Kept.low c.in-Kept.addr c.in-Kept.key)) (subst (λ w. FindsBelow (KeptFits new) block w c.in-Kept.key found) same from)))
+          (c.find.ensures.found tells);
+      capacity = c.find.ensures.capacity;
+    }

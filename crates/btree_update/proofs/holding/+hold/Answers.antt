@@ -27,6 +27,7 @@ use Rattle.page_store.specs.Tree.{Mapped}
 use Rattle.btree_update.specs.GroveTree.{Maps, MapsFrom, want_at}
 use Rattle.btree_update.specs.Beside.{IsMappedBy}
 use Rattle.btree_update.proofs.MappedLaws.{first_lacks, leaf_mapped, leaf_not, beside_mapped, way_mapped, kept_mapped, grown_mapped, maps_from}
+use Rattle.page_store.specs.Places.{FitsAt}
 use Rattle.btree_update.specs.Finding.{FindsAmong, ChildFinds, IsFoundBy}
 use Rattle.btree_update.proofs.WayFinds.{found_as, beside_found, first_finds, way_finds, leaf_finds, child_finds, kept_finds}
 use Rattle.btree_update.proofs.holding.+hold.Goals as goal
@@ -392,10 +393,10 @@ hold_below-returns-clause-finds g t c = λ tells stands.
     c.place-at.ensures.within c.place-at.ensures.before c.place-at.ensures.after at.to c.index-child.ensures in
     let e = end_is c.args.high c.place-at.result w.at c.end_of-end.result c.deref-2.result.now cs c.deref-2.ensures.value w.at_is c.end_of-end.ensures in
     let pages = (g.P.Platform.history c.args.platform.now).present.readable in
-    let Finds = FindsAmong pages c.args.order c.args.block (stubs_below c.args.level c.args.high c.args.twig.now) in
-    let one = found_as (ChildFinds pages c.args.order (c.args.order / 2) c.args.block (c.args.level - 1) c.end_of-end.result c.index-child.result.now) Finds c.in_ok-left.left
+    let Finds = FindsAmong (FitsAt pages) c.args.order c.args.block (stubs_below c.args.level c.args.high c.args.twig.now) in
+    let one = found_as (ChildFinds (FitsAt pages) c.args.order (c.args.order / 2) c.args.block (c.args.level - 1) c.end_of-end.result c.index-child.result.now) Finds c.in_ok-left.left
     (λ found f. way_finds pages c.args.order c.args.level at.least at.low c.args.high c.args.block c.args.twig.now at.shaped c.place-at.result c.index-child.result.now w found
-    (subst (λ m. FindsAmong pages c.args.order c.args.block (stubs c.args.level m c.index-child.result.now) found) e
+    (subst (λ m. FindsAmong (FitsAt pages) c.args.order c.args.block (stubs c.args.level m c.index-child.result.now) found) e
     (child_finds pages c.args.order c.args.block c.args.level (c.args.level - 1) c.end_of-end.result c.index-child.result.now found (above c.args.level c.if-level-eq0.false) w.from (subst (λ m. c.args.block < m) (sym e) w.to) f)))
     (c.in_ok-left.ensures.finds tells stands) in
     IfOk_map _ _ c.hold_beside.result
@@ -414,7 +415,7 @@ hold_way-returns-in_ok-hold-in-Kept-clause-finds g t c = λ tells stands.
     let can = way_read c.args.order c.args.least c.args.level c.args.block c.args.high head c.in-Kept.low c.in-Kept.addr c.in-Kept.key twig at c.in_ok-twig-in-Kept.ensures.fits in
     let fits = subst (λ k. IsNodeFor (want_at c.args.order k c.in-Kept.low c.args.high c.in-Kept.addr c.args.least) twig) l c.in_ok-twig-in-Kept.ensures.fits in
     let node = subst (λ k. IsNodeOf pages (want_at c.args.order k c.in-Kept.low c.args.high c.in-Kept.addr c.args.least) c.in-Kept.key twig) l (c.in_ok-twig-in-Kept.ensures.reads tells stands) in
-    let below = subst (λ p. IsFoundBy (FindsAmong p c.args.order c.args.block (stubs_below (c.args.level - 1) c.args.high twig)) c.in_ok-left-in-Kept.left) same (c.in_ok-left-in-Kept.ensures.finds tells stands') in
-    subst (λ x. IsFoundBy (ChildFinds pages c.args.order c.args.least c.args.block (c.args.level - 1) c.args.high x) c.in_ok-left-in-Kept.left) (sym c.in-Kept.is)
-    (found_as (FindsAmong pages c.args.order c.args.block (stubs_below (c.args.level - 1) c.args.high twig)) (ChildFinds pages c.args.order c.args.least c.args.block (c.args.level - 1) c.args.high (made.Kept c.in-Kept.low c.in-Kept.addr c.in-Kept.key)) c.in_ok-left-in-Kept.left
+    let below = subst (λ p. IsFoundBy (FindsAmong (FitsAt p) c.args.order c.args.block (stubs_below (c.args.level - 1) c.args.high twig)) c.in_ok-left-in-Kept.left) same (c.in_ok-left-in-Kept.ensures.finds tells stands') in
+    subst (λ x. IsFoundBy (ChildFinds (FitsAt pages) c.args.order c.args.least c.args.block (c.args.level - 1) c.args.high x) c.in_ok-left-in-Kept.left) (sym c.in-Kept.is)
+    (found_as (FindsAmong (FitsAt pages) c.args.order c.args.block (stubs_below (c.args.level - 1) c.args.high twig)) (ChildFinds (FitsAt pages) c.args.order c.args.least c.args.block (c.args.level - 1) c.args.high (made.Kept c.in-Kept.low c.in-Kept.addr c.in-Kept.key)) c.in_ok-left-in-Kept.left
     (λ found f. kept_finds pages c.args.order c.args.least c.args.block (c.args.level - 1) c.args.high head c.in-Kept.low c.in-Kept.addr c.in-Kept.key twig found can fits node f) below))

@@ -45,3 +45,20 @@ returns-in-Err-BadRecord-clause-bad g c = rw c.in-Err-BadRecord.field-0-is (λ t
     let addr_is : c.in-Err-BadRecord.addr ≡ addr = cc in
     let told = ap Err c.in-Err-BadRecord.field-0-is in
     (sym addr_is ∙ c.in-Err-BadRecord.ensures.bad c.in-Err-BadRecord.addr told, c.in-Err-BadRecord.ensures.nothing_fits tells c.in-Err-BadRecord.addr told))
+
+-- ---- the room stays
+
+pub returns-then-not-fits-clause-capacity : goal.returns-then-not-fits-clause-capacity
+returns-then-not-fits-clause-capacity g c =
+    let uses = subst (λ (r : Option (Bor _)). Uses c.args.cache.now c.args.want.now.addr c.args.key.now (option_copied r) c.get.follows.lender-at-none) c.in-Some.is c.get.follows.holds-at-none in
+    ap (λ (cache : Cached). cache.capacity) uses.1
+
+pub returns-in-Some-clause-capacity : goal.returns-in-Some-clause-capacity
+returns-in-Some-clause-capacity g c =
+    let uses = subst (λ (r : Option (Bor _)). Uses c.args.cache.now c.args.want.now.addr c.args.key.now (option_copied r) c.get.follows.lender-at-none) c.in-Some.is c.get.follows.holds-at-none in
+    ap (λ (cache : Cached). cache.capacity) uses.1
+
+pub returns-in-Ok-clause-capacity : goal.returns-in-Ok-clause-capacity
+returns-in-Ok-clause-capacity g c =
+    let uses = subst (λ (r : Option (Bor _)). Uses c.args.cache.now c.args.want.now.addr c.args.key.now (option_copied r) c.get.follows.lender-at-none) c.in_default.is c.get.follows.holds-at-none in
+    ap (λ (cache : Cached). cache.capacity) c.put.ensures.kept ∙ ap (λ (cache : Cached). cache.capacity) uses.0

@@ -12,6 +12,7 @@ use Rattle.btree_update.proofs.OpenLaws.{lower}
 use Rattle.btree_update.proofs.FitsLaws.{from_never}
 use Rattle.btree_update.proofs.GroveLaws.{sound_as, above_it}
 use Rattle.btree_update.proofs.MappedLaws.{told}
+use Rattle.page_store.specs.Places.{FitsAt}
 use Rattle.btree_update.specs.Finding.{ChildFinds, GroveFinds, IsFoundBy}
 use Rattle.btree_update.proofs.WayFinds.{found_as, told_found, root_finds}
 use Rattle.btree_update.proofs.groves.Grove.ready.Goals as goal
@@ -96,7 +97,7 @@ pub returns-clause-finds : goal.returns-clause-finds
 returns-clause-finds g c = λ tells stands.
     (let pages = (g.P.Platform.history c.args.platform.now).present.readable in
     let grove = c.args.self.now in
-    let Finds = ChildFinds pages grove.order (top_least (grove.level - 1)) c.args.block (grove.level - 1) grove.blocks grove.top in
-    let left = subst (λ l. IsFoundBy (ChildFinds pages grove.order l c.args.block (grove.level - 1) grove.blocks grove.top) c.in_ok-left.left) c.least_of_root-least.ensures (c.in_ok-left.ensures.finds tells stands) in
+    let Finds = ChildFinds (FitsAt pages) grove.order (top_least (grove.level - 1)) c.args.block (grove.level - 1) grove.blocks grove.top in
+    let left = subst (λ l. IsFoundBy (ChildFinds (FitsAt pages) grove.order l c.args.block (grove.level - 1) grove.blocks grove.top) c.in_ok-left.left) c.least_of_root-least.ensures (c.in_ok-left.ensures.finds tells stands) in
     told_found (GroveFinds pages c.args.block grove) c.in_ok-left.left c.is_mapped.result c.is_mapped.ensures
     (found_as Finds (GroveFinds pages c.args.block grove) c.in_ok-left.left (λ found f. root_finds pages grove.order c.args.block (grove.level - 1) grove.blocks grove.top found c.requires.sound.shaped f) left))
