@@ -13,3 +13,4 @@ pub mod KeyLaws
 pub mod CommitLaws
 pub mod CertifyingLaws
 pub mod StepLaws
+pub mod CostLaws

@@ -71,7 +71,7 @@ commits_nothing P T L platform tape ledger session result opened array cause =
     let old = P.history platform in
     record {
       array = array;
-      goes_on = on_any result _ (opened, refl, refl);
+      goes_on = on_any result _ (opened, refl, refl, refl);
       time = λ told device contents h. during_stands old old (Some device) (Some (committed_with device contents)) (held_stands session old.present device contents h) (still old);
       discloses = record {
         keys = keeps_idle P.tells (T.drawn tape) (T.drawn tape) old old (HoldsListed session old.present) _ refl (λ told. During-start old (λ image. image ≡ old.present) refl) (λ told keys kept h. on_any result _ h);
@@ -237,6 +237,7 @@ commits_done P T L platform mid new tape tape_now ledger ledger_now session now 
         taken_open session now next (P.head new) taken (record { in_range = within.in_range; key = within.key; within = omega (arith, within.within, all.swaps.head) }) (omega (arith, r.is_open.mapped, r.ready.is.next_is.blocks)),
         ap (λ (root : Root). root.blocks) taken.root_is ∙ r.ready.is.next_is.blocks,
         taken.mapped,
+        taken.capacity,
       );
       time = λ told device contents h. commit_turns P.tells (P.history platform) (P.history mid) (P.history new) (T.drawn tape) (T.drawn tape_now) session (P.head platform) (P.head mid) prepared device contents r told (all.turns told) h;
       discloses = commit_discloses P T L platform mid new tape tape_now ledger ledger_now session prepared Was (λ keys. HoldsListed now (P.history new).present keys) all

@@ -35,6 +35,7 @@ pub record TakesUp (session : Session) (root : Root) (now : Session) : Type 0 wh
   pub mapped : now.mapped ≡ session.mapped
   pub untouched : now.is_touched ≡ false
   pub tree : IsTreeOf root now.grove
+  pub capacity : now.cache.capacity ≡ session.cache.capacity
   pub kept : All (Contains session.cache.kept) now.cache.kept
   pub forgot : LacksNodes session.grove.gone.items now.cache.kept
   pub wiped : IsBlank now.buffers

@@ -54,7 +54,7 @@ IsCommitCause P T platform platform_now tape tape_now Failed Undrawn Unput commi
 pub record Commits {S R W : Type 0} (P : PlatformGhosts S) (T : TapeGhosts R) (L : SinkGhosts W) (platform platform_now : S) (tape tape_now : R) (ledger ledger_now : W) (session now : Session) (result : Result CommitReply CommitFault) : Type 0 where
   pub array : P.tells → (device : Device) (contents : Blocks) → Holds session (P.history platform).present device contents
       → IfOk result (λ reply. Holds now (P.history platform_now).present (device_after reply device contents) contents)
-  pub goes_on : OnOk result (IsOpen now (P.head platform_now) × (blocks_of now ≡ blocks_of session) × (now.mapped ≡ session.mapped))
+  pub goes_on : OnOk result (IsOpen now (P.head platform_now) × (blocks_of now ≡ blocks_of session) × (now.mapped ≡ session.mapped) × (now.cache.capacity ≡ session.cache.capacity))
   -- at each moment a loss of power leaves the device, until one from which on it leaves the one with the session's array
   pub time : P.tells → (device : Device) (contents : Blocks) → Holds session (P.history platform).present device contents
       → Turns (P.history platform) (P.history platform_now) (LeavesOnly (λ left. Stands left (Some device)))

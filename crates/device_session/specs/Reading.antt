@@ -1,13 +1,16 @@
 -- What a session reads, on any pages, forged ones too.
-use Rattle.std.specs.Prelude.{◌≡◌, ◌⊎◌, ℕ, List, Option, None, Some, Result, Ok, Err, replicate}
+use Rattle.std.specs.Prelude.{◌≡◌, ◌⊎◌, ◌≤◌, ◌+◌, ℕ, List, Option, None, Some, Result, Ok, Err, OnOk, replicate}
 use Rattle.sdbt_base.specs.Arrays.{Blocks, content_of}
+use Rattle.platform.specs.declared.platforms.Platform.{Ghosts}
 use Rattle.node_codec.specs.declared.body.Entry.{Entry}
 use Rattle.node_codec.specs.Record.{DataRecord}
 use Rattle.page_store.specs.Places.{FitsAt, NothingFits, block_want}
 use Rattle.btree_update.specs.declared.groves.Grove.{Grove}
-use Rattle.btree_update.specs.Finding.{GroveFinds, GroveStops}
+use Rattle.btree_update.specs.Finding.{GroveFinds, GroveStops, KeepsWay}
 use Rattle.device_session.specs.declared.refusals.ReadRefusal.{ReadRefusal}
 use Rattle.device_session.specs.declared.refusals.ReadRefusal.TheVariants as refusals
+use Rattle.device_session.specs.Open.{blocks_of}
+use Rattle.device_session.specs.Sessions.{Session}
 
 -- a block has this content: without an entry zeros, and else that of its data record, which the page at the entry is under its key
 abbrev pub ReadsAs : List (List ℕ) → ℕ → Option Entry → List ℕ → Type 0
@@ -25,6 +28,15 @@ abbrev pub IsFirstMisfit : List (List ℕ) → Grove → ℕ → ℕ → Type 0
 IsFirstMisfit pages grove block addr =
     GroveStops pages block addr grove
     ⊎ ((entry : Entry) × GroveFinds pages block grove (Some entry) × (addr ≡ entry.addr) × NothingFits pages (block_want entry.addr block) entry.key)
+
+-- what a read costs: one page for each level of the tree and one for the block at most, and none where the device has no such block; one alone where the cache
+-- keeps the way to the block, as it does after a read that was done, where it has room for a node of each level. The room stays
+pub record ReadsFew {S : Type 0} (P : Ghosts S) (block : ℕ) (platform after : S) (session now : Session) (result : Result (Unit {0}) ReadRefusal) : Type 0 where
+  pub most : P.tells → P.reads after ≤ P.reads platform + (session.grove.level + 1)
+  pub none : P.tells → blocks_of session ≤ block → P.reads after ≡ P.reads platform
+  pub warm : P.tells → KeepsWay session.cache.kept block session.grove → P.reads after ≤ P.reads platform + 1
+  pub fills : P.tells → OnOk result (now.grove.level ≤ now.cache.capacity → KeepsWay now.cache.kept block now.grove)
+  pub capacity : now.cache.capacity ≡ session.cache.capacity
 
 -- what was read of an array: the content of the block; a record that doesn't fit is never met
 abbrev pub ReadsArray : Blocks → ℕ → List ℕ → Result (Unit {0}) ReadRefusal → Type 0

@@ -94,6 +94,7 @@ impl Session {
 
 /// Leaves no node in a cache that is kept for one of these addresses.
 fn forget(cache: &mut NodeCache, gone: &[u64])
+    ensures capacity { cache.new.capacity ≡ cache.old.capacity }
     ensures kept { All (Contains cache.old.kept) cache.new.kept }
     ensures forgot { LacksNodes gone.now cache.new.kept }
 {

@@ -18,12 +18,13 @@ impl Session {
     ghost use Rattle.device_session.specs.Open.{IsOpen, blocks_of, root_of};
     ghost use Rattle.device_session.specs.Holds.{Holds};
     ghost use Rattle.device_session.specs.Damage.{Follows};
-    ghost use Rattle.device_session.specs.Reading.{ReadsArray, FindsContent, IsFirstMisfit};
+    ghost use Rattle.device_session.specs.Reading.{ReadsArray, FindsContent, IsFirstMisfit, ReadsFew};
 
     /// Puts the content of a block into the 4,096 bytes of `out`: zeros where it is not mapped.
     ///
-    /// It allocates nothing, and reads one page for each level and one for the block at most. `Range`
-    /// comes exactly where the device has no such block.
+    /// It allocates nothing, and reads one page for each level and one for the block at most; one alone where the cache keeps the
+    /// nodes on the way to the block, as it does after a read of it, where it has room for one of each level. `Range` comes exactly where the
+    /// device has no such block, and nothing is read then.
     #[tactic(auto, using(crate::proofs::SessionLaws::walk_looks, platform::proofs::CallLaws::looks_start, platform::proofs::CallLaws::looks_call, platform::proofs::CallLaws::looks_then))]
     pub fn read<P: Platform>(
         &mut self,
@@ -48,7 +49,7 @@ impl Session {
         ensures open { IsOpen self.new (P.head platform.new) }
         ensures same { (self.new.root ≡ self.old.root) × (self.new.mapped ≡ self.old.mapped) × (self.new.is_touched ≡ self.old.is_touched) × (self.new.grove ≡ self.old.grove) }
         ensures looks { Looks P.Platform platform.old platform.new }
-        ensures reads { P.tells → P.reads platform.new ≤ P.reads platform.old + (self.old.grove.level + 1) }
+        ensures reads { ReadsFew P.Platform block platform.old platform.new self.old self.new result }
         ensures cause { IsReadCause block (blocks_of self.old) (Rose (P.faults platform.old) (P.faults platform.new)) result }
     {
         if block >= self.root.blocks {

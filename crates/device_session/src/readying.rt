@@ -30,7 +30,8 @@ impl Session {
         requires open { IsOpen self.old (P.head platform.old) }
         requires to { block < blocks_of self.old }
         ensures open { IsOpen self.new (P.head platform.new) }
-        ensures same { (self.new.root ≡ self.old.root) × (self.new.mapped ≡ self.old.mapped) × (self.new.is_touched ≡ self.old.is_touched) × KeepsTree self.old.grove self.new.grove }
+        ensures same { (self.new.root ≡ self.old.root) × (self.new.mapped ≡ self.old.mapped) × (self.new.is_touched ≡ self.old.is_touched) × KeepsTree self.old.grove self.new.grove
+            × (self.new.cache.capacity ≡ self.old.cache.capacity) }
         ensures holds { P.tells → (device : Device) (contents : Blocks) → Holds self.old (P.history platform.old).present device contents
             → Holds self.new (P.history platform.new).present device contents × ((addr : ℕ) → ¬ (IsErrOf result (ReadyRefusal.BadRecord addr))) }
         ensures listed { P.tells → (keys : List (List ℕ)) → HoldsListed self.old (P.history platform.old).present keys

@@ -5,6 +5,7 @@ ghost use Rattle.platform.specs.Calls.{Looks};
 ghost use Rattle.root_codec.specs.RootRecord.{root_bytes};
 ghost use Rattle.page_store.specs.Buffer.{IsBlank};
 ghost use Rattle.page_store.specs.Stands.{Stands};
+ghost use Rattle.node_cache.specs.Kept.{cached};
 ghost use Rattle.device_session.specs.Causes.{IsMountCause};
 
 use crate::refusals::MountRefusal;
@@ -72,6 +73,7 @@ impl Session {
         ensures holds { P.tells → (device : Device) → Stands (P.history platform.old).present (Some device)
             → IfOk result (λ session. Holds session (P.history platform.new).present device device.contents) }
         ensures follows { P.tells → IfOk result (λ session. Follows session (P.history platform.new).present) }
+        ensures empty { IfOk result (λ session. session.cache ≡ cached cache []) }
         ensures found { P.tells → IfOk result (λ session. (P.history platform.old).present.cell ≡ Some (root_bytes session.root)) }
         ensures refused { P.tells → IfErr result (λ refusal. IsMountCause (P.history platform.old).present.cell (P.head platform.old) refusal) }
         ensures looks { Looks P.Platform platform.old platform.new }

@@ -36,7 +36,7 @@ impl Session {
         ensures counter { P.tells → StandsOver (P.history platform.old).present.readable self.old.cache → IsOk result
             → IsFound false (P.history platform.old).present.readable self.old block ⊎ (1 ≤ self.old.mapped) }
         ensures open { IsOpen self.new (P.head platform.new) }
-        ensures same { (self.new.root ≡ self.old.root) × OnErr result (is_touched self.new ≡ is_touched self.old) }
+        ensures same { (self.new.root ≡ self.old.root) × OnErr result (is_touched self.new ≡ is_touched self.old) × (self.new.cache.capacity ≡ self.old.cache.capacity) }
         ensures listed { P.tells → (keys : List (List ℕ)) → HoldsListed self.old (P.history platform.old).present keys
             → HoldsListed self.new (P.history platform.new).present keys }
         // The pages that the session wrote are those before, also where their blocks are mapped no more.

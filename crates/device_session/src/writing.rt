@@ -50,7 +50,8 @@ impl Session {
         ensures counter { P.tells → StandsOver (P.history platform.old).present.readable self.old.cache → IsOk result ⊎ IsErrOf result WriteRefusal.TapeFault
             → IsFound true (P.history platform.old).present.readable self.old block ⊎ HasRoom self.old }
         ensures open { IsOpen self.new (P.head platform.new) }
-        ensures same { (self.new.root ≡ self.old.root) × OnOk result (is_touched self.new ≡ true) × OnErr result (is_touched self.new ≡ is_touched self.old) }
+        ensures same { (self.new.root ≡ self.old.root) × OnOk result (is_touched self.new ≡ true) × OnErr result (is_touched self.new ≡ is_touched self.old)
+            × (self.new.cache.capacity ≡ self.old.cache.capacity) }
         // Each moment keeps the keys that the image kept before, with the one that was drawn.
         ensures keeps { KeepsKeys P.tells (T.drawn tape.old) (T.drawn tape.new) (P.history platform.old) (P.history platform.new)
             (HoldsListed self.old (P.history platform.old).present) (HoldsListed self.new (P.history platform.new).present) }
@@ -113,7 +114,8 @@ impl Session {
         ensures follows { P.tells → Follows self.old (P.history platform.old).present
             → IsReadyFor (P.history platform.old).present.readable block self.old.grove is_mapped → Follows self.new (P.history platform.new).present }
         ensures open { IsOpen self.new (P.head platform.new) }
-        ensures same { (self.new.root ≡ self.old.root) × OnOk result (is_touched self.new ≡ true) × OnErr result (is_touched self.new ≡ is_touched self.old) }
+        ensures same { (self.new.root ≡ self.old.root) × OnOk result (is_touched self.new ≡ true) × OnErr result (is_touched self.new ≡ is_touched self.old)
+            × (self.new.cache.capacity ≡ self.old.cache.capacity) }
         ensures keeps { KeepsKeys P.tells (T.drawn tape.old) (T.drawn tape.new) (P.history platform.old) (P.history platform.new)
             (λ keys. HoldsListed self.old (P.history platform.old).present keys × IsReadyFor (P.history platform.old).present.readable block self.old.grove is_mapped)
             (HoldsListed self.new (P.history platform.new).present) }

@@ -11,6 +11,7 @@ use Rattle.btree_update.specs.Finding.{GroveFinds, GroveStops}
 use Rattle.device_session.specs.Sessions.{Session}
 use Rattle.device_session.specs.Holds.{Holds}
 use Rattle.device_session.proofs.ReadLaws.{IsArray, held_array, holds_looked, content_none, entry_read, entry_fits}
+use Rattle.device_session.proofs.CostLaws.{few_none, few_found}
 use Rattle.device_session.specs.Damage.{Follows}
 use Rattle.device_session.proofs.DamageLaws.{follows_looked, misfit_wrong}
 use Rattle.device_session.specs.contracts.session.Session.{the_view}
@@ -152,3 +153,38 @@ returns-in-Err-BadRecord-read_block-clause-damaged g c = λ told f addr is.
     let nothing = subst (λ (i : Image). NothingFits i.readable (block_want c.in-Some.entry.addr c.args.block) c.in-Some.entry.key) (c.find.ensures.looks.image told) (c.read_block.ensures.nothing_fits told c.in-Err-BadRecord-read_block.field-0-0 (cc)) in
     misfit_wrong c.args.self.now (g.P.Platform.history c.args.platform.now).present c.args.block addr (g.P.Platform.head c.args.platform.now) c.requires.open f
     (inr (c.in-Some.entry, found g (goal.at.returns-in-Err-BadRecord-read_block-clause-damaged g c).In-Some told f.cached, named, nothing))
+
+-- ---- what it costs
+
+pub returns-then-block-self-clause-reads : goal.returns-then-block-self-clause-reads
+returns-then-block-self-clause-reads g c = few_none g.P.Platform c.args.block c.args.platform.now c.args.self.now _ tt
+
+pub returns-in-Err-BadRecord-clause-reads : goal.returns-in-Err-BadRecord-clause-reads
+returns-in-Err-BadRecord-clause-reads g c =
+    few_found g.P.Platform c.args.block c.args.platform.now c.find.new.platform _ c.args.self.now (the_view c.self.inside) c.find.new.cache c.find.new.buf c.find.result _ c.self.view_is c.if-block-self.false c.find.ensures.looks c.find.ensures.uses
+    (λ told. omega arith) (λ told. tt)
+
+pub returns-in-Err-PlatformFault-clause-reads : goal.returns-in-Err-PlatformFault-clause-reads
+returns-in-Err-PlatformFault-clause-reads g c =
+    few_found g.P.Platform c.args.block c.args.platform.now c.find.new.platform _ c.args.self.now (the_view c.self.inside) c.find.new.cache c.find.new.buf c.find.result _ c.self.view_is c.if-block-self.false c.find.ensures.looks c.find.ensures.uses
+    (λ told. omega arith) (λ told. tt)
+
+pub returns-in_default-clause-reads : goal.returns-in_default-clause-reads
+returns-in_default-clause-reads g c =
+    few_found g.P.Platform c.args.block c.args.platform.now c.find.new.platform _ c.args.self.now (the_view c.self.inside) c.find.new.cache c.find.new.buf c.find.result _ c.self.view_is c.if-block-self.false c.find.ensures.looks c.find.ensures.uses
+    (λ told. omega arith) (λ told. c.in-Ok.ensures.uses.fills told)
+
+pub returns-in-Err-BadRecord-read_block-clause-reads : goal.returns-in-Err-BadRecord-read_block-clause-reads
+returns-in-Err-BadRecord-read_block-clause-reads g c =
+    few_found g.P.Platform c.args.block c.args.platform.now c.find.new.platform _ c.args.self.now (the_view c.self.inside) c.find.new.cache c.read_block.new.buffers c.find.result _ c.self.view_is c.if-block-self.false c.find.ensures.looks c.find.ensures.uses
+    c.read_block.ensures.reads (λ told. tt)
+
+pub returns-in-Err-PlatformFault-read_block-clause-reads : goal.returns-in-Err-PlatformFault-read_block-clause-reads
+returns-in-Err-PlatformFault-read_block-clause-reads g c =
+    few_found g.P.Platform c.args.block c.args.platform.now c.find.new.platform _ c.args.self.now (the_view c.self.inside) c.find.new.cache c.read_block.new.buffers c.find.result _ c.self.view_is c.if-block-self.false c.find.ensures.looks c.find.ensures.uses
+    c.read_block.ensures.reads (λ told. tt)
+
+pub returns-clause-reads : goal.returns-clause-reads
+returns-clause-reads g c =
+    few_found g.P.Platform c.args.block c.args.platform.now c.find.new.platform _ c.args.self.now (the_view c.self.inside) c.find.new.cache c.read_block.new.buffers c.find.result _ c.self.view_is c.if-block-self.false c.find.ensures.looks c.find.ensures.uses
+    c.read_block.ensures.reads (λ told. c.in-Ok.ensures.uses.fills told)
