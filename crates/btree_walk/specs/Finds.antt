@@ -13,6 +13,7 @@ use Rattle.node_cache.specs.Kept.{Cached, touched, filled}
 use Rattle.btree_walk.specs.declared.turns.Turn.{Turn}
 use Rattle.btree_walk.specs.Ways.{IsWay, IsEntryOf, IsTurn}
 use Rattle.btree_walk.specs.Sights.{Sees, Misses, KeepsOnly}
+use Rattle.btree_walk.specs.Among.{KeepsBut}
 use Rattle.btree_walk.specs.Looks.{Looks}
 
 -- nothing that is wanted is at the place, which has this address
@@ -100,6 +101,7 @@ pub record LooksFor {S : Type 0} (P : Ghosts S) (want : Want) (key : List ℕ) (
   pub bad : P.tells → (addr : ℕ) → IsErrOf told (refusals.BadRecord addr) → StopsHere (Misses old.kept (P.history platform).present.readable) addr want key
   pub used : IfOk told (λ _. UsesPlace want.addr old new)
   pub keeps : P.tells → KeepsOnly (P.history platform).present.readable old new
+  pub but : KeepsBut want.addr key old new
   pub looks : Looks P 1 platform after
   pub cause : IsErrOf told refusals.PlatformFault → Rose (P.faults platform) (P.faults after)
 
