@@ -18,6 +18,8 @@ ghost use Rattle.std.specs.declared.alloc.Global.{Global};
 ghost use Rattle.btree_walk.specs.Looks.{Looks};
 ghost use Rattle.btree_walk.specs.Mapped.{IsMappedAs};
 ghost use Rattle.btree_walk.specs.Sights.{StandsOver};
+ghost use Rattle.btree_walk.specs.Among.{StaysAmong};
+ghost use Rattle.btree_update.specs.Among.{HaveNodes};
 ghost use Rattle.btree_twigs.specs.declared.twigs.Child.{Child};
 ghost use Rattle.btree_update.specs.declared.refusals.ReadyRefusal.{ReadyRefusal};
 ghost use Rattle.btree_update.specs.Held.{AreBelow};
@@ -145,6 +147,9 @@ impl Grove {
             (addr : ℕ) → ¬ (IsErrOf result (FetchRefusal.BadRecord addr)) }
         ensures entry { IfOk result (λ found. IfSome found (λ e. (e.low ≡ block) × (e.addr < P.head platform.old))) }
         ensures stands { P.tells → StandsOver (P.history platform.old).present.readable cache.old → StandsOver (P.history platform.old).present.readable cache.new }
+        // What is kept is of the places that lead down from the nodes that the tree names.
+        ensures among { P.tells → StandsOver (P.history platform.old).present.readable cache.old →
+            StaysAmong (HaveNodes (P.history platform.old).present.readable (places_of self.now)) cache.old cache.new }
         ensures looks { Looks P.Platform self.now.level platform.old platform.new }
         ensures cause { IsErrOf result FetchRefusal.PlatformFault → Rose (P.faults platform.old) (P.faults platform.new) }
     {
@@ -190,6 +195,9 @@ impl Grove {
         ensures sound { IsSound self.new }
         ensures tree { KeepsTree self.old self.new }
         ensures stands { P.tells → StandsOver (P.history platform.old).present.readable cache.old → StandsOver (P.history platform.old).present.readable cache.new }
+        // What is kept is of the places that lead down from the nodes that the tree names.
+        ensures among { P.tells → StandsOver (P.history platform.old).present.readable cache.old →
+            StaysAmong (HaveNodes (P.history platform.old).present.readable (places_of self.old)) cache.old cache.new }
         ensures looks { Looks P.Platform (2 * self.old.level) platform.old platform.new }
         ensures cause { IsErrOf result ReadyRefusal.PlatformFault → Rose (P.faults platform.old) (P.faults platform.new) }
     {

@@ -11,7 +11,7 @@ use Rattle.node_cache.specs.declared.slots.Kept.{Kept}
 use Rattle.node_cache.specs.Kept.{Cached, kept_node, without, touched, filled, Uses}
 use Rattle.btree_walk.specs.Ways.{GoesBelow}
 use Rattle.btree_walk.specs.Sights.{Sees, IsOfPage, StandsOver, KeepsOnly}
-use Rattle.btree_walk.specs.Among.{HasPlace, GoDown, KeepsAmong, KeepsBut}
+use Rattle.btree_walk.specs.Among.{IsAmong, GoDown, KeepsAmong, KeepsBut}
 use Rattle.btree_walk.proofs.SightLaws.{All-without}
 use Rattle.btree_walk.proofs.WayLaws.{way_entry}
 
@@ -34,11 +34,11 @@ pub but_used : (old new : Cached) (addr : ℕ) (key : List ℕ) (node : NodeBody
 but_used old new addr key node uses = subst (KeepsBut addr key old) (sym uses.1) (but_on old (kept_node addr key node))
 
 -- where that place is among these, what is kept is
-pub among_but : (places : List Place) (addr : ℕ) (key : List ℕ) (old new : Cached) → HasPlace places addr key → KeepsBut addr key old new → KeepsAmong places old → KeepsAmong places new
-among_but places addr key old new at but kept = All-weaker (WasOrAt addr key old) (λ k. HasPlace places k.addr k.key) (λ k either. by k either) new.kept but
+pub among_but : (places : List Place) (addr : ℕ) (key : List ℕ) (old new : Cached) → IsAmong places addr key → KeepsBut addr key old new → KeepsAmong places old → KeepsAmong places new
+among_but places addr key old new at but kept = All-weaker (WasOrAt addr key old) (λ k. IsAmong places k.addr k.key) (λ k either. by k either) new.kept but
   where
-    by : (k : Kept) → WasOrAt addr key old k → HasPlace places k.addr k.key
-    by k (inl before) = All-contains (λ j. HasPlace places j.addr j.key) old.kept k kept before
+    by : (k : Kept) → WasOrAt addr key old k → IsAmong places k.addr k.key
+    by k (inl before) = All-contains (λ j. IsAmong places j.addr j.key) old.kept k kept before
     by k (inr same) = record { place = at.place; here = at.here; addr_is = at.addr_is ∙ sym same.0; key_is = at.key_is ∙ sym same.1 }
 
 -- a node that is seen behind a cache that stands over the pages is what its page is
@@ -49,11 +49,11 @@ sees_record pages cache want key level entries stands (inl is) =
 
 -- where a look-up goes on it comes to one of the places that go down
 pub goes_among : (pages : List (List ℕ)) (cache : Cached) (want next : Want) (key next_key : List ℕ) (entries : List Entry) (block : ℕ) (places : List Place) → StandsOver pages cache
-    → Sees cache.kept pages want key (NodeRecord want.level entries) → GoesBelow want entries block next next_key → GoDown pages places → HasPlace places want.addr key → HasPlace places next.addr next_key
+    → Sees cache.kept pages want key (NodeRecord want.level entries) → GoesBelow want entries block next next_key → GoDown pages places → IsAmong places want.addr key → IsAmong places next.addr next_key
 goes_among pages cache want next key next_key entries block places stands sees goes down at =
     let each = down want.addr key want.level entries at (sees_record pages cache want key want.level entries stands sees) in
-    let here = way_entry (λ (e : Entry). HasPlace places e.addr e.key) entries want.high block goes.bound goes.entry each goes.way in
-    subst (λ (w : Want). HasPlace places w.addr next_key) (sym goes.next_is) (subst (HasPlace places goes.entry.addr) (sym goes.key_is) here)
+    let here = way_entry (λ (e : Entry). IsAmong places e.addr e.key) entries want.high block goes.bound goes.entry each goes.way in
+    subst (λ (w : Want). IsAmong places w.addr next_key) (sym goes.next_is) (subst (IsAmong places goes.entry.addr) (sym goes.key_is) here)
 
 -- what is kept after two such changes
 pub keeps_then : (pages : List (List ℕ)) (old mid new : Cached) → KeepsOnly pages old mid → KeepsOnly pages mid new → KeepsOnly pages old new

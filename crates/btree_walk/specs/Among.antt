@@ -7,7 +7,7 @@ use Rattle.page_store.specs.Tree.{Place}
 use Rattle.node_cache.specs.Kept.{Cached}
 
 -- one of these places has this address and this key
-pub record HasPlace (places : List Place) (addr : ℕ) (key : List ℕ) : Type 0 where
+pub record IsAmong (places : List Place) (addr : ℕ) (key : List ℕ) : Type 0 where
   pub place : Place
   pub here : Contains places place
   pub addr_is : place.addr ≡ addr
@@ -16,11 +16,11 @@ pub record HasPlace (places : List Place) (addr : ℕ) (key : List ℕ) : Type 0
 -- where one of these places is a node on the pages, each of its entries names one of them
 abbrev pub GoDown : List (List ℕ) → List Place → Type 0
 GoDown pages places =
-    (addr : ℕ) (key : List ℕ) (level : ℕ) (entries : List Entry) → HasPlace places addr key → IsRecordAt pages addr key (NodeRecord level entries) → All (λ e. HasPlace places e.addr e.key) entries
+    (addr : ℕ) (key : List ℕ) (level : ℕ) (entries : List Entry) → IsAmong places addr key → IsRecordAt pages addr key (NodeRecord level entries) → All (λ e. IsAmong places e.addr e.key) entries
 
 -- each node that is kept has the address and the key of one of these places
 abbrev pub KeepsAmong : List Place → Cached → Type 0
-KeepsAmong places cache = All (λ k. HasPlace places k.addr k.key) cache.kept
+KeepsAmong places cache = All (λ k. IsAmong places k.addr k.key) cache.kept
 
 -- each node that is kept now was kept before, or is kept for this address under this key
 abbrev pub KeepsBut : ℕ → List ℕ → Cached → Cached → Type 0

@@ -2,7 +2,7 @@ ghost use Rattle.std.specs.Prelude.{◌≡◌, ◌<◌, ◌-◌, ℕ, List, Opti
 ghost use Rattle.sdbt_base.specs.Faults.{Rose};
 ghost use Rattle.node_codec.specs.declared.body.Entry.{Entry};
 ghost use Rattle.btree_walk.specs.Sights.{KeptFits, Sees, Misses, StandsOver, KeepsOnly};
-ghost use Rattle.btree_walk.specs.Among.{HasPlace, GoDown, StaysAmong};
+ghost use Rattle.btree_walk.specs.Among.{IsAmong, GoDown, StaysAmong};
 ghost use Rattle.btree_walk.specs.Finds.{AsksFor, Finds, Stops, IsFound};
 ghost use Rattle.btree_walk.specs.Looks.{Looks};
 
@@ -45,7 +45,7 @@ pub fn find<P: Platform>(
     ensures keeps { P.tells → KeepsOnly (P.history platform.old).present.readable cache.old cache.new }
     // What is kept is of the places that lead down from the node.
     ensures among { P.tells → StandsOver (P.history platform.old).present.readable cache.old →
-        StaysAmong (λ places. GoDown (P.history platform.old).present.readable places × HasPlace places start.now.addr key.now) cache.old cache.new }
+        StaysAmong (λ places. GoDown (P.history platform.old).present.readable places × IsAmong places start.now.addr key.now) cache.old cache.new }
     ensures looks { Looks P.Platform start.now.level platform.old platform.new }
     ensures cause { IsErrOf result FetchRefusal.PlatformFault → Rose (P.faults platform.old) (P.faults platform.new) }
 {

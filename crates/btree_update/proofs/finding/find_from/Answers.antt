@@ -4,6 +4,8 @@ use Rattle.btree_walk.proofs.MappedLaws.{finds_page, stops_page}
 use Rattle.btree_update.specs.GroveTree.{want_of}
 use Rattle.btree_update.specs.Held.{stub_at}
 use Rattle.btree_update.specs.Finding.{FindsBelow, ComesToWrong, FindsFrom, StopsFrom, CanGoOn}
+use Rattle.btree_walk.specs.Among.{IsAmong}
+use Rattle.btree_update.specs.Among.{HaveSpot}
 use Rattle.btree_update.proofs.finding.find_from.Goals as goal
 
 pub returns-in-Below-clause-found : goal.returns-in-Below-clause-found
@@ -25,3 +27,9 @@ returns-in-Below-clause-bad g c = λ tells stands addr is.
     subst (StopsFrom pages c.args.order c.args.block addr) (sym c.in-Below.is)
     (subst (λ k. ComesToWrong pages c.args.block addr want k) c.from_bytes-key.ensures
     (stops_page pages c.args.cache.now c.args.order (c.in-Below.level - 1) c.args.block addr want c.from_bytes-key.result small stands (c.find.ensures.bad tells addr is))))
+
+pub returns-in-Below-clause-among : goal.returns-in-Below-clause-among
+returns-in-Below-clause-among g c = λ tells stands places such kept.
+    (let pages = (g.P.Platform.history c.args.platform.now).present.readable in
+    let has = subst (λ s. HaveSpot pages s places) c.in-Below.is such in
+    c.find.ensures.among tells stands places (has.0, subst (IsAmong places c.in-Below.addr) (sym c.from_bytes-key.ensures) has.1) kept)
