@@ -66,6 +66,7 @@ impl Grove {
         ensures size { (result.order ≡ root.now.order) × (result.blocks ≡ root.now.blocks) × (result.head ≡ root.now.head) × (result.level ≡ root.now.level) }
         ensures top { result.top ≡ Kept 0 root.now.addr root.now.key }
         ensures lists { (result.gone.items ≡ []) × (result.never.items ≡ []) }
+        ensures none_held { (result.held.items ≡ []) × (result.beside.items ≡ []) × (result.spares.items ≡ []) }
         ensures levels { (pages : List (List ℕ)) (parts : Parts) → Tree pages root.now parts → (levels : ℕ → List Node) × HasLevels pages result levels }
         ensures below { (head : ℕ) → root.now.addr < head → AreBelow head (places_of result) }
     {

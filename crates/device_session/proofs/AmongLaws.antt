@@ -31,7 +31,7 @@ use Rattle.grove_accounts.proofs.HoldingLaws.{tree_place}
 use Rattle.device_session.specs.Sessions.{Session}
 use Rattle.device_session.specs.Holds.{Holds}
 use Rattle.device_session.specs.Publishing.{HasTreeKeys}
-use Rattle.device_session.specs.Finishing.{TakesUp}
+use Rattle.device_session.specs.Finishing.{HoldsNone, TakesUp}
 
 -- ---- the places of a tree go down
 
@@ -156,8 +156,8 @@ taken_among session now root committed places news after taken left same kept =
         ]
 
 -- what a session has the keys of whose tree is its root record's
-pub held_knows : (session : Session) (image : Image) (device : Device) (contents : Blocks) → IsTreeOf session.root session.grove → Holds session image device contents → HasTreeKeys session image.readable
-held_knows session image device contents of h =
+pub held_knows : (session : Session) (image : Image) (device : Device) (contents : Blocks) → IsTreeOf session.root session.grove → HoldsNone session.grove → Holds session image device contents → HasTreeKeys session image.readable
+held_knows session image device contents of none h =
     let root = session.root in
     let here = subtree_here image.readable root.order root.level (root_want root) root.key h.committed h.stands.tree in
     record {
@@ -166,5 +166,6 @@ held_knows session image device contents of h =
       root = here;
       named = subst (All (λ (s : Stub). IsAmong h.committed.places s.addr s.key)) (sym (tree_place root session.grove of))
           (All-cons (λ (s : Stub). IsAmong h.committed.places s.addr s.key) (root_stub root) [] here (All-nil (λ (s : Stub). IsAmong h.committed.places s.addr s.key)));
+      none_held = none;
       cached = h.among;
     }

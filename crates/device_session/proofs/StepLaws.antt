@@ -275,6 +275,6 @@ commits_raised P T L platform mid new tape tape_now ledger ledger_now session no
       });
       cell = λ told. ap (λ (i : Image). i.cell) (published told) ∙ ap (λ (root : Root). Some (root_bytes root)) (sym taken.root_is);
       keys = λ told device contents h.
-          held_knows now (P.history new).present (committed_with device contents) contents (subst (λ (root : Root). IsTreeOf root now.grove) (sym taken.root_is) taken.tree)
+          held_knows now (P.history new).present (committed_with device contents) contents (subst (λ (root : Root). IsTreeOf root now.grove) (sym taken.root_is) taken.tree) taken.none_held
           (committed_holds P T L platform mid new tape tape_now ledger ledger_now session now prepared Was device contents all taken told (published told) h);
     }

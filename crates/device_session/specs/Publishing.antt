@@ -22,18 +22,20 @@ use Rattle.device_terms.specs.Certifying.{Certifies}
 use Rattle.device_terms.specs.Effects.{Discloses, AddsNothing, GrowsBy, NamesLast}
 use Rattle.device_session.specs.Certifying.{IsOfCommit}
 use Rattle.device_session.specs.Holds.{Holds}
+use Rattle.device_session.specs.Finishing.{HoldsNone}
 use Rattle.device_session.specs.Keys.{HoldsListed}
 use Rattle.device_session.specs.Open.{IsOpen, AreDataPages, blocks_of, number_of, root_of, is_touched, needed_by}
 use Rattle.device_session.specs.Replies.{device_after}
 use Rattle.device_session.specs.Sessions.{Session}
 
--- the keys that a session has in its fields, where no node is in memory, are of places of its root record's tree: the root's, those that its own tree names
--- on the medium, and those of the nodes in its cache
+-- the keys that a session has in its fields are of places of its root record's tree: the root's, those that its own tree names on the medium, and those of
+-- the nodes in its cache; it holds no other node
 pub record HasTreeKeys (session : Session) (pages : List (List ℕ)) : Type 0 where
   pub parts : Parts
   pub tree : Tree pages session.root parts
   pub root : IsAmong parts.places session.root.addr session.root.key
   pub named : All (λ s. IsAmong parts.places s.addr s.key) (places_of session.grove)
+  pub none_held : HoldsNone session.grove
   pub cached : KeepsAmong parts.places session.cache
 
 -- a commit that raised the number: as many pages were added as there were nodes in memory, and the root record in the cell names the last of them with

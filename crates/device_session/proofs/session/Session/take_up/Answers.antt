@@ -17,6 +17,7 @@ returns c = rw (← c.self.view_is) (record {
     none_gone = c.of.ensures.lists.0;
     none_never = c.of.ensures.lists.1;
   };
+  none_held = c.of.ensures.none_held;
   kept = c.forget.ensures.kept;
   forgot = subst (λ (gone : List ℕ). LacksNodes gone c.forget.new.cache.kept) c.gone.ensures c.forget.ensures.forgot;
   wiped = c.wipe.ensures;
