@@ -95,9 +95,9 @@ subtree_down pages order (suc level) want key parts small is =
     (each_weaker (λ (e : Entry). IsAmong below e.addr e.key) (λ (e : Entry). IsAmong (node ∷ below) e.addr e.key) (λ e. among_more below (node ∷ below) in' e.addr e.key) is.entries (children_among pages order level want.high is.entries is.children is.each)) in
     let in_range = recursion_from_All (λ (e : Entry). e.addr < 2 ^ 64) is.entries (All-weaker (λ (e : Entry). e.addr < want.addr) (λ (e : Entry). e.addr < 2 ^ 64) (λ e less. omega (arith, less, small)) is.entries is.fits.0.in_range.0.below) in
     let first : Down pages (node ∷ below) node = λ n es r.
-        (let same : NodeRecord (suc level) is.entries ≡ NodeRecord n es = one_record pages want.addr key _ _ small is.fits.0 r in
-        let entries_are : is.entries ≡ es = cc in
-        subst (All (λ (e : Entry). IsAmong (node ∷ below) e.addr e.key)) entries_are named) in
+    (let same : NodeRecord (suc level) is.entries ≡ NodeRecord n es = one_record pages want.addr key _ _ small is.fits.0 r in
+    let entries_are : is.entries ≡ es = cc in
+    subst (All (λ (e : Entry). IsAmong (node ∷ below) e.addr e.key)) entries_are named) in
     subst (λ (p : Parts). AllByRecursion (Down pages p.places) p.places) (sym is.has)
     (first, down_more pages below (node ∷ below) in' below (children_down pages order level want.high is.entries is.children (subtree_down pages order level) in_range is.each))
 
