@@ -10,6 +10,7 @@ pub mod GivesLaws
 pub mod RootLaws
 pub mod GroveLaws
 pub mod CacheLaws
+pub mod AmongLaws
 pub mod HoldLaws
 pub mod RootHolds
 pub mod WrongLaws

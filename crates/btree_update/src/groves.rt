@@ -18,6 +18,8 @@ ghost use Rattle.std.specs.declared.alloc.Global.{Global};
 ghost use Rattle.btree_walk.specs.Looks.{Looks};
 ghost use Rattle.btree_walk.specs.Mapped.{IsMappedAs};
 ghost use Rattle.btree_walk.specs.Sights.{StandsOver};
+ghost use Rattle.btree_walk.specs.Among.{StaysAmong};
+ghost use Rattle.btree_update.specs.Among.{HaveNodes};
 ghost use Rattle.btree_twigs.specs.declared.twigs.Child.{Child};
 ghost use Rattle.btree_update.specs.declared.refusals.ReadyRefusal.{ReadyRefusal};
 ghost use Rattle.btree_update.specs.Held.{AreBelow};
@@ -64,6 +66,7 @@ impl Grove {
         ensures size { (result.order ≡ root.now.order) × (result.blocks ≡ root.now.blocks) × (result.head ≡ root.now.head) × (result.level ≡ root.now.level) }
         ensures top { result.top ≡ Kept 0 root.now.addr root.now.key }
         ensures lists { (result.gone.items ≡ []) × (result.never.items ≡ []) }
+        ensures none_held { (result.held.items ≡ []) × (result.beside.items ≡ []) × (result.spares.items ≡ []) }
         ensures levels { (pages : List (List ℕ)) (parts : Parts) → Tree pages root.now parts → (levels : ℕ → List Node) × HasLevels pages result levels }
         ensures below { (head : ℕ) → root.now.addr < head → AreBelow head (places_of result) }
     {
@@ -146,6 +149,9 @@ impl Grove {
             (addr : ℕ) → ¬ (IsErrOf result (FetchRefusal.BadRecord addr)) }
         ensures entry { IfOk result (λ found. IfSome found (λ e. (e.low ≡ block) × (e.addr < P.head platform.old))) }
         ensures stands { P.tells → StandsOver (P.history platform.old).present.readable cache.old → StandsOver (P.history platform.old).present.readable cache.new }
+        // What is kept is of the places that lead down from the nodes that the tree names.
+        ensures among { P.tells → StandsOver (P.history platform.old).present.readable cache.old →
+            StaysAmong (HaveNodes (P.history platform.old).present.readable (places_of self.now)) cache.old cache.new }
         ensures looks { Looks P.Platform self.now.level platform.old platform.new }
         ensures cause { IsErrOf result FetchRefusal.PlatformFault → Rose (P.faults platform.old) (P.faults platform.new) }
         ensures uses { UsesCache P.Platform (λ kept. KeepsWay kept block self.now) self.now.level platform.old platform.new cache.old cache.new result }
@@ -192,6 +198,9 @@ impl Grove {
         ensures sound { IsSound self.new }
         ensures tree { KeepsTree self.old self.new }
         ensures stands { P.tells → StandsOver (P.history platform.old).present.readable cache.old → StandsOver (P.history platform.old).present.readable cache.new }
+        // What is kept is of the places that lead down from the nodes that the tree names.
+        ensures among { P.tells → StandsOver (P.history platform.old).present.readable cache.old →
+            StaysAmong (HaveNodes (P.history platform.old).present.readable (places_of self.old)) cache.old cache.new }
         ensures looks { Looks P.Platform (2 * self.old.level) platform.old platform.new }
         ensures cause { IsErrOf result ReadyRefusal.PlatformFault → Rose (P.faults platform.old) (P.faults platform.new) }
         ensures capacity { cache.new.capacity ≡ cache.old.capacity }

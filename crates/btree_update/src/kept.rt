@@ -3,6 +3,7 @@ ghost use Rattle.sdbt_base.specs.Faults.{Rose};
 ghost use Rattle.page_store.specs.Places.{NothingFits};
 ghost use Rattle.btree_walk.specs.Looks.{Looks};
 ghost use Rattle.btree_walk.specs.Sights.{StandsOver};
+ghost use Rattle.btree_walk.specs.Among.{KeepsBut};
 ghost use Rattle.btree_update.specs.declared.refusals.ReadyRefusal.{ReadyRefusal};
 ghost use Rattle.btree_update.specs.Holding.{IsNodeFor, IsNodeOf};
 
@@ -37,6 +38,7 @@ pub(crate) fn read_kept<P: Platform>(
     ensures bad { P.tells → StandsOver (P.history platform.old).present.readable cache.old → (wrong : ℕ) → IsErrOf result (ReadyRefusal.BadRecord wrong) →
         (wrong ≡ addr) × NothingFits (P.history platform.old).present.readable (record { addr = addr; level = level; low = low; high = high; least = least; most = order }) key }
     ensures stands { P.tells → StandsOver (P.history platform.old).present.readable cache.old → StandsOver (P.history platform.old).present.readable cache.new }
+    ensures but { KeepsBut addr key cache.old cache.new }
     ensures looks { Looks P.Platform 1 platform.old platform.new }
     ensures cause { IsErrOf result ReadyRefusal.PlatformFault → Rose (P.faults platform.old) (P.faults platform.new) }
     ensures capacity { cache.new.capacity ≡ cache.old.capacity }

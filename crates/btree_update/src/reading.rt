@@ -4,6 +4,7 @@ ghost use Rattle.sdbt_base.specs.Faults.{Rose};
 ghost use Rattle.page_store.specs.Places.{NothingFits};
 ghost use Rattle.btree_walk.specs.Looks.{Looks};
 ghost use Rattle.btree_walk.specs.Sights.{StandsOver};
+ghost use Rattle.btree_walk.specs.Among.{KeepsBut};
 ghost use Rattle.btree_twigs.specs.Stubs.{level_of, children_of};
 ghost use Rattle.btree_twigs.specs.declared.twigs.Twig.{out-Twig};
 ghost use Rattle.btree_update.specs.Reading.{all_kept};
@@ -38,6 +39,7 @@ pub(crate) fn read_node<P: Platform>(
     ensures bad { P.tells → StandsOver (P.history platform.old).present.readable cache.old → (addr : ℕ) → IsErrOf result (ReadyRefusal.BadRecord addr) →
         (addr ≡ want.now.addr) × NothingFits (P.history platform.old).present.readable want.now key.now }
     ensures stands { P.tells → StandsOver (P.history platform.old).present.readable cache.old → StandsOver (P.history platform.old).present.readable cache.new }
+    ensures but { KeepsBut want.now.addr key.now cache.old cache.new }
     ensures looks { Looks P.Platform 1 platform.old platform.new }
     ensures cause { IsErrOf result ReadyRefusal.PlatformFault → Rose (P.faults platform.old) (P.faults platform.new) }
     ensures capacity { cache.new.capacity ≡ cache.old.capacity }

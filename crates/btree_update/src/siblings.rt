@@ -4,10 +4,12 @@ ghost use Rattle.btree_update.specs.declared.refusals.ReadyRefusal.{ReadyRefusal
 ghost use Rattle.btree_update.specs.declared.siblings.Left.TheVariants.{Unmapped, Enough, Short};
 ghost use Rattle.btree_twigs.specs.declared.twigs.Child.{Child, out-Child};
 ghost use Rattle.btree_twigs.specs.declared.twigs.Twig.{Twig};
-ghost use Rattle.btree_twigs.specs.Stubs.{low_of as low_in, children_of};
+ghost use Rattle.btree_twigs.specs.Stubs.{low_of as low_in, children_of, stubs, stubs_below};
 ghost use Rattle.sdbt_base.specs.Faults.{Rose};
 ghost use Rattle.btree_walk.specs.Looks.{Looks};
 ghost use Rattle.btree_walk.specs.Sights.{StandsOver};
+ghost use Rattle.btree_walk.specs.Among.{StaysAmong};
+ghost use Rattle.btree_update.specs.Among.{HaveNodes};
 ghost use Rattle.btree_update.specs.Held.{AnyRead, IsReadAs};
 ghost use Rattle.btree_update.specs.Holding.{CanHoldBelow};
 ghost use Rattle.btree_update.specs.Wrong.{IsWrongBeside, IsWrongChild};
@@ -68,6 +70,8 @@ pub(crate) fn hold_beside<P: Platform>(
         (front : List Child) (c : Child) (back : List Child) → children_of twig.now ≡ front ++ c ∷ back → length front + 1 ≡ at → (addr : ℕ) → IsErrOf result (ReadyRefusal.BadRecord addr)
         → IsWrongBeside low_in (IsWrongChild (P.history platform.old).present.readable order addr level) high front c back }
     ensures stands { P.tells → StandsOver (P.history platform.old).present.readable cache.old → StandsOver (P.history platform.old).present.readable cache.new }
+    ensures among { P.tells → StandsOver (P.history platform.old).present.readable cache.old →
+        StaysAmong (HaveNodes (P.history platform.old).present.readable (stubs_below level high twig.now)) cache.old cache.new }
     ensures looks { Looks P.Platform 1 platform.old platform.new }
     ensures cause { IsErrOf result ReadyRefusal.PlatformFault → Rose (P.faults platform.old) (P.faults platform.new) }
     ensures capacity { cache.new.capacity ≡ cache.old.capacity }
@@ -167,6 +171,8 @@ fn read_help<P: Platform>(
     ensures bad { P.tells → StandsOver (P.history platform.old).present.readable cache.old → (addr : ℕ) → IsErrOf result (ReadyRefusal.BadRecord addr) →
         IsWrongChild (P.history platform.old).present.readable order addr level high child.now }
     ensures stands { P.tells → StandsOver (P.history platform.old).present.readable cache.old → StandsOver (P.history platform.old).present.readable cache.new }
+    ensures among { P.tells → StandsOver (P.history platform.old).present.readable cache.old →
+        StaysAmong (HaveNodes (P.history platform.old).present.readable (stubs level high child.now)) cache.old cache.new }
     ensures looks { Looks P.Platform 1 platform.old platform.new }
     ensures cause { IsErrOf result ReadyRefusal.PlatformFault → Rose (P.faults platform.old) (P.faults platform.new) }
     ensures capacity { cache.new.capacity ≡ cache.old.capacity }

@@ -7,6 +7,7 @@ pub mod MappedLaws
 pub mod OnLaws
 pub mod RecentLaws
 pub mod SightLaws
+pub mod AmongLaws
 pub mod TurnLaws
 pub mod WayLaws
 pub mod ShowsLaws

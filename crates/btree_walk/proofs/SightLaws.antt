@@ -11,7 +11,7 @@ use Rattle.node_cache.specs.declared.slots.Kept.{Kept}
 use Rattle.node_cache.specs.Kept.{Cached, kept_node, without, touched, filled, Uses}
 use Rattle.btree_walk.specs.Sights.{KeptFits, Sees, Misses, IsOfPage, KeepsOnly}
 
-All-without : (P : Kept → Type 0) (addr : ℕ) (ks : List Kept) → All P ks → All P (without addr ks)
+pub All-without : (P : Kept → Type 0) (addr : ℕ) (ks : List Kept) → All P ks → All P (without addr ks)
 All-without P addr [] all = all
 All-without P addr (k ∷ ks) all = elim (nat_eq k.addr addr) as (λ b. All P (cond b (without addr ks) (k ∷ without addr ks))) [
   | true ↦ All-without P addr ks (All-tail P k ks all)

@@ -14,6 +14,7 @@ use Rattle.node_cache.specs.Kept.{Cached, kept_node, touched, filled}
 use Rattle.btree_walk.specs.declared.turns.Turn.{Turn}
 use Rattle.btree_walk.specs.Ways.{IsWay, IsEntryOf, IsTurn}
 use Rattle.btree_walk.specs.Sights.{NodeFits, KeptFits, Sees, Misses, KeepsOnly}
+use Rattle.btree_walk.specs.Among.{KeepsBut}
 use Rattle.btree_walk.specs.Looks.{Looks}
 
 -- nothing that is wanted is at the place, which has this address
@@ -104,6 +105,7 @@ pub record LooksFor {S : Type 0} (P : Ghosts S) (want : Want) (key : List ℕ) (
   pub used : IfOk told (UsesNode want key block old new)
   pub capacity : new.capacity ≡ old.capacity
   pub keeps : P.tells → KeepsOnly (P.history platform).present.readable old new
+  pub but : KeepsBut want.addr key old new
   pub looks : Looks P 1 platform after
   pub cause : IsErrOf told refusals.PlatformFault → Rose (P.faults platform) (P.faults after)
 

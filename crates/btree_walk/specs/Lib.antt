@@ -1,5 +1,6 @@
 pub mod Ways
 pub mod Sights
+pub mod Among
 pub mod Finds
 pub mod Looks
 pub mod Mapped

@@ -1,7 +1,8 @@
 ghost use Rattle.std.specs.Prelude.{◌≡◌, ◌<◌, ◌-◌, ℕ, List, Option, Ok, IfOk, IfSome, IsErrOf};
 ghost use Rattle.sdbt_base.specs.Faults.{Rose};
 ghost use Rattle.node_codec.specs.declared.body.Entry.{Entry};
-ghost use Rattle.btree_walk.specs.Sights.{KeptFits, Sees, Misses, KeepsOnly};
+ghost use Rattle.btree_walk.specs.Sights.{KeptFits, Sees, Misses, StandsOver, KeepsOnly};
+ghost use Rattle.btree_walk.specs.Among.{IsAmong, GoDown, StaysAmong};
 ghost use Rattle.btree_walk.specs.Finds.{AsksFor, Finds, Stops, IsFound};
 ghost use Rattle.btree_walk.specs.Looks.{Looks};
 
@@ -43,6 +44,9 @@ pub fn find<P: Platform>(
 
     ensures keeps { P.tells → KeepsOnly (P.history platform.old).present.readable cache.old cache.new }
     ensures capacity { cache.new.capacity ≡ cache.old.capacity }
+    // What is kept is of the places that lead down from the node.
+    ensures among { P.tells → StandsOver (P.history platform.old).present.readable cache.old →
+        StaysAmong (λ places. GoDown (P.history platform.old).present.readable places × IsAmong places start.now.addr key.now) cache.old cache.new }
     ensures looks { Looks P.Platform start.now.level platform.old platform.new }
     ensures cause { IsErrOf result FetchRefusal.PlatformFault → Rose (P.faults platform.old) (P.faults platform.new) }
 {

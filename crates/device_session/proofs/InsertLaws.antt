@@ -87,6 +87,7 @@ later_holds session buffers image later device contents whole earlier cell h = r
   untouched = h.untouched;
   left = h.left;
   cached = cached_later image later session.cache whole earlier h.cached;
+  among = h.among;
 }
 
 pub later_listed : (session : Session) (buffers : Held) (image later : Image) (keys : List (List ℕ)) → IsWhole image → IsEarlier image later → later.cell ≡ image.cell → HoldsListed session image keys → HoldsListed (record session { buffers = buffers }) later keys
@@ -168,6 +169,7 @@ inserted_holds session image later device contents block addr key content is_map
       untouched = λ is. absurd cc;
       left = λ is. update_left session i.pages image.readable grove block (HasWay block) (λ opened. Puts 0 session.grove.blocks (datum block addr key) opened (places_of grove)) i.is_open i.to i.turns h.left;
       cached = cached_later image later session.cache i.whole i.arrives.earlier h.cached;
+      among = h.among;
     }
 
 -- the key that was drawn is listed with those before

@@ -1,4 +1,5 @@
 pub mod SessionLaws
+pub mod AmongLaws
 pub mod ArrayLaws
 pub mod OrderLaws
 pub mod ReadLaws

@@ -24,6 +24,8 @@ use Rattle.btree_twigs.proofs.ListLaws.{tiles_by, tiles_from}
 use Rattle.btree_twigs.proofs.Children.{tiles_child}
 use Rattle.btree_walk.specs.Mapped.{mapped_as, IsMappedAs}
 use Rattle.btree_walk.specs.Sights.{StandsOver}
+use Rattle.btree_walk.specs.Among.{StaysAmong}
+use Rattle.btree_update.specs.Among.{HaveNodes}
 use Rattle.btree_update.specs.declared.groves.Grove.{Grove}
 use Rattle.btree_update.specs.GroveTree.{Maps, MapsIn, MapsFrom, want_at, least_at, want_in}
 use Rattle.btree_update.specs.Maps.{LacksBlock}
@@ -41,12 +43,13 @@ use Rattle.device_session.specs.Holds.{Holds}
 use Rattle.btree_update.proofs.AscendLaws.{Ascends}
 use Rattle.device_session.proofs.ArrayLaws.{array_of, array_lacks, array_has}
 use Rattle.device_session.proofs.OrderLaws.{places_up}
+use Rattle.device_session.proofs.AmongLaws.{held_nodes}
 
 -- ---- only the cache and the buffers change
 
-pub holds_looked : (session : Session) (cache : Cached) (buffers : Held) (image after : Image) (device : Device) (contents : Blocks) → after ≡ image → (StandsOver image.readable session.cache → StandsOver image.readable cache) → Holds session image device contents →
-    Holds (record session { cache = cache; buffers = buffers }) after device contents
-holds_looked session cache buffers image after device contents same keeps h = subst (λ i. Holds (record session { cache = cache; buffers = buffers }) i device contents) (sym same) (record {
+pub holds_looked : (session : Session) (cache : Cached) (buffers : Held) (image after : Image) (device : Device) (contents : Blocks) → after ≡ image → (StandsOver image.readable session.cache → StandsOver image.readable cache) →
+    (StandsOver image.readable session.cache → StaysAmong (HaveNodes image.readable (places_of session.grove)) session.cache cache) → Holds session image device contents → Holds (record session { cache = cache; buffers = buffers }) after device contents
+holds_looked session cache buffers image after device contents same keeps stays h = subst (λ i. Holds (record session { cache = cache; buffers = buffers }) i device contents) (sym same) (record {
   committed = h.committed;
   stands = h.stands;
   each = h.each;
@@ -56,6 +59,7 @@ holds_looked session cache buffers image after device contents same keeps h = su
   untouched = h.untouched;
   left = h.left;
   cached = keeps h.cached;
+  among = stays h.cached h.committed.places (held_nodes session image device contents h) h.among;
 })
 
 pub cached_looked : (image after : Image) (old new : Cached) → after ≡ image → (StandsOver image.readable old → StandsOver image.readable new) → StandsOver image.readable old → StandsOver after.readable new

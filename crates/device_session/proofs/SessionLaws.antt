@@ -13,13 +13,15 @@ use Rattle.platform.proofs.CallLaws.{looks_call}
 use Rattle.root_codec.specs.declared.root.Root.{Root}
 use Rattle.root_codec.specs.RootRecord.{root_bytes}
 use Rattle.page_store.specs.Roots.{IsRootWithin}
-use Rattle.page_store.specs.Tree.{Parts, Mapped, joined}
+use Rattle.page_store.specs.Tree.{Parts, Place, Mapped, joined}
 use Rattle.page_store.specs.Stands.{StandsBy, Stands, pairs_of}
 use Rattle.page_store.specs.Kept.{IsRootOf}
 use Rattle.page_store.proofs.KeptLaws.{one_root_in, root_of_stands}
 use Rattle.btree_twigs.specs.Stubs.{Stub}
 use Rattle.btree_walk.specs.Looks.{Looks as WalkLooks}
 use Rattle.btree_walk.specs.Sights.{StandsOver, IsOfPage}
+use Rattle.btree_walk.specs.Among.{IsAmong, KeepsAmong}
+use Rattle.node_cache.specs.declared.slots.Kept.{Kept}
 use Rattle.node_cache.specs.Kept.{Cached, cached}
 use Rattle.btree_update.specs.declared.groves.Grove.{Grove}
 use Rattle.btree_update.specs.Held.{AreBelow}
@@ -71,6 +73,9 @@ fresh_open session pages now within below same fresh = record {
 pub none_cached : (pages : List (List ℕ)) (cache : Cached) → cache.kept ≡ [] → StandsOver pages cache
 none_cached pages cache none = subst (All (IsOfPage pages)) (sym none) (All-nil (IsOfPage pages))
 
+pub none_among : (places : List Place) (cache : Cached) → cache.kept ≡ [] → KeepsAmong places cache
+none_among places cache none = subst (All (λ k. IsAmong places k.addr k.key)) (sym none) (All-nil (λ (k : Kept). IsAmong places k.addr k.key))
+
 -- over an image that stands the session has the device's array
 pub fresh_holds : (session : Session) (image : Image) (device : Device) (pages : ℕ) → IsRootWithin pages session.root → IsWhole image → image.cell ≡ Some (root_bytes session.root) → IsFresh session → Stands image (Some device) → Holds session image device device.contents
 fresh_holds session image device pages within whole cell fresh (other, parts, stands) =
@@ -89,4 +94,5 @@ fresh_holds session image device pages within whole cell fresh (other, parts, st
       untouched = λ is. refl;
       left = λ is. absurd (cc (is, fresh.untouched));
       cached = none_cached image.readable session.cache fresh.none;
+      among = none_among parts.places session.cache fresh.none;
     }

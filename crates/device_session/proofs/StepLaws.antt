@@ -41,6 +41,9 @@ use Rattle.device_terms.proofs.ServedLaws.{serves_still, serves_turned, served_p
 use Rattle.device_session.proofs.CommitLaws.{IsReadied, Publishes, KeepsSealed, with_next, during_stands, held_stands, listed_sound, last_sealed, next_within, next_tree, next_stands, commit_turns, commit_keys, stopped_keys, commit_forgets}
 use Rattle.device_session.proofs.KeyLaws.{listed_fresh}
 use Rattle.device_session.proofs.CertifyingLaws.{commit_certifies}
+use Rattle.page_store.specs.Tree.{joined}
+use Rattle.shadow_commit.specs.NewTree.{place_of}
+use Rattle.device_session.proofs.AmongLaws.{taken_among, held_knows}
 use Rattle.device_session.proofs.TakingLaws.{taken_open, taken_pages, taken_holds, taken_cached}
 
 -- a commit was done
@@ -218,7 +221,8 @@ committed_holds P T L platform mid new tape tape_now ledger ledger_now session n
     let stands = next_stands P.tells first second (T.drawn tape) (T.drawn tape_now) session (P.head platform) (P.head mid) prepared device contents r told h in
     let by = subst (λ (i : Image). StandsBy i (committed_with device contents) prepared.root with.parts) (sym published) stands in
     let cached = committed_cached P T L platform mid new tape tape_now ledger ledger_now session now prepared Was all taken told published h.cached in
-    taken_holds session now prepared.root (P.history new).present (committed_with device contents) with.parts taken by (whole-now (P.history new)).synced (sym r.ready.is.next_is.mapped_is) cached
+    let among = taken_among session now prepared.root h.committed.places (joined h.each).places (map place_of r.ready.is.adds.nodes) with.parts.places taken h.tree.accounted.accounts.left with.are.places h.among in
+    taken_holds session now prepared.root (P.history new).present (committed_with device contents) with.parts taken by (whole-now (P.history new)).synced (sym r.ready.is.next_is.mapped_is) cached among
 
 pub commits_done : {S R W : Type 0} (P : PlatformGhosts S) (T : TapeGhosts R) (L : SinkGhosts W) (platform mid new : S) (tape tape_now : R) (ledger ledger_now : W) (session now : Session) (prepared : Prepared) (Was : Type 0) (number : ℕ)
     → IsCommitting P T L platform mid new tape tape_now ledger ledger_now session prepared Was → ((Was → ⊥) → ⊥) → TakesUp session prepared.root now → (P.tells → (P.history new).present ≡ with_next (P.history mid) prepared) → number ≡ prepared.root.commit
@@ -271,4 +275,7 @@ commits_raised P T L platform mid new tape tape_now ledger ledger_now session no
         head = is.next_is.head_is ∙ sym all.swaps.head;
       });
       cell = λ told. ap (λ (i : Image). i.cell) (published told) ∙ ap (λ (root : Root). Some (root_bytes root)) (sym taken.root_is);
+      keys = λ told device contents h.
+          held_knows now (P.history new).present (committed_with device contents) contents (subst (λ (root : Root). IsTreeOf root now.grove) (sym taken.root_is) taken.tree) taken.none_held
+          (committed_holds P T L platform mid new tape tape_now ledger ledger_now session now prepared Was device contents all taken told (published told) h);
     }

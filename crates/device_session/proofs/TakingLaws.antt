@@ -15,6 +15,7 @@ use Rattle.page_store.specs.Tree.{Parts, joined}
 use Rattle.page_store.specs.Stands.{StandsBy}
 use Rattle.page_store.proofs.RecordLaws.{record_stays}
 use Rattle.btree_walk.specs.Sights.{StandsOver, IsOfPage}
+use Rattle.btree_walk.specs.Among.{KeepsAmong}
 use Rattle.node_cache.specs.declared.slots.Kept.{Kept}
 use Rattle.node_cache.specs.Kept.{without}
 use Rattle.grove_accounts.specs.Holding.{IsTreeOf}
@@ -88,9 +89,9 @@ taken_pages session now root taken fits =
     }
 
 -- over an image that stands by the root record it has the device's array
-pub taken_holds : (session now : Session) (root : Root) (image : Image) (device : Device) (parts : Parts) → TakesUp session root now → StandsBy image device root parts → image.synced ≤ length image.recorded → session.mapped ≡ root.mapped → StandsOver image.readable now.cache
+pub taken_holds : (session now : Session) (root : Root) (image : Image) (device : Device) (parts : Parts) → TakesUp session root now → StandsBy image device root parts → image.synced ≤ length image.recorded → session.mapped ≡ root.mapped → StandsOver image.readable now.cache → KeepsAmong parts.places now.cache
     → Holds now image device device.contents
-taken_holds session now root image device parts taken stands synced count cached =
+taken_holds session now root image device parts taken stands synced count cached among =
     let by_now : StandsBy image device now.root parts = subst (λ (r : Root). StandsBy image device r parts) (sym taken.root_is) stands in
     let all : (joined (parts ∷ [])).mapped ≡ parts.mapped = append-nil parts.mapped in
     record {
@@ -103,4 +104,5 @@ taken_holds session now root image device parts taken stands synced count cached
       untouched = λ is. refl;
       left = λ is. absurd (cc (is, taken.untouched));
       cached = cached;
+      among = among;
     }

@@ -12,6 +12,9 @@ use Rattle.page_store.specs.Tree.{Parts, Mapped, joined}
 use Rattle.btree_twigs.specs.Stubs.{Stub, Takes, stubs}
 use Rattle.btree_twigs.specs.Top.{IsTop}
 use Rattle.btree_walk.specs.Sights.{StandsOver}
+use Rattle.btree_walk.specs.Among.{StaysAmong}
+use Rattle.btree_update.specs.Among.{HaveNodes}
+use Rattle.device_session.proofs.AmongLaws.{held_nodes}
 use Rattle.btree_update.specs.declared.groves.Grove.{Grove}
 use Rattle.btree_update.specs.Held.{AreBelow, IsReadAs}
 use Rattle.btree_update.specs.Maps.{HasBlock, LacksBlock}
@@ -72,8 +75,8 @@ ready_open session grove cache buffers pages now same k sound o = record {
 }
 
 pub ready_holds : (session : Session) (grove : Grove) (cache : Cached) (buffers : Held) (image after : Image) (device : Device) (contents : Blocks) → after ≡ image → KeepsTree session.grove grove → IsSound grove → (StandsOver image.readable session.cache → StandsOver image.readable cache) →
-    Holds session image device contents → Holds (with_ready session grove cache buffers) after device contents
-ready_holds session grove cache buffers image after device contents same k sound keeps h = subst (λ i. Holds (with_ready session grove cache buffers) i device contents) (sym same) (record {
+    (StandsOver image.readable session.cache → StaysAmong (HaveNodes image.readable (places_of session.grove)) session.cache cache) → Holds session image device contents → Holds (with_ready session grove cache buffers) after device contents
+ready_holds session grove cache buffers image after device contents same k sound keeps stays h = subst (λ i. Holds (with_ready session grove cache buffers) i device contents) (sym same) (record {
   committed = h.committed;
   stands = h.stands;
   each = h.each;
@@ -83,14 +86,15 @@ ready_holds session grove cache buffers image after device contents same k sound
   untouched = h.untouched;
   left = λ is. subst (λ ns. Contains ns session.root.addr) (sym k.gone) (h.left is);
   cached = keeps h.cached;
+  among = stays h.cached h.committed.places (held_nodes session image device contents h) h.among;
 })
 
 pub ready_listed : (session : Session) (grove : Grove) (cache : Cached) (buffers : Held) (image after : Image) (keys : List (List ℕ)) → after ≡ image → KeepsTree session.grove grove → IsSound grove → (StandsOver image.readable session.cache → StandsOver image.readable cache) →
-    HoldsListed session image keys → HoldsListed (with_ready session grove cache buffers) after keys
-ready_listed session grove cache buffers image after keys same k sound keeps h = record {
+    (StandsOver image.readable session.cache → StaysAmong (HaveNodes image.readable (places_of session.grove)) session.cache cache) → HoldsListed session image keys → HoldsListed (with_ready session grove cache buffers) after keys
+ready_listed session grove cache buffers image after keys same k sound keeps stays h = record {
   device = h.device;
   contents = h.contents;
-  holds = ready_holds session grove cache buffers image after h.device h.contents same k sound keeps h.holds;
+  holds = ready_holds session grove cache buffers image after h.device h.contents same k sound keeps stays h.holds;
   listed = λ s has own. h.listed s (subst (λ ss. Contains ss s) (places_same session.grove grove k) has) own;
 }
 
@@ -148,6 +152,7 @@ removed_holds session grove image device contents block pages may opened size to
         untouched = λ is. absurd cc;
         left = λ is. update_left session pages image.readable grove block (λ s. HasWay block s ⊎ IsTrue (may s)) (λ opened. Takes 0 session.grove.blocks block opened (places_of grove)) opened to turns h.left;
         cached = h.cached;
+        among = h.among;
       },
       has,
     )

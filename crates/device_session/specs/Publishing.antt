@@ -10,6 +10,9 @@ use Rattle.platform.specs.History.{Turns, CellStays}
 use Rattle.root_codec.specs.RootRecord.{root_bytes}
 use Rattle.page_store.specs.Buffer.{IsBlank}
 use Rattle.page_store.specs.Stands.{Stands}
+use Rattle.page_store.specs.Tree.{Parts, Tree}
+use Rattle.btree_walk.specs.Among.{IsAmong, KeepsAmong}
+use Rattle.btree_update.specs.Groves.{places_of}
 use Rattle.grove_accounts.specs.Holding.{IsTreeOf}
 use Rattle.device_session.specs.declared.refusals.CommitReply.{CommitReply}
 use Rattle.device_session.specs.declared.refusals.CommitReply.TheVariants.{Committed}
@@ -19,14 +22,25 @@ use Rattle.device_terms.specs.Certifying.{Certifies}
 use Rattle.device_terms.specs.Effects.{Discloses, AddsNothing, GrowsBy, NamesLast}
 use Rattle.device_session.specs.Certifying.{IsOfCommit}
 use Rattle.device_session.specs.Holds.{Holds}
+use Rattle.device_session.specs.Finishing.{HoldsNone}
 use Rattle.device_session.specs.Keys.{HoldsListed}
 use Rattle.device_session.specs.Open.{IsOpen, AreDataPages, blocks_of, number_of, root_of, is_touched, needed_by}
 use Rattle.device_session.specs.Replies.{device_after}
 use Rattle.device_session.specs.Sessions.{Session}
 
+-- the keys that a session has in its fields are of places of its root record's tree: the root's, those that its own tree names on the medium, and those of
+-- the nodes in its cache; it holds no other node
+pub record HasTreeKeys (session : Session) (pages : List (List ℕ)) : Type 0 where
+  pub parts : Parts
+  pub tree : Tree pages session.root parts
+  pub root : IsAmong parts.places session.root.addr session.root.key
+  pub named : All (λ s. IsAmong parts.places s.addr s.key) (places_of session.grove)
+  pub none_held : HoldsNone session.grove
+  pub cached : KeepsAmong parts.places session.cache
+
 -- a commit that raised the number: as many pages were added as there were nodes in memory, and the root record in the cell names the last of them with
 -- the key that was drawn last; the session has no data pages that weren't told of, and its tree is the new one, with no node in memory. No node that is gone
--- is left in its cache, and nothing of what was read or sealed in its buffers
+-- is left in its cache, and nothing of what was read or sealed in its buffers; and where it had an array, each key in its fields is of the new tree
 pub record HasRaised {S R : Type 0} (P : PlatformGhosts S) (T : TapeGhosts R) (platform platform_now : S) (tape tape_now : R) (session now : Session) (reply : CommitReply) : Type 0 where
   pub replied : reply ≡ Committed (number_of session + 1)
   pub number : number_of now ≡ number_of session + 1
@@ -38,6 +52,7 @@ pub record HasRaised {S R : Type 0} (P : PlatformGhosts S) (T : TapeGhosts R) (p
   pub head : P.head platform_now ≡ P.head platform + needed_by session
   pub names : NamesLast (T.drawn tape) (T.drawn tape_now) (P.head platform_now) (root_of now)
   pub cell : P.tells → (P.history platform_now).present.cell ≡ Some (root_bytes (root_of now))
+  pub keys : P.tells → (device : Device) (contents : Blocks) → Holds session (P.history platform).present device contents → HasTreeKeys now (P.history platform_now).present.readable
 
 -- a commit fails where the platform, the tape or the ledger failed, or no memory was given, for which nothing was handed over. But for a fault of the platform
 -- the cell is as it was at each moment

@@ -8,6 +8,8 @@ use Rattle.btree_update.specs.GroveTree.{want_of}
 use Rattle.btree_update.specs.Held.{stub_at}
 use Rattle.btree_update.specs.Finding.{FindsBelow, ComesToWrong, FindsFrom, StopsFrom, KeepsFrom, level_from, CanGoOn}
 use Rattle.btree_update.proofs.KeptWay.{OnOk_from}
+use Rattle.btree_walk.specs.Among.{IsAmong}
+use Rattle.btree_update.specs.Among.{HaveSpot}
 use Rattle.btree_update.proofs.finding.find_from.Goals as goal
 
 pub returns-in-Below-clause-found : goal.returns-in-Below-clause-found
@@ -63,3 +65,9 @@ returns-in-Below-clause-uses g c =
           (c.find.ensures.found tells);
       capacity = c.find.ensures.capacity;
     }
+
+pub returns-in-Below-clause-among : goal.returns-in-Below-clause-among
+returns-in-Below-clause-among g c = λ tells stands places such kept.
+    (let pages = (g.P.Platform.history c.args.platform.now).present.readable in
+    let has = subst (λ s. HaveSpot pages s places) c.in-Below.is such in
+    c.find.ensures.among tells stands places (has.0, subst (IsAmong places c.in-Below.addr) (sym c.from_bytes-key.ensures) has.1) kept)

@@ -19,6 +19,8 @@ use Rattle.btree_update.specs.Finding.{FindsBelow, ComesToWrong, RootFinds, Root
 use Rattle.btree_update.proofs.RootHolds.{root_grown, root_lt}
 use Rattle.btree_update.proofs.FoundLaws.{looks_more, up_twig, goes_on, from_level, want_is}
 use Rattle.btree_update.proofs.KeptWay.{finds_there, OnOk_from, OnOk_map}
+use Rattle.btree_walk.specs.Among.{IsAmong}
+use Rattle.btree_update.proofs.AmongLaws.{grown_among, kept_among, spot_among}
 use Rattle.btree_update.proofs.finding.find_root.Goals as goal
 
 -- where the search in the nodes in memory ends
@@ -154,3 +156,15 @@ returns-in-Kept-clause-uses g c =
           (c.find.ensures.found tells);
       capacity = c.find.ensures.capacity;
     }
+
+pub returns-in-Grown-clause-among : goal.returns-in-Grown-clause-among
+returns-in-Grown-clause-among g c = λ tells stands places such kept.
+    (let pages = (g.P.Platform.history c.args.platform.now).present.readable in
+    let spot = spot_is c.args.order c.args.level c.args.block c.args.high (g.P.Platform.head c.args.platform.now) c.in-Grown.low c.in-Grown.twig c.args.top.now c.find-spot.result c.requires.can c.in-Grown.is c.find-spot.ensures in
+    let below = grown_among places c.args.level c.args.high c.in-Grown.low c.in-Grown.twig c.args.top.now c.in-Grown.is c.requires.can.one such.1 in
+    c.find_from.ensures.among tells stands places (spot_among pages places c.args.block (stubs_below (c.args.level - 1) c.args.high c.in-Grown.twig) c.find-spot.result such.0 below spot) kept)
+
+pub returns-in-Kept-clause-among : goal.returns-in-Kept-clause-among
+returns-in-Kept-clause-among g c = λ tells stands places such kept.
+    (let at = kept_among places c.args.level c.args.high c.in-Kept.low c.in-Kept.addr c.in-Kept.key c.args.top.now c.in-Kept.is c.requires.can.one such.1 in
+    c.find.ensures.among tells stands places (such.0, subst (IsAmong places c.in-Kept.addr) (sym c.from_bytes-key.ensures) at) kept)

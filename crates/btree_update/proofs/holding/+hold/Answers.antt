@@ -30,6 +30,12 @@ use Rattle.btree_update.proofs.MappedLaws.{first_lacks, leaf_mapped, leaf_not, b
 use Rattle.page_store.specs.Places.{FitsAt}
 use Rattle.btree_update.specs.Finding.{FindsAmong, ChildFinds, IsFoundBy}
 use Rattle.btree_update.proofs.WayFinds.{found_as, beside_found, first_finds, way_finds, leaf_finds, child_finds, kept_finds}
+use Rattle.std.proofs.Common.{refl, ◌≤◌}
+use Rattle.page_store.specs.declared.wants.Want.{Want}
+use Rattle.page_store.specs.Tree.{Place}
+use Rattle.btree_walk.specs.Among.{IsAmong, GoDown}
+use Rattle.btree_update.specs.Among.{HaveNodes}
+use Rattle.btree_update.proofs.AmongLaws.{child_among, grown_among, kept_among, read_among, below_among}
 use Rattle.btree_update.proofs.holding.+hold.Goals as goal
 
 nothing_before : (block high n : ℕ) (ds cs : List Child) → ds ≡ cs → n ≡ 0 → ((high : ℕ) → block < high → block < start_by low_of (drop n ds) high) → block < high → block < start_by low_of cs high
@@ -419,3 +425,70 @@ hold_way-returns-in_ok-hold-in-Kept-clause-finds g t c = λ tells stands.
     subst (λ x. IsFoundBy (ChildFinds (FitsAt pages) c.args.order c.args.least c.args.block (c.args.level - 1) c.args.high x) c.in_ok-left-in-Kept.left) (sym c.in-Kept.is)
     (found_as (FindsAmong (FitsAt pages) c.args.order c.args.block (stubs_below (c.args.level - 1) c.args.high twig)) (ChildFinds (FitsAt pages) c.args.order c.args.least c.args.block (c.args.level - 1) c.args.high (made.Kept c.in-Kept.low c.in-Kept.addr c.in-Kept.key)) c.in_ok-left-in-Kept.left
     (λ found f. kept_finds pages c.args.order c.args.least c.args.block (c.args.level - 1) c.args.high head c.in-Kept.low c.in-Kept.addr c.in-Kept.key twig found can fits node f) below))
+
+-- the child on the way is among these places with the node
+on_way_among : (pages : List (List ℕ)) (places : List Place) (order block level high n end : ℕ) (twig : Twig) (c : Child) (w : IsOnWay order block level high (children_of twig) n c) → end ≡ start_by low_of (drop (suc w.at) (children_of twig)) high →
+    HaveNodes pages (stubs_below level high twig) places → HaveNodes pages (stubs level end c) places
+on_way_among pages places order block level high n end twig c w is such = (such.0, child_among places level high w.at end (children_of twig) c w.split is such.1)
+
+pub hold_below-returns-in_err-left-clause-among : goal.hold_below-returns-in_err-left-clause-among
+hold_below-returns-in_err-left-clause-among g t c = λ tells stands places such kept.
+    (let pages = (g.P.Platform.history c.args.platform.now).present.readable in
+    let w = on_way c.args.order c.args.block c.args.level c.args.high c.place-at.result (children_of c.args.twig.now) c.deref.result.now c.index-child.result.now c.deref.ensures.value c.if-at-eq0.false
+    c.place-at.ensures.within c.place-at.ensures.before c.place-at.ensures.after c.requires.can.to c.index-child.ensures in
+    let e = end_is c.args.high c.place-at.result w.at c.end_of-end.result c.deref-2.result.now (children_of c.args.twig.now) c.deref-2.ensures.value w.at_is c.end_of-end.ensures in
+    c.in_err-left.ensures.among tells stands places (on_way_among pages places c.args.order c.args.block c.args.level c.args.high c.place-at.result c.end_of-end.result c.args.twig.now c.index-child.result.now w e such) kept)
+
+pub hold_below-returns-clause-among : goal.hold_below-returns-clause-among
+hold_below-returns-clause-among g t c = λ tells stands places such kept.
+    (let pages = (g.P.Platform.history c.args.platform.now).present.readable in
+    let w = on_way c.args.order c.args.block c.args.level c.args.high c.place-at.result (children_of c.args.twig.now) c.deref.result.now c.index-child.result.now c.deref.ensures.value c.if-at-eq0.false
+    c.place-at.ensures.within c.place-at.ensures.before c.place-at.ensures.after c.requires.can.to c.index-child.ensures in
+    let e = end_is c.args.high c.place-at.result w.at c.end_of-end.result c.deref-2.result.now (children_of c.args.twig.now) c.deref-2.ensures.value w.at_is c.end_of-end.ensures in
+    let kept' = c.in_ok-left.ensures.among tells stands places (on_way_among pages places c.args.order c.args.block c.args.level c.args.high c.place-at.result c.end_of-end.result c.args.twig.now c.index-child.result.now w e such) kept in
+    let same : (g.P.Platform.history c.hold_way.new.platform).present.readable ≡ pages = ap (λ i. i.readable) (c.in_ok-left.ensures.looks.image tells) in
+    let stands' = subst (λ p. StandsOver p c.hold_way.new.cache) (sym same) (c.in_ok-left.ensures.stands tells stands) in
+    c.hold_beside.ensures.among tells stands' places (subst (λ p. HaveNodes p (stubs_below c.args.level c.args.high c.args.twig.now) places) (sym same) such) kept')
+
+pub hold_way-returns-in-Grown-clause-among : goal.hold_way-returns-in-Grown-clause-among
+hold_way-returns-in-Grown-clause-among g t c = λ tells stands places such kept.
+    c.hold_below.ensures.among tells stands places (such.0, grown_among places c.args.level c.args.high c.in-Grown.low c.in-Grown.twig c.args.child.now c.in-Grown.is c.requires.can.one such.1) kept
+
+pub hold_way-returns-in_err-twig-in-Kept-clause-among : goal.hold_way-returns-in_err-twig-in-Kept-clause-among
+hold_way-returns-in_err-twig-in-Kept-clause-among g t c = λ tells stands places such kept.
+    read_among places c.args.level c.args.high c.in-Kept.low c.in-Kept.addr c.in-Kept.key c.args.child.now c.args.cache.now c.read_kept.new.cache c.in-Kept.is c.requires.can.one such.1 c.in_err-twig-in-Kept.ensures.but kept
+
+-- what is below a child that was read is among these places with it
+child_read_among : (pages after : List (List ℕ)) (places : List Place) (level high low addr : ℕ) (key : List ℕ) (want : Want) (twig : Twig) (c : Child) → after ≡ pages → want.addr ≡ addr → c ≡ made.Kept low addr key → 1 ≤ level →
+    IsNodeOf pages want key twig → HaveNodes pages (stubs level high c) places → HaveNodes after (stubs_below (level - 1) high twig) places
+child_read_among pages after places level high low addr key want twig c same addr_is is one node such = (
+  subst (λ p. GoDown p places) (sym same) such.0,
+  below_among pages places (level - 1) high want key twig such.0 (subst (λ a. IsAmong places a key) (sym addr_is) (kept_among places level high low addr key c is one such.1)) node,
+)
+
+pub hold_way-returns-in_err-left-in-Kept-clause-among : goal.hold_way-returns-in_err-left-in-Kept-clause-among
+hold_way-returns-in_err-left-in-Kept-clause-among g t c = λ tells stands places such kept.
+    (let pages = (g.P.Platform.history c.args.platform.now).present.readable in
+    let same : (g.P.Platform.history c.read_kept.new.platform).present.readable ≡ pages = ap (λ i. i.readable) (c.in_ok-twig-in-Kept.ensures.looks.image tells) in
+    let stands' = subst (λ p. StandsOver p c.read_kept.new.cache) (sym same) (c.in_ok-twig-in-Kept.ensures.stands tells stands) in
+    let kept' = read_among places c.args.level c.args.high c.in-Kept.low c.in-Kept.addr c.in-Kept.key c.args.child.now c.args.cache.now c.read_kept.new.cache c.in-Kept.is c.requires.can.one such.1 c.in_ok-twig-in-Kept.ensures.but kept in
+    c.in_err-left-in-Kept.ensures.among tells stands' places
+    (child_read_among pages _ places c.args.level c.args.high c.in-Kept.low c.in-Kept.addr c.in-Kept.key _ c.in_ok-twig-in-Kept.twig c.args.child.now same refl c.in-Kept.is c.requires.can.one (c.in_ok-twig-in-Kept.ensures.reads tells stands) such) kept')
+
+pub hold_way-returns-in_err-hold-in-Kept-clause-among : goal.hold_way-returns-in_err-hold-in-Kept-clause-among
+hold_way-returns-in_err-hold-in-Kept-clause-among g t c = λ tells stands places such kept.
+    (let pages = (g.P.Platform.history c.args.platform.now).present.readable in
+    let same : (g.P.Platform.history c.read_kept.new.platform).present.readable ≡ pages = ap (λ i. i.readable) (c.in_ok-twig-in-Kept.ensures.looks.image tells) in
+    let stands' = subst (λ p. StandsOver p c.read_kept.new.cache) (sym same) (c.in_ok-twig-in-Kept.ensures.stands tells stands) in
+    let kept' = read_among places c.args.level c.args.high c.in-Kept.low c.in-Kept.addr c.in-Kept.key c.args.child.now c.args.cache.now c.read_kept.new.cache c.in-Kept.is c.requires.can.one such.1 c.in_ok-twig-in-Kept.ensures.but kept in
+    c.in_ok-left-in-Kept.ensures.among tells stands' places
+    (child_read_among pages _ places c.args.level c.args.high c.in-Kept.low c.in-Kept.addr c.in-Kept.key _ c.in_ok-twig-in-Kept.twig c.args.child.now same refl c.in-Kept.is c.requires.can.one (c.in_ok-twig-in-Kept.ensures.reads tells stands) such) kept')
+
+pub hold_way-returns-in_ok-hold-in-Kept-clause-among : goal.hold_way-returns-in_ok-hold-in-Kept-clause-among
+hold_way-returns-in_ok-hold-in-Kept-clause-among g t c = λ tells stands places such kept.
+    (let pages = (g.P.Platform.history c.args.platform.now).present.readable in
+    let same : (g.P.Platform.history c.read_kept.new.platform).present.readable ≡ pages = ap (λ i. i.readable) (c.in_ok-twig-in-Kept.ensures.looks.image tells) in
+    let stands' = subst (λ p. StandsOver p c.read_kept.new.cache) (sym same) (c.in_ok-twig-in-Kept.ensures.stands tells stands) in
+    let kept' = read_among places c.args.level c.args.high c.in-Kept.low c.in-Kept.addr c.in-Kept.key c.args.child.now c.args.cache.now c.read_kept.new.cache c.in-Kept.is c.requires.can.one such.1 c.in_ok-twig-in-Kept.ensures.but kept in
+    c.in_ok-left-in-Kept.ensures.among tells stands' places
+    (child_read_among pages _ places c.args.level c.args.high c.in-Kept.low c.in-Kept.addr c.in-Kept.key _ c.in_ok-twig-in-Kept.twig c.args.child.now same refl c.in-Kept.is c.requires.can.one (c.in_ok-twig-in-Kept.ensures.reads tells stands) such) kept')

@@ -6,6 +6,8 @@ use Rattle.btree_walk.specs.Sights.{KeepsOnly}
 use Rattle.btree_walk.proofs.SightLaws.{keeps_filled, keeps_used}
 use Rattle.btree_update.specs.declared.refusals.ReadyRefusal.TheVariants.{BadRecord}
 use Rattle.btree_update.proofs.CacheLaws.{stands_on, kept_is_page, nothing_else}
+use Rattle.btree_walk.specs.Among.{KeepsBut}
+use Rattle.btree_walk.proofs.AmongLaws.{but_same, but_filled, but_used}
 use Rattle.btree_update.proofs.reading.read_node.Goals as goal
 
 pub returns-then-not-fits-clause-bad : goal.returns-then-not-fits-clause-bad
@@ -62,3 +64,29 @@ pub returns-in-Ok-clause-capacity : goal.returns-in-Ok-clause-capacity
 returns-in-Ok-clause-capacity g c =
     let uses = subst (λ (r : Option (Bor _)). Uses c.args.cache.now c.args.want.now.addr c.args.key.now (option_copied r) c.get.follows.lender-at-none) c.in_default.is c.get.follows.holds-at-none in
     ap (λ (cache : Cached). cache.capacity) c.put.ensures.kept ∙ ap (λ (cache : Cached). cache.capacity) uses.0
+
+pub returns-then-not-fits-clause-but : goal.returns-then-not-fits-clause-but
+returns-then-not-fits-clause-but g c =
+    let uses = subst (λ (r : Option (Bor _)). Uses c.args.cache.now c.args.want.now.addr c.args.key.now (option_copied r) c.get.follows.lender-at-none) c.in-Some.is c.get.follows.holds-at-none in
+    but_used c.args.cache.now c.get.follows.lender-at-none c.args.want.now.addr c.args.key.now c.in-Some.node.now uses
+
+pub returns-in-Some-clause-but : goal.returns-in-Some-clause-but
+returns-in-Some-clause-but g c =
+    let uses = subst (λ (r : Option (Bor _)). Uses c.args.cache.now c.args.want.now.addr c.args.key.now (option_copied r) c.get.follows.lender-at-none) c.in-Some.is c.get.follows.holds-at-none in
+    but_used c.args.cache.now c.get.follows.lender-at-none c.args.want.now.addr c.args.key.now c.in-Some.node.now uses
+
+pub returns-in-Ok-clause-but : goal.returns-in-Ok-clause-but
+returns-in-Ok-clause-but g c =
+    let uses = subst (λ (r : Option (Bor _)). Uses c.args.cache.now c.args.want.now.addr c.args.key.now (option_copied r) c.get.follows.lender-at-none) c.in_default.is c.get.follows.holds-at-none in
+    let kept = kept_node c.args.want.now.addr c.args.key.now (record { level = c.args.want.now.level; entries = c.fetch_node.new.entries }) in
+    subst (KeepsBut c.args.want.now.addr c.args.key.now c.args.cache.now) (sym (c.put.ensures.kept ∙ ap (λ (old : Cached). filled old kept) uses.0)) (but_filled c.args.cache.now kept)
+
+pub returns-in-Err-BadRecord-clause-but : goal.returns-in-Err-BadRecord-clause-but
+returns-in-Err-BadRecord-clause-but g c =
+    let uses = subst (λ (r : Option (Bor _)). Uses c.args.cache.now c.args.want.now.addr c.args.key.now (option_copied r) c.get.follows.lender-at-none) c.in_default.is c.get.follows.holds-at-none in
+    subst (KeepsBut c.args.want.now.addr c.args.key.now c.args.cache.now) (sym uses.0) (but_same c.args.want.now.addr c.args.key.now c.args.cache.now)
+
+pub returns-in-Err-PlatformFault-clause-but : goal.returns-in-Err-PlatformFault-clause-but
+returns-in-Err-PlatformFault-clause-but g c =
+    let uses = subst (λ (r : Option (Bor _)). Uses c.args.cache.now c.args.want.now.addr c.args.key.now (option_copied r) c.get.follows.lender-at-none) c.in_default.is c.get.follows.holds-at-none in
+    subst (KeepsBut c.args.want.now.addr c.args.key.now c.args.cache.now) (sym uses.0) (but_same c.args.want.now.addr c.args.key.now c.args.cache.now)

@@ -15,6 +15,10 @@ use Rattle.btree_update.specs.Beside.{CanRead, loses_for, LendsFrom, HoldsBeside
 use Rattle.btree_update.proofs.OpenLaws.{below_front, below_back}
 use Rattle.btree_update.proofs.WrongLaws.{wrong_at}
 use Rattle.btree_update.proofs.BesideLaws.{loses_few, after_for, helped_at}
+use Rattle.page_store.specs.Tree.{Place}
+use Rattle.btree_twigs.specs.Stubs.{stubs_below}
+use Rattle.btree_update.specs.Among.{HaveNodes}
+use Rattle.btree_update.proofs.AmongLaws.{child_among}
 use Rattle.btree_update.proofs.siblings.hold_beside.Goals as goal
 
 end_is : (high i end : ℕ) (ds cs : List Child) → ds ≡ cs → end ≡ start_by low_of (drop (i + 1) ds) high → end ≡ start_by low_of (drop (suc i) cs) high
@@ -99,3 +103,32 @@ returns-in_ok-keep-in-Short-clause-reads g c = λ tells stands front d back spli
       left = after_for c.args.order (length cs) help.lends c.left_of-in-Short.result c.left_of-in-Short.ensures.lends c.left_of-in-Short.ensures.merges;
     } in
     subst (λ (l : Left). HoldsBeside Reads c.args.order (c.args.level - 1) (length cs) c.args.high front d back c.args.beside.now.items c.keep-in-Short.new.beside.items l c.left_of-in-Short.result) (sym c.in-Short.is) h)
+
+-- the neighbour is among these places with the node
+beside_among : (pages : List (List ℕ)) (places : List Place) (level high i end : ℕ) (twig : Twig) (ds : List Child) (d : Child) → children_of twig ≡ take i (children_of twig) ++ d ∷ drop (suc i) (children_of twig) → ds ≡ children_of twig →
+    end ≡ start_by low_of (drop (i + 1) ds) high → HaveNodes pages (stubs_below level high twig) places → HaveNodes pages (stubs level end d) places
+beside_among pages places level high i end twig ds d split same is such = (such.0, child_among places level high i end (children_of twig) d split (end_is high i end ds (children_of twig) same is) such.1)
+
+pub returns-in_err-help-in-Short-clause-among : goal.returns-in_err-help-in-Short-clause-among
+returns-in_err-help-in-Short-clause-among g c = λ tells stands places such kept.
+    (let pages = (g.P.Platform.history c.args.platform.now).present.readable in
+    let lt : c.beside_of-other.result < length (children_of c.args.twig.now) = omega (arith, c.beside_of-other.ensures.within, c.len.ensures) in
+    let split = split_here (children_of c.args.twig.now) c.beside_of-other.result c.index.result.now lt c.index.ensures in
+    c.in_err-help-in-Short.ensures.among tells stands places
+    (beside_among pages places c.args.level c.args.high c.beside_of-other.result c.end_of-end.result c.args.twig.now c.deref.result.now c.index.result.now split c.deref.ensures.value c.end_of-end.ensures such) kept)
+
+pub returns-in_err-keep-in-Short-clause-among : goal.returns-in_err-keep-in-Short-clause-among
+returns-in_err-keep-in-Short-clause-among g c = λ tells stands places such kept.
+    (let pages = (g.P.Platform.history c.args.platform.now).present.readable in
+    let lt : c.beside_of-other.result < length (children_of c.args.twig.now) = omega (arith, c.beside_of-other.ensures.within, c.len.ensures) in
+    let split = split_here (children_of c.args.twig.now) c.beside_of-other.result c.index.result.now lt c.index.ensures in
+    c.in_ok-help-in-Short.ensures.among tells stands places
+    (beside_among pages places c.args.level c.args.high c.beside_of-other.result c.end_of-end.result c.args.twig.now c.deref.result.now c.index.result.now split c.deref.ensures.value c.end_of-end.ensures such) kept)
+
+pub returns-in_ok-keep-in-Short-clause-among : goal.returns-in_ok-keep-in-Short-clause-among
+returns-in_ok-keep-in-Short-clause-among g c = λ tells stands places such kept.
+    (let pages = (g.P.Platform.history c.args.platform.now).present.readable in
+    let lt : c.beside_of-other.result < length (children_of c.args.twig.now) = omega (arith, c.beside_of-other.ensures.within, c.len.ensures) in
+    let split = split_here (children_of c.args.twig.now) c.beside_of-other.result c.index.result.now lt c.index.ensures in
+    c.in_ok-help-in-Short.ensures.among tells stands places
+    (beside_among pages places c.args.level c.args.high c.beside_of-other.result c.end_of-end.result c.args.twig.now c.deref.result.now c.index.result.now split c.deref.ensures.value c.end_of-end.ensures such) kept)

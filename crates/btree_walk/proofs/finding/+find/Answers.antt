@@ -1,15 +1,18 @@
-use Rattle.std.proofs.Common.{◌≡◌, ◌<◌, ◌+◌, ◌-◌, ◌^◌, ℕ, List, Ok, Err, ap, subst, ◌∙◌, arith, rules}
+use Rattle.std.proofs.Common.{◌≡◌, ◌<◌, ◌+◌, ◌-◌, ◌^◌, ℕ, List, Ok, Err, ap, sym, subst, ◌∙◌, arith, rules}
 use Rattle.std.proofs.lemmas.Result.{err_from_is_err_and}
 use Rattle.node_codec.specs.declared.body.Entry.{Entry}
 use Rattle.node_codec.specs.Record.{NodeRecord}
 use Rattle.page_store.specs.declared.refusals.FetchRefusal.TheVariants.{BadRecord}
 use Rattle.btree_walk.specs.declared.turns.Turn.{Turn}
 use Rattle.btree_walk.specs.Ways.{IsTurn}
-use Rattle.btree_walk.specs.Sights.{KeptFits, Sees, Misses}
-use Rattle.btree_walk.specs.Finds.{SeesTurn, UsesNode, Stops, IsFound}
+use Rattle.btree_walk.specs.Sights.{KeptFits, Sees, Misses, StandsOver, KeepsOnly}
+use Rattle.btree_walk.specs.Finds.{SeesTurn, UsesNode, Stops, IsFound, FitsTurn}
+use Rattle.btree_walk.specs.Among.{GoDown}
 use Rattle.btree_walk.proofs.FindLaws.{stops_first}
 use Rattle.btree_walk.proofs.LookLaws.{used_range, asks_next, next_below, next_less}
 use Rattle.btree_walk.proofs.OnLaws.{found_leaf, found_on, stopped_on, first_kept, same_found, kept_on, IfOk_map, entry_below}
+use Rattle.btree_walk.proofs.MappedLaws.{stands_over_still}
+use Rattle.btree_walk.proofs.AmongLaws.{among_but, goes_among, keeps_then}
 use Rattle.btree_walk.proofs.finding.+find.Goals as goal
 
 pub returns-in_err-found-clause-bad : goal.returns-in_err-found-clause-bad
@@ -89,3 +92,30 @@ returns-in-Below-clause-kept g t c = λ found path is.
     let on = kept_on start c.args.key.now c.args.block c.args.cache.now c.requires.asks.level next key c.look.new.cache found path still turned is in
     let rest = c.find.ensures.kept found on.0 on.1 in
     (rest.0 ∙ (c.in_ok-found.ensures.kept first.0 first.1).0, rest.1))
+
+pub returns-in_err-found-clause-among : goal.returns-in_err-found-clause-among
+returns-in_err-found-clause-among g t c = λ tells stands places such kept.
+    among_but places c.args.start.now.addr c.args.key.now c.args.cache.now c.look.new.cache such.1 c.in_err-found.ensures.look.but kept
+
+pub returns-in-Found-clause-among : goal.returns-in-Found-clause-among
+returns-in-Found-clause-among g t c = λ tells stands places such kept.
+    among_but places c.args.start.now.addr c.args.key.now c.args.cache.now c.look.new.cache such.1 c.in_ok-found.ensures.look.but kept
+
+pub returns-in-Below-clause-among : goal.returns-in-Below-clause-among
+returns-in-Below-clause-among g t c = λ tells stands places such kept.
+    (let start = c.args.start.now in let pages = (g.P.Platform.history c.args.platform.now).present.readable in
+    let next = c.in-Below.next in let key = c.in-Below.next_key in
+    let seen = subst (λ (turn : Turn). SeesTurn c.args.cache.now.kept pages start c.args.key.now c.args.block turn) c.in-Below.is (c.in_ok-found.ensures.look.seen tells) in
+    let same : (g.P.Platform.history c.look.new.platform).present.readable ≡ pages = ap (λ i. i.readable) (c.in_ok-found.ensures.look.looks.image tells) in
+    let stands' = subst (λ (p : List (List ℕ)). StandsOver p c.look.new.cache) (sym same) (stands_over_still pages c.args.cache.now c.look.new.cache stands (c.in_ok-found.ensures.look.keeps tells)) in
+    let down = subst (λ (p : List (List ℕ)). GoDown p places) (sym same) such.0 in
+    let at = goes_among pages c.args.cache.now start next c.args.key.now key seen.entries c.args.block places stands seen.sees seen.is such.0 such.1 in
+    let kept' = among_but places start.addr c.args.key.now c.args.cache.now c.look.new.cache such.1 c.in_ok-found.ensures.look.but kept in
+    c.find.ensures.among tells stands' places (down, at) kept')
+
+pub returns-in-Below-clause-keeps : goal.returns-in-Below-clause-keeps
+returns-in-Below-clause-keeps g t c = λ tells.
+    (let pages = (g.P.Platform.history c.args.platform.now).present.readable in
+    let same : (g.P.Platform.history c.look.new.platform).present.readable ≡ pages = ap (λ i. i.readable) (c.in_ok-found.ensures.look.looks.image tells) in
+    keeps_then pages c.args.cache.now c.look.new.cache c.find.new.cache (c.in_ok-found.ensures.look.keeps tells)
+    (subst (λ (p : List (List ℕ)). KeepsOnly p c.look.new.cache c.find.new.cache) same (c.find.ensures.keeps tells)))

@@ -6,6 +6,7 @@ use Rattle.node_cache.specs.Kept.{Cached, Uses}
 use Rattle.btree_walk.specs.Ways.{IsTurn}
 use Rattle.btree_walk.specs.Finds.{LooksFor}
 use Rattle.btree_walk.proofs.SightLaws.{keeps_used}
+use Rattle.btree_walk.proofs.AmongLaws.{but_used}
 use Rattle.btree_walk.proofs.RecentLaws.{still_used}
 use Rattle.btree_walk.proofs.LookLaws.{looks_still, same_entries, fits_too}
 use Rattle.btree_walk.proofs.looking.look.Goals as goal
@@ -24,6 +25,7 @@ returns-then-fits-clause-look g c =
       used = record { node = c.in-Some.node.now; fits = c.fits.ensures.0 c.if-fits.true; is = c.turn_at.ensures; first = inl uses.1 };
       capacity = ap (λ (c : Cached). c.capacity) uses.1;
       keeps = λ tells. keeps_used (g.P.Platform.history c.args.platform.now).present.readable c.args.cache.now c.get.follows.lender-at-none c.args.want.now.addr c.args.key.now c.in-Some.node.now uses;
+      but = but_used c.args.cache.now c.get.follows.lender-at-none c.args.want.now.addr c.args.key.now c.in-Some.node.now uses;
       looks = looks_still g.P.Platform c.args.platform.now;
       cause = search rules;
     }
@@ -40,6 +42,7 @@ returns-else-fits-clause-look g c =
       used = tt;
       capacity = ap (λ (c : Cached). c.capacity) uses.1;
       keeps = λ tells. keeps_used (g.P.Platform.history c.args.platform.now).present.readable c.args.cache.now c.get.follows.lender-at-none c.args.want.now.addr c.args.key.now c.in-Some.node.now uses;
+      but = but_used c.args.cache.now c.get.follows.lender-at-none c.args.want.now.addr c.args.key.now c.in-Some.node.now uses;
       looks = looks_still g.P.Platform c.args.platform.now;
       cause = search rules;
     }

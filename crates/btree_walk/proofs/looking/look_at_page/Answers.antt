@@ -4,7 +4,9 @@ use Rattle.page_store.specs.declared.refusals.FetchRefusal.TheVariants.{BadRecor
 use Rattle.node_codec.specs.declared.body.NodeBody.{NodeBody}
 use Rattle.node_cache.specs.Kept.{Cached, kept_node}
 use Rattle.btree_walk.specs.Sights.{KeepsOnly}
+use Rattle.btree_walk.specs.Among.{KeepsBut}
 use Rattle.btree_walk.proofs.SightLaws.{keeps_filled}
+use Rattle.btree_walk.proofs.AmongLaws.{but_same, but_filled}
 use Rattle.btree_walk.proofs.looking.look_at_page.Goals as goal
 
 pub returns-in_err-fetch_node : goal.returns-in_err-fetch_node
@@ -18,6 +20,7 @@ returns-in_err-fetch_node g c =
       used = tt;
       capacity = search rules;
       keeps = search rules;
+      but = but_same c.args.want.now.addr c.args.key.now c.args.cache.now;
       looks = search rules;
       cause = λ is. c.in_err-fetch_node.ensures.cause (cc);
     }
@@ -33,6 +36,7 @@ returns g c =
       used = record { node = node; fits = search rules; is = c.turn_at-turn.ensures; first = inr c.put.ensures.kept };
       capacity = ap (λ (c : Cached). c.capacity) c.put.ensures.kept;
       keeps = λ tells. subst (KeepsOnly pages c.args.cache.now) (sym c.put.ensures.kept) (keeps_filled pages c.args.cache.now kept (inr (c.in_ok-fetch_node.ensures.fits tells).0));
+      but = subst (KeepsBut c.args.want.now.addr c.args.key.now c.args.cache.now) (sym c.put.ensures.kept) (but_filled c.args.cache.now kept);
       looks = search rules;
       cause = search rules;
     }

@@ -66,7 +66,7 @@ takes : (g : Over) (c : After-take_up g) → TakesUp (the_view c.self.inside) c.
 takes g c =
     let t = c.take_up.ensures in
     subst (λ (root : Root). TakesUp (the_view c.self.inside) root c.take_up.new.self) c.in-Ok-publish.ensures.root
-    (record { root_is = t.root_is; mapped = t.mapped; untouched = t.untouched; tree = t.tree; capacity = t.capacity; kept = t.kept; forgot = t.forgot; wiped = t.wiped })
+    (record { root_is = t.root_is; mapped = t.mapped; untouched = t.untouched; tree = t.tree; capacity = t.capacity; none_held = t.none_held; kept = t.kept; forgot = t.forgot; wiped = t.wiped })
 
 number_is : (g : Over) (c : After-take_up g) → c.in-Ok-publish.root.commit ≡ c.in-Ok.prepared.root.commit
 number_is g c = ap (λ (root : Root). root.commit) c.in-Ok-publish.ensures.root

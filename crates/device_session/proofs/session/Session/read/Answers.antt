@@ -41,7 +41,7 @@ returns-in-Err-BadRecord-clause-follows g c = λ told f.
 
 pub returns-in-Err-PlatformFault-clause-array : goal.returns-in-Err-PlatformFault-clause-array
 returns-in-Err-PlatformFault-clause-array g c = λ told device contents h.
-    (holds_looked (the_view c.self.inside) c.find.new.cache c.find.new.buf _ _ device contents (c.find.ensures.looks.image told) (c.find.ensures.stands told) (held g (goal.at.returns-in-Err-PlatformFault-clause-array g c).After-find device contents h), tt)
+    (holds_looked (the_view c.self.inside) c.find.new.cache c.find.new.buf _ _ device contents (c.find.ensures.looks.image told) (c.find.ensures.stands told) (c.find.ensures.among told) (held g (goal.at.returns-in-Err-PlatformFault-clause-array g c).After-find device contents h), tt)
 
 pub returns-in-Err-PlatformFault-clause-follows : goal.returns-in-Err-PlatformFault-clause-follows
 returns-in-Err-PlatformFault-clause-follows g c = λ told f.
@@ -58,7 +58,7 @@ returns-in_default-clause-array g c = λ told device contents h.
     let k = held g (goal.at.returns-in_default-clause-array g c).After-find device contents h in
     let a = held_array (the_view c.self.inside) (g.P.Platform.history c.args.platform.now).present device contents k in
     let none = subst (IsMappedAs a.mapped c.args.block) c.in_default.is (c.in-Ok.ensures.maps told k.cached a.mapped a.maps_are) in (
-      holds_looked (the_view c.self.inside) c.find.new.cache c.find.new.buf _ _ device contents (c.find.ensures.looks.image told) (c.find.ensures.stands told) k,
+      holds_looked (the_view c.self.inside) c.find.new.cache c.find.new.buf _ _ device contents (c.find.ensures.looks.image told) (c.find.ensures.stands told) (c.find.ensures.among told) k,
       c.fill.ensures.after (λ y same. same) ∙ ap (λ (n : ℕ). replicate n 0) c.requires.size ∙ sym (content_none a.mapped contents c.args.block a.contents_are none),
     )
 
@@ -96,7 +96,7 @@ returns-clause-array g c = λ told device contents h.
     let some = subst (IsMappedAs a.mapped c.args.block) c.in-Some.is (c.in-Ok.ensures.maps told k.cached a.mapped a.maps_are) in
     let small = (rw c.in-Some.is at c.in-Ok.ensures.entry).1 in
     let there = subst (λ (i : Image). FitsAt i.readable (block_want c.in-Some.entry.addr c.args.block) c.in-Some.entry.key (DataRecord c.args.block c.read_block.new.out)) (c.find.ensures.looks.image told) (c.in-Ok-read_block.ensures.fits told) in (
-      holds_looked (the_view c.self.inside) c.find.new.cache c.read_block.new.buffers old.present (g.P.Platform.history c.read_block.new.platform).present device contents (c.read_block.ensures.looks.image told ∙ c.find.ensures.looks.image told) (c.find.ensures.stands told) k,
+      holds_looked (the_view c.self.inside) c.find.new.cache c.read_block.new.buffers old.present (g.P.Platform.history c.read_block.new.platform).present device contents (c.read_block.ensures.looks.image told ∙ c.find.ensures.looks.image told) (c.find.ensures.stands told) (c.find.ensures.among told) k,
       entry_read old.present (the_view c.self.inside).grove contents c.args.block c.in-Some.entry c.read_block.new.out a some (omega (arith, small, g.met.P.Platform.has_room c.args.platform.now, g.met.P.Platform.is_limited c.args.platform.now)) there.0,
     )
 
@@ -134,7 +134,7 @@ returns-in-Err-BadRecord-read_block-clause-misfit g c = λ told h addr is.
 pub returns-in-Err-PlatformFault-read_block-clause-array : goal.returns-in-Err-PlatformFault-read_block-clause-array
 returns-in-Err-PlatformFault-read_block-clause-array g c = λ told device contents h.
     let k = held g (goal.at.returns-in-Err-PlatformFault-read_block-clause-array g c).After-find device contents h in
-    (holds_looked (the_view c.self.inside) c.find.new.cache c.read_block.new.buffers _ _ device contents (c.read_block.ensures.looks.image told ∙ c.find.ensures.looks.image told) (c.find.ensures.stands told) k, tt)
+    (holds_looked (the_view c.self.inside) c.find.new.cache c.read_block.new.buffers _ _ device contents (c.read_block.ensures.looks.image told ∙ c.find.ensures.looks.image told) (c.find.ensures.stands told) (c.find.ensures.among told) k, tt)
 
 pub returns-in-Err-PlatformFault-read_block-clause-follows : goal.returns-in-Err-PlatformFault-read_block-clause-follows
 returns-in-Err-PlatformFault-read_block-clause-follows g c = λ told f.

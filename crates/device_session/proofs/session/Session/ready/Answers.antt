@@ -22,7 +22,7 @@ returns-clause-holds g c = λ told device contents h.
     let image = (g.P.Platform.history c.args.platform.now).present in
     let k = subst (λ (s : Session). Holds s image device contents) (sym c.self.view_is) h in
     let a = held_array (the_view c.self.inside) image device contents k in (
-      ready_holds (the_view c.self.inside) c.ready.new.self c.ready.new.cache c.ready.new.buf image _ device contents (c.ready.ensures.looks.image told) c.ready.ensures.tree c.ready.ensures.sound (c.ready.ensures.stands told) k,
+      ready_holds (the_view c.self.inside) c.ready.new.self c.ready.new.cache c.ready.new.buf image _ device contents (c.ready.ensures.looks.image told) c.ready.ensures.tree c.ready.ensures.sound (c.ready.ensures.stands told) (c.ready.ensures.among told) k,
       λ addr. c.ready.ensures.fits told k.cached a.mapped a.maps_are addr,
     )
 
@@ -30,7 +30,7 @@ pub returns-clause-listed : goal.returns-clause-listed
 returns-clause-listed g c = λ told keys h.
     let image = (g.P.Platform.history c.args.platform.now).present in
     let k = subst (λ (s : Session). HoldsListed s image keys) (sym c.self.view_is) h in
-    ready_listed (the_view c.self.inside) c.ready.new.self c.ready.new.cache c.ready.new.buf image _ keys (c.ready.ensures.looks.image told) c.ready.ensures.tree c.ready.ensures.sound (c.ready.ensures.stands told) k
+    ready_listed (the_view c.self.inside) c.ready.new.self c.ready.new.cache c.ready.new.buf image _ keys (c.ready.ensures.looks.image told) c.ready.ensures.tree c.ready.ensures.sound (c.ready.ensures.stands told) (c.ready.ensures.among told) k
 
 pub returns-clause-cached : goal.returns-clause-cached
 returns-clause-cached g c = λ told h.

@@ -18,6 +18,7 @@ returns c = rw (← c.self.view_is) (record {
     none_never = c.of.ensures.lists.1;
   };
   capacity = c.forget.ensures.capacity;
+  none_held = c.of.ensures.none_held;
   kept = c.forget.ensures.kept;
   forgot = subst (λ (gone : List ℕ). LacksNodes gone c.forget.new.cache.kept) c.gone.ensures c.forget.ensures.forgot;
   wiped = c.wipe.ensures;
