@@ -1,12 +1,13 @@
 -- A script as a whole.
 use Rattle.std.proofs.Common.{◌≡◌, ℕ, ◌+◌, ◌*◌, ◌≤◌, List, [], ◌∷◌, ◌++◌, length, refl, sym, ap, ◌∙◌, subst, arith, append_assoc, length-append}
 use Rattle.std.specs.Prelude.{flat_map, map}
+use Rattle.std.proofs.lemmas.Grind.{common_steps}
 use Rattle.std.specs.List.{AllByRecursion}
 use Rattle.std.proofs.lemmas.List.{length-map}
 use Rattle.text_lines.specs.Lines.{HasNone, lines_of}
 use Rattle.text_lines.proofs.LineLaws.{lines_of-feed, whole_lines_of-none, rest_of-none}
 use Rattle.script_lang.specs.Commands.{Command}
-use Rattle.script_lang.specs.Commands.{Commit, Stat, Seize}
+use Rattle.script_lang.specs.Commands.{Format, Mount, Commit, Stat, Seize}
 use Rattle.workload.specs.Lines.{text_of, line_of, SpellEach}
 use Rattle.workload.specs.Scripts.{commands_of, generated_commands}
 use Rattle.workload.proofs.LineLaws.{IsPlain, format_is_plain, mount_is_plain, commit_is_plain, stat_is_plain, seize_is_plain}
@@ -56,6 +57,12 @@ script_is_plain seed count = (
 pub length-commands_of : (seed count : ℕ) → length (commands_of seed count) ≡ count + 5
 length-commands_of seed count =
     omega (arith, length-append (generated_commands seed count) (Commit ∷ Stat ∷ Seize ∷ []), length-generated_commands seed count)
+
+-- a text to which the lines of a script were added one after another is the script
+pub script_text : (start first second third fourth fifth last : List ℕ) (seed count : ℕ) → start ≡ [] → first ≡ start ++ line_of (Format 4096 16)
+    → second ≡ first ++ line_of Mount → third ≡ second ++ flat_map line_of (generated_commands seed count) → fourth ≡ third ++ line_of Commit
+    → fifth ≡ fourth ++ line_of Stat → last ≡ fifth ++ line_of Seize → last ≡ flat_map line_of (commands_of seed count)
+script_text start first second third fourth fifth last seed count is_start is_first is_second is_third is_fourth is_fifth is_last = grind (arith, common_steps)
 
 -- what is said of a script's lines, of a text that is the script
 pub script_spells : (line : List ℕ) (seed count : ℕ) → line ≡ flat_map line_of (commands_of seed count) → SpellEach (lines_of line) (commands_of seed count)

@@ -35,7 +35,7 @@ returns-then-not-is_mapped-clause-array g c = λ told device contents h.
     let image = (g.P.Platform.history c.ready.new.platform).present in
     let k = (c.ready.ensures.holds told device contents h).0 in
     let r = c.in-Ok.ensures.ready told h.cached in
-    let off : c.in-Ok.is_mapped ≡ false = grind (arith, c.if-not-is_mapped.true) in
+    let off : c.in-Ok.is_mapped ≡ false = c.if-not-is_mapped.true in
     let u = unmapped c.ready.new.self image device contents c.args.block (λ mapped m. on_false c.in-Ok.is_mapped (LacksBlock c.args.block mapped) off (r.mapped mapped m).1) k in
     (u.0, subst (λ b. c.ready.new.self.is_touched ≡ (b || maps.contains_key contents c.args.block)) c.ready.ensures.same.2 u.1)
 
@@ -44,8 +44,8 @@ returns-then-self-eq0-clause-array g c = λ told device contents h.
     let image = (g.P.Platform.history c.ready.new.platform).present in
     let k = (c.ready.ensures.holds told device contents h).0 in
     let r = c.in-Ok.ensures.ready told h.cached in
-    let on : IsTrue c.in-Ok.is_mapped = grind (arith, c.if-not-is_mapped.false) in
-    let none : c.ready.new.self.mapped ≡ 0 = subst (λ (s : Session). s.mapped ≡ 0) c.self-2.view_is (grind (arith, c.if-self-eq0.true)) in
+    let on : IsTrue c.in-Ok.is_mapped = c.if-not-is_mapped.false in
+    let none : c.ready.new.self.mapped ≡ 0 = subst (λ (s : Session). s.mapped ≡ 0) c.self-2.view_is (omega (arith, c.if-self-eq0.true)) in
     counted c.ready.new.self image device contents c.args.block (λ mapped m. on_true c.in-Ok.is_mapped (HasBlock c.args.block mapped) on (r.mapped mapped m).0) k none
 
 -- ---- where the block was mapped
@@ -63,7 +63,7 @@ is_ready : (g : Over) (c : After-remove g) → g.P.Platform.tells → StandsOver
 is_ready g c told over = subst (λ (s : Session). IsReadyFor (g.P.Platform.history c.ready.new.platform).present.readable c.args.block s.grove c.in-Ok.is_mapped) (sym c.self-2.view_is) (c.in-Ok.ensures.ready told over)
 
 was_mapped : (g : Over) (c : After-remove g) → IsTrue c.in-Ok.is_mapped
-was_mapped g c = grind (arith, c.if-not-is_mapped.false)
+was_mapped g c = c.if-not-is_mapped.false
 
 removes : (g : Over) (c : After-remove g) → g.P.Platform.tells → StandsOver (g.P.Platform.history c.args.platform.now).present.readable c.args.self.now.cache → Removes (g.P.Platform.history c.ready.new.platform).present c.args.block any c.self-2.inside.grove c.remove.new.self
 removes g c told over =
@@ -134,8 +134,8 @@ pub returns-then-self-eq0-clause-damaged : goal.returns-then-self-eq0-clause-dam
 returns-then-self-eq0-clause-damaged g c = λ told f addr is.
     let image = (g.P.Platform.history c.ready.new.platform).present in
     let r = c.in-Ok.ensures.ready told f.cached in
-    let on : IsTrue c.in-Ok.is_mapped = grind (arith, c.if-not-is_mapped.false) in
-    let none : c.ready.new.self.mapped ≡ 0 = subst (λ (s : Session). s.mapped ≡ 0) c.self-2.view_is (grind (arith, c.if-self-eq0.true)) in
+    let on : IsTrue c.in-Ok.is_mapped = c.if-not-is_mapped.false in
+    let none : c.ready.new.self.mapped ≡ 0 = subst (λ (s : Session). s.mapped ≡ 0) c.self-2.view_is (omega (arith, c.if-self-eq0.true)) in
     let at : c.self-2.inside.root.addr ≡ addr = cc in
     let named : addr ≡ c.args.self.now.root.addr = sym at ∙ ap (λ (s : Session). s.root.addr) c.self-2.view_is ∙ ap (λ (n : Root). n.addr) c.ready.ensures.same.0 in
     let miscounted = miscounted_empty c.ready.new.self image c.args.block none (λ mapped m. on_true c.in-Ok.is_mapped (HasBlock c.args.block mapped) on (r.mapped mapped m).0) (c.ready.ensures.follows told f) in (
@@ -145,7 +145,7 @@ returns-then-self-eq0-clause-damaged g c = λ told f addr is.
 
 pub returns-then-not-is_mapped-clause-counter : goal.returns-then-not-is_mapped-clause-counter
 returns-then-not-is_mapped-clause-counter g c = λ told h ok.
-    let off : c.in-Ok.is_mapped ≡ false = grind (arith, c.if-not-is_mapped.true) in
+    let off : c.in-Ok.is_mapped ≡ false = c.if-not-is_mapped.true in
     inl (subst (λ b. IsFound b (g.P.Platform.history c.args.platform.now).present.readable c.args.self.now c.args.block) off (c.in-Ok.ensures.found told h))
 
 pub returns-clause-counter : goal.returns-clause-counter
