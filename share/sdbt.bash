@@ -16,7 +16,7 @@ _sdbt() {
         # CELL, FOLDER, and the word behind them
         case $place in
         2 | 3) _sdbt_folders "$word" ;;
-        4) COMPREPLY=($(compgen -W 'run check seize' -- "$word")) ;;
+        4) COMPREPLY=($(compgen -W 'run check seize work' -- "$word")) ;;
         esac
         return
     fi
@@ -28,7 +28,7 @@ _sdbt() {
     2)
         case $first in
         -h | --help | --version) ;;
-        *) COMPREPLY=($(compgen -W 'run check seize' -- "$word")) ;;
+        *) COMPREPLY=($(compgen -W 'run check seize work' -- "$word")) ;;
         esac
         ;;
     esac

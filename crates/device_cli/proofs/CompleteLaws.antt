@@ -24,10 +24,10 @@ use Rattle.device_cli.specs.Pages.{updates_after, TurnOn, AnswersOn}
 use Rattle.std.proofs.Common.{Ok, Err}
 use Rattle.std.specs.Prelude.{IfErr}
 use Rattle.device_cli.specs.Run.{Counts, NoneRose, HasCause, IsStatus, Took, TookUntil}
-use Rattle.device_cli.specs.Replied.{Ending}
+use Rattle.device_cli.specs.Replied.{Ending, exit_of}
 use Rattle.device_cli.specs.declared.stop.Stop.TheVariants as stops
 use Rattle.device_cli.specs.declared.stop.DeviceStop.TheVariants as device
-use Rattle.device_cli.proofs.RanLaws.{exit_of, Took-of}
+use Rattle.device_cli.proofs.RanLaws.{Took-of}
 use Rattle.device_cli.specs.Ran.{AnswersScript, AnswersFrom, IsAmple, IsComplete}
 use Rattle.device_cli.proofs.PageLaws.{answers_of}
 use Rattle.device_cli.proofs.TurnLaws.{needed_most, line_bound}
@@ -117,14 +117,14 @@ all_taken text taken left (Some rest) is gave end =
     sym (f ∙ ap (λ (r : List ℕ). taken ++ r) end ∙ append-nil taken)
 
 -- no more is taken than there is
-some_taken : (text taken : List ℕ) (left left_now : Option (List ℕ)) → left ≡ Some text → Gave left taken left_now → length taken ≤ length text
+pub some_taken : (text taken : List ℕ) (left left_now : Option (List ℕ)) → left ≡ Some text → Gave left taken left_now → length taken ≤ length text
 some_taken text taken left None is gave = absurd cc
 some_taken text taken left (Some rest) is gave =
     let e : Some text ≡ Some (taken ++ rest) = sym is ∙ gave in
     let f : text ≡ taken ++ rest = cc in
     omega (arith, ap (λ (t : List ℕ). length t) f, length-append taken rest)
 
-complete_at : (tells : Type 0) (old new : World) (left left_now written written_now : Option (List ℕ)) (text : List ℕ) (there : Option Device)
+pub complete_at : (tells : Type 0) (old new : World) (left left_now written written_now : Option (List ℕ)) (text : List ℕ) (there : Option Device)
     → (script : AnswersScript tells old new 0 left left_now written written_now) → AnswersFrom old new 0 (closed there) script.lines script.replies script.part
     → IsAmple left text old.head old.capacity → IsComplete (closed there) text written written_now
 complete_at tells old new left left_now written written_now text there script from ample =

@@ -21,3 +21,5 @@ pub mod SeizeWordLaws
 pub mod MappedLaws
 pub mod ReachingLaws
 pub mod CheckLaws
+pub mod WorkLaws
+pub mod WordLaws

@@ -12,8 +12,8 @@ use Rattle.device_cli.specs.Represents.{Stood}
 use Rattle.device_cli.proofs.RepliedLaws.{made_idle, Replied-idle, Handled-then, count-then}
 use Rattle.device_cli.proofs.PassLaws.{AreMarks-none}
 use Rattle.script_lang.specs.Replies.{Reply}
-use Rattle.device_cli.specs.Run.{TookUntil, Took, status_of}
-use Rattle.device_cli.specs.Replied.{Ending, IsBehind, IsDamageAt, IsAhead, IsSound, Answered, no_line, damage_line}
+use Rattle.device_cli.specs.Run.{TookUntil, Took}
+use Rattle.device_cli.specs.Replied.{Ending, IsBehind, IsDamageAt, IsAhead, IsSound, Answered, no_line, damage_line, exit_of}
 use Rattle.device_cli.specs.Ran.{Ran}
 use Rattle.device_cli.specs.declared.stop.Stop.{Stop}
 use Rattle.device_cli.specs.declared.stop.Stop.TheVariants as stops
@@ -128,8 +128,17 @@ Ran-cut tells old new stop left left_now a b c r (n, got) damaged = let p = r.ha
   prompt = r.prompt;
 }
 
--- a run that was refused before its first line
-pub Ran-refused : (tells : Type 0) (old new : World) (stop : DeviceStop) (left written : Option (List ℕ)) → (stop ≡ device.BadRoot) ⊎ (stop ≡ device.Platform)
+-- a stop that may come before the first line
+abbrev pub IsEarly : DeviceStop → Type 0
+IsEarly device.BadRoot = Unit {0}
+IsEarly device.Platform = Unit {0}
+IsEarly device.Memory = Unit {0}
+IsEarly device.Tape = ⊥
+IsEarly device.Ledger = ⊥
+IsEarly (device.BadRecord addr) = ⊥
+
+-- a run that was stopped before its first line
+pub Ran-refused : (tells : Type 0) (old new : World) (stop : DeviceStop) (left written : Option (List ℕ)) → IsEarly stop
     → IsLater old new → new.head ≡ old.head
     → (tells → (entry : State) → Stood old entry → Stood new entry × During old.history new.history (Leaves entry.device))
     → (tells → (entry : State) → Stood old entry → IsSound stop) → Ran tells old new no_line (Err (stops.Device stop)) left left written written
@@ -171,27 +180,21 @@ Ran-refused tells old new stop left written which later same still sound = recor
   prompt = record { before = []; last = []; parts = refl; piece = omega arith; served = omega arith };
 }
   where
-    no_damage : (s : DeviceStop) → (s ≡ device.BadRoot) ⊎ (s ≡ device.Platform) → IsDamageAt tells new.history.present [] [] (Err (stops.Device s))
+    no_damage : (s : DeviceStop) → IsEarly s → IsDamageAt tells new.history.present [] [] (Err (stops.Device s))
     no_damage device.BadRoot w = tt
     no_damage device.Platform w = tt
+    no_damage device.Memory w = tt
     no_damage device.Tape w = tt
     no_damage device.Ledger w = tt
-    no_damage device.Memory w = tt
-    no_damage (device.BadRecord addr) (inl e) = cc
-    no_damage (device.BadRecord addr) (inr e) = cc
+    no_damage (device.BadRecord addr) w = absurd w
 
-    none_ahead : (s : DeviceStop) → (s ≡ device.BadRoot) ⊎ (s ≡ device.Platform) → IsAhead (Err (stops.Device s)) []
+    none_ahead : (s : DeviceStop) → IsEarly s → IsAhead (Err (stops.Device s)) []
     none_ahead device.BadRoot w = refl
     none_ahead device.Platform w = omega arith
+    none_ahead device.Memory w = refl
     none_ahead device.Tape w = refl
     none_ahead device.Ledger w = refl
-    none_ahead device.Memory w = refl
     none_ahead (device.BadRecord addr) w = refl
-
--- the exit status
-abbrev pub exit_of : Ending → ℕ
-exit_of (Ok done) = 0
-exit_of (Err stop) = status_of stop
 
 pub Took-of : (ending : Ending) (taken : List ℕ) (left : Option (List ℕ)) → TookUntil ending taken left → Took (exit_of ending) taken left
 Took-of (Ok done) taken left t = record { most = t.most; whole = λ e. t.whole; failed = λ e. absurd (omega (arith, e)); refused = λ e. absurd (omega (arith, e)); limit = λ e. absurd (omega (arith, e)); nothing = λ e. absurd (omega (arith, e)) }
@@ -216,6 +219,10 @@ Ran-ended tells old new Risen stop ended left left_now a b c r (inr (e, risen, g
     subst (λ (s : Stop). Ran tells old new damage_line (Err s) left left_now a c) (sym e) (Ran-cut tells old new stop left left_now a b c r got damaged)
 
 -- a stop before the first line is one without damage, where the cell can be served
-pub sound_of : (stop : DeviceStop) → (stop ≡ device.BadRoot) ⊎ (stop ≡ device.Platform) → (stop ≡ device.BadRoot → ⊥) → IsSound stop
-sound_of stop (inl e) served = absurd (served e)
-sound_of stop (inr e) served = subst IsSound (sym e) tt
+pub sound_of : (stop : DeviceStop) → IsEarly stop → (stop ≡ device.BadRoot → ⊥) → IsSound stop
+sound_of device.BadRoot early served = absurd (served refl)
+sound_of device.Platform early served = tt
+sound_of device.Memory early served = tt
+sound_of device.Tape early served = tt
+sound_of device.Ledger early served = tt
+sound_of (device.BadRecord addr) early served = absurd early

@@ -16,7 +16,7 @@ use Rattle.device_cli.specs.World.{World, world}
 use Rattle.device_course.specs.States.{IsSessionOf}
 use Rattle.device_cli.specs.Represents.{StandsFor, Represents}
 use Rattle.platform.specs.Runs.{Passes}
-use Rattle.device_cli.specs.Replied.{HasMark, Ending, IsBehind, AreMany, IsDamageAt, AsksForBlock, IsWrongPage, IsFirstPart, IsAhead, EndsIn, Answered, damage_line}
+use Rattle.device_cli.specs.Replied.{HasMark, Ending, IsBehind, AreMany, IsDamageAt, AsksForBlock, IsWrongPage, IsFirstPart, IsAhead, EndsIn, Answered, damage_line, exit_of}
 use Rattle.device_cli.specs.Added.{left_by, HasAdded, IsNear}
 use Rattle.device_cli.specs.Pages.{needed_for, updates_of, accepted, AnswersOn, IfNext}
 use Rattle.device_cli.specs.World.{AreEnough}
@@ -25,7 +25,6 @@ use Rattle.device_cli.specs.Ran.{Ran, AreLines, HaveCome, AnswersFrom, AnswersSc
 use Rattle.device_cli.specs.declared.stop.Stop.TheVariants as stops
 use Rattle.device_cli.specs.declared.stop.DeviceStop.{DeviceStop}
 use Rattle.device_cli.specs.declared.stop.DeviceStop.TheVariants as device
-use Rattle.device_cli.proofs.RanLaws.{exit_of}
 use Rattle.device_cli.proofs.PassLaws.{AreMarks-none, passes_of, exits_of}
 use Rattle.device_course.specs.Course.{Made}
 use Rattle.device_course.specs.Marks.{last_mark}
@@ -365,6 +364,14 @@ answers_script tells old session history head capacity ending left left_now writ
       (answers_from old (world session history head capacity) ending (closed there) r.lines p.replies p.part
       (p.answered told (closed there) 0 (record { there = alone_on old there alone stands; served = served }) (enough_alone old.session alone)));
 }
+
+-- and with its replies
+pub answers_with : (tells : Type 0) (old : World) (session : Option Session) (history : History) (head capacity : ℕ) (ending : Ending) (left left_now written written_now : Option (List ℕ))
+    → old.session ≡ None → (r : Ran tells old (world session history head capacity) damage_line ending left left_now written written_now)
+    → (script : AnswersScript tells old (world None history head capacity) (exit_of ending) left left_now written written_now) × (script.replies ≡ r.handled.replied.replies)
+unfolding answers_script
+answers_with tells old session history head capacity ending left left_now written written_now alone r =
+    (answers_script tells old session history head capacity ending left left_now written written_now alone r, refl)
 
 -- which devices a run made, whatever session it ends with
 pub made_by : (tells : Type 0) (old : World) (session : Option Session) (history : History) (head capacity : ℕ) (ending : Ending) (left left_now written written_now : Option (List ℕ))

@@ -8,10 +8,10 @@ use Rattle.page_store.specs.Roots.{IsBadCell}
 use Rattle.seizure.specs.Report.{Begins, Seized}
 use Rattle.device_terms.specs.Served.{IsServedCell}
 use Rattle.seizure.specs.declared.opened.Opened.{Opened}
-use Rattle.device_cli.specs.Replied.{Ending, HasPut, IsSound, damage_line}
+use Rattle.device_cli.specs.Replied.{Ending, HasPut, IsSound, damage_line, exit_of}
 use Rattle.device_cli.specs.Run.{Counts, counts, NoneRose, HasCause, IsBlamedOn}
 use Rattle.device_cli.specs.Given.{HasBadRecord}
-use Rattle.device_cli.specs.Seizing.{IsReportOf, IsRefused, Seizes, status_at, opened_line}
+use Rattle.device_cli.specs.Seizing.{IsReportOf, IsRefused, Seizes, opened_line}
 use Rattle.device_cli.specs.declared.stop.DeviceStop.{DeviceStop}
 use Rattle.device_cli.specs.declared.stop.DeviceStop.TheVariants as device
 use Rattle.device_cli.specs.declared.stop.Stop.TheVariants as stops
@@ -69,7 +69,7 @@ blame_of_two p p_now o o_now t i l ending blame = record {
 -- ---- the exit status
 
 -- at 8 it is refused, and the line that says so was put
-pub at_eight : (tells : Type 0) (head : ℕ) (image : Image) (records : List (List ℕ)) (written written_now : Option (List ℕ)) (ending : Ending) → Seizes tells head image records written written_now ending → status_at ending ≡ 8
+pub at_eight : (tells : Type 0) (head : ℕ) (image : Image) (records : List (List ℕ)) (written written_now : Option (List ℕ)) (ending : Ending) → Seizes tells head image records written written_now ending → exit_of ending ≡ 8
     → (tells → IsRefused head image records) × Got written (damage_line device.BadRoot) written_now
 at_eight tells head image records written now (Ok done) h e = absurd (omega (arith, e))
 at_eight tells head image records written now (Err stops.Source) h e = absurd h
@@ -84,7 +84,7 @@ at_eight tells head image records written now (Err (stops.Device device.Memory))
 
 -- where it is refused it is 8, unless that could not be told or not be said
 pub bad_status : (tells : Type 0) (head : ℕ) (image : Image) (records : List (List ℕ)) (written written_now : Option (List ℕ)) (ending : Ending) → Seizes tells head image records written written_now ending
-    → tells → IsRefused head image records → (status_at ending ≡ 8) ⊎ (status_at ending ≡ 4) ⊎ (status_at ending ≡ 5)
+    → tells → IsRefused head image records → (exit_of ending ≡ 8) ⊎ (exit_of ending ≡ 4) ⊎ (exit_of ending ≡ 5)
 bad_status tells head image records written now (Ok done) h told bad = absurd (reported_not_refused tells head image records h.0 h.1 told bad)
 bad_status tells head image records written now (Err stops.Source) h told bad = absurd h
 bad_status tells head image records written now (Err stops.Sink) h told bad = inr (inl refl)
@@ -98,7 +98,7 @@ bad_status tells head image records written now (Err (stops.Device device.Memory
 
 -- else it is 0, unless something failed or no memory was given
 pub complete_seizure : (tells : Type 0) (head : ℕ) (image : Image) (records : List (List ℕ)) (before now : Counts) (written written_now : Option (List ℕ)) (ending : Ending) → Seizes tells head image records written written_now ending
-    → IfErr ending (HasCause before now) → tells → (IsRefused head image records → ⊥) → NoneRose before now → (status_at ending ≡ 0) ⊎ (status_at ending ≡ 11)
+    → IfErr ending (HasCause before now) → tells → (IsRefused head image records → ⊥) → NoneRose before now → (exit_of ending ≡ 0) ⊎ (exit_of ending ≡ 11)
 complete_seizure tells head image records before now written written_now (Ok done) h cause told good quiet = inl refl
 complete_seizure tells head image records before now written written_now (Err stops.Source) h cause told good quiet = absurd h
 complete_seizure tells head image records before now written written_now (Err stops.Sink) h cause told good quiet = absurd (quiet.output cause)

@@ -15,3 +15,4 @@ pub mod Reaching
 pub mod Unserved
 pub mod Added
 pub mod Parts
+pub mod Working

@@ -22,6 +22,7 @@ use Rattle.device_cli.specs.Represents.{Represents, Stood, StandsFor}
 use Rattle.device_cli.specs.Pages.{updates_of, AnswersOn, AreShort, IfNext}
 use Rattle.device_cli.specs.Seen.{SeenOn}
 use Rattle.device_cli.specs.Added.{IsNear}
+use Rattle.device_cli.specs.Run.{status_of}
 use Rattle.device_cli.specs.declared.stop.Stop.{Stop}
 use Rattle.device_cli.specs.declared.stop.Stop.TheVariants as stops
 use Rattle.device_cli.specs.declared.stop.DeviceStop.{DeviceStop}
@@ -30,6 +31,11 @@ use Rattle.device_cli.specs.declared.stop.DeviceStop.TheVariants as device
 -- how a run, or a part of one, ends
 abbrev pub Ending : Type 0
 Ending = Result (Unit {0}) Stop
+
+-- its exit status
+abbrev pub exit_of : Ending → ℕ
+exit_of (Ok done) = 0
+exit_of (Err stop) = status_of stop
 
 -- the last line of a run that met damage; nothing at other stops
 unfoldable pub damage_line : DeviceStop → List ℕ

@@ -9,8 +9,8 @@ use Rattle.seizure.specs.declared.opened.Opened.{Opened}
 use Rattle.seizure.specs.Opened.{count_of_kind}
 use Rattle.seizure.specs.Report.{Seized, IsSeizure, Begins}
 use Rattle.device_cli.specs.Given.{AreGiven, HasBadRecord}
-use Rattle.device_cli.specs.Replied.{Ending, damage_line}
-use Rattle.device_cli.specs.Run.{Counts, NoneRose, status_of}
+use Rattle.device_cli.specs.Replied.{Ending, damage_line, exit_of}
+use Rattle.device_cli.specs.Run.{Counts, NoneRose}
 use Rattle.device_cli.specs.declared.stop.DeviceStop.TheVariants as device
 use Rattle.device_cli.specs.declared.stop.Stop.TheVariants as stops
 
@@ -64,11 +64,6 @@ Seizes tells head image records written written_now (Err (stops.Device device.Me
     (tells → IsRefused head image records → ⊥) × (written_now ≡ written)
 Seizes tells head image records written written_now (Err _) = ⊥
 
--- its exit status
-abbrev pub status_at : Ending → ℕ
-status_at (Ok done) = 0
-status_at (Err stop) = status_of stop
-
 -- a seizure with the root records that these words are: no key is drawn, nothing taken, no entry put, no page added, and the image is as it was at
 -- each moment; it ends so, with this status: 8 exactly where the cell is full, and not with the root record of a root within the pages, or a
 -- word is none, unless that could not be told or not be said; and else 0, unless something failed or no memory was given
@@ -79,7 +74,7 @@ pub record Seizing {T I L : Type 0} (tells : Type 0) (records : List (List ℕ))
   pub pages : head_now ≡ head
   pub image : tells → During old new (λ image. image ≡ old.present)
   pub ending : Ending
-  pub status_is : status ≡ status_at ending
+  pub status_is : status ≡ exit_of ending
   pub seizes : Seizes tells head old.present records written written_now ending
   pub bad_root : tells → IsRefused head old.present records → (status ≡ 8) ⊎ (status ≡ 4) ⊎ (status ≡ 5)
   pub complete : tells → (IsRefused head old.present records → ⊥) → NoneRose before now → (status ≡ 0) ⊎ (status ≡ 11)

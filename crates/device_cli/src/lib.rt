@@ -6,7 +6,7 @@
 ghost use Rattle.std.specs.Prelude.{◌≡◌, ◌≤◌, ℕ, List, Option, None, ◌↔◌, ◌⊎◌, map, string_bytes};
 ghost use Rattle.sdbt_base.specs.Faults.{Rose};
 ghost use Rattle.sdbt_base.specs.Told.{Gave};
-ghost use Rattle.device_cli.specs.Words.{AreRunWords, AreCheckWords, AreSeizeWords, AreServingWords, AreWords, records_of};
+ghost use Rattle.device_cli.specs.Words.{AreRunWords, AreCheckWords, AreSeizeWords, AreServingWords, AreWorkWords, AreSomeWorkWords, AreWords, records_of};
 ghost use Rattle.device_cli.specs.Given.{HasBadRecord};
 ghost use Rattle.device_cli.specs.Checks.{Checked};
 ghost use Rattle.device_cli.specs.Seizing.{Seizing};
@@ -21,6 +21,7 @@ ghost use Rattle.device_cli.specs.Ran.{AnswersScript, IsAmple, IsComplete};
 ghost use Rattle.device_cli.specs.Reaching.{DisclosesTree};
 ghost use Rattle.device_cli.specs.Seen.{SeizesMaps};
 ghost use Rattle.device_cli.specs.Unserved.{IsUnserved};
+ghost use Rattle.device_cli.specs.Working.{Working};
 ghost use Rattle.device_cli.specs.Run.{IsStatus, Took, NoneFell, NoneRose, counts};
 
 mod checking;
@@ -33,6 +34,7 @@ mod seizing;
 mod stop;
 mod texts;
 mod words;
+mod working;
 
 use checking::check;
 use platform::Platform;
@@ -41,6 +43,7 @@ use sdbt_base::{Sink, Source, Tape};
 use seizing::seize_word;
 use std::alloc::Global;
 use words::{Order, order_of, records_of};
+use working::work;
 
 /// Serves what the words ask for, and answers the exit status.
 ///
@@ -49,6 +52,8 @@ use words::{Order, order_of, records_of};
 /// a certificate, which says what it adds and what it deletes. With `check` it judges the ledger that `input` gives for the root record
 /// in the cell, and puts one line. With `seize` it takes nothing, and puts a line for each body that the root record in the cell opens,
 /// and one with their numbers; behind that word come up to 64 earlier root records of 256 hex digits each, and what they open is told too.
+/// With `work SEED COUNT` it takes nothing, serves the script that follows from the seed, with 1 to 5,000 generated lines, and puts how many of its
+/// lines were accepted and refused, and the replies to the last two.
 /// Statuses: 0, the input was served to its end, the ledger is accepted, or the seizure is told; 2, other words; 3 to 7, `input`,
 /// `output`, the platform, the tape or `ledger` failed; 8, the root cell is full and its root record can't be served, or one in the words
 /// is none of a device with at most the pages that there are; 9, a record was not what the tree wants there; 10, the ledger is refused, or there is no device to check it for; 11, no memory; 12, the limit of 2^32
@@ -122,8 +127,8 @@ pub fn run_main<P: Platform, T: Tape, I: Source, O: Sink, L: Sink>(
     ensures head { P.head platform.old ≤ P.head platform.new }
     ensures capacity { P.capacity platform.new ≡ P.capacity platform.old }
 
-    // 0 and 3 before the limit of input, and 12 at it. With the word `seize` nothing is taken.
-    ensures taken { (AreSeizeWords (map string_bytes words.now) → ⊥) → (taken : List ℕ) × Gave (I.left input.old) taken (I.left input.new) × Took result taken (I.left input.new) }
+    // 0 and 3 before the limit of input, and 12 at it. With the words `seize` and `work` nothing is taken.
+    ensures taken { (AreSeizeWords (map string_bytes words.now) → ⊥) → (AreSomeWorkWords (map string_bytes words.now) → ⊥) → (taken : List ℕ) × Gave (I.left input.old) taken (I.left input.new) × Took result taken (I.left input.new) }
 
     // With the word `check`, 0 exactly where the cell holds a root record and the chain of the whole input is accepted for it; the live addresses are those
     // that its trace reaches, and none that it says is deleted. 10 exactly where the cell is empty or a rule is broken, this one first.
@@ -141,6 +146,13 @@ pub fn run_main<P: Platform, T: Tape, I: Source, O: Sink, L: Sink>(
         (counts (P.faults platform.old) (T.faults tape.old) (I.faults input.old) (O.faults output.old) (L.faults ledger.old))
         (counts (P.faults platform.new) (T.faults tape.new) (I.faults input.new) (O.faults output.new) (L.faults ledger.new))
         result (O.written output.old) (O.written output.new) }
+
+    // With the word `work` the script of the seed is served as a run serves it, its replies are those of the array of blocks, and what came of it is put.
+    ensures works { (seed count : ℕ) → AreWorkWords seed count (map string_bytes words.now) → Working P.tells seed count
+        (world_of P.Platform None platform.old) (world_of P.Platform None platform.new) input.old input.new
+        (counts (P.faults platform.old) (T.faults tape.old) (I.faults input.old) (O.faults output.old) (L.faults ledger.old))
+        (counts (P.faults platform.new) (T.faults tape.new) (I.faults input.new) (O.faults output.new) (L.faults ledger.new))
+        result (O.written output.old) (O.written output.new) }
 {
     match order_of(words) {
         Some(Order::Run) => match run(alloc, platform, tape, input, output, ledger) {
@@ -155,6 +167,12 @@ pub fn run_main<P: Platform, T: Tape, I: Source, O: Sink, L: Sink>(
             Ok(()) => 0,
             Err(stop) => stop.status(),
         },
+        Some(Order::Work { seed, count }) => {
+            match work(alloc, seed, count, platform, tape, output, ledger) {
+                Ok(()) => 0,
+                Err(stop) => stop.status(),
+            }
+        }
         None => 2,
     }
 }

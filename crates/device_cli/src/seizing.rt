@@ -11,7 +11,7 @@ ghost use Rattle.device_cli.specs.Seizing.{IsReport, IsReportOf, IsRefused, Seiz
 use crate::given::keys_given;
 use crate::run::last_line;
 use crate::stop::{DeviceStop, Stop};
-use crate::texts::push_text;
+use crate::texts::{push_text, put_line};
 use arrayvec::ArrayVec;
 use key_graph::KeyList;
 use page_store::{CurrentRefusal, current};
@@ -149,18 +149,6 @@ fn put_opened<O: Sink>(opened: &[Opened], output: &mut O) -> Result<(), Stop>
         }
     }
     Ok(())
-}
-
-/// Puts a line.
-fn put_line<O: Sink>(line: &[u8], output: &mut O) -> Result<(), Stop>
-    ensures put { HasPut line.now result (O.written output.old) (O.written output.new) }
-    ensures stop { IfErr result (λ stop. (stop ≡ Stop.Sink) × Rose (O.faults output.old) (O.faults output.new)) }
-    ensures count { O.faults output.old ≤ O.faults output.new }
-{
-    match output.put(line) {
-        Ok(()) => Ok(()),
-        Err(_) => Err(Stop::Sink),
-    }
 }
 
 /// The line of a body that was opened. The longest one has 53 bytes.

@@ -25,3 +25,5 @@ mod scripts;
 mod seizures;
 #[cfg(test)]
 mod several_runs;
+#[cfg(test)]
+mod works;

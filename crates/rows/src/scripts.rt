@@ -122,6 +122,8 @@ fn bad_words(rt: HostRuntime) -> Result<(), Fail> {
         (["work", "1", "0"].as_slice(), 2, ""),
         (["work", "1", "5001"].as_slice(), 2, ""),
         (["work", "01", "1"].as_slice(), 2, ""),
+        (["work", "1", "1", "1"].as_slice(), 2, ""),
+        (["work", "18446744073709551616", "1"].as_slice(), 2, ""),
         (["check"].as_slice(), 10, "refused no device\n"),
         (["check", "x"].as_slice(), 2, ""),
     ] {

@@ -3,7 +3,7 @@ use Rattle.std.proofs.Common.{◌≡◌, ◌≢◌, ℕ, zero, suc, ◌+◌, ◌
 use Rattle.std.specs.Prelude.{codes, flat_map}
 use Rattle.std.specs.List.{AllByRecursion}
 use Rattle.std.specs.Result.{result_unwrap_or}
-use Rattle.std.specs.Fmt.{decimal}
+use Rattle.std.specs.Fmt.{decimal, digits, digits_onto, digit_glyph}
 use Rattle.std.specs.Str.Parse.{digits_value}
 use Rattle.std.proofs.lemmas.Fmt.{decimal_is_IsNumeral}
 use Rattle.hex.specs.Hex.{decode_of, encode_lower, encode_with, lower_digits}
@@ -13,7 +13,6 @@ use Rattle.script_lang.specs.Replies.{text_of, line_of, hex_or_dash, IsReply, Is
 use Rattle.script_lang.specs.Replies.{Reply}
 use Rattle.script_lang.specs.Replies.{Formatted, Mounted, Content, Done, Committed, Dropped, Erased, Stat, Seized, Bad, Unmounted, AlreadyMounted, NotEmpty, NoDevice, Range, Full}
 use Rattle.script_lang.proofs.Spaces.{split_once, no_space}
-use Rattle.script_lang.proofs.Numbers.{number_has_none}
 use Rattle.std.proofs.lemmas.Bool.{cases_Bool, eqb-false}
 use Rattle.script_lang.proofs.Fronts.{small_at}
 
@@ -130,8 +129,21 @@ none_in_both : (byte : ℕ) (a b : List ℕ) → HasNone byte a → HasNone byte
 none_in_both byte [] b p q = q
 none_in_both byte (x ∷ a) b p q = (p.0, none_in_both byte a b p.1 q)
 
-no_feed_in_number : (n : ℕ) → n < 2 ^ 64 → HasNone 10 (decimal n)
-no_feed_in_number n h = number_has_none 10 (inl (omega arith)) (decimal n) n (h, refl)
+-- a digit is no line feed
+no_feed_glyph : (d : ℕ) → digit_glyph false d ≢ 10
+no_feed_glyph d e = grind (arith, e)
+
+no_feed_onto : (k n : ℕ) (acc : List ℕ) → HasNone 10 acc → HasNone 10 (digits_onto k 10 false n acc)
+no_feed_onto zero n acc h = h
+no_feed_onto (suc k) n acc h =
+    elim (cases_Bool (n / 10 == 0)) [
+      | inl last ↦ rw last (no_feed_glyph (n % 10), h)
+      | inr more ↦ rw more (no_feed_onto k (n / 10) (digit_glyph false (n % 10) ∷ acc) (no_feed_glyph (n % 10), h))
+    ]
+
+no_feed_in_number : (n : ℕ) → HasNone 10 (decimal n)
+unfolding digits
+no_feed_in_number n = no_feed_onto 64 n [] tt
 
 -- what stands at a place of a text without line feed is none
 at_place : (text : List ℕ) → HasNone 10 text → (i : ℕ) → get_or text i 0 ≢ 10
@@ -151,32 +163,32 @@ no_feed_in_content [] = none_from_test 10 (codes "-") refl
 no_feed_in_content (b ∷ bytes) = no_feed_in_hex (b ∷ bytes)
 
 -- no line feed stands in a reply's text
-pub text_has_no_feed : (reply : Reply) → IsReply reply → HasNone 10 (text_of reply)
+pub text_has_no_feed : (reply : Reply) → HasNone 10 (text_of reply)
 unfolding text_of
-text_has_no_feed Formatted is = none_from_test 10 (codes "formatted") refl
-text_has_no_feed (Mounted number) is = none_in_both 10 (codes "mounted ") (decimal number) (none_from_test 10 (codes "mounted ") refl) (no_feed_in_number number is)
-text_has_no_feed (Content bytes) is = none_in_both 10 (codes "data ") (hex_or_dash bytes) (none_from_test 10 (codes "data ") refl) (no_feed_in_content bytes)
-text_has_no_feed Done is = none_from_test 10 (codes "ok") refl
-text_has_no_feed (Committed number) is = none_in_both 10 (codes "committed ") (decimal number) (none_from_test 10 (codes "committed ") refl) (no_feed_in_number number is)
-text_has_no_feed Dropped is = none_from_test 10 (codes "dropped") refl
-text_has_no_feed Erased is = none_from_test 10 (codes "erased") refl
-text_has_no_feed (Stat mapped number) is =
+text_has_no_feed Formatted = none_from_test 10 (codes "formatted") refl
+text_has_no_feed (Mounted number) = none_in_both 10 (codes "mounted ") (decimal number) (none_from_test 10 (codes "mounted ") refl) (no_feed_in_number number)
+text_has_no_feed (Content bytes) = none_in_both 10 (codes "data ") (hex_or_dash bytes) (none_from_test 10 (codes "data ") refl) (no_feed_in_content bytes)
+text_has_no_feed Done = none_from_test 10 (codes "ok") refl
+text_has_no_feed (Committed number) = none_in_both 10 (codes "committed ") (decimal number) (none_from_test 10 (codes "committed ") refl) (no_feed_in_number number)
+text_has_no_feed Dropped = none_from_test 10 (codes "dropped") refl
+text_has_no_feed Erased = none_from_test 10 (codes "erased") refl
+text_has_no_feed (Stat mapped number) =
     none_in_both 10 (codes "stat mapped ") (decimal mapped ++ (codes " commit " ++ decimal number)) (none_from_test 10 (codes "stat mapped ") refl)
-    (none_in_both 10 (decimal mapped) (codes " commit " ++ decimal number) (no_feed_in_number mapped is.0)
-    (none_in_both 10 (codes " commit ") (decimal number) (none_from_test 10 (codes " commit ") refl) (no_feed_in_number number is.1)))
-text_has_no_feed (Seized pages nodes blocks) is =
+    (none_in_both 10 (decimal mapped) (codes " commit " ++ decimal number) (no_feed_in_number mapped)
+    (none_in_both 10 (codes " commit ") (decimal number) (none_from_test 10 (codes " commit ") refl) (no_feed_in_number number)))
+text_has_no_feed (Seized pages nodes blocks) =
     none_in_both 10 (codes "seized pages ") (decimal pages ++ (codes " nodes " ++ (decimal nodes ++ (codes " blocks " ++ decimal blocks)))) (none_from_test 10 (codes "seized pages ") refl)
-    (none_in_both 10 (decimal pages) (codes " nodes " ++ (decimal nodes ++ (codes " blocks " ++ decimal blocks))) (no_feed_in_number pages is.0)
+    (none_in_both 10 (decimal pages) (codes " nodes " ++ (decimal nodes ++ (codes " blocks " ++ decimal blocks))) (no_feed_in_number pages)
     (none_in_both 10 (codes " nodes ") (decimal nodes ++ (codes " blocks " ++ decimal blocks)) (none_from_test 10 (codes " nodes ") refl)
-    (none_in_both 10 (decimal nodes) (codes " blocks " ++ decimal blocks) (no_feed_in_number nodes is.1)
-    (none_in_both 10 (codes " blocks ") (decimal blocks) (none_from_test 10 (codes " blocks ") refl) (no_feed_in_number blocks is.2)))))
-text_has_no_feed Bad is = none_from_test 10 (codes "bad") refl
-text_has_no_feed Unmounted is = none_from_test 10 (codes "unmounted") refl
-text_has_no_feed AlreadyMounted is = none_from_test 10 (codes "already mounted") refl
-text_has_no_feed NotEmpty is = none_from_test 10 (codes "not empty") refl
-text_has_no_feed NoDevice is = none_from_test 10 (codes "no device") refl
-text_has_no_feed Range is = none_from_test 10 (codes "range") refl
-text_has_no_feed Full is = none_from_test 10 (codes "full") refl
+    (none_in_both 10 (decimal nodes) (codes " blocks " ++ decimal blocks) (no_feed_in_number nodes)
+    (none_in_both 10 (codes " blocks ") (decimal blocks) (none_from_test 10 (codes " blocks ") refl) (no_feed_in_number blocks)))))
+text_has_no_feed Bad = none_from_test 10 (codes "bad") refl
+text_has_no_feed Unmounted = none_from_test 10 (codes "unmounted") refl
+text_has_no_feed AlreadyMounted = none_from_test 10 (codes "already mounted") refl
+text_has_no_feed NotEmpty = none_from_test 10 (codes "not empty") refl
+text_has_no_feed NoDevice = none_from_test 10 (codes "no device") refl
+text_has_no_feed Range = none_from_test 10 (codes "range") refl
+text_has_no_feed Full = none_from_test 10 (codes "full") refl
 
 line_then : (text rest : List ℕ) → (text ++ 10 ∷ []) ++ rest ≡ text ++ 10 ∷ rest
 line_then text rest = append_assoc text (10 ∷ []) rest
@@ -191,7 +203,7 @@ one_list [] [] p q e = refl
 one_list [] (b ∷ second) p q e = absurd (ends (text_of b) (flat_map line_of second) (e ∙ line_then (text_of b) (flat_map line_of second)))
 one_list (a ∷ first) [] p q e = absurd (ends (text_of a) (flat_map line_of first) (sym e ∙ line_then (text_of a) (flat_map line_of first)))
 one_list (a ∷ first) (b ∷ second) p q e =
-    let parts = split_once 10 (text_of a) (flat_map line_of first) (text_of b) (flat_map line_of second) (text_has_no_feed a p.0) (text_has_no_feed b q.0)
+    let parts = split_once 10 (text_of a) (flat_map line_of first) (text_of b) (flat_map line_of second) (text_has_no_feed a) (text_has_no_feed b)
     (sym (line_then (text_of a) (flat_map line_of first)) ∙ e ∙ line_then (text_of b) (flat_map line_of second)) in
     let heads : a ≡ b = one_reply a b p.0 q.0 parts.0 in
     let tails : first ≡ second = one_list first second p.1 q.1 parts.1 in

@@ -1,5 +1,5 @@
 -- What is answered to a line, and the text of each reply.
-use Rattle.std.specs.Prelude.{◌≢◌, ℕ, ◌<◌, ◌≤◌, ◌^◌, List, [], ◌∷◌, ◌++◌, length, take, codes}
+use Rattle.std.specs.Prelude.{◌≢◌, Bool, true, false, ℕ, ◌<◌, ◌≤◌, ◌^◌, List, [], ◌∷◌, ◌++◌, length, take, codes}
 use Rattle.std.specs.List.{AllByRecursion}
 use Rattle.std.specs.Fmt.{decimal}
 use Rattle.hex.specs.Hex.{encode_lower}
@@ -80,6 +80,17 @@ IsWords (Committed number) = ⊥
 IsWords (Stat mapped number) = ⊥
 IsWords (Seized pages nodes blocks) = ⊥
 IsWords _ = Unit {0}
+
+-- whether a reply says that its line was refused
+abbrev pub is_refusal : Reply → Bool
+is_refusal Bad = true
+is_refusal Unmounted = true
+is_refusal AlreadyMounted = true
+is_refusal NotEmpty = true
+is_refusal NoDevice = true
+is_refusal Range = true
+is_refusal Full = true
+is_refusal _ = false
 
 -- a reply's line, with its line feed
 abbrev pub line_of : Reply → List ℕ

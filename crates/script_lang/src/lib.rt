@@ -14,8 +14,9 @@ mod writing;
 pub use commands::{Command, lines_spell_one_command, long_lines_are_bad, parse};
 pub use devices::{Contents, Device, Session};
 pub use machine::{Machine, is_in_limits, reply_with_content};
-pub use reading::{read_reply, replies_are_determined};
+pub use reading::{is_refusal_text, read_reply, replies_are_determined, replies_are_lines};
 pub use replies::Reply;
+pub use words::parse_number;
 pub use writing::ReplyWriter;
 
 #[cfg(test)]

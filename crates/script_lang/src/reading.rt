@@ -3,7 +3,8 @@
 ghost use Rattle.std.specs.Prelude.{◌≡◌, ◌≢◌, ◌++◌, codes, flat_map, ◌<◌, ◌↔◌, ◌^◌, ℕ, List, Some, length, IfSome, IfNone, IsSomeAnd, IsTrue, take, ◌≤◌};
 ghost use Rattle.hex.specs.Hex.{encode_lower};
 ghost use Rattle.script_lang.specs.Replies as replies;
-ghost use Rattle.script_lang.specs.Replies.{Reply as Answer, said, FitsBlock, text_of, line_of, IsReply, IsFront, IsTrimmed, IsWords, hex_or_dash};
+ghost use Rattle.script_lang.specs.Replies.{Reply as Answer, said, FitsBlock, text_of, line_of, is_refusal, IsReply, IsFront, IsTrimmed, IsWords, hex_or_dash};
+ghost use Rattle.text_lines.specs.Lines.{HasNone};
 ghost use Rattle.std.specs.Fmt.{decimal};
 ghost use Rattle.std.specs.List.{AllByRecursion};
 ghost use Rattle.std.specs.Bool.{OnTrue, OnFalse};
@@ -25,6 +26,26 @@ pub fn read_reply(line: &[u8], buffer: &mut [u8; BLOCK]) -> Option<Reply>
 {
     find_reply(line, buffer)
 }
+
+/// Whether the text of a reply says that its line was refused: it is outside the grammar, out of turn or out of range, or too few
+/// pages were free.
+#[tactic(auto, unfolding(crate::specs::Replies::text_of))]
+pub fn is_refusal_text(text: &[u8]) -> bool
+    ensures { (answer : Answer) → text.now ≡ text_of answer → result ≡ is_refusal answer }
+{
+    is_text(text, b"bad")
+        || is_text(text, b"unmounted")
+        || is_text(text, b"already mounted")
+        || is_text(text, b"not empty")
+        || is_text(text, b"no device")
+        || is_text(text, b"range")
+        || is_text(text, b"full")
+}
+
+/// The text of a reply is one line.
+pub fn replies_are_lines()
+    ensures { (answer : Answer) → HasNone 10 (text_of answer) }
+{}
 
 /// A list of replies is determined by its lines.
 pub fn replies_are_determined()

@@ -1,7 +1,7 @@
 //! The texts that the program prints beside the replies of a script. The manual page is made from the help.
 
 /// How the program is called, in one line.
-pub const USAGE: &str = "usage: sdbt [(- | [--root CELL] FOLDER) [run | check | seize [HEX..]]]\n";
+pub const USAGE: &str = "usage: sdbt [(- | [--root CELL] FOLDER) [run | check | seize [HEX..] | work SEED COUNT]]\n";
 
 /// The help behind the usage. Headings stand alone in capitals, and a line of a list has its term, two spaces or
 /// more, and what is said of it.
@@ -23,6 +23,9 @@ WORDS
                open A node, a line for each page, and then seized pages P nodes X blocks Y
   seize HEX..  shows what can be opened with earlier root records too: at most 64, each of 256 hex
                digits, of either case
+  work SEED COUNT  serves a script that follows from the number SEED: a device of 4,096 blocks, COUNT
+               ordinary lines, 1 to 5,000, and a commit; and shows how many lines were accepted and
+               refused, and the replies to the last two, stat and seize
   -h, --help   prints this text
   --version    prints the version
 

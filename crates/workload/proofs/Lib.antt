@@ -1,3 +1,4 @@
 pub mod GeneratedLaws
 pub mod LineLaws
 pub mod ScriptLaws
+pub mod TallyLaws

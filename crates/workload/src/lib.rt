@@ -5,9 +5,11 @@ mod draws;
 mod laws;
 mod scripts;
 mod steps;
+mod summaries;
 
 pub use laws::generated_commands_are_ordinary;
 pub use scripts::{MAX_COUNT, script};
+pub use summaries::{Tally, lines_behind};
 
 #[cfg(test)]
 mod tests;

@@ -1,10 +1,10 @@
-use Rattle.std.proofs.Common.{◌≡◌, ◌≤◌, ◌⊎◌, length, [], Result, Ok, Err, None, ℕ, refl, sym, subst, arith, ◌∙◌}
+use Rattle.std.proofs.Common.{◌≡◌, ◌≤◌, ◌⊎◌, inl, inr, length, [], Result, Ok, Err, None, ℕ, refl, sym, subst, arith, ◌∙◌}
 use Rattle.sdbt_base.specs.Arrays.{closed}
 use Rattle.device_cli.specs.World.{World, world, world_of}
 use Rattle.device_cli.specs.Ran.{AnswersScript}
 use Rattle.device_cli.proofs.ScriptLaws.{answers_script, made_by}
 use Rattle.device_cli.specs.Ran.{IsComplete}
-use Rattle.device_cli.specs.Run.{counts, status_of}
+use Rattle.device_cli.specs.Run.{Counts, counts, status_of}
 use Rattle.device_cli.specs.declared.stop.Stop.{Stop}
 use Rattle.device_cli.specs.declared.stop.Stop.TheVariants as stops
 use Rattle.device_cli.specs.declared.stop.DeviceStop.TheVariants as device
@@ -25,7 +25,10 @@ use Rattle.device_terms.specs.Served.{IsServedCell}
 use Rattle.device_cli.specs.Replied.{Ending, damage_line}
 use Rattle.device_cli.specs.Seizing.{IsRefused, Seizes}
 use Rattle.device_cli.specs.Given.{HasBadRecord}
-use Rattle.device_cli.specs.Words.{AreSeizeWords, records_of}
+use Rattle.device_cli.specs.Words.{AreSeizeWords, AreWorkWords, records_of}
+use Rattle.device_cli.specs.Working.{Working}
+use Rattle.device_cli.proofs.WordLaws.{one_script, not_run, at_most}
+use Rattle.device_cli.proofs.WorkLaws.{cause_wide, working_of}
 use Rattle.std.specs.Prelude.{map, string_bytes}
 use Rattle.std.proofs.lemmas.List.{length-map}
 use Rattle.device_cli.proofs.GivenLaws.{few_records}
@@ -432,3 +435,129 @@ returns-in-Err-seize_word-clause-unserved g c told e =
       line = refused.1;
       image = image_stays _ _ (c.seize_word.ensures.time told) (c.seize_word.ensures.image told);
     }
+
+-- ---- the script of a seed
+
+pub returns-in-Ok-work-clause-discloses : goal.returns-in-Ok-work-clause-discloses
+returns-in-Ok-work-clause-discloses g c =
+    let P = g.P.Platform in
+    let old = around P g.T.Tape g.L.Sink c.args.platform.now c.args.tape.now c.args.ledger.now in
+    let new = around P g.T.Tape g.L.Sink c.work.new.platform c.work.new.tape c.work.new.ledger in
+    let worked = c.in-Ok-work.ensures.worked in
+    let later = worked.1.ran.handled.replied.later in
+    discloses P.tells old new _ _ (record { capacity = later.capacity; rises = later.rises; within = later.within }) c.work.ensures.keeps
+    (made_by P.tells (world None old.history old.head old.capacity) worked.0 new.history new.head new.capacity worked.1.serving _ worked.1.left _ worked.1.told refl worked.1.ran)
+
+pub returns-in-Ok-work-clause-seizes : goal.returns-in-Ok-work-clause-seizes
+returns-in-Ok-work-clause-seizes g c = seizes_maps _ _ _ _ _ (returns-in-Ok-work-clause-discloses g c)
+
+pub returns-in-Ok-work-clause-certified : goal.returns-in-Ok-work-clause-certified
+returns-in-Ok-work-clause-certified g c = certified_going _ _ _ _ _ _ _ (λ ok. refl) c.in-Ok-work.ensures.keeps.certified
+
+pub returns-in-Ok-work-clause-fits : goal.returns-in-Ok-work-clause-fits
+returns-in-Ok-work-clause-fits g c told there stands served =
+    let P = g.P.Platform in
+    let old = around P g.T.Tape g.L.Sink c.args.platform.now c.args.tape.now c.args.ledger.now in
+    let new = around P g.T.Tape g.L.Sink c.work.new.platform c.work.new.tape c.work.new.ledger in
+    let worked = c.in-Ok-work.ensures.worked in
+    fits P.tells old new _ _ c.work.ensures.keeps
+    (made_by P.tells (world None old.history old.head old.capacity) worked.0 new.history new.head new.capacity worked.1.serving _ worked.1.left _ worked.1.told refl worked.1.ran) told there stands served
+
+pub returns-in-Err-work-clause-discloses : goal.returns-in-Err-work-clause-discloses
+returns-in-Err-work-clause-discloses g c =
+    let P = g.P.Platform in
+    let old = around P g.T.Tape g.L.Sink c.args.platform.now c.args.tape.now c.args.ledger.now in
+    let new = around P g.T.Tape g.L.Sink c.work.new.platform c.work.new.tape c.work.new.ledger in
+    let worked = c.in-Err-work.ensures.worked in
+    let later = worked.1.ran.handled.replied.later in
+    discloses P.tells old new _ _ (record { capacity = later.capacity; rises = later.rises; within = later.within }) c.work.ensures.keeps
+    (made_by P.tells (world None old.history old.head old.capacity) worked.0 new.history new.head new.capacity worked.1.serving _ worked.1.left _ worked.1.told refl worked.1.ran)
+
+pub returns-in-Err-work-clause-seizes : goal.returns-in-Err-work-clause-seizes
+returns-in-Err-work-clause-seizes g c = seizes_maps _ _ _ _ _ (returns-in-Err-work-clause-discloses g c)
+
+pub returns-in-Err-work-clause-certified : goal.returns-in-Err-work-clause-certified
+returns-in-Err-work-clause-certified g c = certified_going _ _ _ _ _ _ _ (λ zero. absurd (never_zero c.in-Err-work.stop (sym c.status-in-Err-work.ensures ∙ zero))) c.in-Err-work.ensures.keeps.certified
+
+pub returns-in-Err-work-clause-fits : goal.returns-in-Err-work-clause-fits
+returns-in-Err-work-clause-fits g c told there stands served =
+    let P = g.P.Platform in
+    let old = around P g.T.Tape g.L.Sink c.args.platform.now c.args.tape.now c.args.ledger.now in
+    let new = around P g.T.Tape g.L.Sink c.work.new.platform c.work.new.tape c.work.new.ledger in
+    let worked = c.in-Err-work.ensures.worked in
+    fits P.tells old new _ _ c.work.ensures.keeps
+    (made_by P.tells (world None old.history old.head old.capacity) worked.0 new.history new.head new.capacity worked.1.serving _ worked.1.left _ worked.1.told refl worked.1.ran) told there stands served
+
+pub returns-in-Ok-work-clause-works : goal.returns-in-Ok-work-clause-works
+returns-in-Ok-work-clause-works g c seed count words =
+    let P = g.P.Platform in
+    let T = g.T.Tape in
+    let I = g.I.Source in
+    let O = g.O.Sink in
+    let L = g.L.Sink in
+    let asked : AreWorkWords c.in-Some-Work.seed c.in-Some-Work.count (map string_bytes c.args.words.now) = rw c.in-Some-Work.field-0-is at c.in-Some-Work.ensures in
+    let same = one_script (map string_bytes c.args.words.now) c.in-Some-Work.seed c.in-Some-Work.count seed count asked words in
+    let old : World = world_of P None c.args.platform.now in
+    let new : World = world_of P None c.work.new.platform in
+    let ending : Ending = Ok tt in
+    let before : Counts = counts (P.faults c.args.platform.now) (T.faults c.args.tape.now) (I.faults c.args.input.now) (O.faults c.args.output.now) (L.faults c.args.ledger.now) in
+    let now : Counts = counts (P.faults c.work.new.platform) (T.faults c.work.new.tape) (I.faults c.args.input.now) (O.faults c.work.new.output) (L.faults c.work.new.ledger) in
+    let cause = cause_wide (P.faults c.args.platform.now) (T.faults c.args.tape.now) (O.faults c.args.output.now) (L.faults c.args.ledger.now)
+        (P.faults c.work.new.platform) (T.faults c.work.new.tape) (O.faults c.work.new.output) (L.faults c.work.new.ledger) (I.faults c.args.input.now) (I.faults c.args.input.now) ending c.in-Ok-work.ensures.blame.cause in
+    let worked = c.in-Ok-work.ensures.worked in
+    let here = working_of P.tells c.in-Some-Work.seed c.in-Some-Work.count old worked.0 (P.history c.work.new.platform) (P.head c.work.new.platform) (P.capacity c.work.new.platform) c.args.input.now
+        before now (0) (O.written c.args.output.now) (O.written c.work.new.output) ending refl (at_most (map string_bytes c.args.words.now) c.in-Some-Work.seed c.in-Some-Work.count asked) refl cause c.in-Ok-work.ensures.refused worked.1 in
+    subst (λ (s : ℕ). Working P.tells s count old new c.args.input.now c.args.input.now before now (0) (O.written c.args.output.now) (O.written c.work.new.output)) same.0
+    (subst (λ (n : ℕ). Working P.tells c.in-Some-Work.seed n old new c.args.input.now c.args.input.now before now (0) (O.written c.args.output.now) (O.written c.work.new.output)) same.1 here)
+
+pub returns-in-Err-work-clause-works : goal.returns-in-Err-work-clause-works
+returns-in-Err-work-clause-works g c seed count words =
+    let P = g.P.Platform in
+    let T = g.T.Tape in
+    let I = g.I.Source in
+    let O = g.O.Sink in
+    let L = g.L.Sink in
+    let asked : AreWorkWords c.in-Some-Work.seed c.in-Some-Work.count (map string_bytes c.args.words.now) = rw c.in-Some-Work.field-0-is at c.in-Some-Work.ensures in
+    let same = one_script (map string_bytes c.args.words.now) c.in-Some-Work.seed c.in-Some-Work.count seed count asked words in
+    let old : World = world_of P None c.args.platform.now in
+    let new : World = world_of P None c.work.new.platform in
+    let ending : Ending = Err c.in-Err-work.stop in
+    let before : Counts = counts (P.faults c.args.platform.now) (T.faults c.args.tape.now) (I.faults c.args.input.now) (O.faults c.args.output.now) (L.faults c.args.ledger.now) in
+    let now : Counts = counts (P.faults c.work.new.platform) (T.faults c.work.new.tape) (I.faults c.args.input.now) (O.faults c.work.new.output) (L.faults c.work.new.ledger) in
+    let cause = cause_wide (P.faults c.args.platform.now) (T.faults c.args.tape.now) (O.faults c.args.output.now) (L.faults c.args.ledger.now)
+        (P.faults c.work.new.platform) (T.faults c.work.new.tape) (O.faults c.work.new.output) (L.faults c.work.new.ledger) (I.faults c.args.input.now) (I.faults c.args.input.now) ending c.in-Err-work.ensures.blame.cause in
+    let worked = c.in-Err-work.ensures.worked in
+    let here = working_of P.tells c.in-Some-Work.seed c.in-Some-Work.count old worked.0 (P.history c.work.new.platform) (P.head c.work.new.platform) (P.capacity c.work.new.platform) c.args.input.now
+        before now (c.status-in-Err-work.result) (O.written c.args.output.now) (O.written c.work.new.output) ending refl (at_most (map string_bytes c.args.words.now) c.in-Some-Work.seed c.in-Some-Work.count asked) c.status-in-Err-work.ensures cause c.in-Err-work.ensures.refused worked.1 in
+    subst (λ (s : ℕ). Working P.tells s count old new c.args.input.now c.args.input.now before now (c.status-in-Err-work.result) (O.written c.args.output.now) (O.written c.work.new.output)) same.0
+    (subst (λ (n : ℕ). Working P.tells c.in-Some-Work.seed n old new c.args.input.now c.args.input.now before now (c.status-in-Err-work.result) (O.written c.args.output.now) (O.written c.work.new.output)) same.1 here)
+
+-- a run that was stopped has another status than 2
+never_two : (stop : Stop) → status_of stop ≡ 2 → ⊥
+never_two stops.Source is = omega (arith, is)
+never_two stops.Sink is = omega (arith, is)
+never_two stops.Limit is = omega (arith, is)
+never_two (stops.Device device.Platform) is = omega (arith, is)
+never_two (stops.Device device.Tape) is = omega (arith, is)
+never_two (stops.Device device.Ledger) is = omega (arith, is)
+never_two (stops.Device device.BadRoot) is = omega (arith, is)
+never_two (stops.Device (device.BadRecord addr)) is = omega (arith, is)
+never_two (stops.Device device.Memory) is = omega (arith, is)
+
+pub returns-in-Err-work-clause-words : goal.returns-in-Err-work-clause-words
+returns-in-Err-work-clause-words g c =
+    let asked : AreWorkWords c.in-Some-Work.seed c.in-Some-Work.count (map string_bytes c.args.words.now) = rw c.in-Some-Work.field-0-is at c.in-Some-Work.ensures in
+    (λ two. absurd (never_two c.in-Err-work.stop (sym c.status-in-Err-work.ensures ∙ two)), λ other. absurd (other (inr (inr (c.in-Some-Work.seed, c.in-Some-Work.count, asked)))))
+
+pub returns-in-Err-work-clause-complete : goal.returns-in-Err-work-clause-complete
+returns-in-Err-work-clause-complete g c told there stands served words text ample quiet =
+    let asked : AreWorkWords c.in-Some-Work.seed c.in-Some-Work.count (map string_bytes c.args.words.now) = rw c.in-Some-Work.field-0-is at c.in-Some-Work.ensures in
+    absurd (not_run (map string_bytes c.args.words.now) c.in-Some-Work.seed c.in-Some-Work.count asked words)
+
+pub returns-in-Err-work-clause-taken : goal.returns-in-Err-work-clause-taken
+returns-in-Err-work-clause-taken g c no_seizure no_work =
+    let asked : AreWorkWords c.in-Some-Work.seed c.in-Some-Work.count (map string_bytes c.args.words.now) = rw c.in-Some-Work.field-0-is at c.in-Some-Work.ensures in
+    absurd (no_work (c.in-Some-Work.seed, c.in-Some-Work.count, asked))
+
+pub returns-in-None-clause-works : goal.returns-in-None-clause-works
+returns-in-None-clause-works g c seed count words = absurd (c.in-None.ensures (inr (inr (seed, count, words))))

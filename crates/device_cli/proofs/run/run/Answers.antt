@@ -1,11 +1,11 @@
-use Rattle.std.proofs.Common.{◌≡◌, ◌⊎◌, inl, inr, None, Ok, Err, refl, arith}
+use Rattle.std.proofs.Common.{◌≡◌, ◌⊎◌, inl, inr, None, Ok, Err, refl, sym, subst, arith}
 use Rattle.sdbt_base.specs.Faults.{Rose}
 use Rattle.device_cli.specs.Replied.{no_line}
 use Rattle.device_cli.specs.World.{World, IsLater, world_of}
 use Rattle.device_cli.specs.declared.stop.DeviceStop.{DeviceStop}
 use Rattle.device_cli.specs.declared.stop.DeviceStop.TheVariants as device
 use Rattle.device_cli.specs.declared.stop.Stop.TheVariants as stops
-use Rattle.device_cli.proofs.RanLaws.{Ran-refused, Ran-ended, Ran-other, Ran-after, sound_of}
+use Rattle.device_cli.proofs.RanLaws.{Ran-refused, Ran-ended, Ran-other, Ran-after, IsEarly, sound_of}
 use Rattle.device_cli.proofs.StillLaws.{still_after}
 use Rattle.device_course.specs.States.{IsListed}
 use Rattle.device_cli.proofs.CellLaws.{at_looked}
@@ -14,9 +14,9 @@ use Rattle.device_terms.proofs.MomentLaws.{one_look}
 use Rattle.device_cli.proofs.run.run.Goals as goal
 
 -- why the cell can't be served
-which : (Risen : Type 0) (stop : DeviceStop) → (stop ≡ device.BadRoot) ⊎ ((stop ≡ device.Platform) × Risen) → (stop ≡ device.BadRoot) ⊎ (stop ≡ device.Platform)
-which Risen stop (inl e) = inl e
-which Risen stop (inr (e, risen)) = inr e
+early : (Risen : Type 0) (stop : DeviceStop) → (stop ≡ device.BadRoot) ⊎ ((stop ≡ device.Platform) × Risen) → IsEarly stop
+early Risen stop (inl e) = subst IsEarly (sym e) tt
+early Risen stop (inr (e, risen)) = subst IsEarly (sym e) tt
 
 pub returns-in-Err-clause-ran : goal.returns-in-Err-clause-ran
 returns-in-Err-clause-ran g c =
@@ -26,7 +26,7 @@ returns-in-Err-clause-ran g c =
     let old : World = world_of P None c.args.platform.now in
     let new : World = world_of P None c.check_cell.new.platform in
     let later : IsLater old new = record { capacity = c.check_cell.ensures.capacity; rises = omega (arith, c.check_cell.ensures.head); within = g.met.P.Platform.has_room c.check_cell.new.platform } in
-    let stops_at = which (Rose (P.faults c.args.platform.now) (P.faults c.check_cell.new.platform)) c.in-Err.stop c.in-Err.ensures.stops in (
+    let stops_at = early (Rose (P.faults c.args.platform.now) (P.faults c.check_cell.new.platform)) c.in-Err.stop c.in-Err.ensures.stops in (
       None,
       Ran-ended P.tells old new (Rose (O.faults c.args.output.now) (O.faults c.last_line.new.output)) c.in-Err.stop c.last_line.result
           (g.I.Source.left c.args.input.now) (g.I.Source.left c.args.input.now) (written c.args.output.now) (written c.args.output.now) (written c.last_line.new.output)

@@ -1,0 +1,163 @@
+-- From the serving of a script in memory to what the word `work` says of it.
+use Rattle.std.proofs.Common.{◌≡◌, ℕ, ◌+◌, ◌-◌, ◌*◌, ◌<◌, ◌≤◌, ◌^◌, List, [], ◌++◌, Option, None, Some, Result, Ok, Err, length, drop, ◌⊎◌, inl, inr, refl, sym, ◌∙◌, subst, ap, arith, length-append}
+use Rattle.std.proofs.lemmas.Grind.{common_steps}
+use Rattle.std.proofs.lemmas.List.{append-nil}
+use Rattle.std.specs.Prelude.{IfErr, flat_map}
+use Rattle.sdbt_base.specs.Arrays.{Device, State, closed}
+use Rattle.sdbt_base.specs.Faults.{Rose}
+use Rattle.sdbt_base.specs.Told.{Gave, Got, GotPart}
+use Rattle.sdbt_base.proofs.ToldLaws.{Got-nothing}
+use Rattle.platform.proofs.Moments.{During-start}
+use Rattle.page_store.proofs.StandsLaws.{stands_during}
+use Rattle.text_lines.specs.Lines.{lines_of}
+use Rattle.script_lang.specs.Replies.{Reply, line_of}
+use Rattle.workload.specs.Summaries.{refused, heading, summary}
+use Rattle.workload.proofs.ScriptLaws.{script_has_lines, script_is_short}
+use Rattle.device_terms.specs.Served.{IsServedImage}
+use Rattle.device_cli.specs.World.{World, IsLater, world}
+use Rattle.device_cli.specs.Represents.{StandsFor, Stood}
+use Rattle.device_cli.specs.Ran.{Ran, AnswersScript, IsAmple, IsComplete}
+use Rattle.device_cli.specs.Replied.{Ending, HasPut, IsSound, damage_line, no_line, exit_of}
+use Rattle.device_cli.specs.Run.{Counts, counts, NoneRose, HasCause, IsRefusal, TookUntil, status_of}
+use Rattle.device_cli.specs.Unserved.{IsUnserved}
+use Rattle.device_cli.specs.Working.{Says, Worked, Working, script_of}
+use Rattle.device_cli.specs.declared.stop.DeviceStop.{DeviceStop}
+use Rattle.device_cli.specs.declared.stop.DeviceStop.TheVariants as device
+use Rattle.device_cli.specs.declared.stop.Stop.{Stop}
+use Rattle.device_cli.specs.declared.stop.Stop.TheVariants as stops
+use Rattle.device_cli.proofs.CompleteLaws.{complete_at, some_taken}
+use Rattle.device_cli.proofs.RanLaws.{Ran-refused, Ran-last}
+use Rattle.device_cli.proofs.ScriptLaws.{answers_with}
+use Rattle.device_session.specs.Sessions.{Session}
+use Rattle.platform.specs.History.{History}
+
+-- ---- what is put
+
+-- the parts of a summary
+pub summary_parts : (seed count accepted declined : ℕ) (replies : List Reply) → declined ≡ refused replies → accepted + declined ≡ length replies
+    → heading seed count accepted declined ++ flat_map line_of (drop (count + 3) replies) ≡ summary seed count replies
+summary_parts seed count accepted declined replies are all =
+    let served : accepted ≡ length replies - refused replies = omega (arith, are, all) in
+    ap (λ (n : ℕ). heading seed count n declined ++ flat_map line_of (drop (count + 3) replies)) served
+    ∙ ap (λ (n : ℕ). heading seed count (length replies - refused replies) n ++ flat_map line_of (drop (count + 3) replies)) are
+
+-- what an own output in memory got of a run over all lines are the lines of its replies
+pub told_replies : (tells : Type 0) (old new : World) (left : Option (List ℕ)) (told text : List ℕ) → (r : Ran tells old new damage_line (Ok tt) (Some text) left (Some []) (Some told))
+    → told ≡ flat_map line_of r.handled.replied.replies
+told_replies tells old new left told text r =
+    let p = r.handled.replied in
+    let e : Some told ≡ Some ([] ++ r.handled.put) = r.handled.got in
+    let f : told ≡ r.handled.put = cc in
+    f ∙ p.put_is ∙ ap (λ (part : List ℕ). flat_map line_of p.replies ++ part) p.behind ∙ append-nil (flat_map line_of p.replies)
+
+-- ---- how the serving ends
+
+-- without memory for the script nothing is served
+pub worked_none : (tells : Type 0) (w : World) (seed count : ℕ) (written : Option (List ℕ)) → w.head ≤ w.capacity → Worked tells seed count w w written written (Err (stops.Device device.Memory))
+unfolding damage_line
+worked_none tells w seed count written room =
+    let text : Option (List ℕ) = Some (script_of seed count) in
+    let later : IsLater w w = record { capacity = refl; rises = omega arith; within = room } in
+    record {
+      serving = Err (stops.Device device.Memory);
+      left = text;
+      told = Some [];
+      ran = Ran-last tells w w device.Memory text text (Some []) (Some []) (Some [])
+          (Ran-refused tells w w device.Memory text (Some []) tt later refl
+          (λ told entry there. (there, stands_during w.history w.history _ there.there.device (During-start w.history (λ image. image.cell ≡ w.history.present.cell) refl)))
+          (λ told entry there. tt))
+          refl;
+      says = inl (refl, Got-nothing written);
+    }
+
+-- ---- completeness
+
+-- with room for 42 pages a line and no fault
+pub work_complete : (tells : Type 0) (old new : World) (seed count : ℕ) (serving ending : Ending) (before now : Counts) (left told written written_now : Option (List ℕ)) (there : Option Device)
+    → tells → StandsFor old.history.present there → IsServedImage old.history.present
+    → (script : AnswersScript tells old new (exit_of serving) (Some (script_of seed count)) left (Some []) told) → Says seed count script.replies serving written written_now ending
+    → IfErr ending (HasCause before now) → count ≤ 5000 → old.head + 42 * (count + 5) ≤ old.capacity → NoneRose before now
+    → (exit_of ending ≡ 11) ⊎ ((exit_of ending ≡ 0) × IsComplete (closed there) (script_of seed count) (Some []) told)
+work_complete tells old new seed count serving ending before now left told written written_now there holds stands served script says cause few room quiet = go serving ending script says cause
+  where
+    text : List ℕ
+    text = script_of seed count
+
+    ample : IsAmple (Some text) text old.head old.capacity
+    ample = record { text_is = refl; short = omega (arith, script_is_short text seed count refl, few); room = omega (arith, room, script_has_lines text seed count refl) }
+
+    all : (s : AnswersScript tells old new 0 (Some text) left (Some []) told) → IsComplete (closed there) text (Some []) told
+    all s = complete_at tells old new (Some text) left (Some []) told text there s (s.answered holds there stands served) ample
+
+    go : (serving ending : Ending) → (s : AnswersScript tells old new (exit_of serving) (Some text) left (Some []) told) → Says seed count s.replies serving written written_now ending
+        → IfErr ending (HasCause before now) → (exit_of ending ≡ 11) ⊎ ((exit_of ending ≡ 0) × IsComplete (closed there) text (Some []) told)
+    go (Ok done) (Ok put) s says cause = inr (refl, all s)
+    go (Ok done) (Err stops.Sink) s says cause = absurd (quiet.output cause)
+    go (Ok done) (Err stops.Source) s says cause = absurd says
+    go (Ok done) (Err stops.Limit) s says cause = absurd says
+    go (Ok done) (Err (stops.Device stop)) s says cause = absurd says
+    go (Err stops.Source) ending s says cause = absurd says
+    go (Err stops.Limit) ending s says cause = absurd says
+    go (Err stops.Sink) ending s says cause = inl (ap exit_of says.0)
+    go (Err (stops.Device stop)) ending s (inr part) cause = absurd (quiet.output (subst (λ (e : Ending). IfErr e (HasCause before now)) part.0 cause))
+    go (Err (stops.Device stop)) ending s (inl whole) cause = stopped stop s (subst (λ (e : Ending). IfErr e (HasCause before now)) whole.0 cause) (ap exit_of whole.0)
+      where
+        Done : ℕ → Type 0
+        Done n = (n ≡ 11) ⊎ ((n ≡ 0) × IsComplete (closed there) text (Some []) told)
+
+        stopped : (stop : DeviceStop) → AnswersScript tells old new (status_of (stops.Device stop)) (Some text) left (Some []) told → HasCause before now (stops.Device stop)
+            → exit_of ending ≡ status_of (stops.Device stop) → Done (exit_of ending)
+        stopped device.Platform s cause e = absurd (quiet.platform cause)
+        stopped device.Tape s cause e = absurd (quiet.tape cause)
+        stopped device.Ledger s cause e = absurd (quiet.ledger cause)
+        stopped device.BadRoot s cause e = absurd ((s.answered holds there stands served).sound.0 refl)
+        stopped (device.BadRecord addr) s cause e = absurd ((s.answered holds there stands served).sound.1 refl)
+        stopped device.Memory s cause e = inl e
+
+-- ---- what is said of the words
+
+never_rose : Rose 0 0 → ⊥
+never_rose (inl e) = omega (arith, e)
+never_rose (inr e) = omega (arith, e)
+
+-- a cause apart from the input is one beside any
+pub cause_wide : (p t o l p_now t_now o_now l_now i i_now : ℕ) (ending : Ending) → IfErr ending (HasCause (counts p t 0 o l) (counts p_now t_now 0 o_now l_now))
+    → IfErr ending (HasCause (counts p t i o l) (counts p_now t_now i_now o_now l_now))
+cause_wide p t o l p_now t_now o_now l_now i i_now (Ok done) cause = tt
+cause_wide p t o l p_now t_now o_now l_now i i_now (Err stops.Source) cause = absurd (never_rose cause)
+cause_wide p t o l p_now t_now o_now l_now i i_now (Err stops.Sink) cause = cause
+cause_wide p t o l p_now t_now o_now l_now i i_now (Err stops.Limit) cause = tt
+cause_wide p t o l p_now t_now o_now l_now i i_now (Err (stops.Device device.Platform)) cause = cause
+cause_wide p t o l p_now t_now o_now l_now i i_now (Err (stops.Device device.Tape)) cause = cause
+cause_wide p t o l p_now t_now o_now l_now i i_now (Err (stops.Device device.Ledger)) cause = cause
+cause_wide p t o l p_now t_now o_now l_now i i_now (Err (stops.Device device.BadRoot)) cause = tt
+cause_wide p t o l p_now t_now o_now l_now i i_now (Err (stops.Device (device.BadRecord addr))) cause = tt
+cause_wide p t o l p_now t_now o_now l_now i i_now (Err (stops.Device device.Memory)) cause = tt
+
+-- whatever session the serving ends with
+pub working_of : {I : Type 0} (tells : Type 0) (seed count : ℕ) (old : World) (session : Option Session) (history : History) (head capacity : ℕ) (input : I) (before now : Counts) (status : ℕ) (written written_now : Option (List ℕ)) (ending : Ending)
+    → old.session ≡ None → count ≤ 5000 → status ≡ exit_of ending → IfErr ending (HasCause before now)
+    → (tells → (IsServedImage old.history.present → ⊥) → (exit_of ending ≡ 8) ⊎ (exit_of ending ≡ 4) ⊎ (exit_of ending ≡ 5) ⊎ (exit_of ending ≡ 11))
+    → Worked tells seed count old (world session history head capacity) written written_now ending
+    → Working tells seed count old (world None history head capacity) input input before now status written written_now
+working_of tells seed count old session history head capacity input before now status written written_now ending alone few is cause refused w =
+    let text : Option (List ℕ) = Some (script_of seed count) in
+    let new : World = world None history head capacity in
+    let script = answers_with tells old session history head capacity w.serving text w.left (Some []) w.told alone w.ran in
+    let says : Says seed count script.0.replies w.serving written written_now ending =
+        subst (λ (replies : List Reply). Says seed count replies w.serving written written_now ending) (sym script.1) w.says in
+    let Exits : ℕ → Type 0 = λ n. (n ≡ 8) ⊎ (n ≡ 4) ⊎ (n ≡ 5) ⊎ (n ≡ 11) in
+    record {
+      untaken = refl;
+      serving = w.serving;
+      left = w.left;
+      told = w.told;
+      serves = script.0;
+      ending = ending;
+      status_is = is;
+      says = says;
+      bad_root = λ told unserved. subst Exits (sym is) (refused told unserved);
+      complete = λ told there stands served room quiet.
+          let Done : ℕ → Type 0 = λ n. (n ≡ 11) ⊎ ((n ≡ 0) × IsComplete (closed there) (script_of seed count) (Some []) w.told) in
+          subst Done (sym is) (work_complete tells old new seed count w.serving ending before now w.left w.told written written_now there told stands served script.0 says cause few room quiet);
+    }

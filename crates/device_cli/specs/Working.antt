@@ -1,0 +1,57 @@
+-- What the word `work` serves, says and leaves.
+use Rattle.std.specs.Prelude.{◌≡◌, ◌⊎◌, ◌≤◌, ◌+◌, ◌*◌, ℕ, List, [], Option, Some, Ok, Err, flat_map}
+use Rattle.sdbt_base.specs.Arrays.{Device, closed}
+use Rattle.sdbt_base.specs.Told.{Got, GotPart}
+use Rattle.script_lang.specs.Replies.{Reply}
+use Rattle.workload.specs.Lines.{line_of}
+use Rattle.workload.specs.Scripts.{commands_of}
+use Rattle.workload.specs.Summaries.{summary}
+use Rattle.device_terms.specs.Served.{IsServedImage}
+use Rattle.device_cli.specs.Ran.{Ran, AnswersScript, IsComplete}
+use Rattle.device_cli.specs.Replied.{Ending, HasPut, damage_line, exit_of}
+use Rattle.device_cli.specs.Represents.{StandsFor}
+use Rattle.device_cli.specs.Run.{Counts, NoneRose}
+use Rattle.device_cli.specs.World.{World}
+use Rattle.device_cli.specs.declared.stop.DeviceStop.TheVariants as device
+use Rattle.device_cli.specs.declared.stop.Stop.TheVariants as stops
+
+-- the script of a seed, with so many generated lines
+abbrev pub script_of : ℕ → ℕ → List ℕ
+script_of seed count = flat_map line_of (commands_of seed count)
+
+-- what is put where the serving of the script ended so, with these replies: the summary, or the last line of a run that met damage; or, where the output
+-- failed, a first part of the one or the other; and nothing where no memory was given for the replies. The script's input never fails, and ends before
+-- the limit
+abbrev pub Says : ℕ → ℕ → List Reply → Ending → Option (List ℕ) → Option (List ℕ) → Ending → Type 0
+Says seed count replies (Ok done) written written_now ending = HasPut (summary seed count replies) ending written written_now
+Says seed count replies (Err (stops.Device stop)) written written_now ending =
+    ((ending ≡ Err (stops.Device stop)) × Got written (damage_line stop) written_now)
+    ⊎ ((ending ≡ Err stops.Sink) × GotPart written (damage_line stop) written_now)
+Says seed count replies (Err stops.Sink) written written_now ending = (ending ≡ Err (stops.Device device.Memory)) × (written_now ≡ written)
+Says seed count replies (Err stops.Source) written written_now ending = ⊥
+Says seed count replies (Err stops.Limit) written written_now ending = ⊥
+
+-- the script was served as a run serves it that puts its replies to an output of its own, in memory; and this was put of it
+pub record Worked (tells : Type 0) (seed count : ℕ) (old new : World) (written written_now : Option (List ℕ)) (ending : Ending) : Type 0 where
+  pub serving : Ending
+  pub left : Option (List ℕ)
+  pub told : Option (List ℕ)
+  pub ran : Ran tells old new damage_line serving (Some (script_of seed count)) left (Some []) told
+  pub says : Says seed count ran.handled.replied.replies serving written written_now ending
+
+-- the serving of the script of a seed, with so many generated lines: nothing is taken; it is served as a run serves it that ends so, whose replies are kept in
+-- memory; and then this is put of it, with this status. 8 comes where the cell can't be served, unless that could not be told or not be said, or no
+-- memory was given; and with room for 42 pages a line, and no fault, each line has its reply, unless no memory was given
+pub record Working {I : Type 0} (tells : Type 0) (seed count : ℕ) (old new : World) (input input_now : I) (before now : Counts) (status : ℕ) (written written_now : Option (List ℕ)) : Type 0 where
+  pub untaken : input_now ≡ input
+  pub serving : Ending
+  pub left : Option (List ℕ)
+  pub told : Option (List ℕ)
+  pub serves : AnswersScript tells old new (exit_of serving) (Some (script_of seed count)) left (Some []) told
+  pub ending : Ending
+  pub status_is : status ≡ exit_of ending
+  pub says : Says seed count serves.replies serving written written_now ending
+  pub bad_root : tells → (IsServedImage old.history.present → ⊥) → (status ≡ 8) ⊎ (status ≡ 4) ⊎ (status ≡ 5) ⊎ (status ≡ 11)
+  pub complete : tells → (there : Option Device) → StandsFor old.history.present there → IsServedImage old.history.present
+      → old.head + 42 * (count + 5) ≤ old.capacity → NoneRose before now
+      → (status ≡ 11) ⊎ ((status ≡ 0) × IsComplete (closed there) (script_of seed count) (Some []) told)
