@@ -13,14 +13,14 @@ use Rattle.btree_twigs.specs.declared.twigs.Child.TheVariants as made
 use Rattle.btree_twigs.specs.declared.twigs.Twig.{Twig}
 use Rattle.btree_twigs.specs.declared.twigs.Spot.{Spot}
 use Rattle.btree_twigs.specs.declared.twigs.Spot.TheVariants.{Found, Absent, Below}
-use Rattle.btree_twigs.specs.Stubs.{Stub, start_by, low_of, children_of, stubs, stubs_in, stubs_below}
+use Rattle.btree_twigs.specs.Stubs.{Stub, start_by, low_of, stubs, stubs_in, stubs_below}
 use Rattle.btree_twigs.specs.Search.{IsSpot}
 use Rattle.btree_twigs.specs.Updates.{stubs_under}
 use Rattle.btree_twigs.proofs.Nodes.{stubs_of_grown}
 use Rattle.btree_twigs.proofs.ListLaws.{stubs_append}
 use Rattle.btree_update.specs.GroveTree.{stubs_at}
 use Rattle.btree_update.specs.Holding.{IsNodeOf}
-use Rattle.btree_update.specs.Among.{NodesAmong, HaveNodes, HaveSpot}
+use Rattle.btree_update.specs.Among.{NodesAmong, HaveSpot}
 use Rattle.btree_update.proofs.Readings.{kept_stubs}
 
 front_among : (places : List Place) (xs ys : List Stub) → NodesAmong places (xs ++ ys) → NodesAmong places xs

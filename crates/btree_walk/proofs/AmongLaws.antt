@@ -8,7 +8,7 @@ use Rattle.page_store.specs.declared.wants.Want.{Want}
 use Rattle.page_store.specs.Places.{IsRecordAt}
 use Rattle.page_store.specs.Tree.{Place}
 use Rattle.node_cache.specs.declared.slots.Kept.{Kept}
-use Rattle.node_cache.specs.Kept.{Cached, kept_node, without, touched, filled, Uses}
+use Rattle.node_cache.specs.Kept.{Cached, kept_node, without, filled, Uses}
 use Rattle.btree_walk.specs.Ways.{GoesBelow}
 use Rattle.btree_walk.specs.Sights.{Sees, IsOfPage, StandsOver, KeepsOnly}
 use Rattle.btree_walk.specs.Among.{IsAmong, GoDown, KeepsAmong, KeepsBut}

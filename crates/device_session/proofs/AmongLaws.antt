@@ -1,5 +1,5 @@
 -- That a session's cache keeps nodes of its root record's tree alone.
-use Rattle.std.proofs.Common.{◌≡◌, ◌≢◌, ◌⊎◌, inl, inr, ℕ, zero, suc, ◌<◌, ◌≤◌, ◌^◌, List, [], ◌∷◌, ◌++◌, All, map, refl, sym, ap, subst, ◌∙◌, arith}
+use Rattle.std.proofs.Common.{◌≡◌, ◌≢◌, ◌⊎◌, inl, inr, ℕ, zero, suc, ◌<◌, ◌≤◌, ◌^◌, List, [], ◌∷◌, ◌++◌, All, map, refl, sym, subst, arith}
 use Rattle.std.specs.Prelude.{Contains}
 use Rattle.std.specs.List.{AllByRecursion}
 use Rattle.std.specs.List.Sorted.{IsPermutation}
@@ -14,10 +14,8 @@ use Rattle.root_codec.specs.declared.root.Root.{Root}
 use Rattle.page_store.specs.declared.wants.Want.{Want}
 use Rattle.page_store.specs.Places.{IsRecordAt, root_want, child_want}
 use Rattle.page_store.specs.Tree.{Parts, Place, Subtree, EachChild, Tree, joined, bound_of}
-use Rattle.page_store.specs.Stands.{StandsBy}
 use Rattle.page_store.proofs.RecordLaws.{one_record}
 use Rattle.node_cache.specs.declared.slots.Kept.{Kept}
-use Rattle.node_cache.specs.Kept.{Cached}
 use Rattle.btree_twigs.specs.Stubs.{Stub}
 use Rattle.btree_walk.specs.Among.{IsAmong, GoDown, KeepsAmong}
 use Rattle.btree_update.specs.GroveTree.{want_in}
@@ -25,7 +23,7 @@ use Rattle.btree_update.specs.Groves.{places_of}
 use Rattle.btree_update.specs.Among.{NodesAmong, HaveNodes}
 use Rattle.grove_accounts.specs.Accounts.{IsOwn}
 use Rattle.grove_accounts.specs.Below.{HaveParts}
-use Rattle.grove_accounts.specs.Holding.{HoldsTree, IsTreeOf, root_stub}
+use Rattle.grove_accounts.specs.Holding.{IsTreeOf, root_stub}
 use Rattle.grove_accounts.proofs.ListLaws.{each_left, each_right, each_append, each_weaker}
 use Rattle.grove_accounts.proofs.HoldingLaws.{tree_place}
 use Rattle.device_session.specs.Sessions.{Session}
