@@ -23,3 +23,4 @@ pub mod ReachingLaws
 pub mod CheckLaws
 pub mod WorkLaws
 pub mod WordLaws
+pub mod LookLaws

@@ -7,6 +7,7 @@ use Rattle.text_lines.specs.Lines.{whole_lines_of}
 use Rattle.sdbt_base.specs.Arrays.{State}
 use Rattle.platform.specs.History.{During}
 use Rattle.device_cli.specs.World.{World, IsLater}
+use Rattle.device_cli.proofs.LookLaws.{looks_none}
 use Rattle.device_course.specs.Marks.{Leaves}
 use Rattle.device_cli.specs.Represents.{Stood}
 use Rattle.device_cli.proofs.RepliedLaws.{made_idle, Replied-idle, Handled-then, count-then}
@@ -23,19 +24,19 @@ use Rattle.device_cli.proofs.RunLaws.{TookUntil-line}
 
 -- the same after the platform stood still
 pub Ran-after : (tells : Type 0) (old mid new : World) (last : DeviceStop → List ℕ) (ending : Ending) (left left_now a b : Option (List ℕ))
-    → IsLater old mid → mid.head ≡ old.head → mid.session ≡ old.session
+    → IsLater old mid → mid.head ≡ old.head → (tells → mid.reads ≡ old.reads) → mid.session ≡ old.session
     → (tells → (entry : State) → Stood old entry → Stood mid entry × During old.history mid.history (Leaves entry.device))
     → Ran tells mid new last ending left left_now a b → Ran tells old new last ending left left_now a b
-Ran-after tells old mid new last ending left left_now a b later same held still r = record {
+Ran-after tells old mid new last ending left left_now a b later same unread held still r = record {
   taken = r.taken;
   lines = r.lines;
   gave = r.gave;
   took = r.took;
   come = r.come;
   handled = Handled-then tells old mid new last ending [] r.lines a a b
-      (record { put = []; got = Got-nothing a; replied = Replied-idle tells old mid last later same held still }) r.handled;
+      (record { put = []; got = Got-nothing a; replied = Replied-idle tells old mid last later same unread held still }) r.handled;
   prompt =
-      let more = count-then tells old mid new last ending [] r.lines a a b (record { put = []; got = Got-nothing a; replied = Replied-idle tells old mid last later same held still }) r.handled in
+      let more = count-then tells old mid new last ending [] r.lines a a b (record { put = []; got = Got-nothing a; replied = Replied-idle tells old mid last later same unread held still }) r.handled in
       let p = r.prompt in
       record { before = p.before; last = p.last; parts = p.parts; piece = p.piece; served = omega (arith, p.served, more) };
 }
@@ -60,7 +61,7 @@ Ran-other tells old new ending left left_now a b other r = let p = r.handled.rep
   handled = record {
     put = r.handled.put;
     got = r.handled.got;
-    replied = record { replies = p.replies; part = p.part; put_is = p.put_is; behind = IsBehind-other ending p.part other p.behind; many = p.many; damage = p.damage; later = p.later; full = p.full; enough = p.enough; answered = p.answered };
+    replied = record { replies = p.replies; part = p.part; put_is = p.put_is; behind = IsBehind-other ending p.part other p.behind; many = p.many; damage = p.damage; later = p.later; full = p.full; enough = p.enough; looks = p.looks; answered = p.answered };
   };
   prompt = r.prompt;
 }
@@ -93,6 +94,7 @@ Ran-last tells old new stop left left_now a b c r got = let p = r.handled.replie
       later = p.later;
       full = p.full;
       enough = p.enough;
+      looks = p.looks;
       answered = λ told entry updates rep enough. Answered-part old new stop entry updates r.lines p.replies p.part (damage_line stop) (p.answered told entry updates rep enough);
     };
   };
@@ -122,6 +124,7 @@ Ran-cut tells old new stop left left_now a b c r (n, got) damaged = let p = r.ha
       later = p.later;
       full = p.full;
       enough = p.enough;
+      looks = p.looks;
       answered = λ told entry updates rep enough. absurd (damaged (p.answered told entry updates rep enough).ends);
     };
   };
@@ -139,11 +142,11 @@ IsEarly (device.BadRecord addr) = ⊥
 
 -- a run that was stopped before its first line
 pub Ran-refused : (tells : Type 0) (old new : World) (stop : DeviceStop) (left written : Option (List ℕ)) → IsEarly stop
-    → IsLater old new → new.head ≡ old.head
+    → IsLater old new → new.head ≡ old.head → (tells → new.reads ≡ old.reads)
     → (tells → (entry : State) → Stood old entry → Stood new entry × During old.history new.history (Leaves entry.device))
     → (tells → (entry : State) → Stood old entry → IsSound stop) → Ran tells old new no_line (Err (stops.Device stop)) left left written written
 unfolding whole_lines_of
-Ran-refused tells old new stop left written which later same still sound = record {
+Ran-refused tells old new stop left written which later same unread still sound = record {
   taken = [];
   lines = [];
   gave = Gave-nothing left;
@@ -162,6 +165,7 @@ Ran-refused tells old new stop left written which later same still sound = recor
       later = later;
       full = λ updates enough. tt;
       enough = λ updates enough. tt;
+      looks = looks_none tells old new _ (λ ok. absurd cc) unread;
       answered = λ told entry updates rep enough. record {
         now = entry;
         pages = old.head;

@@ -25,6 +25,8 @@ use Rattle.device_cli.specs.Parts.{added_by}
 use Rattle.device_cli.proofs.TurnLaws.{parts, turning}
 use Rattle.script_lang.specs.Arrays.{needs_room}
 use Rattle.device_cli.specs.Run.{IsOfLine}
+use Rattle.device_cli.specs.Looks.{LooksOn}
+use Rattle.device_cli.proofs.LookLaws.{looks_idle, looks_then, looks_longer, looks_weaker}
 use Rattle.device_cli.specs.World.{World, is_full, needed_of, AreEnough, IsLater}
 use Rattle.device_course.specs.Marks.{Leaves, last_mark}
 use Rattle.device_course.specs.Course.{Made}
@@ -61,10 +63,10 @@ made_idle old new entry rep (there, during) =
     made_none old.history new.history None entry (closed entry.device) rep.there.device during refl (shut new.history.present entry.device there.there.device there.served)
 
 -- no lines, and nothing put, while the platform stood still
-pub Replied-idle : (tells : Type 0) (old new : World) (last : DeviceStop → List ℕ) → IsLater old new → new.head ≡ old.head → new.session ≡ old.session
+pub Replied-idle : (tells : Type 0) (old new : World) (last : DeviceStop → List ℕ) → IsLater old new → new.head ≡ old.head → (tells → new.reads ≡ old.reads) → new.session ≡ old.session
     → (tells → (entry : State) → Stood old entry → Stood new entry × During old.history new.history (Leaves entry.device))
     → Replied tells old new last (Ok tt) [] []
-Replied-idle tells old new last later same held still = record {
+Replied-idle tells old new last later same unread held still = record {
   replies = [];
   part = [];
   put_is = refl;
@@ -74,6 +76,7 @@ Replied-idle tells old new last later same held still = record {
   later = later;
   full = λ updates enough. tt;
   enough = λ updates enough. subst (λ (session : Option Session). AreEnough session updates) (sym held) enough;
+  looks = looks_idle tells old new _ held unread;
   answered = λ told entry updates rep enough. let both = still told entry rep in record {
     now = entry;
     pages = new.head;
@@ -95,7 +98,7 @@ still_there w entry rep = (rep, During-start w.history (Leaves entry.device) (st
 
 -- no lines, and nothing put
 pub Replied-nothing : (tells : Type 0) (w : World) (last : DeviceStop → List ℕ) → w.head ≤ w.capacity → Replied tells w w last (Ok tt) [] []
-Replied-nothing tells w last fits = Replied-idle tells w w last (IsLater-refl w fits) refl refl (λ told entry rep. still_there w entry rep)
+Replied-nothing tells w last fits = Replied-idle tells w w last (IsLater-refl w fits) refl (λ told. refl) refl (λ told entry rep. still_there w entry rep)
 
 -- what the serving of a line did from a state: a reply that belongs to it, and the state after it
 abbrev pub Turned : World → World → State → ℕ → List ℕ → Reply → Type 0
@@ -126,8 +129,8 @@ TurnsEach tells old new line reply = tells → (entry : State) (updates : ℕ) �
 -- a line with its reply
 pub Replied-line : (tells : Type 0) (old new : World) (last : DeviceStop → List ℕ) (line : List ℕ) (reply : Reply)
     → IsLater old new → TellsShort old new line reply → StaysEnough old new reply
-    → TurnsEach tells old new line reply → Replied tells old new last (Ok tt) (line ∷ []) (line_of reply)
-Replied-line tells old new last line reply later full enough turned = record {
+    → LooksOn tells old new (line ∷ []) (IsOk {A = Unit {0}} {E = Stop} (Ok tt)) → TurnsEach tells old new line reply → Replied tells old new last (Ok tt) (line ∷ []) (line_of reply)
+Replied-line tells old new last line reply later full enough looks turned = record {
   replies = reply ∷ [];
   part = [];
   put_is = grind (arith, common_steps);
@@ -137,6 +140,7 @@ Replied-line tells old new last line reply later full enough turned = record {
   later = later;
   full = λ updates paid. (full updates paid, tt);
   enough = enough;
+  looks = looks;
   answered = λ told entry updates rep paid.
       let t = turned told entry updates rep paid in
       let turn = turn_of old.capacity entry old.head updates line reply t.0 new.head t.1 in
@@ -157,9 +161,9 @@ Replied-line tells old new last line reply later full enough turned = record {
 
 -- a line whose reply was put in part
 pub Replied-part : (tells : Type 0) (old new : World) (last : DeviceStop → List ℕ) (line : List ℕ) (reply : Reply) (n : ℕ)
-    → IsLater old new → TurnsEach tells old new line reply
+    → IsLater old new → LooksOn tells old new (line ∷ []) (IsOk {A = Unit {0}} {E = Stop} (Err stops.Sink)) → TurnsEach tells old new line reply
     → Replied tells old new last (Err stops.Sink) (line ∷ []) (take n (line_of reply))
-Replied-part tells old new last line reply n later turned = record {
+Replied-part tells old new last line reply n later looks turned = record {
   replies = [];
   part = take n (line_of reply);
   put_is = refl;
@@ -169,6 +173,7 @@ Replied-part tells old new last line reply n later turned = record {
   later = later;
   full = λ updates enough. tt;
   enough = λ updates enough. tt;
+  looks = looks;
   answered = λ told entry updates rep enough.
       let t = turned told entry updates rep enough in
       let turn = turn_of old.capacity entry old.head updates line reply t.0 new.head t.1 in
@@ -239,9 +244,10 @@ left_more (device.BadRecord addr) command changes more less = omega arith
 -- a line that the device stopped at
 pub Replied-stop : (tells : Type 0) (old new : World) (line : List ℕ) (command : Command) (stop : DeviceStop) → Spells line command → IsLater old new → new.head ≤ old.head + left_by stop command (needed_of old.session)
     → IsDamageAt tells new.history.present [] (line ∷ []) (Err (stops.Device stop))
+    → LooksOn tells old new (line ∷ []) (IsOk {A = Unit {0}} {E = Stop} (Err (stops.Device stop)))
     → (tells → IsServedImage new.history.present) → (tells → (entry : State) → Stood old entry → Halts old new entry command stop)
     → Replied tells old new no_line (Err (stops.Device stop)) (line ∷ []) []
-Replied-stop tells old new line command stop spells later added damage served halts = record {
+Replied-stop tells old new line command stop spells later added damage looks served halts = record {
   replies = [];
   part = [];
   put_is = refl;
@@ -251,6 +257,7 @@ Replied-stop tells old new line command stop spells later added damage served ha
   later = later;
   full = λ updates enough. tt;
   enough = λ updates enough. tt;
+  looks = looks;
   answered = λ told entry updates rep enough.
       let h = halted old new entry line command stop spells rep (served told) (halts told entry rep) in
       record {
@@ -418,6 +425,7 @@ Replied-then tells old mid new last ending lines more put others p q =
       full = λ updates paid. AreShort-append new.head new.capacity updates lines more p.replies q.replies p.many
           (AreShort-later mid new updates lines p.replies q.later (p.full updates paid)) (q.full (updates_of updates p.replies) (p.enough updates paid));
       enough = λ updates paid. enough_then ending new.session updates p.replies q.replies (q.enough (updates_of updates p.replies) (p.enough updates paid));
+      looks = looks_then tells old mid new lines more _ _ refl p.looks q.looks;
       answered = λ told entry updates rep paid.
           let first = p.answered told entry updates rep paid in
           Answered-then old mid new ending entry updates lines more p.replies q.replies p.part q.part p.later p.many first
@@ -463,6 +471,7 @@ Replied-longer tells old new last stop lines more put line p = record {
   later = p.later;
   full = λ updates enough. AreShort-longer new.head new.capacity updates lines more p.replies (p.full updates enough);
   enough = λ updates enough. tt;
+  looks = looks_longer tells old new lines more _ _ (λ ok. absurd cc) p.looks;
   answered = λ told entry updates rep enough. let first = p.answered told entry updates rep enough in record {
     now = first.now;
     pages = first.pages;
@@ -510,6 +519,7 @@ stopped tells old new last stop lines put p behind many damage answered = record
   later = p.later;
   full = p.full;
   enough = λ updates enough. tt;
+  looks = looks_weaker tells old new lines _ _ (λ ok. absurd cc) p.looks;
   answered = λ told entry updates rep enough. answered entry updates (p.answered told entry updates rep enough);
 }
 
@@ -531,15 +541,15 @@ Handled-cut tells old new last lines a b p = let cut = Replied-cut tells old new
 -- a line whose reply was put, whole or in part
 pub Handled-line : (tells : Type 0) (old new : World) (last : DeviceStop → List ℕ) (line : List ℕ) (reply : Reply) (ending : Ending) (a b : Option (List ℕ))
     → IsLater old new → TellsShort old new line reply → StaysEnough old new reply
-    → TurnsEach tells old new line reply → HasPut (line_of reply) ending a b
+    → LooksOn tells old new (line ∷ []) (IsOk ending) → TurnsEach tells old new line reply → HasPut (line_of reply) ending a b
     → Handled tells old new last ending (line ∷ []) a b
-Handled-line tells old new last line reply (Ok done) a b later full enough turned put =
-    record { put = line_of reply; got = put; replied = Replied-line tells old new last line reply later full enough turned }
-Handled-line tells old new last line reply (Err stops.Sink) a b later full enough turned (n, put) =
-    record { put = take n (line_of reply); got = put; replied = Replied-part tells old new last line reply n later turned }
-Handled-line tells old new last line reply (Err stops.Source) a b later full enough turned put = absurd put
-Handled-line tells old new last line reply (Err stops.Limit) a b later full enough turned put = absurd put
-Handled-line tells old new last line reply (Err (stops.Device stop)) a b later full enough turned put = absurd put
+Handled-line tells old new last line reply (Ok done) a b later full enough looks turned put =
+    record { put = line_of reply; got = put; replied = Replied-line tells old new last line reply later full enough looks turned }
+Handled-line tells old new last line reply (Err stops.Sink) a b later full enough looks turned (n, put) =
+    record { put = take n (line_of reply); got = put; replied = Replied-part tells old new last line reply n later looks turned }
+Handled-line tells old new last line reply (Err stops.Source) a b later full enough looks turned put = absurd put
+Handled-line tells old new last line reply (Err stops.Limit) a b later full enough looks turned put = absurd put
+Handled-line tells old new last line reply (Err (stops.Device stop)) a b later full enough looks turned put = absurd put
 
 -- a line outside the grammar
 pub turned_bad : (w : World) (entry : State) (updates : ℕ) (line : List ℕ) → IsBad line → Stood w entry → Turned w w entry updates line Bad
@@ -586,12 +596,13 @@ tells_short old new line command reply spells later full updates enough e =
 -- a line that the device stopped at
 pub Handled-stop : (tells : Type 0) (old new : World) (line : List ℕ) (command : Command) (stop : DeviceStop) (written : Option (List ℕ)) → Spells line command
     → IsLater old new → new.head ≤ old.head + left_by stop command (needed_of old.session) → ((addr : ℕ) → stop ≡ device.BadRecord addr → IsOfBlock command × (tells → IsWrongPage new.history.present addr))
+    → LooksOn tells old new (line ∷ []) (IsOk {A = Unit {0}} {E = Stop} (Err (stops.Device stop)))
     → (tells → IsServedImage new.history.present) → (tells → (entry : State) → Stood old entry → Halts old new entry command stop)
     → Handled tells old new no_line (Err (stops.Device stop)) (line ∷ []) written written
-Handled-stop tells old new line command stop written spells later added met served halts = record {
+Handled-stop tells old new line command stop written spells later added met looks served halts = record {
   put = [];
   got = Got-nothing written;
-  replied = Replied-stop tells old new line command stop spells later added (damage stop met) served halts;
+  replied = Replied-stop tells old new line command stop spells later added (damage stop met) looks served halts;
 }
   where
     damage : (s : DeviceStop) → ((addr : ℕ) → s ≡ device.BadRecord addr → IsOfBlock command × (tells → IsWrongPage new.history.present addr))
@@ -619,6 +630,7 @@ Handled-lines tells old new last ending lines others a b same p = let r = p.repl
     later = r.later;
     full = λ updates enough. subst (λ (ls : List (List ℕ)). AreShort new.head new.capacity updates ls r.replies) same (r.full updates enough);
     enough = r.enough;
+    looks = subst (λ (ls : List (List ℕ)). LooksOn tells old new ls (IsOk ending)) same r.looks;
     answered = λ told entry updates rep enough. subst (λ (ls : List (List ℕ)). Answered old new ending entry updates ls r.replies r.part) same (r.answered told entry updates rep enough);
   };
 }

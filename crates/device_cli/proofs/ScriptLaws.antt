@@ -13,6 +13,7 @@ use Rattle.device_terms.specs.Served.{IsServedImage}
 use Rattle.device_session.specs.Sessions.{Session}
 use Rattle.platform.specs.History.{History}
 use Rattle.device_cli.specs.World.{World, world}
+use Rattle.device_cli.specs.Looks.{IsWarmFor}
 use Rattle.device_course.specs.States.{IsSessionOf}
 use Rattle.device_cli.specs.Represents.{StandsFor, Represents}
 use Rattle.platform.specs.Runs.{Passes}
@@ -313,9 +314,9 @@ answers_from old new ending entry lines replies part f = record {
 }
 
 -- what is said of a run's end says nothing of its session
-forget : (old : World) (session : Option Session) (history : History) (head capacity : ℕ) (status : ℕ) (entry : State) (lines : List (List ℕ)) (replies : List Reply) (part : List ℕ)
-    → AnswersFrom old (world session history head capacity) status entry lines replies part → AnswersFrom old (world None history head capacity) status entry lines replies part
-forget old session history head capacity status entry lines replies part f = record {
+forget : (old : World) (session : Option Session) (history : History) (head capacity reads : ℕ) (status : ℕ) (entry : State) (lines : List (List ℕ)) (replies : List Reply) (part : List ℕ)
+    → AnswersFrom old (world session history head capacity reads) status entry lines replies part → AnswersFrom old (world None history head capacity reads) status entry lines replies part
+forget old session history head capacity reads status entry lines replies part f = record {
   now = f.now;
   pages = f.pages;
   answers = f.answers;
@@ -339,10 +340,10 @@ enough_alone : (held : Option Session) → held ≡ None → AreEnough held 0
 enough_alone held alone = subst (λ (session : Option Session). AreEnough session 0) (sym alone) (omega arith)
 
 -- a run answers the script, whatever session it ends with
-pub answers_script : (tells : Type 0) (old : World) (session : Option Session) (history : History) (head capacity : ℕ) (ending : Ending) (left left_now written written_now : Option (List ℕ))
-    → old.session ≡ None → Ran tells old (world session history head capacity) damage_line ending left left_now written written_now
-    → AnswersScript tells old (world None history head capacity) (exit_of ending) left left_now written written_now
-answers_script tells old session history head capacity ending left left_now written written_now alone r = let p = r.handled.replied in record {
+pub answers_script : (tells : Type 0) (old : World) (session : Option Session) (history : History) (head capacity reads : ℕ) (ending : Ending) (left left_now written written_now : Option (List ℕ))
+    → old.session ≡ None → Ran tells old (world session history head capacity reads) damage_line ending left left_now written written_now
+    → AnswersScript tells old (world None history head capacity reads) (exit_of ending) left left_now written written_now
+answers_script tells old session history head capacity reads ending left left_now written written_now alone r = let p = r.handled.replied in record {
   taken = r.taken;
   gave = r.gave;
   lines = r.lines;
@@ -359,26 +360,27 @@ answers_script tells old session history head capacity ending left left_now writ
   bad_record = bad_record tells history.present ending p.part p.replies r.lines p.behind p.damage;
   cut = cut ending p.part p.behind;
   full = p.full 0 (enough_alone old.session alone);
+  looks = λ told most last h. (p.looks told None last most (subst (λ (held : Option Session). IsWarmFor held None) (sym alone) tt) h).0;
   answered = λ told there stands served.
-      forget old session history head capacity (exit_of ending) (closed there) r.lines p.replies p.part
-      (answers_from old (world session history head capacity) ending (closed there) r.lines p.replies p.part
+      forget old session history head capacity reads (exit_of ending) (closed there) r.lines p.replies p.part
+      (answers_from old (world session history head capacity reads) ending (closed there) r.lines p.replies p.part
       (p.answered told (closed there) 0 (record { there = alone_on old there alone stands; served = served }) (enough_alone old.session alone)));
 }
 
 -- and with its replies
-pub answers_with : (tells : Type 0) (old : World) (session : Option Session) (history : History) (head capacity : ℕ) (ending : Ending) (left left_now written written_now : Option (List ℕ))
-    → old.session ≡ None → (r : Ran tells old (world session history head capacity) damage_line ending left left_now written written_now)
-    → (script : AnswersScript tells old (world None history head capacity) (exit_of ending) left left_now written written_now) × (script.replies ≡ r.handled.replied.replies)
+pub answers_with : (tells : Type 0) (old : World) (session : Option Session) (history : History) (head capacity reads : ℕ) (ending : Ending) (left left_now written written_now : Option (List ℕ))
+    → old.session ≡ None → (r : Ran tells old (world session history head capacity reads) damage_line ending left left_now written written_now)
+    → (script : AnswersScript tells old (world None history head capacity reads) (exit_of ending) left left_now written written_now) × (script.replies ≡ r.handled.replied.replies)
 unfolding answers_script
-answers_with tells old session history head capacity ending left left_now written written_now alone r =
-    (answers_script tells old session history head capacity ending left left_now written written_now alone r, refl)
+answers_with tells old session history head capacity reads ending left left_now written written_now alone r =
+    (answers_script tells old session history head capacity reads ending left left_now written written_now alone r, refl)
 
 -- which devices a run made, whatever session it ends with
-pub made_by : (tells : Type 0) (old : World) (session : Option Session) (history : History) (head capacity : ℕ) (ending : Ending) (left left_now written written_now : Option (List ℕ))
-    → old.session ≡ None → Ran tells old (world session history head capacity) damage_line ending left left_now written written_now
+pub made_by : (tells : Type 0) (old : World) (session : Option Session) (history : History) (head capacity reads : ℕ) (ending : Ending) (left left_now written written_now : Option (List ℕ))
+    → old.session ≡ None → Ran tells old (world session history head capacity reads) damage_line ending left left_now written written_now
     → tells → (there : Option Device) → StandsFor old.history.present there → IsServedImage old.history.present
     → (marks : List (Option Device)) × Made old.history history None (closed there) marks (closed (last_mark there marks))
-made_by tells old session history head capacity ending left left_now written written_now alone r told there stands served =
+made_by tells old session history head capacity reads ending left left_now written written_now alone r told there stands served =
     let f = r.handled.replied.answered told (closed there) 0 (record { there = alone_on old there alone stands; served = served }) (enough_alone old.session alone) in
     (f.marks, f.made)
 
@@ -402,6 +404,7 @@ answers_nothing tells w left written = record {
   bad_record = λ e. absurd (omega (arith, e));
   cut = λ e. absurd (omega (arith, e));
   full = tt;
+  looks = λ told most last h. omega (arith, h.0);
   answered = λ told there stands served. record {
     now = closed there;
     pages = w.head;

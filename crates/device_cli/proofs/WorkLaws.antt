@@ -63,7 +63,7 @@ worked_none tells w seed count written room =
       left = text;
       told = Some [];
       ran = Ran-last tells w w device.Memory text text (Some []) (Some []) (Some [])
-          (Ran-refused tells w w device.Memory text (Some []) tt later refl
+          (Ran-refused tells w w device.Memory text (Some []) tt later refl (λ told. refl)
           (λ told entry there. (there, stands_during w.history w.history _ there.there.device (During-start w.history (λ image. image.cell ≡ w.history.present.cell) refl)))
           (λ told entry there. tt))
           refl;
@@ -135,15 +135,15 @@ cause_wide p t o l p_now t_now o_now l_now i i_now (Err (stops.Device (device.Ba
 cause_wide p t o l p_now t_now o_now l_now i i_now (Err (stops.Device device.Memory)) cause = tt
 
 -- whatever session the serving ends with
-pub working_of : {I : Type 0} (tells : Type 0) (seed count : ℕ) (old : World) (session : Option Session) (history : History) (head capacity : ℕ) (input : I) (before now : Counts) (status : ℕ) (written written_now : Option (List ℕ)) (ending : Ending)
+pub working_of : {I : Type 0} (tells : Type 0) (seed count : ℕ) (old : World) (session : Option Session) (history : History) (head capacity reads : ℕ) (input : I) (before now : Counts) (status : ℕ) (written written_now : Option (List ℕ)) (ending : Ending)
     → old.session ≡ None → count ≤ 5000 → status ≡ exit_of ending → IfErr ending (HasCause before now)
     → (tells → (IsServedImage old.history.present → ⊥) → (exit_of ending ≡ 8) ⊎ (exit_of ending ≡ 4) ⊎ (exit_of ending ≡ 5) ⊎ (exit_of ending ≡ 11))
-    → Worked tells seed count old (world session history head capacity) written written_now ending
-    → Working tells seed count old (world None history head capacity) input input before now status written written_now
-working_of tells seed count old session history head capacity input before now status written written_now ending alone few is cause refused w =
+    → Worked tells seed count old (world session history head capacity reads) written written_now ending
+    → Working tells seed count old (world None history head capacity reads) input input before now status written written_now
+working_of tells seed count old session history head capacity reads input before now status written written_now ending alone few is cause refused w =
     let text : Option (List ℕ) = Some (script_of seed count) in
-    let new : World = world None history head capacity in
-    let script = answers_with tells old session history head capacity w.serving text w.left (Some []) w.told alone w.ran in
+    let new : World = world None history head capacity reads in
+    let script = answers_with tells old session history head capacity reads w.serving text w.left (Some []) w.told alone w.ran in
     let says : Says seed count script.0.replies w.serving written written_now ending =
         subst (λ (replies : List Reply). Says seed count replies w.serving written written_now ending) (sym script.1) w.says in
     let Exits : ℕ → Type 0 = λ n. (n ≡ 8) ⊎ (n ≡ 4) ⊎ (n ≡ 5) ⊎ (n ≡ 11) in

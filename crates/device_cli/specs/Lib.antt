@@ -16,3 +16,4 @@ pub mod Unserved
 pub mod Added
 pub mod Parts
 pub mod Working
+pub mod Looks

@@ -1,5 +1,5 @@
 -- What a part of a run gives, whether it serves a command, a line, or a piece of the input.
-use Rattle.std.specs.Prelude.{◌≡◌, ℕ, ◌+◌, List, Option, Result, IsOk, IfOk, OnOk, IsErrOf}
+use Rattle.std.specs.Prelude.{◌≡◌, ℕ, ◌+◌, ◌≤◌, List, Option, Result, IsOk, IfOk, OnOk, IsErrOf}
 use Rattle.sdbt_base.specs.Arrays.{State}
 use Rattle.sdbt_base.specs.declared.sinks.Sink.{Ghosts as SinkGhosts}
 use Rattle.sdbt_base.specs.declared.tapes.Tape.{Ghosts as TapeGhosts}
@@ -13,6 +13,7 @@ use Rattle.script_lang.specs.Replies.{Formatted, Done, Committed}
 use Rattle.script_lang.specs.declared.replies.Reply.{Reply as Given}
 use Rattle.device_course.specs.Keys.{KeepsOn}
 use Rattle.device_course.specs.States.{IsListed}
+use Rattle.device_cli.specs.Looks.{IsLook, IsWarmFor, block_read, most_reads}
 use Rattle.device_cli.specs.Pages.{updates_after}
 use Rattle.device_cli.specs.Replied.{IsWrongPage, Serves, outcome}
 use Rattle.device_cli.specs.Represents.{Represents}
@@ -81,3 +82,8 @@ SeesAny P desk now platform platform_now result = (entry : State) → Represents
 -- a record that doesn't fit is one
 abbrev pub MeetsDamage : {X : Type 0} → Image → Result X DeviceStop → Type 0
 MeetsDamage image result = (addr : ℕ) → IsErrOf result (device.BadRecord addr) → IsWrongPage image addr
+
+-- where a command only looks, no more pages are read than these; and where it is done, the cache is ready for the next one
+abbrev pub LooksFew : {S X E : Type 0} → PlatformGhosts S → Desk → Desk → S → S → Command → Result X E → Type 0
+LooksFew P desk now platform platform_now command result = (before : Option ℕ) → IsWarmFor desk.session before → IsLook command
+    → (P.reads platform_now ≤ P.reads platform + most_reads before command) × (IsOk result → IsWarmFor now.session (block_read command))

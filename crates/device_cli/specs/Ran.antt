@@ -1,5 +1,5 @@
 -- A run from its input to its output.
-use Rattle.std.specs.Prelude.{◌≡◌, ◌≢◌, ℕ, ◌+◌, ◌*◌, ◌<◌, ◌≤◌, ◌^◌, ◌⊎◌, List, [], ◌∷◌, ◌++◌, All, Option, Some, Ok, Err, length, flat_map}
+use Rattle.std.specs.Prelude.{◌≡◌, ◌≢◌, ℕ, ◌+◌, ◌*◌, ◌<◌, ◌≤◌, ◌^◌, ◌⊎◌, List, [], ◌∷◌, ◌++◌, All, Option, None, Some, Ok, Err, length, flat_map}
 use Rattle.platform.specs.Runs.{Passes}
 use Rattle.device_terms.specs.Served.{IsServedImage}
 use Rattle.sdbt_base.specs.Told.{Gave, Got, IsAtEnd}
@@ -9,6 +9,7 @@ use Rattle.sdbt_base.specs.Arrays.{State, Device, closed}
 use Rattle.script_lang.specs.Answers.{Answers}
 use Rattle.script_lang.specs.Replies.{Reply}
 use Rattle.script_lang.specs.Replies.{Full}
+use Rattle.device_cli.specs.Looks.{AreLooks}
 use Rattle.device_cli.specs.World.{World}
 use Rattle.device_cli.specs.Represents.{StandsFor}
 use Rattle.device_cli.specs.Pages.{needed_for, updates_of, accepted, AnswersOn, AreShort, IfNext}
@@ -102,6 +103,8 @@ pub record AnswersScript (tells : Type 0) (old new : World) (status : ℕ) (left
   pub cut : status ≡ 4 → ((reply : Reply) × IsFirstPart (line_of reply) part) ⊎ ((stop : DeviceStop) × IsFirstPart (damage_line stop) part)
   -- a reply that too few pages were free is true for good
   pub full : AreShort new.head new.capacity 0 lines replies
+  -- where the lines only look, no more pages are read than these: one for a read of the block that was read just before, 21 for another one, and else none
+  pub looks : tells → (most : ℕ) (last : Option ℕ) → AreLooks None lines most last → new.reads ≤ old.reads + most
   -- over an image that stands for a device which can be served, from that device on without a session
   pub answered : tells → (there : Option Device) → StandsFor old.history.present there → IsServedImage old.history.present
       → AnswersFrom old new status (closed there) lines replies part

@@ -1,5 +1,5 @@
 -- What a run that handled some lines put, and which replies belong to them.
-use Rattle.std.specs.Prelude.{◌≡◌, ℕ, ◌≤◌, ◌⊎◌, List, [], ◌∷◌, ◌++◌, Option, None, Some, Result, Ok, Err, OnOk, take, length, codes, flat_map}
+use Rattle.std.specs.Prelude.{◌≡◌, ℕ, ◌≤◌, ◌⊎◌, List, [], ◌∷◌, ◌++◌, Option, None, Some, Result, Ok, Err, OnOk, IsOk, take, length, codes, flat_map}
 use Rattle.std.specs.Fmt.{decimal}
 use Rattle.platform.specs.Image.{Image}
 use Rattle.platform.specs.History.{During, Turns, moment}
@@ -15,6 +15,7 @@ use Rattle.script_lang.specs.Answers.{IsMark, IsAnswer, answer, none_counted}
 use Rattle.script_lang.specs.Commands.{Command}
 use Rattle.script_lang.specs.Commands as commands
 use Rattle.script_lang.specs.Replies.{Reply}
+use Rattle.device_cli.specs.Looks.{LooksOn}
 use Rattle.device_cli.specs.World.{World, is_full, AreEnough, IsLater}
 use Rattle.device_course.specs.Marks.{Leaves, mark_at, last_mark}
 use Rattle.device_course.specs.Course.{Made}
@@ -172,6 +173,7 @@ pub record Replied (tells : Type 0) (old new : World) (last : DeviceStop → Lis
   pub later : IsLater old new
   pub full : (updates : ℕ) → AreEnough old.session updates → AreShort new.head new.capacity updates lines replies
   pub enough : (updates : ℕ) → AreEnough old.session updates → OnOk ending (AreEnough new.session (updates_of updates replies))
+  pub looks : LooksOn tells old new lines (IsOk ending)
   pub answered : tells → (entry : State) (updates : ℕ) → Stood old entry → AreEnough old.session updates → Answered old new ending entry updates lines replies part
 
 -- the same of what an output has got

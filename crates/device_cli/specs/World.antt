@@ -7,19 +7,20 @@ use Rattle.device_session.specs.Sessions.{Session}
 use Rattle.script_lang.specs.Commands.{Command}
 use Rattle.device_cli.specs.Pages.{needed_for}
 
--- the session, if one is open; the moments of the platform; how many pages it has, and how many it can have
+-- the session, if one is open; the moments of the platform; how many pages it has, and how many it can have; and how many page reads were made
 pub record World : Type 0 where
   pub session : Option Session
   pub history : History
   pub head : ℕ
   pub capacity : ℕ
+  pub reads : ℕ
 
-abbrev pub world : Option Session → History → ℕ → ℕ → World
-world session history head capacity = record { session = session; history = history; head = head; capacity = capacity }
+abbrev pub world : Option Session → History → ℕ → ℕ → ℕ → World
+world session history head capacity reads = record { session = session; history = history; head = head; capacity = capacity; reads = reads }
 
 -- the same of a platform
 abbrev pub world_of : {S : Type 0} → Ghosts S → Option Session → S → World
-world_of P session platform = world session (P.history platform) (P.head platform) (P.capacity platform)
+world_of P session platform = world session (P.history platform) (P.head platform) (P.capacity platform) (P.reads platform)
 
 -- how many pages a commit of the session's changes needs
 abbrev pub needed_of : Option Session → ℕ

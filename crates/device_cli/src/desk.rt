@@ -37,7 +37,7 @@ pub(crate) struct Desk {
 
 impl Desk {
     ghost use Rattle.device_cli.specs.Desk.{IsReady, Before, After};
-    ghost use Rattle.device_cli.specs.Parts.{AddsPages, Keeps, KeepsFrom, KeepsStill, MeetsDamage, SeesAny, ServesAny, StaysEnough};
+    ghost use Rattle.device_cli.specs.Parts.{AddsPages, Keeps, KeepsFrom, KeepsStill, LooksFew, MeetsDamage, SeesAny, ServesAny, StaysEnough};
 
     /// No session.
     pub(crate) fn new(alloc: Global) -> Desk
@@ -72,6 +72,7 @@ impl Desk {
         ensures keeps { Keeps P.Platform T.Tape L.Sink self.old self.new platform.old platform.new tape.old tape.new ledger.old ledger.new result }
         ensures answered { P.tells → ServesAny P.Platform self.old self.new platform.old platform.new (asked command.now self.old.buffer) result }
         ensures seen { P.tells → SeesAny P.Platform self.old self.new platform.old platform.new result }
+        ensures looks { P.tells → LooksFew P.Platform self.old self.new platform.old platform.new (asked command.now self.old.buffer) result }
     {
         match command {
             Command::Format { blocks, order } => {
@@ -131,6 +132,7 @@ impl Desk {
         ensures enough { StaysEnough self.old self.new result }
         ensures keeps { KeepsStill P.Platform self.old self.new platform.old platform.new result }
         ensures answered { P.tells → ServesAny P.Platform self.old self.new platform.old platform.new commands.Mount result }
+        ensures looks { P.tells → LooksFew P.Platform self.old self.new platform.old platform.new commands.Mount result }
     {
         if self.session.is_some() {
             return Ok(Reply::AlreadyMounted);
@@ -157,6 +159,7 @@ impl Desk {
         ensures enough { StaysEnough self.old self.new result }
         ensures keeps { KeepsStill P.Platform self.old self.new platform.old platform.new result }
         ensures answered { P.tells → ServesAny P.Platform self.old self.new platform.old platform.new (commands.Read block) result }
+        ensures looks { P.tells → LooksFew P.Platform self.old self.new platform.old platform.new (commands.Read block) result }
     {
         let Some(session) = &mut self.session else {
             return Ok(Reply::Unmounted);
@@ -265,6 +268,7 @@ impl Desk {
         ensures stop { IfErr result (λ stop. ⊥) }
         ensures enough { StaysEnough self.old self.new result }
         ensures answered { P.tells → ServesAny P.Platform self.old self.new platform.now platform.now commands.Drop result }
+        ensures looks { P.tells → LooksFew P.Platform self.old self.new platform.now platform.now commands.Drop result }
     {
         let _ = platform;
         if self.session.is_none() {
@@ -331,6 +335,7 @@ impl Desk {
         ensures stop { IfErr result (λ stop. ⊥) }
         ensures enough { StaysEnough self.now self.now result }
         ensures answered { P.tells → ServesAny P.Platform self.now self.now platform.now platform.now commands.Stat result }
+        ensures looks { P.tells → LooksFew P.Platform self.now self.now platform.now platform.now commands.Stat result }
     {
         let _ = platform;
         match &self.session {

@@ -24,6 +24,7 @@ pub(crate) fn check_cell<P: Platform>(platform: &mut P) -> Result<Option<Root>, 
     ensures time { P.tells → Steps (P.history platform.old) (P.history platform.new) }
     ensures head { P.head platform.new ≡ P.head platform.old }
     ensures capacity { P.capacity platform.new ≡ P.capacity platform.old }
+    ensures reads { P.tells → P.reads platform.new ≡ P.reads platform.old }
     ensures count { P.faults platform.old ≤ P.faults platform.new }
 {
     let mut cell = [0; ROOT];

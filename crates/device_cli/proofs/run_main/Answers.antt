@@ -54,7 +54,7 @@ returns-in-Ok-clause-answers g c words =
     let written = g.O.Sink.written in
     let old : World = world_of P None c.args.platform.now in
     let ran = c.in-Ok.ensures.ran in
-    answers_script P.tells old ran.0 (P.history c.run.new.platform) (P.head c.run.new.platform) (P.capacity c.run.new.platform) (Ok tt) (left c.args.input.now) (left c.run.new.input)
+    answers_script P.tells old ran.0 (P.history c.run.new.platform) (P.head c.run.new.platform) (P.capacity c.run.new.platform) (P.reads c.run.new.platform) (Ok tt) (left c.args.input.now) (left c.run.new.input)
     (written c.args.output.now) (written c.run.new.output) refl ran.1
 
 pub returns-in-Err-clause-answers : goal.returns-in-Err-clause-answers
@@ -67,7 +67,7 @@ returns-in-Err-clause-answers g c words =
     let ran = c.in-Err.ensures.ran in
     subst (λ (status : ℕ). AnswersScript P.tells old new status (left c.args.input.now) (left c.run.new.input) (written c.args.output.now) (written c.run.new.output))
     (sym c.status.ensures)
-    (answers_script P.tells old ran.0 (P.history c.run.new.platform) (P.head c.run.new.platform) (P.capacity c.run.new.platform) (Err c.in-Err.stop) (left c.args.input.now) (left c.run.new.input)
+    (answers_script P.tells old ran.0 (P.history c.run.new.platform) (P.head c.run.new.platform) (P.capacity c.run.new.platform) (P.reads c.run.new.platform) (Err c.in-Err.stop) (left c.args.input.now) (left c.run.new.input)
     (written c.args.output.now) (written c.run.new.output) refl ran.1)
 
 pub returns-in-Ok-clause-complete : goal.returns-in-Ok-clause-complete
@@ -115,7 +115,7 @@ returns-in-Ok-clause-discloses g c =
     let ran = c.in-Ok.ensures.ran in
     let later = ran.1.handled.replied.later in
     discloses P.tells old new _ _ (record { capacity = later.capacity; rises = later.rises; within = later.within }) c.run.ensures.keeps
-    (made_by P.tells (world None old.history old.head old.capacity) ran.0 new.history new.head new.capacity (Ok tt) (g.I.Source.left c.args.input.now) (g.I.Source.left c.run.new.input)
+    (made_by P.tells (world None old.history old.head old.capacity (P.reads c.args.platform.now)) ran.0 new.history new.head new.capacity (P.reads c.run.new.platform) (Ok tt) (g.I.Source.left c.args.input.now) (g.I.Source.left c.run.new.input)
     (g.O.Sink.written c.args.output.now) (g.O.Sink.written c.run.new.output) refl ran.1)
 
 pub returns-in-Err-clause-discloses : goal.returns-in-Err-clause-discloses
@@ -126,7 +126,7 @@ returns-in-Err-clause-discloses g c =
     let ran = c.in-Err.ensures.ran in
     let later = ran.1.handled.replied.later in
     discloses P.tells old new _ _ (record { capacity = later.capacity; rises = later.rises; within = later.within }) c.run.ensures.keeps
-    (made_by P.tells (world None old.history old.head old.capacity) ran.0 new.history new.head new.capacity (Err c.in-Err.stop) (g.I.Source.left c.args.input.now) (g.I.Source.left c.run.new.input)
+    (made_by P.tells (world None old.history old.head old.capacity (P.reads c.args.platform.now)) ran.0 new.history new.head new.capacity (P.reads c.run.new.platform) (Err c.in-Err.stop) (g.I.Source.left c.args.input.now) (g.I.Source.left c.run.new.input)
     (g.O.Sink.written c.args.output.now) (g.O.Sink.written c.run.new.output) refl ran.1)
 
 pub returns-in-None-clause-seizes : goal.returns-in-None-clause-seizes
@@ -162,7 +162,7 @@ returns-in-Ok-clause-fits g c told there stands served =
     let new = around P g.T.Tape g.L.Sink c.run.new.platform c.run.new.tape c.run.new.ledger in
     let ran = c.in-Ok.ensures.ran in
     fits P.tells old new _ _ c.run.ensures.keeps
-    (made_by P.tells (world None old.history old.head old.capacity) ran.0 new.history new.head new.capacity (Ok tt) (g.I.Source.left c.args.input.now) (g.I.Source.left c.run.new.input)
+    (made_by P.tells (world None old.history old.head old.capacity (P.reads c.args.platform.now)) ran.0 new.history new.head new.capacity (P.reads c.run.new.platform) (Ok tt) (g.I.Source.left c.args.input.now) (g.I.Source.left c.run.new.input)
     (g.O.Sink.written c.args.output.now) (g.O.Sink.written c.run.new.output) refl ran.1) told there stands served
 
 pub returns-in-Err-clause-fits : goal.returns-in-Err-clause-fits
@@ -172,7 +172,7 @@ returns-in-Err-clause-fits g c told there stands served =
     let new = around P g.T.Tape g.L.Sink c.run.new.platform c.run.new.tape c.run.new.ledger in
     let ran = c.in-Err.ensures.ran in
     fits P.tells old new _ _ c.run.ensures.keeps
-    (made_by P.tells (world None old.history old.head old.capacity) ran.0 new.history new.head new.capacity (Err c.in-Err.stop) (g.I.Source.left c.args.input.now) (g.I.Source.left c.run.new.input)
+    (made_by P.tells (world None old.history old.head old.capacity (P.reads c.args.platform.now)) ran.0 new.history new.head new.capacity (P.reads c.run.new.platform) (Err c.in-Err.stop) (g.I.Source.left c.args.input.now) (g.I.Source.left c.run.new.input)
     (g.O.Sink.written c.args.output.now) (g.O.Sink.written c.run.new.output) refl ran.1) told there stands served
 
 -- ---- a check
@@ -446,7 +446,7 @@ returns-in-Ok-work-clause-discloses g c =
     let worked = c.in-Ok-work.ensures.worked in
     let later = worked.1.ran.handled.replied.later in
     discloses P.tells old new _ _ (record { capacity = later.capacity; rises = later.rises; within = later.within }) c.work.ensures.keeps
-    (made_by P.tells (world None old.history old.head old.capacity) worked.0 new.history new.head new.capacity worked.1.serving _ worked.1.left _ worked.1.told refl worked.1.ran)
+    (made_by P.tells (world None old.history old.head old.capacity (P.reads c.args.platform.now)) worked.0 new.history new.head new.capacity (P.reads c.work.new.platform) worked.1.serving _ worked.1.left _ worked.1.told refl worked.1.ran)
 
 pub returns-in-Ok-work-clause-seizes : goal.returns-in-Ok-work-clause-seizes
 returns-in-Ok-work-clause-seizes g c = seizes_maps _ _ _ _ _ (returns-in-Ok-work-clause-discloses g c)
@@ -461,7 +461,7 @@ returns-in-Ok-work-clause-fits g c told there stands served =
     let new = around P g.T.Tape g.L.Sink c.work.new.platform c.work.new.tape c.work.new.ledger in
     let worked = c.in-Ok-work.ensures.worked in
     fits P.tells old new _ _ c.work.ensures.keeps
-    (made_by P.tells (world None old.history old.head old.capacity) worked.0 new.history new.head new.capacity worked.1.serving _ worked.1.left _ worked.1.told refl worked.1.ran) told there stands served
+    (made_by P.tells (world None old.history old.head old.capacity (P.reads c.args.platform.now)) worked.0 new.history new.head new.capacity (P.reads c.work.new.platform) worked.1.serving _ worked.1.left _ worked.1.told refl worked.1.ran) told there stands served
 
 pub returns-in-Err-work-clause-discloses : goal.returns-in-Err-work-clause-discloses
 returns-in-Err-work-clause-discloses g c =
@@ -471,7 +471,7 @@ returns-in-Err-work-clause-discloses g c =
     let worked = c.in-Err-work.ensures.worked in
     let later = worked.1.ran.handled.replied.later in
     discloses P.tells old new _ _ (record { capacity = later.capacity; rises = later.rises; within = later.within }) c.work.ensures.keeps
-    (made_by P.tells (world None old.history old.head old.capacity) worked.0 new.history new.head new.capacity worked.1.serving _ worked.1.left _ worked.1.told refl worked.1.ran)
+    (made_by P.tells (world None old.history old.head old.capacity (P.reads c.args.platform.now)) worked.0 new.history new.head new.capacity (P.reads c.work.new.platform) worked.1.serving _ worked.1.left _ worked.1.told refl worked.1.ran)
 
 pub returns-in-Err-work-clause-seizes : goal.returns-in-Err-work-clause-seizes
 returns-in-Err-work-clause-seizes g c = seizes_maps _ _ _ _ _ (returns-in-Err-work-clause-discloses g c)
@@ -486,7 +486,7 @@ returns-in-Err-work-clause-fits g c told there stands served =
     let new = around P g.T.Tape g.L.Sink c.work.new.platform c.work.new.tape c.work.new.ledger in
     let worked = c.in-Err-work.ensures.worked in
     fits P.tells old new _ _ c.work.ensures.keeps
-    (made_by P.tells (world None old.history old.head old.capacity) worked.0 new.history new.head new.capacity worked.1.serving _ worked.1.left _ worked.1.told refl worked.1.ran) told there stands served
+    (made_by P.tells (world None old.history old.head old.capacity (P.reads c.args.platform.now)) worked.0 new.history new.head new.capacity (P.reads c.work.new.platform) worked.1.serving _ worked.1.left _ worked.1.told refl worked.1.ran) told there stands served
 
 pub returns-in-Ok-work-clause-works : goal.returns-in-Ok-work-clause-works
 returns-in-Ok-work-clause-works g c seed count words =
@@ -505,7 +505,7 @@ returns-in-Ok-work-clause-works g c seed count words =
     let cause = cause_wide (P.faults c.args.platform.now) (T.faults c.args.tape.now) (O.faults c.args.output.now) (L.faults c.args.ledger.now)
         (P.faults c.work.new.platform) (T.faults c.work.new.tape) (O.faults c.work.new.output) (L.faults c.work.new.ledger) (I.faults c.args.input.now) (I.faults c.args.input.now) ending c.in-Ok-work.ensures.blame.cause in
     let worked = c.in-Ok-work.ensures.worked in
-    let here = working_of P.tells c.in-Some-Work.seed c.in-Some-Work.count old worked.0 (P.history c.work.new.platform) (P.head c.work.new.platform) (P.capacity c.work.new.platform) c.args.input.now
+    let here = working_of P.tells c.in-Some-Work.seed c.in-Some-Work.count old worked.0 (P.history c.work.new.platform) (P.head c.work.new.platform) (P.capacity c.work.new.platform) (P.reads c.work.new.platform) c.args.input.now
         before now (0) (O.written c.args.output.now) (O.written c.work.new.output) ending refl (at_most (map string_bytes c.args.words.now) c.in-Some-Work.seed c.in-Some-Work.count asked) refl cause c.in-Ok-work.ensures.refused worked.1 in
     subst (λ (s : ℕ). Working P.tells s count old new c.args.input.now c.args.input.now before now (0) (O.written c.args.output.now) (O.written c.work.new.output)) same.0
     (subst (λ (n : ℕ). Working P.tells c.in-Some-Work.seed n old new c.args.input.now c.args.input.now before now (0) (O.written c.args.output.now) (O.written c.work.new.output)) same.1 here)
@@ -527,7 +527,7 @@ returns-in-Err-work-clause-works g c seed count words =
     let cause = cause_wide (P.faults c.args.platform.now) (T.faults c.args.tape.now) (O.faults c.args.output.now) (L.faults c.args.ledger.now)
         (P.faults c.work.new.platform) (T.faults c.work.new.tape) (O.faults c.work.new.output) (L.faults c.work.new.ledger) (I.faults c.args.input.now) (I.faults c.args.input.now) ending c.in-Err-work.ensures.blame.cause in
     let worked = c.in-Err-work.ensures.worked in
-    let here = working_of P.tells c.in-Some-Work.seed c.in-Some-Work.count old worked.0 (P.history c.work.new.platform) (P.head c.work.new.platform) (P.capacity c.work.new.platform) c.args.input.now
+    let here = working_of P.tells c.in-Some-Work.seed c.in-Some-Work.count old worked.0 (P.history c.work.new.platform) (P.head c.work.new.platform) (P.capacity c.work.new.platform) (P.reads c.work.new.platform) c.args.input.now
         before now (c.status-in-Err-work.result) (O.written c.args.output.now) (O.written c.work.new.output) ending refl (at_most (map string_bytes c.args.words.now) c.in-Some-Work.seed c.in-Some-Work.count asked) c.status-in-Err-work.ensures cause c.in-Err-work.ensures.refused worked.1 in
     subst (λ (s : ℕ). Working P.tells s count old new c.args.input.now c.args.input.now before now (c.status-in-Err-work.result) (O.written c.args.output.now) (O.written c.work.new.output)) same.0
     (subst (λ (n : ℕ). Working P.tells c.in-Some-Work.seed n old new c.args.input.now c.args.input.now before now (c.status-in-Err-work.result) (O.written c.args.output.now) (O.written c.work.new.output)) same.1 here)

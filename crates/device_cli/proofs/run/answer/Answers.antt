@@ -7,6 +7,7 @@ use Rattle.device_cli.specs.World.{World, IsLater, world_of}
 use Rattle.device_cli.specs.Replied.{no_line}
 use Rattle.device_cli.proofs.RepliedLaws.{IsLater-refl, Handled-line, Handled-stop, turned_bad, turned_command, tells_short}
 use Rattle.device_cli.proofs.CellLaws.{served_at}
+use Rattle.device_cli.proofs.LookLaws.{looks_bad, looks_line}
 use Rattle.device_course.proofs.KeysLaws.{on_start, on_done}
 use Rattle.device_cli.proofs.ReachingLaws.{on_ok}
 use Rattle.device_cli.proofs.run.answer.Goals as goal
@@ -17,7 +18,7 @@ returns-in_default-clause-handled g c text kept =
     let written = g.O.Sink.written in
     let old : World = world_of P c.args.desk.now.session c.args.platform.now in
     Handled-line P.tells old old no_line text Bad c.put_reply.result (written c.args.output.now) (written c.put_reply.new.output)
-    (IsLater-refl old (g.met.P.Platform.has_room c.args.platform.now)) (λ updates enough e. absurd cc) (λ updates enough. enough)
+    (IsLater-refl old (g.met.P.Platform.has_room c.args.platform.now)) (λ updates enough e. absurd cc) (λ updates enough. enough) (looks_bad P.tells old old text _ (c.in_default.ensures.none text kept))
     (λ told entry updates rep enough. turned_bad old entry updates text (c.in_default.ensures.none text kept) rep) c.put_reply.ensures.put
 
 -- what is said is that no page was free only where that was given
@@ -50,6 +51,7 @@ returns-in-Ok-clause-handled g c text kept =
     let reply = said c.in-Ok.reply c.serve.new.self.buffer in
     Handled-line P.tells old new no_line text reply c.put_reply-in-Ok.result (written c.args.output.now) (written c.put_reply-in-Ok.new.output)
     later (tells_short old new text command reply (c.in-Some.ensures.found text kept) later (full_as_said c.in-Ok.reply c.serve.new.self.buffer _ c.in-Ok.ensures.after.full)) c.in-Ok.ensures.enough
+    (looks_line P.tells old new text command _ (c.in-Some.ensures.found text kept) (λ told before warm look. let few = c.in-Ok.ensures.looks told before warm look in (few.0, λ done. few.1 refl)))
     (λ told entry updates rep enough. turned_command old new entry updates text command reply (c.in-Some.ensures.found text kept) c.requires.ready
     (served_at _ _ (c.serve.ensures.keeps.serves told (c.requires.cell told))) c.in-Ok.ensures.pages
     (c.in-Ok.ensures.seen told entry rep.there) rep enough (c.in-Ok.ensures.answered told entry rep.there))
@@ -64,6 +66,7 @@ returns-in-Err-clause-handled g c text kept =
     let command = asked c.in-Some.command c.read_line.new.buffer in
     Handled-stop P.tells old new text command c.in-Err.stop (g.O.Sink.written c.args.output.now) (c.in-Some.ensures.found text kept) later c.in-Err.ensures.after.added
     (λ addr e. (c.in-Err.ensures.of_block addr (cc), λ told. c.in-Err.ensures.damage told addr (cc)))
+    (looks_line P.tells old new text command _ (c.in-Some.ensures.found text kept) (λ told before warm look. ((c.in-Err.ensures.looks told before warm look).0, λ done. absurd cc)))
     (λ told. served_at _ _ (c.serve.ensures.keeps.serves told (c.requires.cell told))) (λ told entry rep. c.in-Err.ensures.answered told entry rep.there)
 
 pub returns-in_default-clause-keeps : goal.returns-in_default-clause-keeps

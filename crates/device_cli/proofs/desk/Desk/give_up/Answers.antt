@@ -1,4 +1,7 @@
-use Rattle.std.proofs.Common.{◌≡◌, None, Ok, arith}
+use Rattle.std.proofs.Common.{◌≡◌, Option, None, Ok, sym, subst, arith}
+use Rattle.device_session.specs.Sessions.{Session}
+use Rattle.device_cli.specs.Looks.{IsWarmFor}
+use Rattle.device_cli.proofs.LookLaws.{warm_less}
 use Rattle.std.proofs.lemmas.Grind.{common_steps}
 use Rattle.script_lang.specs.Commands as commands
 use Rattle.script_lang.specs.Replies as replies
@@ -15,7 +18,7 @@ returns-then-is_none-clause-answered g c told entry rep =
     let P = g.P.Platform in
     let held = c.args.self.now.session in
     let none : held ≡ None = grind (arith, common_steps, c.is_none.ensures, c.if-is_none.true) in
-    serves_unmounted held held (P.history c.args.platform.now) (P.head c.args.platform.now) (P.capacity c.args.platform.now) entry commands.Drop none none
+    serves_unmounted held held (P.history c.args.platform.now) (P.head c.args.platform.now) (P.capacity c.args.platform.now) (P.reads c.args.platform.now) entry commands.Drop none none
     (λ full there. gives_unmounted_drop full there) rep
 
 pub returns-clause-answered : goal.returns-clause-answered
@@ -25,7 +28,13 @@ returns-clause-answered g c told entry rep =
     let old : World = world_of P held c.args.platform.now in
     let new : World = world_of P c.close.new.self.session c.args.platform.now in
     some_of held (λ none. grind (arith, common_steps, none, c.is_none.ensures, c.if-is_none.false)) (Serves old new entry commands.Drop (Ok replies.Dropped))
-    (λ session some. serves_drop held c.close.new.self.session (P.history c.args.platform.now) (P.head c.args.platform.now) (P.capacity c.args.platform.now) entry session some c.close.ensures rep)
+    (λ session some. serves_drop held c.close.new.self.session (P.history c.args.platform.now) (P.head c.args.platform.now) (P.capacity c.args.platform.now) (P.reads c.args.platform.now) entry session some c.close.ensures rep)
 
 pub returns-clause-enough : goal.returns-clause-enough
 returns-clause-enough g c updates enough = enough_none c.close.new.self.session updates c.close.ensures
+
+pub returns-then-is_none-clause-looks : goal.returns-then-is_none-clause-looks
+returns-then-is_none-clause-looks g c told before warm look = (omega arith, λ done. warm_less c.args.self.now.session before warm)
+
+pub returns-clause-looks : goal.returns-clause-looks
+returns-clause-looks g c told before warm look = (omega arith, λ done. subst (λ (session : Option Session). IsWarmFor session None) (sym c.close.ensures) tt)

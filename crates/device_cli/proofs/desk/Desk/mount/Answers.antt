@@ -14,6 +14,7 @@ use Rattle.device_course.proofs.KeysLaws.{on_start, on_look, listed_image, mount
 use Rattle.device_session.proofs.CountLaws.{needs_none}
 use Rattle.device_session.proofs.KeyLaws.{listed_fresh}
 use Rattle.device_cli.proofs.Choices.{some_of}
+use Rattle.device_cli.proofs.LookLaws.{warm_less, warm_mounted}
 use Rattle.device_cli.proofs.desk.Desk.mount.Goals as goal
 
 -- a cell that can be served is not one that can't
@@ -26,7 +27,7 @@ returns-then-is_some-clause-answered g c told entry rep =
     let P = g.P.Platform in
     let old : World = world_of P c.args.self.now.session c.args.platform.now in
     some_of c.args.self.now.session (λ none. grind (arith, common_steps, none, c.is_some.ensures, c.if-is_some.true)) (Serves old old entry commands.Mount (Ok replies.AlreadyMounted))
-    (λ session some. serves_already c.args.self.now.session (P.history c.args.platform.now) (P.head c.args.platform.now) (P.capacity c.args.platform.now) entry session some rep)
+    (λ session some. serves_already c.args.self.now.session (P.history c.args.platform.now) (P.head c.args.platform.now) (P.capacity c.args.platform.now) (P.reads c.args.platform.now) entry session some rep)
 
 pub returns-in-Ok-clause-answered : goal.returns-in-Ok-clause-answered
 returns-in-Ok-clause-answered g c told entry rep =
@@ -91,3 +92,23 @@ returns-in-Err-Memory-clause-keeps g c = λ drawn written. on_look _ drawn writt
 pub returns-in-Ok-clause-enough : goal.returns-in-Ok-clause-enough
 returns-in-Ok-clause-enough g c updates enough =
     omega (arith, needs_none c.in-Ok.session (g.P.Platform.head c.mount.new.platform) c.in-Ok.ensures.open.0 c.in-Ok.ensures.open.1)
+
+-- ---- what is read
+
+pub returns-then-is_some-clause-looks : goal.returns-then-is_some-clause-looks
+returns-then-is_some-clause-looks g c told before warm look = (omega arith, λ done. warm_less c.args.self.now.session before warm)
+
+pub returns-in-Ok-clause-looks : goal.returns-in-Ok-clause-looks
+returns-in-Ok-clause-looks g c told before warm look = (omega (arith, c.mount.ensures.reads told), λ done. warm_mounted c.in-Ok.session c.in-Ok.ensures.empty)
+
+pub returns-in-Err-NoDevice-clause-looks : goal.returns-in-Err-NoDevice-clause-looks
+returns-in-Err-NoDevice-clause-looks g c told before warm look = (omega (arith, c.mount.ensures.reads told), λ done. warm_less c.args.self.now.session before warm)
+
+pub returns-in-Err-BadRoot-clause-looks : goal.returns-in-Err-BadRoot-clause-looks
+returns-in-Err-BadRoot-clause-looks g c told before warm look = (omega (arith, c.mount.ensures.reads told), λ done. absurd cc)
+
+pub returns-in-Err-PlatformFault-clause-looks : goal.returns-in-Err-PlatformFault-clause-looks
+returns-in-Err-PlatformFault-clause-looks g c told before warm look = (omega (arith, c.mount.ensures.reads told), λ done. absurd cc)
+
+pub returns-in-Err-Memory-clause-looks : goal.returns-in-Err-Memory-clause-looks
+returns-in-Err-Memory-clause-looks g c told before warm look = (omega (arith, c.mount.ensures.reads told), λ done. absurd cc)

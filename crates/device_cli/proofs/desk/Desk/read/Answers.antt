@@ -1,4 +1,4 @@
-use Rattle.std.proofs.Common.{◌≡◌, ◌<◌, ℕ, None, Some, Ok, Err, refl, sym, ◌∙◌, subst, ap, inl, rules, arith}
+use Rattle.std.proofs.Common.{◌≡◌, ◌<◌, ◌≤◌, ℕ, Option, None, Some, Ok, Err, refl, sym, ◌∙◌, subst, ap, inl, rules, arith}
 use Rattle.std.proofs.lemmas.Grind.{common_steps}
 use Rattle.script_lang.specs.Arrays.{content_reply}
 use Rattle.script_lang.specs.Replies.{Reply, said}
@@ -16,13 +16,19 @@ use Rattle.device_cli.proofs.EnoughLaws.{enough_kept}
 use Rattle.platform.specs.Image.{Image}
 use Rattle.page_store.specs.Tree.{Wrong}
 use Rattle.device_session.specs.declared.refusals.ReadRefusal.TheVariants as reads
+use Rattle.std.specs.Prelude.{IfSome}
+use Rattle.root_codec.specs.declared.root.Root.{Root}
+use Rattle.device_session.specs.Open.{IsOpen}
+use Rattle.device_session.specs.Sessions.{Session}
+use Rattle.device_cli.specs.Looks.{IsWarmFor}
+use Rattle.device_cli.proofs.LookLaws.{read_cost, warm_after, room_of}
 use Rattle.device_cli.proofs.desk.Desk.read.Goals as goal
 
 pub returns-in_default-clause-answered : goal.returns-in_default-clause-answered
 returns-in_default-clause-answered g c told entry rep =
     let P = g.P.Platform in
     let none : c.args.self.now.session ≡ None = grind (arith, common_steps, c.in_default.is) in
-    serves_unmounted c.args.self.now.session c.args.self.now.session (P.history c.args.platform.now) (P.head c.args.platform.now) (P.capacity c.args.platform.now) entry (Read c.args.block) none none
+    serves_unmounted c.args.self.now.session c.args.self.now.session (P.history c.args.platform.now) (P.head c.args.platform.now) (P.capacity c.args.platform.now) (P.reads c.args.platform.now) entry (Read c.args.block) none none
     (λ full there. gives_unmounted_read full there c.args.block) rep
 
 pub returns-in-Ok-clause-answered : goal.returns-in-Ok-clause-answered
@@ -95,3 +101,50 @@ returns-in-Err-BadRecord-clause-damage g c told addr is =
     wrong_page c.args.self.now.session c.in-Some.session (P.head c.args.platform.now) addr (P.history c.args.platform.now) (P.history c.read.new.platform) c.in-Some.is (rw c.in-Some.is at c.requires.ready)
     (c.requires.mounted told) (c.read.ensures.looks.time told)
     (λ follows. inl (subst (λ (i : Image). Wrong i.readable root addr) (sym (c.read.ensures.looks.image told)) ((rw c.in-Err-BadRecord.field-0-is at c.in-Err-BadRecord.ensures.damaged) told follows addr (ap Err named))))
+
+-- ---- what is read
+
+pub returns-in_default-clause-looks : goal.returns-in_default-clause-looks
+returns-in_default-clause-looks g c told before warm look =
+    let none : c.args.self.now.session ≡ None = grind (arith, common_steps, c.in_default.is) in
+    (omega arith, λ done. subst (λ (session : Option Session). IsWarmFor session (Some c.args.block)) (sym none) tt)
+
+-- the session is open, and has room for a node of each level
+open_there : (held : Option Session) (session : Session) (head : ℕ) → held ≡ Some session → IfSome held (λ s. IsOpen s head) → session.grove.level ≤ 20
+open_there held session head is open' = (subst (λ (h : Option Session). IfSome h (λ s. IsOpen s head)) is open').level
+
+warm_there : (held : Option Session) (session : Session) (before : Option ℕ) → held ≡ Some session → IsWarmFor held before → IsWarmFor (Some session) before
+warm_there held session before is warm = subst (λ (h : Option Session). IsWarmFor h before) is warm
+
+pub returns-in-Ok-clause-looks : goal.returns-in-Ok-clause-looks
+returns-in-Ok-clause-looks g c told before warm look =
+    let P = g.P.Platform in
+    let low = open_there c.args.self.now.session c.in-Some.session (P.head c.args.platform.now) c.in-Some.is c.requires.ready in
+    let there = warm_there c.args.self.now.session c.in-Some.session before c.in-Some.is warm in (
+      read_cost P c.args.block c.args.platform.now c.read.new.platform c.in-Some.session c.read.new.self _ before told low there c.in-Ok.ensures.reads,
+      λ done. warm_after P c.args.block c.args.platform.now c.read.new.platform c.in-Some.session c.read.new.self before told c.in-Ok.ensures.open.level there c.in-Ok.ensures.reads,
+    )
+
+pub returns-in-Err-Range-clause-looks : goal.returns-in-Err-Range-clause-looks
+returns-in-Err-Range-clause-looks g c told before warm look =
+    let P = g.P.Platform in
+    let low = open_there c.args.self.now.session c.in-Some.session (P.head c.args.platform.now) c.in-Some.is c.requires.ready in
+    let there = warm_there c.args.self.now.session c.in-Some.session before c.in-Some.is warm in
+    let past = rw c.in-Err-Range.field-0-is at c.in-Err-Range.ensures.cause in (
+      read_cost P c.args.block c.args.platform.now c.read.new.platform c.in-Some.session c.read.new.self _ before told low there c.in-Err-Range.ensures.reads,
+      λ done. (omega (arith, c.read.ensures.reads.capacity, room_of c.in-Some.session before there), λ within. absurd (omega (arith, within, past, ap (λ (root : Root). root.blocks) c.read.ensures.same.0))),
+    )
+
+pub returns-in-Err-BadRecord-clause-looks : goal.returns-in-Err-BadRecord-clause-looks
+returns-in-Err-BadRecord-clause-looks g c told before warm look =
+    let P = g.P.Platform in
+    let low = open_there c.args.self.now.session c.in-Some.session (P.head c.args.platform.now) c.in-Some.is c.requires.ready in
+    let there = warm_there c.args.self.now.session c.in-Some.session before c.in-Some.is warm in
+    (read_cost P c.args.block c.args.platform.now c.read.new.platform c.in-Some.session c.read.new.self _ before told low there c.in-Err-BadRecord.ensures.reads, λ done. absurd cc)
+
+pub returns-in-Err-PlatformFault-clause-looks : goal.returns-in-Err-PlatformFault-clause-looks
+returns-in-Err-PlatformFault-clause-looks g c told before warm look =
+    let P = g.P.Platform in
+    let low = open_there c.args.self.now.session c.in-Some.session (P.head c.args.platform.now) c.in-Some.is c.requires.ready in
+    let there = warm_there c.args.self.now.session c.in-Some.session before c.in-Some.is warm in
+    (read_cost P c.args.block c.args.platform.now c.read.new.platform c.in-Some.session c.read.new.self _ before told low there c.in-Err-PlatformFault.ensures.reads, λ done. absurd cc)

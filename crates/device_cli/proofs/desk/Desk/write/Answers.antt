@@ -24,7 +24,7 @@ returns-in_default-clause-answered g c told entry rep =
     let P = g.P.Platform in
     let bytes : List ℕ = take c.args.count c.args.self.now.buffer in
     let none : c.args.self.now.session ≡ None = grind (arith, common_steps, c.in_default.is) in
-    serves_unmounted c.args.self.now.session c.args.self.now.session (P.history c.args.platform.now) (P.head c.args.platform.now) (P.capacity c.args.platform.now) entry (Write c.args.block bytes) none none
+    serves_unmounted c.args.self.now.session c.args.self.now.session (P.history c.args.platform.now) (P.head c.args.platform.now) (P.capacity c.args.platform.now) (P.reads c.args.platform.now) entry (Write c.args.block bytes) none none
     (λ full there. gives_unmounted_write full there c.args.block bytes) rep
 
 pub returns-in-Ok-clause-answered : goal.returns-in-Ok-clause-answered

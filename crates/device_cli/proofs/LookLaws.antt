@@ -1,0 +1,128 @@
+-- How the page reads of lines that only look add up.
+use Rattle.std.proofs.Common.{◌≡◌, ℕ, ◌+◌, ◌<◌, ◌≤◌, ◌==◌, List, [], ◌∷◌, ◌++◌, Option, None, Some, Result, Ok, true, false, inl, inr, refl, sym, subst, ap, arith, eqb-true}
+use Rattle.std.specs.Prelude.{nat_lt}
+use Rattle.std.proofs.lemmas.Bool.{cases_Bool}
+use Rattle.std.proofs.lemmas.Grind.{common_steps}
+use Rattle.platform.specs.declared.platforms.Platform.{Ghosts}
+use Rattle.node_cache.specs.Kept.{Cached, cached}
+use Rattle.btree_update.specs.Finding.{KeepsWay}
+use Rattle.device_session.specs.Open.{blocks_of}
+use Rattle.device_session.specs.Reading.{ReadsFew}
+use Rattle.device_session.specs.declared.refusals.ReadRefusal.{ReadRefusal}
+use Rattle.script_lang.specs.Commands.{Command}
+use Rattle.script_lang.specs.Grammar.{Spells, IsBad}
+use Rattle.script_lang.proofs.CommandLaws.{one_command}
+use Rattle.device_session.specs.Sessions.{Session}
+use Rattle.device_cli.specs.World.{World}
+use Rattle.device_cli.specs.Looks.{IsLook, IsWarmFor, AreLooks, LooksOn, block_read, most_for, most_reads}
+
+-- lines that look are such lines and then others
+record Parted (before : Option ℕ) (lines more : List (List ℕ)) (most : ℕ) (after : Option ℕ) : Type 0 where
+  pub between : Option ℕ
+  pub first : ℕ
+  pub second : ℕ
+  pub front : AreLooks before lines first between
+  pub behind : AreLooks between more second after
+  pub sum : most ≡ first + second
+
+parted : (before after : Option ℕ) (lines more : List (List ℕ)) (most : ℕ) → AreLooks before (lines ++ more) most after → Parted before lines more most after
+parted before after [] more most h = record { between = before; first = 0; second = most; front = (refl, refl); behind = h; sum = omega arith }
+parted before after (line ∷ lines) more most (command, spells, look, others, rest, is) =
+    let p = parted (block_read command) after lines more others rest in
+    record {
+      between = p.between;
+      first = most_reads before command + p.first;
+      second = p.second;
+      front = (command, spells, look, p.first, p.front, refl);
+      behind = p.behind;
+      sum = omega (arith, is, p.sum);
+    }
+
+-- no line
+pub looks_idle : (tells : Type 0) (old new : World) (Done : Type 0) → new.session ≡ old.session → (tells → new.reads ≡ old.reads) → LooksOn tells old new [] Done
+looks_idle tells old new Done held same told before after most warm (none, is) =
+    (omega (arith, same told, none), λ done. subst (λ (block : Option ℕ). IsWarmFor new.session block) (sym is) (subst (λ (session : Option Session). IsWarmFor session before) (sym held) warm))
+
+-- no line, before a stop
+pub looks_none : (tells : Type 0) (old new : World) (Done : Type 0) → (Done → ⊥) → (tells → new.reads ≡ old.reads) → LooksOn tells old new [] Done
+looks_none tells old new Done never same told before after most warm (none, is) = (omega (arith, same told, none), λ done. absurd (never done))
+
+-- lines, and then others
+pub looks_then : (tells : Type 0) (old mid new : World) (lines more : List (List ℕ)) (Was Done : Type 0) → Was → LooksOn tells old mid lines Was → LooksOn tells mid new more Done → LooksOn tells old new (lines ++ more) Done
+looks_then tells old mid new lines more Was Done was p q told before after most warm h =
+    let parts = parted before after lines more most h in
+    let one = p told before parts.between parts.first warm parts.front in
+    let two = q told parts.between after parts.second (one.1 was) parts.behind in
+    (omega (arith, one.0, two.0, parts.sum), two.1)
+
+-- lines of which the last ones weren't served
+pub looks_longer : (tells : Type 0) (old new : World) (lines more : List (List ℕ)) (Was Done : Type 0) → (Done → ⊥) → LooksOn tells old new lines Was → LooksOn tells old new (lines ++ more) Done
+looks_longer tells old new lines more Was Done never p told before after most warm h =
+    let parts = parted before after lines more most h in
+    let one = p told before parts.between parts.first warm parts.front in
+    (omega (arith, one.0, parts.sum), λ done. absurd (never done))
+
+pub looks_weaker : (tells : Type 0) (old new : World) (lines : List (List ℕ)) (Was Done : Type 0) → (Done → Was) → LooksOn tells old new lines Was → LooksOn tells old new lines Done
+looks_weaker tells old new lines Was Done leads p told before after most warm h =
+    let one = p told before after most warm h in
+    (one.0, λ done. one.1 (leads done))
+
+-- a line that spells a command
+pub looks_line : (tells : Type 0) (old new : World) (line : List ℕ) (command : Command) (Done : Type 0) → Spells line command
+    → (tells → (before : Option ℕ) → IsWarmFor old.session before → IsLook command → (new.reads ≤ old.reads + most_reads before command) × (Done → IsWarmFor new.session (block_read command)))
+    → LooksOn tells old new (line ∷ []) Done
+looks_line tells old new line command Done spells looks told before after most warm (other, reads, look, others, (none, last), is) =
+    let same : other ≡ command = one_command line other command reads spells in
+    let here = looks told before warm (subst IsLook same look) in
+    let few : most ≡ most_reads before command + others = subst (λ (c : Command). most ≡ most_reads before c + others) same is in
+    let block : after ≡ block_read command = subst (λ (c : Command). after ≡ block_read c) same last in
+    (omega (arith, here.0, few, none), λ done. subst (λ (b : Option ℕ). IsWarmFor new.session b) (sym block) (here.1 done))
+
+-- a line outside the grammar is none of these
+pub looks_bad : (tells : Type 0) (old new : World) (line : List ℕ) (Done : Type 0) → IsBad line → LooksOn tells old new (line ∷ []) Done
+looks_bad tells old new line Done bad told before after most warm (other, reads, look, rest) = absurd (bad other reads)
+
+-- ---- one command
+
+-- a session with room for a node of each level has it whatever block was read before
+pub warm_less : (session : Option Session) (before : Option ℕ) → IsWarmFor session before → IsWarmFor session None
+warm_less None before warm = tt
+warm_less (Some session) None warm = warm
+warm_less (Some session) (Some block) warm = warm.0
+
+pub room_of : (session : Session) (before : Option ℕ) → IsWarmFor (Some session) before → 20 ≤ session.cache.capacity
+room_of session None warm = warm
+room_of session (Some block) warm = warm.0
+
+-- a session that was mounted with room for 256 nodes
+pub warm_mounted : (session : Session) → session.cache ≡ cached 256 [] → IsWarmFor (Some session) None
+warm_mounted session is = omega (arith, ap (λ (cache : Cached). cache.capacity) is)
+
+is_less : (a b : ℕ) → nat_lt a b ≡ true → a < b
+is_less a b h = grind (arith, common_steps, h)
+
+is_most : (a b : ℕ) → nat_lt a b ≡ false → b ≤ a
+is_most a b h = grind (arith, common_steps, h)
+
+-- what a read costs behind another one
+pub read_cost : {S : Type 0} (P : Ghosts S) (block : ℕ) (platform after : S) (session now : Session) (result : Result (Unit {0}) ReadRefusal) (before : Option ℕ) → P.tells → session.grove.level ≤ 20
+    → IsWarmFor (Some session) before → ReadsFew P block platform after session now result → P.reads after ≤ P.reads platform + most_for before block
+read_cost P block platform after session now result None tells low warm few = omega (arith, few.most tells, low)
+read_cost P block platform after session now result (Some other) tells low warm few =
+    elim (cases_Bool (other == block)) [
+      | inl same ↦ rw same (again (eqb-true other block same))
+      | inr apart ↦ rw apart (omega (arith, few.most tells, low))
+    ]
+  where
+    again : other ≡ block → P.reads after ≤ P.reads platform + 1
+    again is = elim (cases_Bool (nat_lt block (blocks_of session))) [
+      | inl within ↦ few.warm tells (subst (λ (b : ℕ). KeepsWay session.cache.kept b session.grove) is (warm.1 (omega (arith, is, is_less block (blocks_of session) within))))
+      | inr beyond ↦ omega (arith, few.none tells (is_most block (blocks_of session) beyond))
+    ]
+
+-- and what it leaves
+pub warm_after : {S : Type 0} (P : Ghosts S) (block : ℕ) (platform after : S) (session now : Session) (before : Option ℕ) → P.tells → now.grove.level ≤ 20
+    → IsWarmFor (Some session) before → ReadsFew P block platform after session now (Ok tt) → IsWarmFor (Some now) (Some block)
+warm_after P block platform after session now before tells low warm few =
+    let room : 20 ≤ now.cache.capacity = omega (arith, few.capacity, room_of session before warm) in
+    (room, λ within. few.fills tells (omega (arith, room, low)))

@@ -1,0 +1,50 @@
+-- How many pages a run reads at lines that only look.
+use Rattle.std.specs.Prelude.{◌≡◌, ℕ, ◌+◌, ◌<◌, ◌≤◌, ◌==◌, if◌then◌else◌, List, [], ◌∷◌, Option, None, Some, IsOk}
+use Rattle.script_lang.specs.Commands.{Command}
+use Rattle.script_lang.specs.Commands.{Mount, Read, Drop, Stat}
+use Rattle.script_lang.specs.Grammar.{Spells}
+use Rattle.btree_update.specs.Finding.{KeepsWay}
+use Rattle.device_session.specs.Open.{blocks_of}
+use Rattle.device_session.specs.Sessions.{Session}
+use Rattle.device_cli.specs.World.{World}
+
+-- the command mounts a device, reads a block, or tells of the session, or gives it up
+abbrev pub IsLook : Command → Type 0
+IsLook Mount = Unit {0}
+IsLook (Read block) = Unit {0}
+IsLook Stat = Unit {0}
+IsLook Drop = Unit {0}
+IsLook _ = ⊥
+
+-- the block that it reads
+abbrev pub block_read : Command → Option ℕ
+block_read (Read block) = Some block
+block_read _ = None
+
+-- so many pages are read at most for a read behind one of this block: one where it is the same block, and else 21
+abbrev pub most_for : Option ℕ → ℕ → ℕ
+most_for None block = 21
+most_for (Some before) block = if before == block then 1 else 21
+
+-- the same of any command behind one that read this block: none where it isn't a read
+abbrev pub most_reads : Option ℕ → Command → ℕ
+most_reads before (Read block) = most_for before block
+most_reads before _ = 0
+
+-- the lines spell such commands, behind one that read this block; so many pages are read for them at most, and the last of them reads this block
+abbrev pub AreLooks : Option ℕ → List (List ℕ) → ℕ → Option ℕ → Type 0
+AreLooks before [] most after = (most ≡ 0) × (after ≡ before)
+AreLooks before (line ∷ lines) most after =
+    (command : Command) × Spells line command × IsLook command × (others : ℕ) × AreLooks (block_read command) lines others after × (most ≡ most_reads before command + others)
+
+-- the cache has room for a node of each level, and keeps each node on the way to the block that was read last, if one was
+abbrev pub IsWarmFor : Option Session → Option ℕ → Type 0
+IsWarmFor None block = Unit {0}
+IsWarmFor (Some session) None = 20 ≤ session.cache.capacity
+IsWarmFor (Some session) (Some block) = (20 ≤ session.cache.capacity) × (block < blocks_of session → KeepsWay session.cache.kept block session.grove)
+
+-- where the lines only look, no more pages are read than these; and where all are done, the cache is ready for the next one
+abbrev pub LooksOn : Type 0 → World → World → List (List ℕ) → Type 0 → Type 0
+LooksOn tells old new lines Done =
+    tells → (before after : Option ℕ) (most : ℕ) → IsWarmFor old.session before → AreLooks before lines most after
+    → (new.reads ≤ old.reads + most) × (Done → IsWarmFor new.session after)
