@@ -6,7 +6,7 @@ use Rattle.page_store.specs.declared.refusals.FetchRefusal.TheVariants.{BadRecor
 use Rattle.btree_walk.specs.declared.turns.Turn.{Turn}
 use Rattle.btree_walk.specs.Ways.{IsTurn}
 use Rattle.btree_walk.specs.Sights.{KeptFits, Sees, Misses, StandsOver, KeepsOnly}
-use Rattle.btree_walk.specs.Finds.{SeesTurn, UsesNode, Stops, IsFound, FitsTurn}
+use Rattle.btree_walk.specs.Finds.{SeesTurn, UsesNode, Stops, IsFound}
 use Rattle.btree_walk.specs.Among.{GoDown}
 use Rattle.btree_walk.proofs.FindLaws.{stops_first}
 use Rattle.btree_walk.proofs.LookLaws.{used_range, asks_next, next_below, next_less}
