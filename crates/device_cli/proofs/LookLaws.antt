@@ -4,10 +4,8 @@ use Rattle.std.specs.Prelude.{nat_lt}
 use Rattle.std.proofs.lemmas.Bool.{cases_Bool}
 use Rattle.std.proofs.lemmas.Grind.{common_steps}
 use Rattle.platform.specs.declared.platforms.Platform.{Ghosts}
-use Rattle.node_cache.specs.Kept.{Cached, cached}
-use Rattle.btree_update.specs.Finding.{KeepsWay}
 use Rattle.device_session.specs.Open.{blocks_of}
-use Rattle.device_session.specs.Reading.{ReadsFew}
+use Rattle.device_session.specs.Reading.{ReadsFew, KeepsWayTo, room_of}
 use Rattle.device_session.specs.declared.refusals.ReadRefusal.{ReadRefusal}
 use Rattle.script_lang.specs.Commands.{Command}
 use Rattle.script_lang.specs.Grammar.{Spells, IsBad}
@@ -90,13 +88,13 @@ warm_less None before warm = tt
 warm_less (Some session) None warm = warm
 warm_less (Some session) (Some block) warm = warm.0
 
-pub room_of : (session : Session) (before : Option ℕ) → IsWarmFor (Some session) before → 20 ≤ session.cache.capacity
-room_of session None warm = warm
-room_of session (Some block) warm = warm.0
+pub has_room : (session : Session) (before : Option ℕ) → IsWarmFor (Some session) before → 20 ≤ room_of session
+has_room session None warm = warm
+has_room session (Some block) warm = warm.0
 
 -- a session that was mounted with room for 256 nodes
-pub warm_mounted : (session : Session) → session.cache ≡ cached 256 [] → IsWarmFor (Some session) None
-warm_mounted session is = omega (arith, ap (λ (cache : Cached). cache.capacity) is)
+pub warm_mounted : (session : Session) → room_of session ≡ 256 → IsWarmFor (Some session) None
+warm_mounted session is = omega (arith, is)
 
 is_less : (a b : ℕ) → nat_lt a b ≡ true → a < b
 is_less a b h = grind (arith, common_steps, h)
@@ -116,7 +114,7 @@ read_cost P block platform after session now result (Some other) tells low warm 
   where
     again : other ≡ block → P.reads after ≤ P.reads platform + 1
     again is = elim (cases_Bool (nat_lt block (blocks_of session))) [
-      | inl within ↦ few.warm tells (subst (λ (b : ℕ). KeepsWay session.cache.kept b session.grove) is (warm.1 (omega (arith, is, is_less block (blocks_of session) within))))
+      | inl within ↦ few.warm tells (subst (λ (b : ℕ). KeepsWayTo session b) is (warm.1 (omega (arith, is, is_less block (blocks_of session) within))))
       | inr beyond ↦ omega (arith, few.none tells (is_most block (blocks_of session) beyond))
     ]
 
@@ -124,5 +122,5 @@ read_cost P block platform after session now result (Some other) tells low warm 
 pub warm_after : {S : Type 0} (P : Ghosts S) (block : ℕ) (platform after : S) (session now : Session) (before : Option ℕ) → P.tells → now.grove.level ≤ 20
     → IsWarmFor (Some session) before → ReadsFew P block platform after session now (Ok tt) → IsWarmFor (Some now) (Some block)
 warm_after P block platform after session now before tells low warm few =
-    let room : 20 ≤ now.cache.capacity = omega (arith, few.capacity, room_of session before warm) in
+    let room : 20 ≤ room_of now = omega (arith, few.capacity, has_room session before warm) in
     (room, λ within. few.fills tells (omega (arith, room, low)))

@@ -3,8 +3,8 @@ use Rattle.std.specs.Prelude.{◌≡◌, ℕ, ◌+◌, ◌<◌, ◌≤◌, ◌==
 use Rattle.script_lang.specs.Commands.{Command}
 use Rattle.script_lang.specs.Commands.{Mount, Read, Drop, Stat}
 use Rattle.script_lang.specs.Grammar.{Spells}
-use Rattle.btree_update.specs.Finding.{KeepsWay}
 use Rattle.device_session.specs.Open.{blocks_of}
+use Rattle.device_session.specs.Reading.{KeepsWayTo, room_of}
 use Rattle.device_session.specs.Sessions.{Session}
 use Rattle.device_cli.specs.World.{World}
 
@@ -40,8 +40,8 @@ AreLooks before (line ∷ lines) most after =
 -- the cache has room for a node of each level, and keeps each node on the way to the block that was read last, if one was
 abbrev pub IsWarmFor : Option Session → Option ℕ → Type 0
 IsWarmFor None block = Unit {0}
-IsWarmFor (Some session) None = 20 ≤ session.cache.capacity
-IsWarmFor (Some session) (Some block) = (20 ≤ session.cache.capacity) × (block < blocks_of session → KeepsWay session.cache.kept block session.grove)
+IsWarmFor (Some session) None = 20 ≤ room_of session
+IsWarmFor (Some session) (Some block) = (20 ≤ room_of session) × (block < blocks_of session → KeepsWayTo session block)
 
 -- where the lines only look, no more pages are read than these; and where all are done, the cache is ready for the next one
 abbrev pub LooksOn : Type 0 → World → World → List (List ℕ) → Type 0 → Type 0

@@ -99,7 +99,7 @@ pub returns-then-is_some-clause-looks : goal.returns-then-is_some-clause-looks
 returns-then-is_some-clause-looks g c told before warm look = (omega arith, λ done. warm_less c.args.self.now.session before warm)
 
 pub returns-in-Ok-clause-looks : goal.returns-in-Ok-clause-looks
-returns-in-Ok-clause-looks g c told before warm look = (omega (arith, c.mount.ensures.reads told), λ done. warm_mounted c.in-Ok.session c.in-Ok.ensures.empty)
+returns-in-Ok-clause-looks g c told before warm look = (omega (arith, c.mount.ensures.reads told), λ done. warm_mounted c.in-Ok.session (ap (λ cache. cache.capacity) c.in-Ok.ensures.empty))
 
 pub returns-in-Err-NoDevice-clause-looks : goal.returns-in-Err-NoDevice-clause-looks
 returns-in-Err-NoDevice-clause-looks g c told before warm look = (omega (arith, c.mount.ensures.reads told), λ done. warm_less c.args.self.now.session before warm)

@@ -21,7 +21,7 @@ use Rattle.root_codec.specs.declared.root.Root.{Root}
 use Rattle.device_session.specs.Open.{IsOpen}
 use Rattle.device_session.specs.Sessions.{Session}
 use Rattle.device_cli.specs.Looks.{IsWarmFor}
-use Rattle.device_cli.proofs.LookLaws.{read_cost, warm_after, room_of}
+use Rattle.device_cli.proofs.LookLaws.{read_cost, warm_after, has_room}
 use Rattle.device_cli.proofs.desk.Desk.read.Goals as goal
 
 pub returns-in_default-clause-answered : goal.returns-in_default-clause-answered
@@ -132,7 +132,7 @@ returns-in-Err-Range-clause-looks g c told before warm look =
     let there = warm_there c.args.self.now.session c.in-Some.session before c.in-Some.is warm in
     let past = rw c.in-Err-Range.field-0-is at c.in-Err-Range.ensures.cause in (
       read_cost P c.args.block c.args.platform.now c.read.new.platform c.in-Some.session c.read.new.self _ before told low there c.in-Err-Range.ensures.reads,
-      λ done. (omega (arith, c.read.ensures.reads.capacity, room_of c.in-Some.session before there), λ within. absurd (omega (arith, within, past, ap (λ (root : Root). root.blocks) c.read.ensures.same.0))),
+      λ done. (omega (arith, c.read.ensures.reads.capacity, has_room c.in-Some.session before there), λ within. absurd (omega (arith, within, past, ap (λ (root : Root). root.blocks) c.read.ensures.same.0))),
     )
 
 pub returns-in-Err-BadRecord-clause-looks : goal.returns-in-Err-BadRecord-clause-looks
