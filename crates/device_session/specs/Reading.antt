@@ -29,14 +29,22 @@ IsFirstMisfit pages grove block addr =
     GroveStops pages block addr grove
     ⊎ ((entry : Entry) × GroveFinds pages block grove (Some entry) × (addr ≡ entry.addr) × NothingFits pages (block_want entry.addr block) entry.key)
 
+-- how many nodes the session's cache can keep
+abbrev pub room_of : Session → ℕ
+room_of session = session.cache.capacity
+
+-- it keeps each node on the way to the block that isn't in memory
+abbrev pub KeepsWayTo : Session → ℕ → Type 0
+KeepsWayTo session block = KeepsWay session.cache.kept block session.grove
+
 -- what a read costs: one page for each level of the tree and one for the block at most, and none where the device has no such block; one alone where the cache
 -- keeps the way to the block, as it does after a read that was done, where it has room for a node of each level. The room stays
 pub record ReadsFew {S : Type 0} (P : Ghosts S) (block : ℕ) (platform after : S) (session now : Session) (result : Result (Unit {0}) ReadRefusal) : Type 0 where
   pub most : P.tells → P.reads after ≤ P.reads platform + (session.grove.level + 1)
   pub none : P.tells → blocks_of session ≤ block → P.reads after ≡ P.reads platform
-  pub warm : P.tells → KeepsWay session.cache.kept block session.grove → P.reads after ≤ P.reads platform + 1
-  pub fills : P.tells → OnOk result (now.grove.level ≤ now.cache.capacity → KeepsWay now.cache.kept block now.grove)
-  pub capacity : now.cache.capacity ≡ session.cache.capacity
+  pub warm : P.tells → KeepsWayTo session block → P.reads after ≤ P.reads platform + 1
+  pub fills : P.tells → OnOk result (now.grove.level ≤ room_of now → KeepsWayTo now block)
+  pub capacity : room_of now ≡ room_of session
 
 -- what was read of an array: the content of the block; a record that doesn't fit is never met
 abbrev pub ReadsArray : Blocks → ℕ → List ℕ → Result (Unit {0}) ReadRefusal → Type 0
