@@ -78,7 +78,7 @@ looks_line tells old new line command Done spells looks told before after most w
 
 -- a line outside the grammar is none of these
 pub looks_bad : (tells : Type 0) (old new : World) (line : List ℕ) (Done : Type 0) → IsBad line → LooksOn tells old new (line ∷ []) Done
-looks_bad tells old new line Done bad told before after most warm (other, reads, look, rest) = absurd (bad other reads)
+looks_bad tells old new line Done bad told before after most warm (other, reads, look, others, rest, is) = absurd (bad other reads)
 
 -- ---- one command
 

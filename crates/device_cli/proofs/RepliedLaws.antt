@@ -1,6 +1,6 @@
 -- How runs compose.
 use Rattle.std.proofs.Common.{◌≡◌, ℕ, ◌<◌, ◌≤◌, ◌+◌, ◌-◌, ◌*◌, true, false, List, [], ◌∷◌, ◌++◌, Option, None, Some, Ok, Err, length, take, inl, inr, refl, sym, ◌∙◌, subst, ap, arith, append_assoc, length-append}
-use Rattle.std.specs.Prelude.{IfSome, OnOk}
+use Rattle.std.specs.Prelude.{IfSome, OnOk, IsOk}
 use Rattle.std.proofs.lemmas.Grind.{flat_map-append, common_steps}
 use Rattle.std.proofs.lemmas.List.{append-nil}
 use Rattle.platform.specs.Image.{Image}
@@ -129,7 +129,7 @@ TurnsEach tells old new line reply = tells → (entry : State) (updates : ℕ) �
 -- a line with its reply
 pub Replied-line : (tells : Type 0) (old new : World) (last : DeviceStop → List ℕ) (line : List ℕ) (reply : Reply)
     → IsLater old new → TellsShort old new line reply → StaysEnough old new reply
-    → LooksOn tells old new (line ∷ []) (IsOk {A = Unit {0}} {E = Stop} (Ok tt)) → TurnsEach tells old new line reply → Replied tells old new last (Ok tt) (line ∷ []) (line_of reply)
+    → LooksOn tells old new (line ∷ []) (IsOk {T = Unit {0}} {E = Stop} (Ok tt)) → TurnsEach tells old new line reply → Replied tells old new last (Ok tt) (line ∷ []) (line_of reply)
 Replied-line tells old new last line reply later full enough looks turned = record {
   replies = reply ∷ [];
   part = [];
@@ -161,7 +161,7 @@ Replied-line tells old new last line reply later full enough looks turned = reco
 
 -- a line whose reply was put in part
 pub Replied-part : (tells : Type 0) (old new : World) (last : DeviceStop → List ℕ) (line : List ℕ) (reply : Reply) (n : ℕ)
-    → IsLater old new → LooksOn tells old new (line ∷ []) (IsOk {A = Unit {0}} {E = Stop} (Err stops.Sink)) → TurnsEach tells old new line reply
+    → IsLater old new → LooksOn tells old new (line ∷ []) (IsOk {T = Unit {0}} {E = Stop} (Err stops.Sink)) → TurnsEach tells old new line reply
     → Replied tells old new last (Err stops.Sink) (line ∷ []) (take n (line_of reply))
 Replied-part tells old new last line reply n later looks turned = record {
   replies = [];
@@ -244,7 +244,7 @@ left_more (device.BadRecord addr) command changes more less = omega arith
 -- a line that the device stopped at
 pub Replied-stop : (tells : Type 0) (old new : World) (line : List ℕ) (command : Command) (stop : DeviceStop) → Spells line command → IsLater old new → new.head ≤ old.head + left_by stop command (needed_of old.session)
     → IsDamageAt tells new.history.present [] (line ∷ []) (Err (stops.Device stop))
-    → LooksOn tells old new (line ∷ []) (IsOk {A = Unit {0}} {E = Stop} (Err (stops.Device stop)))
+    → LooksOn tells old new (line ∷ []) (IsOk {T = Unit {0}} {E = Stop} (Err (stops.Device stop)))
     → (tells → IsServedImage new.history.present) → (tells → (entry : State) → Stood old entry → Halts old new entry command stop)
     → Replied tells old new no_line (Err (stops.Device stop)) (line ∷ []) []
 Replied-stop tells old new line command stop spells later added damage looks served halts = record {
@@ -596,7 +596,7 @@ tells_short old new line command reply spells later full updates enough e =
 -- a line that the device stopped at
 pub Handled-stop : (tells : Type 0) (old new : World) (line : List ℕ) (command : Command) (stop : DeviceStop) (written : Option (List ℕ)) → Spells line command
     → IsLater old new → new.head ≤ old.head + left_by stop command (needed_of old.session) → ((addr : ℕ) → stop ≡ device.BadRecord addr → IsOfBlock command × (tells → IsWrongPage new.history.present addr))
-    → LooksOn tells old new (line ∷ []) (IsOk {A = Unit {0}} {E = Stop} (Err (stops.Device stop)))
+    → LooksOn tells old new (line ∷ []) (IsOk {T = Unit {0}} {E = Stop} (Err (stops.Device stop)))
     → (tells → IsServedImage new.history.present) → (tells → (entry : State) → Stood old entry → Halts old new entry command stop)
     → Handled tells old new no_line (Err (stops.Device stop)) (line ∷ []) written written
 Handled-stop tells old new line command stop written spells later added met looks served halts = record {

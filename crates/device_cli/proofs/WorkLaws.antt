@@ -145,7 +145,7 @@ working_of tells seed count old session history head capacity reads input before
     let new : World = world None history head capacity reads in
     let script = answers_with tells old session history head capacity reads w.serving text w.left (Some []) w.told alone w.ran in
     let says : Says seed count script.0.replies w.serving written written_now ending =
-        subst (λ (replies : List Reply). Says seed count replies w.serving written written_now ending) (sym script.1) w.says in
+    subst (λ (replies : List Reply). Says seed count replies w.serving written written_now ending) (sym script.1) w.says in
     let Exits : ℕ → Type 0 = λ n. (n ≡ 8) ⊎ (n ≡ 4) ⊎ (n ≡ 5) ⊎ (n ≡ 11) in
     record {
       untaken = refl;

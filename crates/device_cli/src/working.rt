@@ -121,12 +121,7 @@ pub(crate) fn work<P: Platform, T: Tape, O: Sink, L: Sink>(
 }
 
 /// Puts what came of the script of a seed whose lines have these replies.
-fn put_summary<O: Sink>(
-    seed: u64,
-    count: u64,
-    told: &[u8],
-    output: &mut O,
-) -> Result<(), Stop>
+fn put_summary<O: Sink>(seed: u64, count: u64, told: &[u8], output: &mut O) -> Result<(), Stop>
     requires { count ≤ 5000 }
     ensures put { (replies : List Reply) → told.now ≡ flat_map line_of replies
         → HasPut (summary seed count replies) result (O.written output.old) (O.written output.new) }

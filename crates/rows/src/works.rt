@@ -75,11 +75,17 @@ fn work_one(rt: HostRuntime) -> Result<(), Fail> {
     let mut platform = MemPlatform::blank(rt.alloc(), 262_144);
     let one = work(rt.alloc(), &mut platform, "1", "1", 0, &[])?;
     assert_eq!(rt; one.status, 0);
-    assert!(rt; one.output.bytes() == b"work seed 1 count 1\naccepted 6 refused 0\nstat mapped 1 commit 1\nseized pages 3 nodes 1 blocks 1\n".as_slice());
+    assert!(rt;
+        one.output.bytes()
+            == b"work seed 1 count 1\naccepted 6 refused 0\nstat mapped 1 commit 1\nseized pages 3 nodes 1 blocks 1\n".as_slice()
+    );
     // The device is there now, so it isn't made again.
     let again = work(rt.alloc(), &mut platform, "1", "1", 1, &[])?;
     assert_eq!(rt; again.status, 0);
-    assert!(rt; again.output.bytes() == b"work seed 1 count 1\naccepted 5 refused 1\nstat mapped 1 commit 2\nseized pages 5 nodes 1 blocks 1\n".as_slice());
+    assert!(rt;
+        again.output.bytes()
+            == b"work seed 1 count 1\naccepted 5 refused 1\nstat mapped 1 commit 2\nseized pages 5 nodes 1 blocks 1\n".as_slice()
+    );
     Ok(())
 }
 
@@ -111,10 +117,15 @@ fn work_cut_short(rt: HostRuntime) -> Result<(), Fail> {
     let mut small = MemPlatform::blank(rt.alloc(), 1);
     let full = work(rt.alloc(), &mut small, "1", "1", 0, &[])?;
     assert_eq!(rt; full.status, 0);
-    assert!(rt; full.output.bytes() == b"work seed 1 count 1\naccepted 5 refused 1\nstat mapped 0 commit 0\nseized pages 1 nodes 1 blocks 0\n".as_slice());
+    assert!(rt;
+        full.output.bytes()
+            == b"work seed 1 count 1\naccepted 5 refused 1\nstat mapped 0 commit 0\nseized pages 1 nodes 1 blocks 0\n".as_slice()
+    );
     let mut platform = MemPlatform::blank(rt.alloc(), 262_144);
     let cut = work(rt.alloc(), &mut platform, "1", "1", 0, &[(2, 5)])?;
     assert_eq!(rt; cut.status, 4);
-    assert!(rt; cut.output.bytes() == b"work seed 1 count 1\naccepted 6 refused 0\nstat ".as_slice());
+    assert!(rt;
+        cut.output.bytes() == b"work seed 1 count 1\naccepted 6 refused 0\nstat ".as_slice()
+    );
     Ok(())
 }

@@ -1,7 +1,8 @@
 //! The texts that the program prints beside the replies of a script. The manual page is made from the help.
 
 /// How the program is called, in one line.
-pub const USAGE: &str = "usage: sdbt [(- | [--root CELL] FOLDER) [run | check | seize [HEX..] | work SEED COUNT]]\n";
+pub const USAGE: &str =
+    "usage: sdbt [(- | [--root CELL] FOLDER) [run | check | seize [HEX..] | work SEED COUNT]]\n";
 
 /// The help behind the usage. Headings stand alone in capitals, and a line of a list has its term, two spaces or
 /// more, and what is said of it.

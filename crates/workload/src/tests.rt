@@ -30,7 +30,8 @@ fn each_kind_of_line(rt: HostRuntime) -> Result<(), Fail> {
 
 #[test]
 fn replies_are_counted(rt: HostRuntime) {
-    let told = b"formatted\nmounted 0\nok\nfull\ndata 62616420\nbad\nrange\nstat mapped 1 commit 0\n";
+    let told =
+        b"formatted\nmounted 0\nok\nfull\ndata 62616420\nbad\nrange\nstat mapped 1 commit 0\n";
     let want = Tally {
         accepted: 5,
         refused: 3,

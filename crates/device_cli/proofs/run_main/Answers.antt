@@ -503,10 +503,10 @@ returns-in-Ok-work-clause-works g c seed count words =
     let before : Counts = counts (P.faults c.args.platform.now) (T.faults c.args.tape.now) (I.faults c.args.input.now) (O.faults c.args.output.now) (L.faults c.args.ledger.now) in
     let now : Counts = counts (P.faults c.work.new.platform) (T.faults c.work.new.tape) (I.faults c.args.input.now) (O.faults c.work.new.output) (L.faults c.work.new.ledger) in
     let cause = cause_wide (P.faults c.args.platform.now) (T.faults c.args.tape.now) (O.faults c.args.output.now) (L.faults c.args.ledger.now)
-        (P.faults c.work.new.platform) (T.faults c.work.new.tape) (O.faults c.work.new.output) (L.faults c.work.new.ledger) (I.faults c.args.input.now) (I.faults c.args.input.now) ending c.in-Ok-work.ensures.blame.cause in
+    (P.faults c.work.new.platform) (T.faults c.work.new.tape) (O.faults c.work.new.output) (L.faults c.work.new.ledger) (I.faults c.args.input.now) (I.faults c.args.input.now) ending c.in-Ok-work.ensures.blame.cause in
     let worked = c.in-Ok-work.ensures.worked in
     let here = working_of P.tells c.in-Some-Work.seed c.in-Some-Work.count old worked.0 (P.history c.work.new.platform) (P.head c.work.new.platform) (P.capacity c.work.new.platform) (P.reads c.work.new.platform) c.args.input.now
-        before now (0) (O.written c.args.output.now) (O.written c.work.new.output) ending refl (at_most (map string_bytes c.args.words.now) c.in-Some-Work.seed c.in-Some-Work.count asked) refl cause c.in-Ok-work.ensures.refused worked.1 in
+    before now (0) (O.written c.args.output.now) (O.written c.work.new.output) ending refl (at_most (map string_bytes c.args.words.now) c.in-Some-Work.seed c.in-Some-Work.count asked) refl cause c.in-Ok-work.ensures.refused worked.1 in
     subst (λ (s : ℕ). Working P.tells s count old new c.args.input.now c.args.input.now before now (0) (O.written c.args.output.now) (O.written c.work.new.output)) same.0
     (subst (λ (n : ℕ). Working P.tells c.in-Some-Work.seed n old new c.args.input.now c.args.input.now before now (0) (O.written c.args.output.now) (O.written c.work.new.output)) same.1 here)
 
@@ -525,10 +525,10 @@ returns-in-Err-work-clause-works g c seed count words =
     let before : Counts = counts (P.faults c.args.platform.now) (T.faults c.args.tape.now) (I.faults c.args.input.now) (O.faults c.args.output.now) (L.faults c.args.ledger.now) in
     let now : Counts = counts (P.faults c.work.new.platform) (T.faults c.work.new.tape) (I.faults c.args.input.now) (O.faults c.work.new.output) (L.faults c.work.new.ledger) in
     let cause = cause_wide (P.faults c.args.platform.now) (T.faults c.args.tape.now) (O.faults c.args.output.now) (L.faults c.args.ledger.now)
-        (P.faults c.work.new.platform) (T.faults c.work.new.tape) (O.faults c.work.new.output) (L.faults c.work.new.ledger) (I.faults c.args.input.now) (I.faults c.args.input.now) ending c.in-Err-work.ensures.blame.cause in
+    (P.faults c.work.new.platform) (T.faults c.work.new.tape) (O.faults c.work.new.output) (L.faults c.work.new.ledger) (I.faults c.args.input.now) (I.faults c.args.input.now) ending c.in-Err-work.ensures.blame.cause in
     let worked = c.in-Err-work.ensures.worked in
     let here = working_of P.tells c.in-Some-Work.seed c.in-Some-Work.count old worked.0 (P.history c.work.new.platform) (P.head c.work.new.platform) (P.capacity c.work.new.platform) (P.reads c.work.new.platform) c.args.input.now
-        before now (c.status-in-Err-work.result) (O.written c.args.output.now) (O.written c.work.new.output) ending refl (at_most (map string_bytes c.args.words.now) c.in-Some-Work.seed c.in-Some-Work.count asked) c.status-in-Err-work.ensures cause c.in-Err-work.ensures.refused worked.1 in
+    before now (c.status-in-Err-work.result) (O.written c.args.output.now) (O.written c.work.new.output) ending refl (at_most (map string_bytes c.args.words.now) c.in-Some-Work.seed c.in-Some-Work.count asked) c.status-in-Err-work.ensures cause c.in-Err-work.ensures.refused worked.1 in
     subst (λ (s : ℕ). Working P.tells s count old new c.args.input.now c.args.input.now before now (c.status-in-Err-work.result) (O.written c.args.output.now) (O.written c.work.new.output)) same.0
     (subst (λ (n : ℕ). Working P.tells c.in-Some-Work.seed n old new c.args.input.now c.args.input.now before now (c.status-in-Err-work.result) (O.written c.args.output.now) (O.written c.work.new.output)) same.1 here)
 

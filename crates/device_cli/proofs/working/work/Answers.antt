@@ -31,8 +31,8 @@ returns-in-Ok-run-clause-worked g c =
     let text : c.new-input.result ≡ script = c.new-input.ensures ∙ c.in-Ok.ensures.text in
     let none : c.in-Ok-new.told.written ≡ [] = ap (λ s. s.written) c.in-Ok-new.ensures in
     let there : Ran P.tells old new damage_line (Ok tt) (Some script) left (Some []) (Some told) =
-        subst (λ (w : List ℕ). Ran P.tells old new damage_line (Ok tt) (Some script) left (Some w) (Some told)) none
-        (subst (λ (t : List ℕ). Ran P.tells old new damage_line (Ok tt) (Some t) left (Some c.in-Ok-new.told.written) (Some told)) text ran.1) in (
+    subst (λ (w : List ℕ). Ran P.tells old new damage_line (Ok tt) (Some script) left (Some w) (Some told)) none
+    (subst (λ (t : List ℕ). Ran P.tells old new damage_line (Ok tt) (Some t) left (Some c.in-Ok-new.told.written) (Some told)) text ran.1) in (
       ran.0,
       record {
         serving = Ok tt;
