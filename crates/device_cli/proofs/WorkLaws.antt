@@ -1,31 +1,26 @@
 -- From the serving of a script in memory to what the word `work` says of it.
-use Rattle.std.proofs.Common.{◌≡◌, ℕ, ◌+◌, ◌-◌, ◌*◌, ◌<◌, ◌≤◌, ◌^◌, List, [], ◌++◌, Option, None, Some, Result, Ok, Err, length, drop, ◌⊎◌, inl, inr, refl, sym, ◌∙◌, subst, ap, arith, length-append}
-use Rattle.std.proofs.lemmas.Grind.{common_steps}
+use Rattle.std.proofs.Common.{◌≡◌, ℕ, ◌+◌, ◌-◌, ◌*◌, ◌≤◌, List, [], ◌++◌, Option, None, Some, Ok, Err, length, drop, ◌⊎◌, inl, inr, refl, sym, ◌∙◌, subst, ap, arith}
 use Rattle.std.proofs.lemmas.List.{append-nil}
 use Rattle.std.specs.Prelude.{IfErr, flat_map}
-use Rattle.sdbt_base.specs.Arrays.{Device, State, closed}
+use Rattle.sdbt_base.specs.Arrays.{Device, closed}
 use Rattle.sdbt_base.specs.Faults.{Rose}
-use Rattle.sdbt_base.specs.Told.{Gave, Got, GotPart}
 use Rattle.sdbt_base.proofs.ToldLaws.{Got-nothing}
 use Rattle.platform.proofs.Moments.{During-start}
 use Rattle.page_store.proofs.StandsLaws.{stands_during}
-use Rattle.text_lines.specs.Lines.{lines_of}
 use Rattle.script_lang.specs.Replies.{Reply, line_of}
 use Rattle.workload.specs.Summaries.{refused, heading, summary}
 use Rattle.workload.proofs.ScriptLaws.{script_has_lines, script_is_short}
 use Rattle.device_terms.specs.Served.{IsServedImage}
 use Rattle.device_cli.specs.World.{World, IsLater, world}
-use Rattle.device_cli.specs.Represents.{StandsFor, Stood}
+use Rattle.device_cli.specs.Represents.{StandsFor}
 use Rattle.device_cli.specs.Ran.{Ran, AnswersScript, IsAmple, IsComplete}
-use Rattle.device_cli.specs.Replied.{Ending, HasPut, IsSound, damage_line, no_line, exit_of}
-use Rattle.device_cli.specs.Run.{Counts, counts, NoneRose, HasCause, IsRefusal, TookUntil, status_of}
-use Rattle.device_cli.specs.Unserved.{IsUnserved}
+use Rattle.device_cli.specs.Replied.{Ending, damage_line, exit_of}
+use Rattle.device_cli.specs.Run.{Counts, counts, NoneRose, HasCause, status_of}
 use Rattle.device_cli.specs.Working.{Says, Worked, Working, script_of}
 use Rattle.device_cli.specs.declared.stop.DeviceStop.{DeviceStop}
 use Rattle.device_cli.specs.declared.stop.DeviceStop.TheVariants as device
-use Rattle.device_cli.specs.declared.stop.Stop.{Stop}
 use Rattle.device_cli.specs.declared.stop.Stop.TheVariants as stops
-use Rattle.device_cli.proofs.CompleteLaws.{complete_at, some_taken}
+use Rattle.device_cli.proofs.CompleteLaws.{complete_at}
 use Rattle.device_cli.proofs.RanLaws.{Ran-refused, Ran-last}
 use Rattle.device_cli.proofs.ScriptLaws.{answers_with}
 use Rattle.device_session.specs.Sessions.{Session}

@@ -1,4 +1,4 @@
-use Rattle.std.proofs.Common.{◌≡◌, ◌≤◌, ◌⊎◌, inl, inr, length, [], Result, Ok, Err, None, ℕ, refl, sym, subst, arith, ◌∙◌}
+use Rattle.std.proofs.Common.{◌≡◌, ◌≤◌, ◌⊎◌, inr, length, [], Result, Ok, Err, None, ℕ, refl, sym, subst, arith, ◌∙◌}
 use Rattle.sdbt_base.specs.Arrays.{closed}
 use Rattle.device_cli.specs.World.{World, world, world_of}
 use Rattle.device_cli.specs.Ran.{AnswersScript}

@@ -1,4 +1,4 @@
-use Rattle.std.proofs.Common.{ℕ, ◌+◌, List, ◌++◌, [], Err, drop, ◌∙◌, subst}
+use Rattle.std.proofs.Common.{ℕ, ◌+◌, List, [], Err, drop, ◌∙◌, subst}
 use Rattle.std.specs.Prelude.{flat_map}
 use Rattle.sdbt_base.specs.Told.{Got}
 use Rattle.sdbt_base.proofs.ToldLaws.{Got-nothing}
