@@ -16,19 +16,18 @@ struct Worked {
     output: Line,
 }
 
-/// Serves the script of a seed over a platform, with keys of another seed and an output that fails at these puts. The input has a script that
-/// is none of its business.
+/// Serves the script that these words name over a platform, with keys of a seed and an output that fails at these puts. The input has a script
+/// that is none of its business.
 fn work(
     alloc: Global,
     platform: &mut MemPlatform,
-    seed: &str,
-    count: &str,
+    texts: &[&str],
     keys: u64,
     failing_puts: &[(u64, usize)],
 ) -> Result<Worked, Memory> {
     let mut words = Vec::new(alloc);
-    for word in ["work", seed, count] {
-        words.push(String::from_str(alloc, word)?)?;
+    for text in texts {
+        words.push(String::from_str(alloc, text)?)?;
     }
     let mut tape = SeedTape::new(keys);
     let mut input = MemSource::new(alloc, b"erase\n", 4_096, &[])?;
@@ -73,14 +72,14 @@ fn first_reply(text: &[u8]) -> Option<(Reply, &[u8])> {
 #[test]
 fn work_one(rt: HostRuntime) -> Result<(), Fail> {
     let mut platform = MemPlatform::blank(rt.alloc(), 262_144);
-    let one = work(rt.alloc(), &mut platform, "1", "1", 0, &[])?;
+    let one = work(rt.alloc(), &mut platform, &["work", "1", "1"], 0, &[])?;
     assert_eq!(rt; one.status, 0);
     assert!(rt;
         one.output.bytes()
             == b"work seed 1 count 1\naccepted 6 refused 0\nstat mapped 1 commit 1\nseized pages 3 nodes 1 blocks 1\n".as_slice()
     );
     // The device is there now, so it isn't made again.
-    let again = work(rt.alloc(), &mut platform, "1", "1", 1, &[])?;
+    let again = work(rt.alloc(), &mut platform, &["work", "1", "1"], 1, &[])?;
     assert_eq!(rt; again.status, 0);
     assert!(rt;
         again.output.bytes()
@@ -93,7 +92,7 @@ fn work_one(rt: HostRuntime) -> Result<(), Fail> {
 #[test]
 fn work_day(rt: HostRuntime) -> Result<(), Fail> {
     let mut platform = MemPlatform::blank(rt.alloc(), 262_144);
-    let day = work(rt.alloc(), &mut platform, "7", "2000", 0, &[])?;
+    let day = work(rt.alloc(), &mut platform, &["work", "7", "2000"], 0, &[])?;
     assert_eq!(rt; day.status, 0);
     let rest = behind(&rt, day.output.bytes(), "work seed 7 count 2000");
     let rest = behind(&rt, rest, "accepted 2005 refused 0");
@@ -106,7 +105,7 @@ fn work_day(rt: HostRuntime) -> Result<(), Fail> {
     assert_eq!(rt; (blocks, pages), (mapped, platform.head()));
     assert!(rt; rest.is_empty());
     let mut other = MemPlatform::blank(rt.alloc(), 262_144);
-    let same = work(rt.alloc(), &mut other, "7", "2000", 1, &[])?;
+    let same = work(rt.alloc(), &mut other, &["work", "7", "2000"], 1, &[])?;
     assert!(rt; same.output.bytes() == day.output.bytes());
     Ok(())
 }
@@ -115,14 +114,14 @@ fn work_day(rt: HostRuntime) -> Result<(), Fail> {
 #[test]
 fn work_cut_short(rt: HostRuntime) -> Result<(), Fail> {
     let mut small = MemPlatform::blank(rt.alloc(), 1);
-    let full = work(rt.alloc(), &mut small, "1", "1", 0, &[])?;
+    let full = work(rt.alloc(), &mut small, &["work", "1", "1"], 0, &[])?;
     assert_eq!(rt; full.status, 0);
     assert!(rt;
         full.output.bytes()
             == b"work seed 1 count 1\naccepted 5 refused 1\nstat mapped 0 commit 0\nseized pages 1 nodes 1 blocks 0\n".as_slice()
     );
     let mut platform = MemPlatform::blank(rt.alloc(), 262_144);
-    let cut = work(rt.alloc(), &mut platform, "1", "1", 0, &[(2, 5)])?;
+    let cut = work(rt.alloc(), &mut platform, &["work", "1", "1"], 0, &[(2, 5)])?;
     assert_eq!(rt; cut.status, 4);
     assert!(rt;
         cut.output.bytes() == b"work seed 1 count 1\naccepted 6 refused 0\nstat ".as_slice()
