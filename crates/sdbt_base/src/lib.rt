@@ -33,7 +33,7 @@ pub use read_source::ReadSource;
 pub use sinks::Sink;
 pub use sources::Source;
 pub use tapes::Tape;
-pub use transfers::{read_whole, write_whole};
+pub use transfers::{copy_front, read_whole, write_whole};
 pub use write_sink::WriteSink;
 
 #[cfg(test)]

@@ -29,6 +29,13 @@ impl<T: Drop> Listed<T> {
         }
     }
 
+    /// The items of a `Vec`, in their order. It takes no memory.
+    pub fn from_vec(items: Vec<T>) -> Listed<T>
+        ensures { result ≡ items.items }
+    {
+        Listed { items }
+    }
+
     /// Adds an item at the end. `Memory` changes nothing.
     pub fn push(&mut self, item: T) -> Result<(), Memory>
         ensures { self.new ≡ (if is_ok result then self.old ++ item ∷ [] else self.old) }

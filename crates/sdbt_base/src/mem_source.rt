@@ -4,7 +4,7 @@ ghost use Rattle.sdbt_base.specs.Faults.{Rose, next_count};
 ghost use Rattle.sdbt_base.specs.Objects.{SourceState};
 ghost use Rattle.sdbt_base.specs.Told.{Gave};
 
-use crate::{Memory, Source, SourceFault};
+use crate::{Memory, Source, SourceFault, copy_front};
 use std::alloc::Global;
 use std::marker::Model;
 
@@ -91,18 +91,8 @@ impl Source for MemSource {
             return Err(SourceFault);
         }
         let (_, rest) = self.bytes.split_at(self.at);
-        let count = move_front(rest, self.step, into);
+        let count = copy_front(&rest[..rest.len().min(self.step)], into);
         self.at += count;
         Ok(count)
     }
-}
-
-// Copies as many of the first bytes as there are, as one take may give, and as there is room for.
-fn move_front(bytes: &[u8], step: usize, into: &mut [u8]) -> usize
-    ensures count { result ≡ min (length bytes.now) (min step (length into.old)) }
-    ensures front { take result into.new ≡ take result bytes.now }
-{
-    let count = bytes.len().min(step.min(into.len()));
-    into[..count].copy_from_slice(&bytes[..count]);
-    count
 }
