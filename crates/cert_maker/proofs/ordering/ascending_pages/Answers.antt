@@ -1,7 +1,6 @@
 use Rattle.std.proofs.Common.{◌==◌, List, rules, sym, subst, ◌∙◌}
 use Rattle.std.specs.List.Sorted.{IsPermutation}
 use Rattle.std.proofs.lemmas.Fn.{dedup_same}
-use Rattle.std.proofs.lemmas.Result.{IfOk-weaker}
 use Rattle.std.proofs.lemmas.List.Sorted.{IsNonDecreasingBy-from_sort_by_key}
 use Rattle.sdbt_base.specs.declared.lists.Unkept.{Unkept}
 use Rattle.cert_maker.specs.Ordered.{IsOrderOf}
@@ -16,4 +15,4 @@ returns c = λ one.
     let rises = IsNonDecreasingBy-from_sort_by_key (λ (page : Unkept). page.addr) _ c.sort_unstable_by_key.ensures.sorted (λ a r q k. search rules) in
     let order = ordered (λ (page : Unkept). page.addr) given sorted moved rises one in
     let rid = dedup_same _ (λ (one other : Unkept). one.addr == other.addr) _ (λ x y b f' x' y' k. search rules) _ _ c.dedup_by_key.ensures.filtered in
-    IfOk-weaker c.listed_pages.result _ _ (λ found is. subst (λ (l : List Unkept). IsOrderOf (λ page. page.addr) given l) (sym (is ∙ c.deref.ensures.value ∙ rid)) order) c.listed_pages.ensures
+    subst (λ (l : List Unkept). IsOrderOf (λ page. page.addr) given l) (sym (c.from_vec.ensures ∙ rid)) order
