@@ -33,36 +33,6 @@ use Rattle.device_cli.specs.declared.stop.DeviceStop.TheVariants as device
 use Rattle.device_cli.specs.declared.stop.Stop.{Stop}
 use Rattle.device_cli.specs.declared.stop.Stop.TheVariants as stops
 
--- ---- faults
-
--- neither the tape nor the ledger plays a part
-pub blame_wide : (p p_now i i_now o o_now t l : ℕ) (ending : Result Finding Stop) → IsBlamedOn (counts p 0 i o 0) (counts p_now 0 i_now o_now 0) ending
-    → IsBlamedOn (counts p t i o l) (counts p_now t i_now o_now l) ending
-blame_wide p p_now i i_now o o_now t l ending blame = record {
-  fell = record { platform = blame.fell.platform; tape = omega arith; input = blame.fell.input; output = blame.fell.output; ledger = omega arith };
-  cause = go ending blame.cause;
-}
-  where
-    go : (e : Result Finding Stop) → IfErr e (HasCause (counts p 0 i o 0) (counts p_now 0 i_now o_now 0)) → IfErr e (HasCause (counts p t i o l) (counts p_now t i_now o_now l))
-    go (Ok finding) h = tt
-    go (Err stops.Source) h = h
-    go (Err stops.Sink) h = h
-    go (Err stops.Limit) h = tt
-    go (Err (stops.Device device.Platform)) h = h
-    go (Err (stops.Device device.Tape)) h = absurd (never h)
-      where
-        never : (0 < 0) ⊎ (0 ≡ 2 ^ 64 - 1) → ⊥
-        never (inl e) = omega (arith, e)
-        never (inr e) = omega (arith, e)
-    go (Err (stops.Device device.Ledger)) h = absurd (never h)
-      where
-        never : (0 < 0) ⊎ (0 ≡ 2 ^ 64 - 1) → ⊥
-        never (inl e) = omega (arith, e)
-        never (inr e) = omega (arith, e)
-    go (Err (stops.Device device.BadRoot)) h = tt
-    go (Err (stops.Device (device.BadRecord addr))) h = tt
-    go (Err (stops.Device device.Memory)) h = tt
-
 -- ---- the cell
 
 pub served_some : (image : Image) (root : Root) → IsInCell image (Some root) → IsServedImage image

@@ -24,3 +24,4 @@ pub mod CheckLaws
 pub mod WorkLaws
 pub mod WordLaws
 pub mod LookLaws
+pub mod EndLaws

@@ -40,32 +40,6 @@ reported_not_refused : (tells : Type 0) (head : ℕ) (image : Image) (records : 
 reported_not_refused tells head image records seized (keys, given, report) told (inl bad) = begun_not_bad head image.cell keys (report told).0 (report told).1 bad
 reported_not_refused tells head image records seized (keys, given, report) told (inr bad) = given_not_bad head records keys given bad
 
--- ---- faults
-
--- no fault of the tape, the input or the ledger plays a part
-pub blame_of_two : (p p_now o o_now t i l : ℕ) (ending : Ending) → IsBlamedOn (counts p 0 0 o 0) (counts p_now 0 0 o_now 0) ending
-    → IsBlamedOn (counts p t i o l) (counts p_now t i o_now l) ending
-blame_of_two p p_now o o_now t i l ending blame = record {
-  fell = record { platform = blame.fell.platform; tape = omega arith; input = omega arith; output = blame.fell.output; ledger = omega arith };
-  cause = go ending blame.cause;
-}
-  where
-    never : (0 < 0) ⊎ (0 ≡ 2 ^ 64 - 1) → ⊥
-    never (inl e) = omega (arith, e)
-    never (inr e) = omega (arith, e)
-
-    go : (e : Ending) → IfErr e (HasCause (counts p 0 0 o 0) (counts p_now 0 0 o_now 0)) → IfErr e (HasCause (counts p t i o l) (counts p_now t i o_now l))
-    go (Ok done) h = tt
-    go (Err stops.Source) h = absurd (never h)
-    go (Err stops.Sink) h = h
-    go (Err stops.Limit) h = tt
-    go (Err (stops.Device device.Platform)) h = h
-    go (Err (stops.Device device.Tape)) h = absurd (never h)
-    go (Err (stops.Device device.Ledger)) h = absurd (never h)
-    go (Err (stops.Device device.BadRoot)) h = tt
-    go (Err (stops.Device (device.BadRecord addr))) h = tt
-    go (Err (stops.Device device.Memory)) h = tt
-
 -- ---- the exit status
 
 -- at 8 it is refused, and the line that says so was put

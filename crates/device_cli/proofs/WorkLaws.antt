@@ -15,7 +15,8 @@ use Rattle.device_cli.specs.World.{World, IsLater, world}
 use Rattle.device_cli.specs.Represents.{StandsFor}
 use Rattle.device_cli.specs.Ran.{Ran, AnswersScript, IsAmple, IsComplete}
 use Rattle.device_cli.specs.Replied.{Ending, damage_line, exit_of}
-use Rattle.device_cli.specs.Run.{Counts, counts, NoneRose, HasCause, status_of}
+use Rattle.device_cli.specs.Handed.{Handed}
+use Rattle.device_cli.specs.Run.{Counts, NoneRose, HasCause, status_of}
 use Rattle.device_cli.specs.Working.{Says, Worked, Working, script_of}
 use Rattle.device_cli.specs.declared.stop.DeviceStop.{DeviceStop}
 use Rattle.device_cli.specs.declared.stop.DeviceStop.TheVariants as device
@@ -111,48 +112,33 @@ work_complete tells old new seed count serving ending before now left told writt
 
 -- ---- what is said of the words
 
-never_rose : Rose 0 0 → ⊥
-never_rose (inl e) = omega (arith, e)
-never_rose (inr e) = omega (arith, e)
-
--- a cause apart from the input is one beside any
-pub cause_wide : (p t o l p_now t_now o_now l_now i i_now : ℕ) (ending : Ending) → IfErr ending (HasCause (counts p t 0 o l) (counts p_now t_now 0 o_now l_now))
-    → IfErr ending (HasCause (counts p t i o l) (counts p_now t_now i_now o_now l_now))
-cause_wide p t o l p_now t_now o_now l_now i i_now (Ok done) cause = tt
-cause_wide p t o l p_now t_now o_now l_now i i_now (Err stops.Source) cause = absurd (never_rose cause)
-cause_wide p t o l p_now t_now o_now l_now i i_now (Err stops.Sink) cause = cause
-cause_wide p t o l p_now t_now o_now l_now i i_now (Err stops.Limit) cause = tt
-cause_wide p t o l p_now t_now o_now l_now i i_now (Err (stops.Device device.Platform)) cause = cause
-cause_wide p t o l p_now t_now o_now l_now i i_now (Err (stops.Device device.Tape)) cause = cause
-cause_wide p t o l p_now t_now o_now l_now i i_now (Err (stops.Device device.Ledger)) cause = cause
-cause_wide p t o l p_now t_now o_now l_now i i_now (Err (stops.Device device.BadRoot)) cause = tt
-cause_wide p t o l p_now t_now o_now l_now i i_now (Err (stops.Device (device.BadRecord addr))) cause = tt
-cause_wide p t o l p_now t_now o_now l_now i i_now (Err (stops.Device device.Memory)) cause = tt
-
 -- whatever session the serving ends with
-pub working_of : {I : Type 0} (tells : Type 0) (seed count : ℕ) (old : World) (session : Option Session) (history : History) (head capacity reads : ℕ) (input : I) (before now : Counts) (status : ℕ) (written written_now : Option (List ℕ)) (ending : Ending)
-    → old.session ≡ None → count ≤ 5000 → status ≡ exit_of ending → IfErr ending (HasCause before now)
-    → (tells → (IsServedImage old.history.present → ⊥) → (exit_of ending ≡ 8) ⊎ (exit_of ending ≡ 4) ⊎ (exit_of ending ≡ 5) ⊎ (exit_of ending ≡ 11))
-    → Worked tells seed count old (world session history head capacity reads) written written_now ending
-    → Working tells seed count old (world None history head capacity reads) input input before now status written written_now
-working_of tells seed count old session history head capacity reads input before now status written written_now ending alone few is cause refused w =
+pub working_of : {S R I O L : Type 0} (tells : Type 0) (seed count status : ℕ) (old new : Handed S R I O L) (session : Option Session) (ending : Ending)
+    → old.world.session ≡ None → new.world.session ≡ None → new.input ≡ old.input → count ≤ 5000 → status ≡ exit_of ending → IfErr ending (HasCause old.counts new.counts)
+    → (tells → (IsServedImage old.world.history.present → ⊥) → (exit_of ending ≡ 8) ⊎ (exit_of ending ≡ 4) ⊎ (exit_of ending ≡ 5) ⊎ (exit_of ending ≡ 11))
+    → Worked tells seed count old.world (record new.world { session = session }) old.written new.written ending
+    → Working tells seed count status old new
+working_of tells seed count status old new session ending alone then_alone untaken few is cause refused w =
     let text : Option (List ℕ) = Some (script_of seed count) in
-    let new : World = world None history head capacity reads in
-    let script = answers_with tells old session history head capacity reads w.serving text w.left (Some []) w.told alone w.ran in
-    let says : Says seed count script.0.replies w.serving written written_now ending =
-    subst (λ (replies : List Reply). Says seed count replies w.serving written written_now ending) (sym script.1) w.says in
+    let now = new.world in
+    let script = answers_with tells old.world session now.history now.head now.capacity now.reads w.serving text w.left (Some []) w.told alone w.ran in
+    let same : world None now.history now.head now.capacity now.reads ≡ now = ap (λ (s : Option Session). record now { session = s }) (sym then_alone) in
+    let Answered : World → Type 0 = λ there. (s : AnswersScript tells old.world there (exit_of w.serving) text w.left (Some []) w.told) × (s.replies ≡ w.ran.handled.replied.replies) in
+    let here : Answered now = subst Answered same script in
+    let says : Says seed count here.0.replies w.serving old.written new.written ending =
+    subst (λ (replies : List Reply). Says seed count replies w.serving old.written new.written ending) (sym here.1) w.says in
     let Exits : ℕ → Type 0 = λ n. (n ≡ 8) ⊎ (n ≡ 4) ⊎ (n ≡ 5) ⊎ (n ≡ 11) in
     record {
-      untaken = refl;
+      untaken = untaken;
       serving = w.serving;
       left = w.left;
       told = w.told;
-      serves = script.0;
+      serves = here.0;
       ending = ending;
       status_is = is;
       says = says;
       bad_root = λ told unserved. subst Exits (sym is) (refused told unserved);
       complete = λ told there stands served room quiet.
           let Done : ℕ → Type 0 = λ n. (n ≡ 11) ⊎ ((n ≡ 0) × IsComplete (closed there) (script_of seed count) (Some []) w.told) in
-          subst Done (sym is) (work_complete tells old new seed count w.serving ending before now w.left w.told written written_now there told stands served script.0 says cause few room quiet);
+          subst Done (sym is) (work_complete tells old.world now seed count w.serving ending old.counts new.counts w.left w.told old.written new.written there told stands served here.0 says cause few room quiet);
     }

@@ -3,7 +3,7 @@ use Rattle.std.specs.Prelude.{◌≡◌, ◌⊎◌, ℕ, ◌<◌, ◌^◌, List,
 use Rattle.std.specs.Fmt.{decimal}
 use Rattle.sdbt_base.specs.Told.{Got, GotPart}
 use Rattle.platform.specs.Image.{Image}
-use Rattle.platform.specs.History.{History, During}
+use Rattle.platform.specs.History.{During}
 use Rattle.root_codec.specs.declared.root.Root.{Root}
 use Rattle.root_codec.specs.RootRecord.{root_bytes}
 use Rattle.cert_maker.specs.Cert.{Cert}
@@ -15,7 +15,8 @@ use Rattle.ledger_check.specs.Judging.{FromInput, IsWhole}
 use Rattle.page_store.specs.Roots.{IsRootWithin}
 use Rattle.device_terms.specs.Served.{IsServedImage}
 use Rattle.device_cli.specs.Replied.{damage_line}
-use Rattle.device_cli.specs.Run.{Counts, NoneRose, status_of}
+use Rattle.device_cli.specs.Handed.{Handed}
+use Rattle.device_cli.specs.Run.{NoneRose, status_of}
 use Rattle.device_cli.specs.declared.checking.Finding.{Finding}
 use Rattle.device_cli.specs.declared.checking.Finding.TheVariants as findings
 use Rattle.device_cli.specs.declared.stop.DeviceStop.TheVariants as device
@@ -107,12 +108,13 @@ pub record IsAcceptable (image : Image) (left : Option (List ℕ)) (root : Root)
 
 -- a check: no key is drawn, no entry put, no page added, and the image is as it was at each moment; it ends so, with this status;
 -- and an acceptable ledger is accepted, unless something failed or no memory was given
-pub record Checked {T L : Type 0} (tells : Type 0) (tape tape_now : T) (ledger ledger_now : L) (head head_now : ℕ) (old new : History) (before now : Counts) (status : ℕ) (left left_now written written_now : Option (List ℕ)) : Type 0 where
-  pub undrawn : tape_now ≡ tape
-  pub unput : ledger_now ≡ ledger
-  pub pages : head_now ≡ head
-  pub image : tells → During old new (λ image. image ≡ old.present)
+pub record Checked {S R I O L : Type 0} (tells : Type 0) (status : ℕ) (old new : Handed S R I O L) : Type 0 where
+  pub undrawn : new.tape ≡ old.tape
+  pub unput : new.ledger ≡ old.ledger
+  pub pages : new.world.head ≡ old.world.head
+  pub image : tells → During old.world.history new.world.history (λ image. image ≡ old.world.history.present)
   pub ending : Result Finding Stop
   pub status_is : status ≡ status_at ending
-  pub checks : Checks tells old.present left left_now written written_now ending
-  pub complete : tells → (root : Root) (text : List ℕ) (certs : List Cert) → IsAcceptable old.present left root text certs → NoneRose before now → (status ≡ 0) ⊎ (status ≡ 11)
+  pub checks : Checks tells old.world.history.present old.left new.left old.written new.written ending
+  pub complete : tells → (root : Root) (text : List ℕ) (certs : List Cert) → IsAcceptable old.world.history.present old.left root text certs → NoneRose old.counts new.counts
+      → (status ≡ 0) ⊎ (status ≡ 11)

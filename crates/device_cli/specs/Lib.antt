@@ -17,3 +17,5 @@ pub mod Added
 pub mod Parts
 pub mod Working
 pub mod Looks
+pub mod Handed
+pub mod Program

@@ -56,6 +56,15 @@ pub record IsBlamedOn {T : Type 0} (before now : Counts) (result : Result T Stop
   pub fell : NoneFell before now
   pub cause : IfErr result (HasCause before now)
 
+-- the same by the exit status: one that names a fault comes only where the count of that object rose
+pub record IsBlamedAt (status : ℕ) (before now : Counts) : Type 0 where
+  pub none_fell : NoneFell before now
+  pub input : status ≡ 3 → Rose before.input now.input
+  pub output : status ≡ 4 → Rose before.output now.output
+  pub platform : status ≡ 5 → Rose before.platform now.platform
+  pub tape : status ≡ 6 → Rose before.tape now.tape
+  pub ledger : status ≡ 7 → Rose before.ledger now.ledger
+
 -- the exit status of each stop
 abbrev pub status_of : Stop → ℕ
 status_of stops.Source = 3

@@ -3,14 +3,15 @@ use Rattle.std.specs.Prelude.{◌≡◌, ◌⊎◌, ◌==◌, if◌then◌else�
 use Rattle.std.specs.Fmt.{decimal}
 use Rattle.sdbt_base.specs.Told.{Got, GotPart}
 use Rattle.platform.specs.Image.{Image}
-use Rattle.platform.specs.History.{History, During}
+use Rattle.platform.specs.History.{During}
 use Rattle.page_store.specs.Roots.{IsBadCell}
 use Rattle.seizure.specs.declared.opened.Opened.{Opened}
 use Rattle.seizure.specs.Opened.{count_of_kind}
 use Rattle.seizure.specs.Report.{Seized, IsSeizure, Begins}
 use Rattle.device_cli.specs.Given.{AreGiven, HasBadRecord}
 use Rattle.device_cli.specs.Replied.{Ending, damage_line, exit_of}
-use Rattle.device_cli.specs.Run.{Counts, NoneRose}
+use Rattle.device_cli.specs.Handed.{Handed}
+use Rattle.device_cli.specs.Run.{NoneRose}
 use Rattle.device_cli.specs.declared.stop.DeviceStop.TheVariants as device
 use Rattle.device_cli.specs.declared.stop.Stop.TheVariants as stops
 
@@ -67,14 +68,14 @@ Seizes tells head image records written written_now (Err _) = ⊥
 -- a seizure with the root records that these words are: no key is drawn, nothing taken, no entry put, no page added, and the image is as it was at
 -- each moment; it ends so, with this status: 8 exactly where the cell is full, and not with the root record of a root within the pages, or a
 -- word is none, unless that could not be told or not be said; and else 0, unless something failed or no memory was given
-pub record Seizing {T I L : Type 0} (tells : Type 0) (records : List (List ℕ)) (tape tape_now : T) (input input_now : I) (ledger ledger_now : L) (head head_now : ℕ) (old new : History) (before now : Counts) (status : ℕ) (written written_now : Option (List ℕ)) : Type 0 where
-  pub undrawn : tape_now ≡ tape
-  pub untaken : input_now ≡ input
-  pub unput : ledger_now ≡ ledger
-  pub pages : head_now ≡ head
-  pub image : tells → During old new (λ image. image ≡ old.present)
+pub record Seizing {S R I O L : Type 0} (tells : Type 0) (records : List (List ℕ)) (status : ℕ) (old new : Handed S R I O L) : Type 0 where
+  pub undrawn : new.tape ≡ old.tape
+  pub untaken : new.input ≡ old.input
+  pub unput : new.ledger ≡ old.ledger
+  pub pages : new.world.head ≡ old.world.head
+  pub image : tells → During old.world.history new.world.history (λ image. image ≡ old.world.history.present)
   pub ending : Ending
   pub status_is : status ≡ exit_of ending
-  pub seizes : Seizes tells head old.present records written written_now ending
-  pub bad_root : tells → IsRefused head old.present records → (status ≡ 8) ⊎ (status ≡ 4) ⊎ (status ≡ 5)
-  pub complete : tells → (IsRefused head old.present records → ⊥) → NoneRose before now → (status ≡ 0) ⊎ (status ≡ 11)
+  pub seizes : Seizes tells old.world.head old.world.history.present records old.written new.written ending
+  pub bad_root : tells → IsRefused old.world.head old.world.history.present records → (status ≡ 8) ⊎ (status ≡ 4) ⊎ (status ≡ 5)
+  pub complete : tells → (IsRefused old.world.head old.world.history.present records → ⊥) → NoneRose old.counts new.counts → (status ≡ 0) ⊎ (status ≡ 11)

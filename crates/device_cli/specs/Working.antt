@@ -10,7 +10,8 @@ use Rattle.device_terms.specs.Served.{IsServedImage}
 use Rattle.device_cli.specs.Ran.{Ran, AnswersScript, IsComplete}
 use Rattle.device_cli.specs.Replied.{Ending, HasPut, damage_line, exit_of}
 use Rattle.device_cli.specs.Represents.{StandsFor}
-use Rattle.device_cli.specs.Run.{Counts, NoneRose}
+use Rattle.device_cli.specs.Handed.{Handed}
+use Rattle.device_cli.specs.Run.{NoneRose}
 use Rattle.device_cli.specs.World.{World}
 use Rattle.device_cli.specs.declared.stop.DeviceStop.TheVariants as device
 use Rattle.device_cli.specs.declared.stop.Stop.TheVariants as stops
@@ -42,16 +43,16 @@ pub record Worked (tells : Type 0) (seed count : ℕ) (old new : World) (written
 -- the serving of the script of a seed, with so many generated lines: nothing is taken; it is served as a run serves it that ends so, whose replies are kept in
 -- memory; and then this is put of it, with this status. 8 comes where the cell can't be served, unless that could not be told or not be said, or no
 -- memory was given; and with room for 42 pages a line, and no fault, each line has its reply, unless no memory was given
-pub record Working {I : Type 0} (tells : Type 0) (seed count : ℕ) (old new : World) (input input_now : I) (before now : Counts) (status : ℕ) (written written_now : Option (List ℕ)) : Type 0 where
-  pub untaken : input_now ≡ input
+pub record Working {S R I O L : Type 0} (tells : Type 0) (seed count status : ℕ) (old new : Handed S R I O L) : Type 0 where
+  pub untaken : new.input ≡ old.input
   pub serving : Ending
   pub left : Option (List ℕ)
   pub told : Option (List ℕ)
-  pub serves : AnswersScript tells old new (exit_of serving) (Some (script_of seed count)) left (Some []) told
+  pub serves : AnswersScript tells old.world new.world (exit_of serving) (Some (script_of seed count)) left (Some []) told
   pub ending : Ending
   pub status_is : status ≡ exit_of ending
-  pub says : Says seed count serves.replies serving written written_now ending
-  pub bad_root : tells → (IsServedImage old.history.present → ⊥) → (status ≡ 8) ⊎ (status ≡ 4) ⊎ (status ≡ 5) ⊎ (status ≡ 11)
-  pub complete : tells → (there : Option Device) → StandsFor old.history.present there → IsServedImage old.history.present
-      → old.head + 42 * (count + 5) ≤ old.capacity → NoneRose before now
+  pub says : Says seed count serves.replies serving old.written new.written ending
+  pub bad_root : tells → (IsServedImage old.world.history.present → ⊥) → (status ≡ 8) ⊎ (status ≡ 4) ⊎ (status ≡ 5) ⊎ (status ≡ 11)
+  pub complete : tells → (there : Option Device) → StandsFor old.world.history.present there → IsServedImage old.world.history.present
+      → old.world.head + 42 * (count + 5) ≤ old.world.capacity → NoneRose old.counts new.counts
       → (status ≡ 11) ⊎ ((status ≡ 0) × IsComplete (closed there) (script_of seed count) (Some []) told)

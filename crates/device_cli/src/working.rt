@@ -1,5 +1,5 @@
 //! The word `work`: serves the script of a seed, and tells what came of it.
-ghost use Rattle.std.specs.Prelude.{◌≡◌, ◌≤◌, ◌⊎◌, ℕ, List, Option, None, ⊤, IfErr, IsOk, flat_map, length, min, take};
+ghost use Rattle.std.specs.Prelude.{◌≡◌, ◌≤◌, ◌⊎◌, ℕ, List, Option, None, ⊤, IfErr, IsOk, flat_map};
 ghost use Rattle.sdbt_base.specs.Faults.{Rose};
 ghost use Rattle.script_lang.specs.Replies.{Reply, line_of};
 ghost use Rattle.workload.specs.Summaries.{heading, summary};
@@ -17,7 +17,7 @@ use crate::stop::{DeviceStop, Stop};
 use crate::texts::{push_text, put_line};
 use arrayvec::ArrayVec;
 use platform::Platform;
-use sdbt_base::{Line, MemSink, Sink, Source, SourceFault, Tape};
+use sdbt_base::{Line, MemSink, Sink, Source, SourceFault, Tape, copy_front};
 use std::alloc::Global;
 use std::marker::Model;
 use workload::{Tally, lines_behind, script};
@@ -61,20 +61,10 @@ impl Source for ScriptSource {
     #[tactic(auto, using(sdbt_base::proofs::ToldLaws::ends))]
     fn take(&mut self, into: &mut [u8]) -> Result<usize, SourceFault> {
         let (_, rest) = self.text.bytes().split_at(self.at);
-        let count = move_front(rest, into);
+        let count = copy_front(rest, into);
         self.at += count;
         Ok(count)
     }
-}
-
-/// Copies as many of the first bytes as there are, and as there is room for.
-fn move_front(bytes: &[u8], into: &mut [u8]) -> usize
-    ensures count { result ≡ min (length bytes.now) (length into.old) }
-    ensures front { take result into.new ≡ take result bytes.now }
-{
-    let count = bytes.len().min(into.len());
-    into[..count].copy_from_slice(&bytes[..count]);
-    count
 }
 
 /// Serves the script of a seed with so many generated lines, 1 to 5,000, and puts what came of it: how many lines were accepted and

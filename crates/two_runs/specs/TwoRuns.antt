@@ -11,8 +11,7 @@ use Rattle.sdbt_base.specs.Arrays.{State, Device, closed}
 use Rattle.script_lang.specs.Answers.{IsMark}
 use Rattle.script_lang.specs.Replies.{Reply}
 use Rattle.device_terms.specs.Served.{IsServedImage}
-use Rattle.sdbt_base.specs.Faults.{Rose}
-use Rattle.device_cli.specs.Run.{Counts, NoneFell}
+use Rattle.device_cli.specs.Run.{Counts, IsBlamedAt}
 use Rattle.device_cli.specs.World.{World}
 use Rattle.device_cli.specs.Represents.{StandsFor}
 use Rattle.device_cli.specs.Ran.{AnswersScript, AnswersFrom}
@@ -59,13 +58,8 @@ pub record GoesOnAnywhere (entry : State) (lines : List (List ℕ)) (replies : L
 
 -- a run that was given no words ends with a status that names an object only where the count of faults of that object rose
 pub record HasCause (status : ℕ) (before now : Counts) : Type 0 where
-  pub none_fell : NoneFell before now
   pub words : status ≢ 2
-  pub input : status ≡ 3 → Rose before.input now.input
-  pub output : status ≡ 4 → Rose before.output now.output
-  pub platform : status ≡ 5 → Rose before.platform now.platform
-  pub tape : status ≡ 6 → Rose before.tape now.tape
-  pub ledger : status ≡ 7 → Rose before.ledger now.ledger
+  pub blame : IsBlamedAt status before now
 
 -- the same of two runs, each with an input of its own
 pub record HaveCauses (first second : ℕ) (before now : Counts) (other other_now : ℕ) : Type 0 where

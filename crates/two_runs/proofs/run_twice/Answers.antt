@@ -17,17 +17,17 @@ returns-clause-runs g c =
       mid = mid;
       cut = cut;
       written_then = g.O.Sink.written c.run_main-status.new.output;
-      one = (c.run_main-status.ensures.answers tt);
+      one = (c.run_main-status.ensures.serves tt).answers;
       lost = c.lose_power.ensures.left;
-      two = (c.run_main-other.ensures.answers tt);
-      goes_on = λ there stands served. goes_on old mid cut new _ _ _ _ _ _ _ _ _ (c.run_main-status.ensures.answers tt) c.lose_power.ensures.left.may (c.run_main-other.ensures.answers tt) there stands served
+      two = (c.run_main-other.ensures.serves tt).answers;
+      goes_on = λ there stands served. goes_on old mid cut new _ _ _ _ _ _ _ _ _ (c.run_main-status.ensures.serves tt).answers c.lose_power.ensures.left.may (c.run_main-other.ensures.serves tt).answers there stands served
           (served_left (image_of_now c.run_main-status.new.platform) (image_of_now c.lose_power.new.platform) c.lose_power.ensures.left.may
-          (During-now (mem_history c.args.platform.now) (mem_history c.run_main-status.new.platform) IsServedImage (c.run_main-status.ensures.served tt served)));
+          (During-now (mem_history c.args.platform.now) (mem_history c.run_main-status.new.platform) IsServedImage (c.run_main-status.ensures.stays.served tt served)));
       discloses = discloses_twice (g.T.Tape.drawn c.args.tape.now) (g.T.Tape.drawn c.run_main-status.new.tape) (g.T.Tape.drawn c.run_main-other.new.tape) old mid cut new _ _ _ _ _
-          c.run_main-status.ensures.discloses c.run_main-other.ensures.discloses (c.run_main-status.ensures.answers tt) c.lose_power.ensures.left.may
+          c.run_main-status.ensures.forgets.discloses c.run_main-other.ensures.forgets.discloses (c.run_main-status.ensures.serves tt).answers c.lose_power.ensures.left.may
           (λ served. served_left (image_of_now c.run_main-status.new.platform) (image_of_now c.lose_power.new.platform) c.lose_power.ensures.left.may
-          (During-now (mem_history c.args.platform.now) (mem_history c.run_main-status.new.platform) IsServedImage (c.run_main-status.ensures.served tt served)));
-      anywhere = λ there stands served. anywhere old mid _ _ _ _ _ (c.run_main-status.ensures.answers tt) there stands served (c.run_main-status.ensures.served tt served);
+          (During-now (mem_history c.args.platform.now) (mem_history c.run_main-status.new.platform) IsServedImage (c.run_main-status.ensures.stays.served tt served)));
+      anywhere = λ there stands served. anywhere old mid _ _ _ _ _ (c.run_main-status.ensures.serves tt).answers there stands served (c.run_main-status.ensures.stays.served tt served);
     }
 
 pub returns-clause-fits : goal.returns-clause-fits
@@ -37,9 +37,9 @@ returns-clause-fits g c there stands served =
     let cut : World = world None (mem_history c.lose_power.new.platform) (length (image_of_now c.lose_power.new.platform).recorded) (capacity_of c.lose_power.new.platform) (reads_of c.lose_power.new.platform) in
     let new : World = world None (mem_history c.run_main-other.new.platform) (length (image_of_now c.run_main-other.new.platform).recorded) (capacity_of c.run_main-other.new.platform) (reads_of c.run_main-other.new.platform) in
     let left = served_left (image_of_now c.run_main-status.new.platform) (image_of_now c.lose_power.new.platform) c.lose_power.ensures.left.may
-    (During-now (mem_history c.args.platform.now) (mem_history c.run_main-status.new.platform) IsServedImage (c.run_main-status.ensures.served tt served)) in
-    let next = goes_on old mid cut new _ _ _ _ _ _ _ _ _ (c.run_main-status.ensures.answers tt) c.lose_power.ensures.left.may (c.run_main-other.ensures.answers tt) there stands served left in
+    (During-now (mem_history c.args.platform.now) (mem_history c.run_main-status.new.platform) IsServedImage (c.run_main-status.ensures.stays.served tt served)) in
+    let next = goes_on old mid cut new _ _ _ _ _ _ _ _ _ (c.run_main-status.ensures.serves tt).answers c.lose_power.ensures.left.may (c.run_main-other.ensures.serves tt).answers there stands served left in
     leaves_then (g.L.Sink.written c.args.ledger.now) (g.L.Sink.written c.run_main-status.new.ledger) (g.L.Sink.written c.run_main-other.new.ledger)
     old.history.present mid.history.present cut.history.present new.history.present
-    (c.run_main-status.ensures.fits tt there stands served) c.lose_power.ensures.left.may
-    (c.run_main-other.ensures.fits tt next.goes.between next.goes.stands left)
+    (c.run_main-status.ensures.ledger.fits tt there stands served) c.lose_power.ensures.left.may
+    (c.run_main-other.ensures.ledger.fits tt next.goes.between next.goes.stands left)

@@ -1,0 +1,138 @@
+-- What the end of an order gives: what is forgotten, what the ledger got, and what the words `check` and `seize` say.
+use Rattle.std.proofs.Common.{◌≡◌, ◌≤◌, ◌⊎◌, ℕ, List, [], Option, None, Result, refl, sym, ◌∙◌, ap, subst, arith}
+use Rattle.std.specs.Prelude.{IfErr}
+use Rattle.sdbt_base.specs.Arrays.{Device, closed}
+use Rattle.platform.specs.History.{History, Steps}
+use Rattle.platform.proofs.Moments.{During-start}
+use Rattle.cert_maker.specs.Cert.{Cert}
+use Rattle.root_codec.specs.declared.root.Root.{Root}
+use Rattle.page_store.specs.Stands.{Stands}
+use Rattle.device_session.specs.Sessions.{Session}
+use Rattle.device_terms.specs.Served.{IsServedImage}
+use Rattle.device_terms.proofs.MomentLaws.{one_look}
+use Rattle.device_course.specs.Keys.{KeepsOn}
+use Rattle.device_course.specs.States.{Outside, IsLater}
+use Rattle.device_course.specs.Course.{Made}
+use Rattle.device_course.proofs.MadeLaws.{made_start, shut}
+use Rattle.device_course.specs.Marks.{last_mark}
+use Rattle.device_course.proofs.CertifiedLaws.{certified_going}
+use Rattle.device_course.proofs.KeysLaws.{on_look}
+use Rattle.device_cli.specs.Checks.{Checked, Checks, status_at}
+use Rattle.device_cli.specs.Handed.{Handed}
+use Rattle.device_cli.specs.Program.{ServesScript, Forgets, KeepsLedger}
+use Rattle.device_cli.specs.Ran.{Ran, AnswersScript, IsComplete}
+use Rattle.device_cli.specs.Replied.{Ending, damage_line, exit_of}
+use Rattle.device_cli.specs.Run.{HasCause}
+use Rattle.device_cli.specs.Seizing.{Seizing, Seizes}
+use Rattle.device_cli.specs.World.{World, world}
+use Rattle.device_cli.specs.declared.checking.Finding.{Finding}
+use Rattle.device_cli.specs.declared.stop.Stop.{Stop}
+use Rattle.device_cli.proofs.CheckLaws.{complete_check, image_stays, made_look}
+use Rattle.device_cli.proofs.CompleteLaws.{complete_ending}
+use Rattle.device_cli.proofs.MappedLaws.{seizes_maps}
+use Rattle.device_cli.proofs.ReachingLaws.{discloses, fits}
+use Rattle.device_cli.proofs.ScriptLaws.{answers_script, made_by}
+use Rattle.device_cli.proofs.SeizeWordLaws.{bad_status, complete_seizure}
+
+-- ---- what is forgotten, and what the ledger got
+
+-- an order over the outside, which made some devices
+pub record Ended (tells : Type 0) (old new : Outside) (Going : Type 0) : Type 0 where
+  pub later : IsLater old new
+  pub keeps : KeepsOn tells old.drawn new.drawn old.written new.written None old.history new.history Going (λ keys. Unit {0})
+  pub made : tells → (device : Option Device) → Stands old.history.present device → IsServedImage old.history.present
+      → (marks : List (Option Device)) × Made old.history new.history None (closed device) marks (closed (last_mark device marks))
+
+pub forgets : (tells : Type 0) (old new : Outside) (Going : Type 0) → Ended tells old new Going → Forgets tells old.drawn new.drawn old.history new.history
+forgets tells old new Going e =
+    let all = discloses tells old new Going (λ keys. Unit {0}) e.later e.keeps e.made in
+    record { discloses = all; seizes = seizes_maps tells old.drawn new.drawn old.history new.history all }
+
+pub keeps_ledger : (tells : Type 0) (old new : Outside) (Going Done : Type 0) → (Done → Going) → Ended tells old new Going → KeepsLedger tells old.written new.written old.history new.history Done
+keeps_ledger tells old new Going Done going e = record {
+  certified = certified_going tells old.written new.written old.history new.history Going Done going e.keeps.certified;
+  fits = λ told there stands served. fits tells old new Going (λ keys. Unit {0}) e.keeps e.made told there stands served;
+}
+
+-- no order
+pub ended_not : (tells : Type 0) (here : Outside) → here.head ≤ here.capacity → Ended tells here here (Unit {0})
+ended_not tells here room = record {
+  later = record { capacity = refl; rises = omega arith; within = room };
+  keeps = on_look tells here.drawn here.written None here.history here.history (Unit {0}) (λ keys. Unit {0}) (λ told. refl)
+      (λ told. During-start here.history (λ image. image.cell ≡ here.history.present.cell) refl) (λ told keys kept h. tt);
+  made = λ told device stands served. ([], made_start here.history None (closed device) (shut here.history.present device stands served));
+}
+
+-- an order that only looks
+pub ended_look : (tells : Type 0) (old new : Outside) (Going : Type 0) → IsLater old new → new.drawn ≡ old.drawn → new.written ≡ old.written
+    → (tells → Steps old.history new.history) → (tells → new.history.present ≡ old.history.present) → Ended tells old new Going
+ended_look tells old new Going later undrawn unput steps same = record {
+  later = later;
+  keeps = subst (λ (drawn : Option (List (List ℕ))). KeepsOn tells old.drawn drawn old.written new.written None old.history new.history Going (λ keys. Unit {0})) (sym undrawn)
+      (subst (λ (written : Option (List ℕ)). KeepsOn tells old.drawn old.drawn old.written written None old.history new.history Going (λ keys. Unit {0})) (sym unput)
+      (on_look tells old.drawn old.written None old.history new.history Going (λ keys. Unit {0}) same (λ told. one_look old.history new.history (steps told) (same told)) (λ told keys kept h. tt)));
+  made = λ told device stands served. made_look old.history new.history device stands served (steps told) (same told);
+}
+
+-- one that serves a script
+pub ended_run : (tells : Type 0) (old new : Outside) (Going : Type 0) (was : World) (session : Option Session) (reads : ℕ) (ending : Ending) (left left_now written written_now : Option (List ℕ))
+    → was.session ≡ None → was.history ≡ old.history → was.head ≡ old.head → was.capacity ≡ old.capacity
+    → Ran tells was (world session new.history new.head new.capacity reads) damage_line ending left left_now written written_now
+    → KeepsOn tells old.drawn new.drawn old.written new.written None old.history new.history Going (λ keys. Unit {0}) → Ended tells old new Going
+ended_run tells old new Going was session reads ending left left_now written written_now alone history head capacity ran keeps =
+    let later = ran.handled.replied.later in
+    record {
+      later = record { capacity = later.capacity ∙ capacity; rises = subst (λ (n : ℕ). n ≤ new.head) head later.rises; within = later.within };
+      keeps = keeps;
+      made = subst (λ (h : History). tells → (device : Option Device) → Stands h.present device → IsServedImage h.present
+          → (marks : List (Option Device)) × Made h new.history None (closed device) marks (closed (last_mark device marks))) history
+          (made_by tells was session new.history new.head new.capacity reads ending left left_now written written_now alone ran);
+    }
+
+-- ---- what the words say
+
+pub serves_at : {S R I O L : Type 0} (tells : Type 0) (status : ℕ) (old new : Handed S R I O L) (session : Option Session) (ending : Ending) → old.world.session ≡ None → new.world.session ≡ None → status ≡ exit_of ending
+    → Ran tells old.world (record new.world { session = session }) damage_line ending old.left new.left old.written new.written → IfErr ending (HasCause old.counts new.counts) → ServesScript tells status old new
+serves_at tells status old new session ending alone then_alone is ran cause =
+    let now = new.world in
+    let same : world None now.history now.head now.capacity now.reads ≡ now = ap (λ (s : Option Session). record now { session = s }) (sym then_alone) in
+    let script : AnswersScript tells old.world now (exit_of ending) old.left new.left old.written new.written =
+    subst (λ (there : World). AnswersScript tells old.world there (exit_of ending) old.left new.left old.written new.written) same
+    (answers_script tells old.world session now.history now.head now.capacity now.reads ending old.left new.left old.written new.written alone ran) in
+    record {
+      answers = subst (λ (n : ℕ). AnswersScript tells old.world now n old.left new.left old.written new.written) (sym is) script;
+      complete = λ told there stands served text ample quiet. subst (λ (n : ℕ). (n ≡ 11) ⊎ ((n ≡ 0) × IsComplete (closed there) text old.written new.written)) (sym is)
+          (complete_ending tells old.world now ending old.counts new.counts old.left new.left old.written new.written text there told stands served script ran.taken ran.gave ran.took cause quiet ample);
+    }
+
+pub checked_at : {S R I O L : Type 0} (tells : Type 0) (status : ℕ) (old new : Handed S R I O L) (ending : Result Finding Stop) → new.tape ≡ old.tape → new.ledger ≡ old.ledger → new.world.head ≡ old.world.head
+    → (tells → Steps old.world.history new.world.history) → (tells → new.world.history.present ≡ old.world.history.present) → status ≡ status_at ending
+    → Checks tells old.world.history.present old.left new.left old.written new.written ending → IfErr ending (HasCause old.counts new.counts) → Checked tells status old new
+checked_at tells status old new ending undrawn unput pages steps same is checks cause = record {
+  undrawn = undrawn;
+  unput = unput;
+  pages = pages;
+  image = λ told. image_stays old.world.history new.world.history (steps told) (same told);
+  ending = ending;
+  status_is = is;
+  checks = checks;
+  complete = λ told root text certs able quiet. subst (λ (n : ℕ). (n ≡ 0) ⊎ (n ≡ 11)) (sym is)
+      (complete_check tells old.world.history.present old.counts new.counts old.left new.left old.written new.written ending checks cause told root text certs able quiet);
+}
+
+pub seizing_at : {S R I O L : Type 0} (tells : Type 0) (records : List (List ℕ)) (status : ℕ) (old new : Handed S R I O L) (ending : Ending) → new.tape ≡ old.tape → new.input ≡ old.input → new.ledger ≡ old.ledger
+    → new.world.head ≡ old.world.head → (tells → Steps old.world.history new.world.history) → (tells → new.world.history.present ≡ old.world.history.present) → status ≡ exit_of ending
+    → Seizes tells old.world.head old.world.history.present records old.written new.written ending → IfErr ending (HasCause old.counts new.counts) → Seizing tells records status old new
+seizing_at tells records status old new ending undrawn untaken unput pages steps same is seizes cause = record {
+  undrawn = undrawn;
+  untaken = untaken;
+  unput = unput;
+  pages = pages;
+  image = λ told. image_stays old.world.history new.world.history (steps told) (same told);
+  ending = ending;
+  status_is = is;
+  seizes = seizes;
+  bad_root = λ told bad. subst (λ (n : ℕ). (n ≡ 8) ⊎ (n ≡ 4) ⊎ (n ≡ 5)) (sym is) (bad_status tells old.world.head old.world.history.present records old.written new.written ending seizes told bad);
+  complete = λ told good quiet. subst (λ (n : ℕ). (n ≡ 0) ⊎ (n ≡ 11)) (sym is)
+      (complete_seizure tells old.world.head old.world.history.present records old.counts new.counts old.written new.written ending seizes cause told good quiet);
+}

@@ -1,0 +1,62 @@
+-- What the program promises, by the words that it is given.
+use Rattle.std.specs.Prelude.{◌≡◌, ◌≤◌, ◌↔◌, ◌⊎◌, ℕ, List, Option}
+use Rattle.sdbt_base.specs.Arrays.{Device, closed}
+use Rattle.sdbt_base.specs.Told.{Gave}
+use Rattle.platform.specs.History.{History, During}
+use Rattle.device_terms.specs.Served.{IsServedImage}
+use Rattle.device_course.specs.Certified.{Certified}
+use Rattle.device_course.specs.Fitting.{LeavesFitting}
+use Rattle.device_cli.specs.Given.{HasBadRecord}
+use Rattle.device_cli.specs.Handed.{Handed}
+use Rattle.device_cli.specs.Ran.{AnswersScript, IsAmple, IsComplete}
+use Rattle.device_cli.specs.Reaching.{DisclosesTree}
+use Rattle.device_cli.specs.Represents.{StandsFor}
+use Rattle.device_cli.specs.Run.{IsStatus, IsBlamedAt, NoneRose, Took}
+use Rattle.device_cli.specs.Seen.{SeizesMaps}
+use Rattle.device_cli.specs.Unserved.{IsUnserved}
+use Rattle.device_cli.specs.Words.{AreWords, AreServingWords, AreSeizeWords, AreSomeWorkWords, records_of}
+use Rattle.device_cli.specs.World.{World}
+
+-- the exit status is one that there is, and 2 exactly where the words are none of the forms; one that names a fault comes only where the count of that object rose, and no
+-- count fell; and what was taken of the input is as the status says: 0 and 3 before its limit, and 12 at it. The words `seize` and `work` say that nothing is
+pub record Exits {S R I O L : Type 0} (words : List (List ℕ)) (status : ℕ) (old new : Handed S R I O L) : Type 0 where
+  pub is : IsStatus status
+  pub forms : (status ≡ 2) ↔ ¬ (AreWords words)
+  pub blame : IsBlamedAt status old.counts new.counts
+  pub taken : (AreSeizeWords words → ⊥) → (AreSomeWorkWords words → ⊥) → (taken : List ℕ) × Gave old.left taken new.left × Took status taken new.left
+
+-- 8 comes only where the cell at the start is full and can't be served, or a root record in the words behind the first is none; for a run and a check exactly at such a
+-- cell, unless that could not be told or not be said. At 8 all is as it was but for the line that says so, and at 2 all is
+pub record Refuses {S R I O L : Type 0} (tells : Type 0) (words : List (List ℕ)) (status : ℕ) (old new : Handed S R I O L) : Type 0 where
+  pub bad_root_only : tells → status ≡ 8 → IsServedImage old.world.history.present → HasBadRecord old.world.head (records_of words)
+  pub bad_root : tells → (IsServedImage old.world.history.present → ⊥) → AreServingWords words → (status ≡ 8) ⊎ (status ≡ 4) ⊎ (status ≡ 5)
+  pub unserved : tells → status ≡ 8
+      → IsUnserved old.tape new.tape old.input new.input old.ledger new.ledger old.world.head new.world.head old.written new.written old.world.history new.world.history
+  pub other_words : status ≡ 2 → (new.platform ≡ old.platform) × (new.tape ≡ old.tape) × (new.input ≡ old.input) × (new.output ≡ old.output) × (new.ledger ≡ old.ledger)
+
+-- a run: the bytes put are the lines of replies, one for each line in turn, and perhaps a part behind them; on a device that stands they are the replies of an array of
+-- blocks, and at each moment a loss of power leaves a device that they passed. With room for 42 pages a line, a short input and no fault each line has its reply, unless
+-- no memory is given
+pub record ServesScript {S R I O L : Type 0} (tells : Type 0) (status : ℕ) (old new : Handed S R I O L) : Type 0 where
+  pub answers : AnswersScript tells old.world new.world status old.left new.left old.written new.written
+  pub complete : tells → (there : Option Device) → StandsFor old.world.history.present there → IsServedImage old.world.history.present
+      → (text : List ℕ) → IsAmple old.left text old.world.head old.world.capacity → NoneRose old.counts new.counts
+      → (status ≡ 11) ⊎ ((status ≡ 0) × IsComplete (closed there) text old.written new.written)
+
+-- chains of opening from the root key reach at each moment exactly the device's records, and what was deleted never; and under the premises on keys a seizure counts at each
+-- moment exactly the blocks of the device's map: so the replies to `seize` lines do, which belong to such moments
+pub record Forgets (tells : Type 0) (drawn drawn_now : Option (List (List ℕ))) (old new : History) : Type 0 where
+  pub discloses : DisclosesTree tells drawn drawn_now old new
+  pub seizes : SeizesMaps tells drawn drawn_now old new
+
+-- the ledger got the entry of a certificate for each root record that came into the cell, in their order, and behind them at most a part of one more: none where all is done. With
+-- them each ledger that the checker accepted for the image at the start is one that it accepts for what is left at the end
+pub record KeepsLedger (tells : Type 0) (entries entries_now : Option (List ℕ)) (old new : History) (Done : Type 0) : Type 0 where
+  pub certified : Certified tells entries entries_now old new Done
+  pub fits : tells → (there : Option Device) → StandsFor old.present there → IsServedImage old.present → LeavesFitting entries entries_now old.present new.present
+
+-- a cell that can be served is one at each moment, and pages are only added
+pub record Stays (tells : Type 0) (old new : World) : Type 0 where
+  pub served : tells → IsServedImage old.history.present → During old.history new.history IsServedImage
+  pub head : old.head ≤ new.head
+  pub capacity : new.capacity ≡ old.capacity
