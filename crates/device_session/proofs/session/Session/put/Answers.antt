@@ -216,7 +216,7 @@ returns-clause-goes_on g c =
           (sym (g.met.P.Platform.counts_pages known.0 c.args.platform.now)) (λ mapped content read maps there. c.insert.ensures.maps new.readable mapped content read maps there) k);
       is_open = subst (λ n. IsOpen (with_inserted session c.insert.new.self n c.append.new.self) now) (sym c.count_with-self-inside.ensures)
           (inserted_open session c.insert.new.self (counted_with c.args.is_mapped c.self.inside.mapped) c.append.new.self head now (size g at.After-insert) c.insert.ensures.top
-          (level_stays c.args.is_mapped c.self.inside.grove.level c.insert.new.self.level (λ yes. c.insert.ensures.stays (can.1 yes)) c.insert.ensures.level (at_false c.args.is_mapped _ _ (λ l. l.1) limit) o.level)
+          (level_stays c.args.is_mapped c.self.inside.grove.level c.insert.new.self.level (λ yes. c.insert.ensures.level.stays (can.1 yes)) c.insert.ensures.level.rises (at_false c.args.is_mapped _ _ (λ l. l.1) limit) o.level)
           below (count_few c.args.is_mapped c.self.inside.mapped c.self.inside.root.blocks (at_false c.args.is_mapped _ _ (λ l. l.0) limit) o.mapped) (omega (arith, grown)) o);
       root = ap (λ (s : Session). s.root) c.self.view_is;
       capacity = ap (λ (s : Session). s.cache.capacity) c.self.view_is;
