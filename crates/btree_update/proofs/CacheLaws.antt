@@ -1,5 +1,15 @@
 -- What a cache keeps, over pages.
-use Rattle.std.proofs.Common.{◌≡◌, ◌⊎◌, ℕ, ◌<◌, ◌^◌, List, Contains, subst, inl, inr}
+use Rattle.std.proofs.Common.{◌≡◌, ◌⊎◌, ℕ, ◌<◌, ◌≤◌, ◌-◌, ◌^◌, List, Contains, sym, ap, subst, ◌∙◌, inl, inr}
+use Rattle.platform.specs.declared.platforms.Platform.{Ghosts}
+use Rattle.page_store.specs.Tree.{Place}
+use Rattle.btree_walk.specs.Among.{IsAmong, KeepsBut}
+use Rattle.btree_twigs.specs.declared.twigs.Child.{Child}
+use Rattle.btree_twigs.specs.declared.twigs.Child.TheVariants as made
+use Rattle.btree_twigs.specs.declared.twigs.Twig.{Twig}
+use Rattle.btree_twigs.specs.Stubs.{stubs, stubs_below}
+use Rattle.btree_update.specs.Among.{HaveNodes, CachesAmong}
+use Rattle.btree_update.specs.Holding.{IsNodeOf}
+use Rattle.btree_update.proofs.AmongLaws.{kept_among, read_among, below_among}
 use Rattle.std.proofs.lemmas.List.Elements.{All-weaker, All-contains}
 use Rattle.node_codec.specs.declared.body.NodeBody.{NodeBody}
 use Rattle.node_codec.specs.Record.{NodeRecord}
@@ -28,3 +38,42 @@ nothing_else pages want key node small page misfit = λ value fits.
     let same : value ≡ NodeRecord node.level node.entries.items = one_record pages want.addr key value (NodeRecord node.level node.entries.items) small fits.0 page in
     let fits' = subst (FitsAt pages want key) same fits in
     misfit record { in_range = fits'.0.in_range.0; wanted = fits'.1 }
+
+-- what is read is among fewer places
+pub caches_fewer : {S : Type 0} (P : Ghosts S) (Such Those : List (List ℕ) → List Place → Type 0) (platform : S) (old new : Cached) → ((pages : List (List ℕ)) (places : List Place) → Such pages places → Those pages places) → CachesAmong P Those platform old new
+    → CachesAmong P Such platform old new
+caches_fewer P Such Those platform old new such c = record {
+  capacity = c.capacity;
+  stands = c.stands;
+  among = λ tells stands places s kept. c.among tells stands places (such (P.history platform).present.readable places s) kept;
+}
+
+-- one call after another
+pub caches_then : {S : Type 0} (P : Ghosts S) (Such Those : List (List ℕ) → List Place → Type 0) (first second : S) (old mid new : Cached) → (P.tells → (P.history second).present ≡ (P.history first).present)
+    → (P.tells → StandsOver (P.history first).present.readable old → (places : List Place) → Such (P.history first).present.readable places → Those (P.history first).present.readable places)
+    → CachesAmong P Such first old mid → CachesAmong P Those second mid new → CachesAmong P Such first old new
+caches_then P Such Those first second old mid new same such one two =
+    let still : P.tells → (P.history second).present.readable ≡ (P.history first).present.readable = λ tells. ap (λ i. i.readable) (same tells) in
+    let over : P.tells → StandsOver (P.history first).present.readable old → StandsOver (P.history second).present.readable mid = λ tells stands. subst (λ p. StandsOver p mid) (sym (still tells)) (one.stands tells stands) in
+    record {
+      capacity = two.capacity ∙ one.capacity;
+      stands = λ tells stands. subst (λ p. StandsOver p new) (still tells) (two.stands tells (over tells stands));
+      among = λ tells stands places s kept. two.among tells (over tells stands) places (subst (λ p. Those p places) (sym (still tells)) (such tells stands places s)) (one.among tells stands places s kept);
+    }
+
+-- the node of a child on the medium is read
+pub caches_read : {S : Type 0} (P : Ghosts S) (level high low addr : ℕ) (key : List ℕ) (c : Child) (platform : S) (old new : Cached) → c ≡ made.Kept low addr key → 1 ≤ level → new.capacity ≡ old.capacity
+    → (P.tells → StandsOver (P.history platform).present.readable old → StandsOver (P.history platform).present.readable new) → KeepsBut addr key old new → CachesAmong P (λ pages. HaveNodes pages (stubs level high c)) platform old new
+caches_read P level high low addr key c platform old new is one same stands but = record {
+  capacity = same;
+  stands = stands;
+  among = λ tells h places such kept. read_among places level high low addr key c old new is one such.1 but kept;
+}
+
+-- what is below it is among these places with it
+pub nodes_below_read : (pages : List (List ℕ)) (places : List Place) (level high low addr : ℕ) (key : List ℕ) (want : Want) (twig : Twig) (c : Child) → want.addr ≡ addr → c ≡ made.Kept low addr key → 1 ≤ level → IsNodeOf pages want key twig
+    → HaveNodes pages (stubs level high c) places → HaveNodes pages (stubs_below (level - 1) high twig) places
+nodes_below_read pages places level high low addr key want twig c addr_is is one node such = (
+  such.0,
+  below_among pages places (level - 1) high want key twig such.0 (subst (λ a. IsAmong places a key) (sym addr_is) (kept_among places level high low addr key c is one such.1)) node,
+)

@@ -1,11 +1,10 @@
 -- Where a tree maps anything at all, the way to a block comes to no wrong place, nor to a neighbour that is wrong.
-use Rattle.std.proofs.Common.{◌≡◌, ◌⊎◌, inl, inr, ℕ, zero, suc, ◌+◌, ◌/◌, ◌<◌, ◌≤◌, ◌^◌, List, [], ◌∷◌, ◌++◌, All, refl, sym, ap, subst, ◌∙◌, arith, append_assoc}
-use Rattle.std.specs.List.{AllByRecursion}
+use Rattle.std.proofs.Common.{◌≡◌, inl, inr, ℕ, zero, suc, ◌/◌, ◌<◌, ◌^◌, List, [], ◌∷◌, ◌++◌, All, refl, sym, ap, subst, ◌∙◌, arith, append_assoc}
 use Rattle.std.proofs.lemmas.List.Elements.{All-head, All-tail}
 use Rattle.node_codec.specs.declared.body.Entry.{Entry}
 use Rattle.node_codec.specs.Record.{Record, DataRecord, NodeRecord}
 use Rattle.page_store.specs.declared.wants.Want.{Want}
-use Rattle.page_store.specs.Places.{FitsAt, NothingFits, child_want}
+use Rattle.page_store.specs.Places.{FitsAt, child_want}
 use Rattle.page_store.specs.Tree.{Parts, Mapped, Subtree, EachChild, bound_of}
 use Rattle.page_store.proofs.RecordLaws.{one_record}
 use Rattle.btree_twigs.specs.declared.twigs.Child.{Child, Child-F, out-Child}

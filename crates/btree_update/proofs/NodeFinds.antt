@@ -1,7 +1,7 @@
 -- What is found below a node on the medium is what is found among the places of its entries.
-use Rattle.std.proofs.Common.{◌≡◌, ◌≢◌, ℕ, zero, suc, ◌-◌, ◌<◌, ◌≤◌, List, [], ◌∷◌, ◌++◌, Option, None, Some, refl, sym, ap, subst, ◌∙◌, arith}
+use Rattle.std.proofs.Common.{◌≡◌, ◌≢◌, ℕ, zero, suc, ◌-◌, ◌<◌, ◌≤◌, List, [], ◌∷◌, ◌++◌, Option, refl, sym, ap, subst, arith}
 use Rattle.std.specs.List.{AllByRecursion}
-use Rattle.std.specs.Prelude.{All, Contains}
+use Rattle.std.specs.Prelude.{Contains}
 use Rattle.std.proofs.lemmas.List.Elements.{All-from_recursion, Contains-append_right}
 use Rattle.node_codec.specs.declared.body.Entry.{Entry}
 use Rattle.node_codec.specs.Record.{NodeRecord}
@@ -14,7 +14,7 @@ use Rattle.btree_walk.proofs.Elements.{Contains-head}
 use Rattle.btree_twigs.specs.declared.twigs.Spot.{Spot}
 use Rattle.btree_twigs.specs.declared.twigs.Spot.TheVariants.{Found, Absent, Below}
 use Rattle.btree_twigs.specs.Stubs.{Stub, datum}
-use Rattle.btree_twigs.specs.Search.{IsAt, IsSpot}
+use Rattle.btree_twigs.specs.Search.{IsSpot}
 use Rattle.btree_update.specs.GroveTree.{want_of, stubs_at}
 use Rattle.btree_update.specs.Held.{stub_at}
 use Rattle.btree_update.specs.Finding.{FindsBelow, FindsFrom, FindsAmong}

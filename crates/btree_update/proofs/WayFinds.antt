@@ -1,5 +1,5 @@
 -- What is found of a block on the way to it.
-use Rattle.std.proofs.Common.{Option, None, Some, ◌≡◌, ◌≢◌, ◌↔◌, ℕ, zero, suc, ◌-◌, ◌/◌, ◌<◌, ◌≤◌, List, [], ◌∷◌, ◌++◌, Bool, true, false, IsTrue, length, get_or, take, drop, refl, sym, ap, subst, ◌∙◌, arith}
+use Rattle.std.proofs.Common.{Option, None, Some, ◌≡◌, ◌≢◌, ◌↔◌, ℕ, zero, suc, ◌-◌, ◌/◌, ◌<◌, ◌≤◌, List, [], ◌∷◌, Bool, true, false, IsTrue, get_or, take, drop, refl, sym, ap, subst, ◌∙◌, arith}
 use Rattle.std.specs.Bool.{OnTrue, OnFalse}
 use Rattle.std.proofs.lemmas.Bool.{false≢true}
 use Rattle.node_codec.specs.declared.body.Entry.{Entry}
@@ -9,20 +9,18 @@ use Rattle.btree_twigs.specs.declared.twigs.Child.{Child, Child-F, out-Child}
 use Rattle.btree_twigs.specs.declared.twigs.Child.TheOpen.{Kept, Grown}
 use Rattle.btree_twigs.specs.declared.twigs.Child.TheVariants as made
 use Rattle.btree_twigs.specs.declared.twigs.Twig.{Twig}
-use Rattle.btree_twigs.specs.declared.twigs.Spot.{Spot}
 use Rattle.btree_twigs.specs.declared.twigs.Spot.TheVariants.{Found, Absent, Below}
 use Rattle.btree_twigs.specs.Stubs.{Stub, datum, start_by, low_in, low_of, children_of, stubs, stubs_in, stubs_below}
 use Rattle.btree_twigs.specs.Shape.{EachBy, Begins, IsChild, IsTwig}
 use Rattle.btree_twigs.specs.Updates.{stubs_under}
-use Rattle.btree_twigs.specs.Search.{IsAt, IsSpot}
+use Rattle.btree_twigs.specs.Search.{IsAt}
 use Rattle.btree_twigs.specs.Top.{top_least}
 use Rattle.btree_twigs.proofs.ListLaws.{each_back}
 use Rattle.btree_twigs.proofs.Children.{one_datum}
 use Rattle.btree_twigs.proofs.Finds.{none_before, found_below, at_one, at_none}
 use Rattle.btree_update.specs.declared.siblings.Left.{Left}
 use Rattle.btree_update.specs.declared.siblings.Left.TheVariants.{Unmapped, Enough, Short}
-use Rattle.btree_update.specs.GroveTree.{stubs_at, want_at, top_want}
-use Rattle.btree_update.specs.Reading.{all_kept}
+use Rattle.btree_update.specs.GroveTree.{want_at}
 use Rattle.btree_update.specs.Held.{stub_at}
 use Rattle.btree_update.specs.Roots.{IsRootBy}
 use Rattle.btree_update.specs.Beside.{HoldsBeside}

@@ -105,11 +105,10 @@ abbrev pub KeepsWay : List KeptNode → ℕ → Grove → Type 0
 KeepsWay kept block grove = RootKeeps kept grove.order block (grove.level - 1) grove.blocks grove.top
 
 -- what a look-up costs with a cache: it reads nothing where the cache keeps the way, and once it is done the cache keeps it, where it has room for so many
--- nodes; the room stays
+-- nodes
 pub record UsesCache {S T E : Type 0} (P : Ghosts S) (Keeps : List KeptNode → Type 0) (most : ℕ) (platform after : S) (old new : Cached) (told : Result T E) : Type 0 where
   pub warm : Keeps old.kept → after ≡ platform
   pub fills : P.tells → OnOk told (most ≤ new.capacity → Keeps new.kept)
-  pub capacity : new.capacity ≡ old.capacity
 
 -- the level of the node below which a search goes on, or 0
 abbrev pub level_from : Spot → ℕ

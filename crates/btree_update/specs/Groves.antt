@@ -1,5 +1,5 @@
 -- A device's tree while it is updated: when it is sound, when an update can't fail, and what an update lets go.
-use Rattle.std.specs.Prelude.{◌≡◌, ℕ, ◌+◌, ◌-◌, ◌<◌, ◌≤◌, List, [], ◌∷◌, ◌++◌, Option, None, Some, Bool, map, vec_len, vec_capacity}
+use Rattle.std.specs.Prelude.{◌≡◌, ◌⊎◌, ℕ, ◌+◌, ◌-◌, ◌<◌, ◌≤◌, List, [], ◌∷◌, ◌++◌, Option, None, Some, Bool, map, vec_len, vec_capacity}
 use Rattle.std.specs.List.{AllByRecursion}
 use Rattle.sdbt_base.specs.declared.lists.Unkept.{Unkept}
 use Rattle.page_store.specs.Tree.{Mapped}
@@ -67,6 +67,16 @@ GroveMaps pages grove mapped = RootMaps pages grove.order (grove.level - 1) grov
 -- over these pages, a place at this address is on the way to a block or beside it, and nothing fits there
 abbrev pub IsWrongOnWay : List (List ℕ) → ℕ → Grove → ℕ → Type 0
 IsWrongOnWay pages block grove addr = WrongFrom pages grove.order (top_least (grove.level - 1)) block addr (grove.level - 1) grove.blocks grove.top
+
+-- an address is refused only where a place there is wrong, on the way to a block or beside it, and none is where the tree maps anything at all
+pub record RefusesWrong (pages : List (List ℕ)) (block : ℕ) (grove : Grove) (Refuses : ℕ → Type 0) : Type 0 where
+  pub wrong : (addr : ℕ) → Refuses addr → IsWrongOnWay pages block grove addr
+  pub never : (mapped : List Mapped) → GroveMaps pages grove mapped → (addr : ℕ) → ¬ (Refuses addr)
+
+-- the root's level stays or goes up by one; where the block is mapped it stays, since its record only gives way to another
+pub record MayRise (block : ℕ) (old new : Grove) : Type 0 where
+  pub rises : (new.level ≡ old.level) ⊎ (new.level ≡ old.level + 1)
+  pub stays : CanRemove block old → new.level ≡ old.level
 
 -- the places on the medium, from left to right
 abbrev pub places_of : Grove → List Stub

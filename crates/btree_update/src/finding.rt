@@ -3,9 +3,8 @@ ghost use Rattle.sdbt_base.specs.Faults.{Rose};
 ghost use Rattle.page_store.specs.Places.{FitsAt};
 ghost use Rattle.btree_walk.specs.Looks.{Looks};
 ghost use Rattle.btree_walk.specs.Sights.{StandsOver};
-ghost use Rattle.btree_walk.specs.Among.{StaysAmong};
 ghost use Rattle.btree_twigs.specs.Stubs.{stubs};
-ghost use Rattle.btree_update.specs.Among.{HaveNodes, HaveSpot};
+ghost use Rattle.btree_update.specs.Among.{HaveNodes, HaveSpot, CachesAmong};
 ghost use Rattle.btree_update.specs.Holding.{CanHoldRoot};
 ghost use Rattle.btree_update.specs.Finding.{FindsFrom, StopsFrom, RootFinds, RootStops, KeepsFrom, RootKeeps, UsesCache, level_from, CanGoOn};
 
@@ -34,9 +33,7 @@ pub(crate) fn find_root<P: Platform>(
     ensures bad { P.tells → StandsOver (P.history platform.old).present.readable cache.old → (addr : ℕ) → IsErrOf result (FetchRefusal.BadRecord addr) →
         RootStops (P.history platform.old).present.readable order block addr (level - 1) high top.now }
     ensures entry { IfOk result (λ found. IfSome found (λ e. (e.low ≡ block) × (e.addr < P.head platform.old))) }
-    ensures stands { P.tells → StandsOver (P.history platform.old).present.readable cache.old → StandsOver (P.history platform.old).present.readable cache.new }
-    ensures among { P.tells → StandsOver (P.history platform.old).present.readable cache.old →
-        StaysAmong (HaveNodes (P.history platform.old).present.readable (stubs level high top.now)) cache.old cache.new }
+    ensures caches { CachesAmong P.Platform (λ pages. HaveNodes pages (stubs level high top.now)) platform.old cache.old cache.new }
     ensures looks { Looks P.Platform level platform.old platform.new }
     ensures cause { IsErrOf result FetchRefusal.PlatformFault → Rose (P.faults platform.old) (P.faults platform.new) }
     ensures uses { UsesCache P.Platform (λ kept. RootKeeps kept order block (level - 1) high top.now) level platform.old platform.new cache.old cache.new result }
@@ -76,9 +73,7 @@ fn find_from<P: Platform>(
     ensures bad { P.tells → StandsOver (P.history platform.old).present.readable cache.old → (addr : ℕ) → IsErrOf result (FetchRefusal.BadRecord addr) →
         StopsFrom (P.history platform.old).present.readable order block addr spot }
     ensures entry { IfOk result (λ found. IfSome found (λ e. (e.low ≡ block) × (e.addr < P.head platform.old))) }
-    ensures stands { P.tells → StandsOver (P.history platform.old).present.readable cache.old → StandsOver (P.history platform.old).present.readable cache.new }
-    ensures among { P.tells → StandsOver (P.history platform.old).present.readable cache.old →
-        StaysAmong (HaveSpot (P.history platform.old).present.readable spot) cache.old cache.new }
+    ensures caches { CachesAmong P.Platform (λ pages. HaveSpot pages spot) platform.old cache.old cache.new }
     ensures looks { Looks P.Platform (level_from spot) platform.old platform.new }
     ensures cause { IsErrOf result FetchRefusal.PlatformFault → Rose (P.faults platform.old) (P.faults platform.new) }
     ensures uses { UsesCache P.Platform (λ kept. KeepsFrom kept order block spot) (level_from spot) platform.old platform.new cache.old cache.new result }

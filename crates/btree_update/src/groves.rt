@@ -18,13 +18,12 @@ ghost use Rattle.std.specs.declared.alloc.Global.{Global};
 ghost use Rattle.btree_walk.specs.Looks.{Looks};
 ghost use Rattle.btree_walk.specs.Mapped.{IsMappedAs};
 ghost use Rattle.btree_walk.specs.Sights.{StandsOver};
-ghost use Rattle.btree_walk.specs.Among.{StaysAmong};
-ghost use Rattle.btree_update.specs.Among.{HaveNodes};
+ghost use Rattle.btree_update.specs.Among.{HaveNodes, CachesAmong};
 ghost use Rattle.btree_twigs.specs.declared.twigs.Child.{Child};
 ghost use Rattle.btree_update.specs.declared.refusals.ReadyRefusal.{ReadyRefusal};
 ghost use Rattle.btree_update.specs.Held.{AreBelow};
 ghost use Rattle.btree_update.specs.Finding.{GroveFinds, GroveStops, KeepsWay, UsesCache};
-ghost use Rattle.btree_update.specs.Groves.{KeepsTree, IsSound, IsReadFrom, IsReadBeside, IsReadBesideAt, HasLevels, IsWrongOnWay, CanInsert, CanRemove, GroveMaps, places_of, grown_in, IsAddressOf, LetsGo, Goes};
+ghost use Rattle.btree_update.specs.Groves.{KeepsTree, IsSound, IsReadFrom, IsReadBeside, IsReadBesideAt, HasLevels, RefusesWrong, MayRise, CanInsert, CanRemove, GroveMaps, places_of, grown_in, IsAddressOf, LetsGo, Goes};
 
 use crate::counting::count;
 use crate::finding::find_root;
@@ -148,10 +147,8 @@ impl Grove {
         ensures fits { P.tells → StandsOver (P.history platform.old).present.readable cache.old → (mapped : List Mapped) → GroveMaps (P.history platform.old).present.readable self.now mapped →
             (addr : ℕ) → ¬ (IsErrOf result (FetchRefusal.BadRecord addr)) }
         ensures entry { IfOk result (λ found. IfSome found (λ e. (e.low ≡ block) × (e.addr < P.head platform.old))) }
-        ensures stands { P.tells → StandsOver (P.history platform.old).present.readable cache.old → StandsOver (P.history platform.old).present.readable cache.new }
         // What is kept is of the places that lead down from the nodes that the tree names.
-        ensures among { P.tells → StandsOver (P.history platform.old).present.readable cache.old →
-            StaysAmong (HaveNodes (P.history platform.old).present.readable (places_of self.now)) cache.old cache.new }
+        ensures caches { CachesAmong P.Platform (λ pages. HaveNodes pages (places_of self.now)) platform.old cache.old cache.new }
         ensures looks { Looks P.Platform self.now.level platform.old platform.new }
         ensures cause { IsErrOf result FetchRefusal.PlatformFault → Rose (P.faults platform.old) (P.faults platform.new) }
         ensures uses { UsesCache P.Platform (λ kept. KeepsWay kept block self.now) self.now.level platform.old platform.new cache.old cache.new result }
@@ -190,20 +187,14 @@ impl Grove {
         ensures finds { P.tells → StandsOver (P.history platform.old).present.readable cache.old →
             IfOk result (λ mapped. OnTrue mapped ((entry : Entry) × GroveFinds (P.history platform.old).present.readable block self.old (Some entry))
             × OnFalse mapped (GroveFinds (P.history platform.old).present.readable block self.old None)) }
-        ensures bad { P.tells → StandsOver (P.history platform.old).present.readable cache.old → (addr : ℕ) → IsErrOf result (ReadyRefusal.BadRecord addr) →
-            IsWrongOnWay (P.history platform.old).present.readable block self.old addr }
-        // Where the tree maps anything at all, no node is refused.
-        ensures fits { P.tells → StandsOver (P.history platform.old).present.readable cache.old → (mapped : List Mapped) → GroveMaps (P.history platform.old).present.readable self.old mapped →
-            (addr : ℕ) → ¬ (IsErrOf result (ReadyRefusal.BadRecord addr)) }
+        ensures bad { P.tells → StandsOver (P.history platform.old).present.readable cache.old →
+            RefusesWrong (P.history platform.old).present.readable block self.old (λ addr. IsErrOf result (ReadyRefusal.BadRecord addr)) }
         ensures sound { IsSound self.new }
         ensures tree { KeepsTree self.old self.new }
-        ensures stands { P.tells → StandsOver (P.history platform.old).present.readable cache.old → StandsOver (P.history platform.old).present.readable cache.new }
         // What is kept is of the places that lead down from the nodes that the tree names.
-        ensures among { P.tells → StandsOver (P.history platform.old).present.readable cache.old →
-            StaysAmong (HaveNodes (P.history platform.old).present.readable (places_of self.old)) cache.old cache.new }
+        ensures caches { CachesAmong P.Platform (λ pages. HaveNodes pages (places_of self.old)) platform.old cache.old cache.new }
         ensures looks { Looks P.Platform (2 * self.old.level) platform.old platform.new }
         ensures cause { IsErrOf result ReadyRefusal.PlatformFault → Rose (P.faults platform.old) (P.faults platform.new) }
-        ensures capacity { cache.new.capacity ≡ cache.old.capacity }
     {
         self.held.clear();
         self.beside.clear();
@@ -240,10 +231,8 @@ impl Grove {
         ensures sound { IsSound self.new }
         ensures top { IsTop self.new.order (self.new.level - 1) self.new.blocks self.new.top }
         ensures size { (self.new.order ≡ self.old.order) × (self.new.blocks ≡ self.old.blocks) × (self.new.head ≡ self.old.head) }
-        ensures level { (self.new.level ≡ self.old.level) ⊎ (self.new.level ≡ self.old.level + 1) }
-        // Where the block is mapped, its record only gives way to another.
+        ensures level { MayRise block self.old self.new }
         ensures has { Contains (places_of self.new) (datum block addr key) }
-        ensures stays { CanRemove block self.old → self.new.level ≡ self.old.level }
         ensures maps { (pages : List (List ℕ)) (mapped : List Mapped) (content : List ℕ) → IsReadFrom pages block self.old → GroveMaps pages self.old mapped
             → IsRecordAt pages addr key (DataRecord block content)
             → (after : List Mapped) × GroveMaps pages self.new after × MapPuts (record { block = block; addr = addr; key = key; content = content }) mapped after }

@@ -3,8 +3,7 @@ ghost use Rattle.btree_update.specs.declared.refusals.ReadyRefusal.{ReadyRefusal
 ghost use Rattle.sdbt_base.specs.Faults.{Rose};
 ghost use Rattle.btree_walk.specs.Looks.{Looks};
 ghost use Rattle.btree_walk.specs.Sights.{StandsOver};
-ghost use Rattle.btree_walk.specs.Among.{StaysAmong};
-ghost use Rattle.btree_update.specs.Among.{HaveNodes};
+ghost use Rattle.btree_update.specs.Among.{HaveNodes, CachesAmong};
 ghost use Rattle.btree_update.specs.Held.{AnyRead, IsReadAs, OnWay, HeldFor, HeldFrom};
 ghost use Rattle.btree_twigs.specs.Top.{top_least};
 ghost use Rattle.btree_twigs.specs.Stubs.{stubs_below, children_of, stubs};
@@ -56,12 +55,9 @@ pub(crate) fn hold_way<P: Platform>(
         IfOk result (λ left. (mapped : List Mapped) → MapsFrom (P.history platform.old).present.readable order least (level - 1) high child.now mapped → IsMappedBy block mapped left) }
     ensures finds { P.tells → StandsOver (P.history platform.old).present.readable cache.old →
         IfOk result (IsFoundBy (ChildFinds (FitsAt (P.history platform.old).present.readable) order least block (level - 1) high child.now)) }
-    ensures stands { P.tells → StandsOver (P.history platform.old).present.readable cache.old → StandsOver (P.history platform.old).present.readable cache.new }
-    ensures among { P.tells → StandsOver (P.history platform.old).present.readable cache.old →
-        StaysAmong (HaveNodes (P.history platform.old).present.readable (stubs level high child.now)) cache.old cache.new }
+    ensures caches { CachesAmong P.Platform (λ pages. HaveNodes pages (stubs level high child.now)) platform.old cache.old cache.new }
     ensures looks { Looks P.Platform (2 * level - 1) platform.old platform.new }
     ensures cause { IsErrOf result ReadyRefusal.PlatformFault → Rose (P.faults platform.old) (P.faults platform.new) }
-    ensures capacity { cache.new.capacity ≡ cache.old.capacity }
 {
     match child {
         Child::Grown { twig, .. } => hold_below(
@@ -129,12 +125,9 @@ pub(crate) fn hold_below<P: Platform>(
         IfOk result (λ left. (mapped : List Mapped) → Maps (P.history platform.old).present.readable order (stubs_below level high twig.now) mapped → IsMappedBy block mapped left) }
     ensures finds { P.tells → StandsOver (P.history platform.old).present.readable cache.old →
         IfOk result (IsFoundBy (FindsAmong (FitsAt (P.history platform.old).present.readable) order block (stubs_below level high twig.now))) }
-    ensures stands { P.tells → StandsOver (P.history platform.old).present.readable cache.old → StandsOver (P.history platform.old).present.readable cache.new }
-    ensures among { P.tells → StandsOver (P.history platform.old).present.readable cache.old →
-        StaysAmong (HaveNodes (P.history platform.old).present.readable (stubs_below level high twig.now)) cache.old cache.new }
+    ensures caches { CachesAmong P.Platform (λ pages. HaveNodes pages (stubs_below level high twig.now)) platform.old cache.old cache.new }
     ensures looks { Looks P.Platform (2 * level) platform.old platform.new }
     ensures cause { IsErrOf result ReadyRefusal.PlatformFault → Rose (P.faults platform.old) (P.faults platform.new) }
-    ensures capacity { cache.new.capacity ≡ cache.old.capacity }
 {
     let at = place(&twig.children, block);
     if at == 0 {

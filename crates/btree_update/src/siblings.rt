@@ -8,8 +8,7 @@ ghost use Rattle.btree_twigs.specs.Stubs.{low_of as low_in, children_of, stubs, 
 ghost use Rattle.sdbt_base.specs.Faults.{Rose};
 ghost use Rattle.btree_walk.specs.Looks.{Looks};
 ghost use Rattle.btree_walk.specs.Sights.{StandsOver};
-ghost use Rattle.btree_walk.specs.Among.{StaysAmong};
-ghost use Rattle.btree_update.specs.Among.{HaveNodes};
+ghost use Rattle.btree_update.specs.Among.{HaveNodes, CachesAmong};
 ghost use Rattle.btree_update.specs.Held.{AnyRead, IsReadAs};
 ghost use Rattle.btree_update.specs.Holding.{CanHoldBelow};
 ghost use Rattle.btree_update.specs.Wrong.{IsWrongBeside, IsWrongChild};
@@ -69,12 +68,9 @@ pub(crate) fn hold_beside<P: Platform>(
     ensures bad { P.tells → StandsOver (P.history platform.old).present.readable cache.old →
         (front : List Child) (c : Child) (back : List Child) → children_of twig.now ≡ front ++ c ∷ back → length front + 1 ≡ at → (addr : ℕ) → IsErrOf result (ReadyRefusal.BadRecord addr)
         → IsWrongBeside low_in (IsWrongChild (P.history platform.old).present.readable order addr level) high front c back }
-    ensures stands { P.tells → StandsOver (P.history platform.old).present.readable cache.old → StandsOver (P.history platform.old).present.readable cache.new }
-    ensures among { P.tells → StandsOver (P.history platform.old).present.readable cache.old →
-        StaysAmong (HaveNodes (P.history platform.old).present.readable (stubs_below level high twig.now)) cache.old cache.new }
+    ensures caches { CachesAmong P.Platform (λ pages. HaveNodes pages (stubs_below level high twig.now)) platform.old cache.old cache.new }
     ensures looks { Looks P.Platform 1 platform.old platform.new }
     ensures cause { IsErrOf result ReadyRefusal.PlatformFault → Rose (P.faults platform.old) (P.faults platform.new) }
-    ensures capacity { cache.new.capacity ≡ cache.old.capacity }
 {
     match left {
         Left::Unmapped => Ok(Left::Unmapped),
@@ -170,12 +166,9 @@ fn read_help<P: Platform>(
         IfOk result (λ h. LendsFrom (IsReadAs (P.history platform.old).present.readable order) order (level - 1) (loses_for h.lends) high (out-Child child.now) h.node) }
     ensures bad { P.tells → StandsOver (P.history platform.old).present.readable cache.old → (addr : ℕ) → IsErrOf result (ReadyRefusal.BadRecord addr) →
         IsWrongChild (P.history platform.old).present.readable order addr level high child.now }
-    ensures stands { P.tells → StandsOver (P.history platform.old).present.readable cache.old → StandsOver (P.history platform.old).present.readable cache.new }
-    ensures among { P.tells → StandsOver (P.history platform.old).present.readable cache.old →
-        StaysAmong (HaveNodes (P.history platform.old).present.readable (stubs level high child.now)) cache.old cache.new }
+    ensures caches { CachesAmong P.Platform (λ pages. HaveNodes pages (stubs level high child.now)) platform.old cache.old cache.new }
     ensures looks { Looks P.Platform 1 platform.old platform.new }
     ensures cause { IsErrOf result ReadyRefusal.PlatformFault → Rose (P.faults platform.old) (P.faults platform.new) }
-    ensures capacity { cache.new.capacity ≡ cache.old.capacity }
 {
     match child {
         Child::Grown { twig, .. } => Ok(Help {

@@ -120,7 +120,7 @@ read_cost P block platform after session now result (Some other) tells low warm 
 
 -- and what it leaves
 pub warm_after : {S : Type 0} (P : Ghosts S) (block : ℕ) (platform after : S) (session now : Session) (before : Option ℕ) → P.tells → now.grove.level ≤ 20
-    → IsWarmFor (Some session) before → ReadsFew P block platform after session now (Ok tt) → IsWarmFor (Some now) (Some block)
-warm_after P block platform after session now before tells low warm few =
-    let room : 20 ≤ room_of now = omega (arith, few.capacity, has_room session before warm) in
+    → IsWarmFor (Some session) before → room_of now ≡ room_of session → ReadsFew P block platform after session now (Ok tt) → IsWarmFor (Some now) (Some block)
+warm_after P block platform after session now before tells low warm same few =
+    let room : 20 ≤ room_of now = omega (arith, same, has_room session before warm) in
     (room, λ within. few.fills tells (omega (arith, room, low)))

@@ -1,9 +1,7 @@
 -- How parts of a run compose that keep the keys of an image, and which calls do.
 use Rattle.std.proofs.Common.{◌≡◌, ℕ, List, ◌++◌, Option, None, Some, length, refl, sym, ◌∙◌, subst, ap}
-use Rattle.std.specs.Prelude.{Contains}
 use Rattle.std.proofs.lemmas.List.Elements.{Contains-append_left}
-use Rattle.sdbt_base.specs.Arrays.{Device, Blocks, State}
-use Rattle.root_codec.specs.declared.root.Root.{Root}
+use Rattle.sdbt_base.specs.Arrays.{Device, State}
 use Rattle.root_codec.specs.RootRecord.{root_bytes}
 use Rattle.platform.specs.Image.{Image}
 use Rattle.platform.specs.History.{History, Extends, During, Turns}
@@ -16,9 +14,7 @@ use Rattle.page_store.proofs.KeptLaws.{same_during}
 use Rattle.page_store.proofs.KeepingLaws.{keeps_idle, keeps_then, keeps_from, keeps_still}
 use Rattle.page_store.proofs.FloorLaws.{deleted_start, deleted_call, deleted_then, forgets_still}
 use Rattle.btree_update.specs.declared.groves.Grove.{Grove}
-use Rattle.btree_update.specs.Groves.{places_of, grown_in}
-use Rattle.grove_accounts.specs.Certs.{IsOwnStub}
-use Rattle.device_session.specs.Holds.{Holds}
+use Rattle.btree_update.specs.Groves.{grown_in}
 use Rattle.device_session.specs.Keys.{HoldsListed}
 use Rattle.device_session.specs.Open.{needed_by}
 use Rattle.device_session.specs.Sessions.{Session}
@@ -139,16 +135,6 @@ on_kept tells drawn written session old new Going Done extends size kept forgets
   fits = λ told entry there. fitting_erased written old new (turns told);
 }
 
--- a session whose tree and root record stay has its keys listed still
-pub listed_read : (session now : Session) (image after : Image) (keys : List (List ℕ)) → now.root ≡ session.root → now.grove ≡ session.grove
-    → ((device : Device) (contents : Blocks) → Holds session image device contents → Holds now after device contents) → HoldsListed session image keys → HoldsListed now after keys
-listed_read session now image after keys root grove holds h = record {
-  device = h.device;
-  contents = h.contents;
-  holds = holds h.device h.contents h.holds;
-  listed = λ s has own. h.listed s (subst (λ (g : Grove). Contains (places_of g) s) grove has) (subst (λ (r : Root). IsOwnStub r.head s) root own);
-}
-
--- and needs as many pages
+-- a session whose tree stays needs as many pages
 pub needed_read : (session now : Session) → now.grove ≡ session.grove → needed_by now ≡ needed_by session
 needed_read session now grove = ap (λ (g : Grove). grown_in g) grove

@@ -6,9 +6,9 @@ use Rattle.std.proofs.lemmas.List.Elements.{All-weaker, All-append, All-contains
 use Rattle.std.proofs.lemmas.List.Sorted.{All-permutation, Contains-permutation, IsPermutation-sym}
 use Rattle.sdbt_base.specs.Bytes.{IsBytes}
 use Rattle.sdbt_base.specs.Arrays.{Device, Blocks, committed_with}
-use Rattle.platform.specs.Image.{Image, IsEarlier, LeavesOnly, with_cell}
-use Rattle.platform.specs.History.{History, Turns, CellStays, image_at, moment}
-use Rattle.platform.proofs.Moments.{image_at-now, During-now, Turns-not, Extends-earlier}
+use Rattle.platform.specs.Image.{Image, LeavesOnly, with_cell}
+use Rattle.platform.specs.History.{History, Turns, CellStays}
+use Rattle.platform.proofs.Moments.{During-now, Extends-earlier}
 use Rattle.root_codec.specs.declared.root.Root.{Root}
 use Rattle.root_codec.specs.RootRecord.{root_bytes}
 use Rattle.page_store.specs.Roots.{IsRootWithin}
@@ -16,7 +16,7 @@ use Rattle.page_store.specs.Tree.{Parts, Place, joined}
 use Rattle.page_store.specs.Stands.{StandsBy, Stands, IsSound}
 use Rattle.page_store.specs.Keeping.{KeepsKeys}
 use Rattle.page_store.specs.Floors.{HasPlace, low_of, Forgets}
-use Rattle.page_store.proofs.StandsLaws.{stands_later, stands_leaves, stands_during}
+use Rattle.page_store.proofs.StandsLaws.{stands_later}
 use Rattle.page_store.proofs.KeptLaws.{one_root_in, root_of_stands}
 use Rattle.page_store.proofs.KeepingLaws.{IsPublished, keeps_then, keeps_published}
 use Rattle.page_store.proofs.FloorLaws.{low_of_stands, place_at, place_of_stands, succeeds_tree, forgets_published}
@@ -40,27 +40,10 @@ use Rattle.device_session.specs.Open.{IsOpen, IsChangedTree, IsTreeFor}
 use Rattle.device_session.specs.Holds.{Holds}
 use Rattle.device_session.specs.Keys.{HoldsListed}
 use Rattle.device_terms.proofs.MomentLaws.{then_published}
+use Rattle.device_terms.proofs.StandingLaws.{turns_stands}
 use Rattle.device_session.proofs.KeyLaws.{keeps_by, parts_listed, places_listed}
 
 -- ---- moments
-
--- while the cell is as it was a loss of power leaves the device from before, and then the one of an image that stands for the one after
-pub turns_stands : (old new : History) (X : Image) (before after : Option Device) → Stands old.present before → Stands X after → Turns old new (λ image. image.cell ≡ old.present.cell) (λ image. image ≡ X)
-    → Turns old new (LeavesOnly (λ left. Stands left before)) (LeavesOnly (λ left. Stands left after))
-turns_stands old new X before after was next turns = record {
-  extends = turns.extends;
-  turn = turns.turn;
-  before = λ i from to early.
-      let first : image_at new (moment old) ≡ old.present = turns.extends.same (moment old) (omega arith) ∙ image_at-now old (moment old) (omega arith) in
-      let earlier = subst (λ (image : Image). IsEarlier image (image_at new i)) first (new.ascends (moment old) i from) in
-      stands_leaves (image_at new i) before (stands_later old.present (image_at new i) before earlier (turns.before i from to early) was);
-  after = λ i from to late. subst (LeavesOnly (λ left. Stands left after)) (sym (turns.after i from to late)) (stands_leaves X after next);
-}
-
--- as long as the cell is as it was a loss of power leaves the device from before
-pub during_stands : (old new : History) (before after : Option Device) → Stands old.present before → CellStays old new → Turns old new (LeavesOnly (λ left. Stands left before)) (LeavesOnly (λ left. Stands left after))
-during_stands old new before after was during =
-    Turns-not old new (LeavesOnly (λ left. Stands left before)) (LeavesOnly (λ left. Stands left after)) (stands_during old new before was during)
 
 -- what a held image stands for
 pub held_stands : (session : Session) (image : Image) (device : Device) (contents : Blocks) → Holds session image device contents → Stands image (Some device)

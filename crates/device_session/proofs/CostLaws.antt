@@ -24,7 +24,6 @@ few_none P block platform session result refused = record {
   none = λ tells past. refl;
   warm = λ tells keeps. omega arith;
   fills = λ tells. never result refused (session.grove.level ≤ session.cache.capacity → KeepsWay session.cache.kept block session.grove);
-  capacity = refl;
 }
 
 -- a look-up, and then at most one page
@@ -38,5 +37,4 @@ few_found P block platform mid after was session cache buffers told result same 
       none = λ tells past. absurd (omega (arith, within, past));
       warm = λ tells keeps. subst (λ x. P.reads after ≤ P.reads x + 1) (uses.warm keeps) (more tells);
       fills = filled;
-      capacity = uses.capacity;
     })

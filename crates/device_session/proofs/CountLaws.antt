@@ -1,5 +1,5 @@
 -- How many blocks a session counts, and how many pages a commit of it needs.
-use Rattle.std.proofs.Common.{◌≡◌, ◌≢◌, ℕ, zero, suc, ◌+◌, ◌-◌, ◌<◌, ◌≤◌, Bool, true, false, cond, List, [], ◌∷◌, length, refl, sym, ◌∙◌, ap, subst, arith}
+use Rattle.std.proofs.Common.{◌≡◌, ℕ, suc, ◌+◌, ◌-◌, ◌<◌, ◌≤◌, true, false, cond, List, [], ◌∷◌, length, refl, sym, ◌∙◌, ap, subst, arith}
 use Rattle.std.specs.Prelude.{Option, is_some}
 use Rattle.std.specs.List.{AllByRecursion}
 use Rattle.std.specs.Cmp.{nat_cmp_total}
@@ -15,8 +15,6 @@ use Rattle.btree_twigs.specs.declared.twigs.Twig.{Twig}
 use Rattle.btree_twigs.specs.Stubs.{nodes, nodes_in}
 use Rattle.btree_twigs.specs.Top.{IsTop, IsTopBy}
 use Rattle.btree_update.specs.Maps.{LacksBlock}
-use Rattle.btree_update.specs.declared.groves.Grove.{Grove}
-use Rattle.btree_update.specs.Groves.{grown_in}
 use Rattle.btree_update.proofs.AscendLaws.{Ascends}
 use Rattle.btree_update.proofs.GroveLaws.{above_it}
 use Rattle.grove_accounts.specs.Holding.{IsTreeOf}

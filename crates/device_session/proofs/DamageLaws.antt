@@ -1,6 +1,6 @@
 -- What a session is over any pages, and what it names that isn't as it should be.
-use Rattle.std.proofs.Common.{◌≡◌, ◌≢◌, ◌⊎◌, inl, inr, ℕ, zero, suc, ◌+◌, ◌-◌, ◌^◌, ◌<◌, ◌≤◌, Bool, true, false, List, [], ◌∷◌, ◌++◌, All, IsTrue, length, refl, sym, ap, subst, ◌∙◌, arith, append-nil}
-use Rattle.std.specs.Prelude.{Contains, Option, None, Some, Result, Ok, Err, IfOk}
+use Rattle.std.proofs.Common.{◌≡◌, ◌⊎◌, inl, inr, ℕ, ◌-◌, ◌^◌, ◌<◌, ◌≤◌, Bool, true, false, List, [], ◌∷◌, IsTrue, length, refl, sym, ap, subst, ◌∙◌, arith, append-nil}
+use Rattle.std.specs.Prelude.{None, Some, Result, Ok, Err, IfOk}
 use Rattle.std.specs.Bool.{OnTrue, OnFalse}
 use Rattle.platform.specs.Image.{Image, IsEarlier, IsWhole}
 use Rattle.node_codec.specs.declared.body.Entry.{Entry}
@@ -8,10 +8,9 @@ use Rattle.node_codec.specs.Record.{DataRecord}
 use Rattle.root_codec.specs.declared.root.Root.{Root}
 use Rattle.page_store.specs.Buffer.{Held}
 use Rattle.page_store.specs.Places.{IsRecordAt}
-use Rattle.page_store.specs.Roots.{IsRootWithin}
 use Rattle.page_store.specs.Tree.{Parts, Mapped, Tree, Wrong, joined}
 use Rattle.node_cache.specs.Kept.{Cached}
-use Rattle.btree_twigs.specs.Stubs.{Stub, Puts, Takes, datum}
+use Rattle.btree_twigs.specs.Stubs.{Stub}
 use Rattle.btree_walk.specs.Sights.{StandsOver}
 use Rattle.btree_update.specs.declared.groves.Grove.{Grove}
 use Rattle.btree_update.specs.Held.{AreBelow}
@@ -19,9 +18,8 @@ use Rattle.btree_update.specs.Finding.{GroveFinds}
 use Rattle.btree_update.specs.Maps.{MapPuts, MapTakes, HasBlock, LacksBlock}
 use Rattle.btree_update.specs.Opens.{HasWay}
 use Rattle.btree_update.specs.Groves.{IsSound, IsReadFrom, IsReadBeside, IsWrongOnWay, GroveMaps, KeepsTree, places_of}
-use Rattle.btree_update.proofs.AscendLaws.{Ascends, grove_up, grove_all, grove_filled}
-use Rattle.grove_accounts.specs.Holding.{Turns, IsSameSize, IsTreeOf}
-use Rattle.grove_accounts.specs.Followed.{FollowsTree}
+use Rattle.btree_update.proofs.AscendLaws.{grove_up, grove_all, grove_filled}
+use Rattle.grove_accounts.specs.Holding.{IsSameSize, IsTreeOf}
 use Rattle.grove_accounts.proofs.FollowLaws.{root_follows, ready_follows, update_wrong, look_up_wrong, record_wrong}
 use Rattle.grove_accounts.proofs.FollowingLaws.{tree_later, stays_later, insert_follows, remove_follows}
 use Rattle.grove_accounts.proofs.HoldingLaws.{tree_has}
@@ -31,10 +29,10 @@ use Rattle.device_session.specs.Finishing.{TakesUp}
 use Rattle.device_session.specs.Reading.{IsFirstMisfit}
 use Rattle.device_session.specs.Ready.{IsReadyFor, counted_with}
 use Rattle.device_session.specs.Damage.{Follows, MapsMany, IsMiscounted, IsAtLimit, HasRoom, IsFound}
-use Rattle.device_session.proofs.ArrayLaws.{count_more, count_same, count_less}
+use Rattle.device_session.proofs.ArrayLaws.{count_less}
 use Rattle.device_session.proofs.ReadLaws.{grove_maps}
 use Rattle.device_session.proofs.PageLaws.{AreAlike, tree_alike, maps_alike, read_later}
-use Rattle.device_session.proofs.UpdateLaws.{open_sound, with_ready, ready_maps, with_removed, Removes, on_true, on_false}
+use Rattle.device_session.proofs.UpdateLaws.{open_sound, with_ready, ready_maps, with_removed, Removes}
 use Rattle.device_session.proofs.InsertLaws.{alike, cached_later, with_inserted, IsInsertion, count_is, lacks_it}
 
 -- ---- from a mount on

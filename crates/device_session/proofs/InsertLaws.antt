@@ -1,6 +1,6 @@
 -- What a write makes of a session.
-use Rattle.std.proofs.Common.{◌≡◌, ◌⊎◌, inl, inr, ℕ, zero, suc, ◌+◌, ◌-◌, ◌<◌, ◌≤◌, ◌^◌, Bool, true, false, cond, List, [], ◌∷◌, ◌++◌, All, IsTrue, length, take, refl, sym, ap, subst, ◌∙◌, arith, length-append}
-use Rattle.std.specs.Prelude.{Contains, Option, Some, replicate, slice_get}
+use Rattle.std.proofs.Common.{◌≡◌, ◌⊎◌, inl, inr, ℕ, zero, suc, ◌+◌, ◌-◌, ◌<◌, ◌≤◌, ◌^◌, Bool, true, false, List, [], ◌∷◌, ◌++◌, All, IsTrue, length, take, refl, sym, ap, subst, ◌∙◌, arith, length-append}
+use Rattle.std.specs.Prelude.{Contains, Some, replicate, slice_get}
 use Rattle.std.specs.FinMap as maps
 use Rattle.std.specs.Bool.{OnTrue, OnFalse}
 use Rattle.std.proofs.lemmas.List.{length-replicate}
@@ -29,8 +29,7 @@ use Rattle.btree_update.specs.Maps.{MapPuts, HasBlock, LacksBlock}
 use Rattle.btree_update.specs.Opens.{HasWay}
 use Rattle.btree_update.specs.Groves.{GroveMaps, places_of}
 use Rattle.btree_update.proofs.AscendLaws.{Ascends, grove_all, grove_filled}
-use Rattle.grove_accounts.specs.Holding.{HoldsTree, Arrives, Turns, IsSameSize}
-use Rattle.grove_accounts.specs.Certs.{IsOwnStub, AreWritten}
+use Rattle.grove_accounts.specs.Holding.{Arrives, Turns, IsSameSize}
 use Rattle.grove_accounts.proofs.HoldingLaws.{holds_later, insert_holds}
 use Rattle.grove_accounts.proofs.OwnLaws.{insertion_own, insertion_written}
 use Rattle.device_session.specs.Sessions.{Session}

@@ -11,8 +11,13 @@ use Rattle.key_graph.proofs.ChainLaws.{map_contains}
 use Rattle.page_store.specs.Tree.{Parts, Place, Subtree, joined}
 use Rattle.page_store.specs.Kept.{Kept}
 use Rattle.page_store.specs.Keeping.{KeepsKeys}
+use Rattle.page_store.specs.Buffer.{Held}
 use Rattle.page_store.proofs.KeptLaws.{root_of_stands}
 use Rattle.btree_twigs.specs.Stubs.{Stub}
+use Rattle.node_cache.specs.Kept.{Cached}
+use Rattle.btree_walk.specs.Sights.{StandsOver}
+use Rattle.btree_walk.specs.Among.{StaysAmong}
+use Rattle.btree_update.specs.Among.{HaveNodes}
 use Rattle.btree_walk.proofs.OrderLaws.{subtree_up_to}
 use Rattle.btree_update.specs.Groves.{places_of}
 use Rattle.grove_accounts.specs.Accounts.{IsOwn}
@@ -25,7 +30,8 @@ use Rattle.shadow_commit.specs.Handing.{KnowsPlaces}
 use Rattle.device_session.specs.Sessions.{Session}
 use Rattle.device_session.specs.Open.{AreDataPages}
 use Rattle.device_session.specs.Holds.{Holds}
-use Rattle.device_session.specs.Keys.{HoldsListed}
+use Rattle.device_session.specs.Keys.{HoldsListed, StaysListed}
+use Rattle.device_session.proofs.ReadLaws.{holds_looked}
 
 -- what a caller has, of an image that keeps its keys, and what it wants
 pub keeps_by : (tells : Type 0) (drawn drawn_now : Option (List (List ℕ))) (old new : History) (Ready Ready' Done Done' : List (List ℕ) → Type 0) → KeepsKeys tells drawn drawn_now old new Ready Done
@@ -102,6 +108,13 @@ listed_fresh session image device contents keys none h = record {
   holds = h;
   listed = λ s has own. absurd (let has = none.named s has own in omega (arith, has.1));
 }
+
+-- a look leaves them so
+pub listed_looked : (was session : Session) (cache : Cached) (buffers : Held) (image after : Image) → session ≡ was → after ≡ image → (StandsOver image.readable session.cache → StandsOver image.readable cache)
+    → (StandsOver image.readable session.cache → StaysAmong (HaveNodes image.readable (places_of session.grove)) session.cache cache) → StaysListed image after was (record session { cache = cache; buffers = buffers })
+listed_looked was session cache buffers image after is same keeps stays keys listed =
+    let h = subst (λ (s : Session). HoldsListed s image keys) (sym is) listed in
+    record { device = h.device; contents = h.contents; holds = holds_looked session cache buffers image after h.device h.contents same keeps stays h.holds; listed = h.listed }
 
 -- one that has an array has a list of its keys
 pub listed_itself : (session : Session) (image : Image) (device : Device) (contents : Blocks) → Holds session image device contents → HoldsListed session image (map (λ s. s.key) (places_of session.grove))

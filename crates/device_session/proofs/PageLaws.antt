@@ -1,7 +1,6 @@
 -- What pages that are added leave as it was: what a tree maps, and what was read for an update.
-use Rattle.std.proofs.Common.{◌≡◌, ℕ, zero, suc, ◌+◌, ◌-◌, ◌/◌, ◌<◌, ◌≤◌, All, List, [], ◌∷◌, ◌++◌, refl, sym, ap, subst, ◌∙◌, arith}
+use Rattle.std.proofs.Common.{◌≡◌, ℕ, zero, suc, ◌-◌, ◌/◌, ◌<◌, ◌≤◌, All, List, [], ◌∷◌, sym, subst, arith}
 use Rattle.std.specs.Prelude.{slice_get}
-use Rattle.std.specs.List.{AllByRecursion, AllZip}
 use Rattle.std.proofs.lemmas.List.Elements.{All-nil, All-cons, All-head, All-tail, All-weaker, All-append}
 use Rattle.node_codec.specs.declared.body.Entry.{Entry}
 use Rattle.root_codec.specs.declared.root.Root.{Root}
@@ -12,12 +11,12 @@ use Rattle.page_store.proofs.TreeLaws.{subtree_kept}
 use Rattle.btree_twigs.specs.declared.twigs.Child.{Child, Child-F, out-Child}
 use Rattle.btree_twigs.specs.declared.twigs.Child.TheOpen.{Kept, Grown}
 use Rattle.btree_twigs.specs.declared.twigs.Twig.{Twig}
-use Rattle.btree_twigs.specs.Stubs.{Stub, start_by, low_of, children_of, stubs, stubs_in, stubs_below}
+use Rattle.btree_twigs.specs.Stubs.{Stub, start_by, low_of, stubs, stubs_in, stubs_below}
 use Rattle.btree_twigs.specs.Top.{top_least}
 use Rattle.btree_update.specs.declared.groves.Grove.{Grove}
-use Rattle.btree_update.specs.GroveTree.{Maps, MapsIn, HasEach, want_of, want_at}
-use Rattle.btree_update.specs.Held.{AreBelow, IsReadAs, HeldFor, HeldIn, TakesHeld, OnWay}
-use Rattle.btree_update.specs.Roots.{HeldRoot, RootMaps}
+use Rattle.btree_update.specs.GroveTree.{MapsIn, HasEach, want_of, want_at}
+use Rattle.btree_update.specs.Held.{AreBelow, IsReadAs, HeldFor, HeldIn}
+use Rattle.btree_update.specs.Roots.{HeldRoot}
 use Rattle.btree_update.specs.Groves.{IsSound, IsReadFrom, GroveMaps, places_of}
 use Rattle.btree_update.proofs.GroveLaws.{above_it}
 

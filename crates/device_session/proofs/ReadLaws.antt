@@ -1,5 +1,5 @@
 -- What a session reads of its array.
-use Rattle.std.proofs.Common.{◌≡◌, ◌≢◌, ◌⊎◌, inl, inr, ℕ, zero, suc, ◌-◌, ◌<◌, ◌≤◌, ◌^◌, List, [], ◌∷◌, ◌++◌, All, Option, None, Some, length, refl, sym, ap, subst, ◌∙◌, arith, append-nil}
+use Rattle.std.proofs.Common.{◌≡◌, ◌≢◌, ℕ, zero, suc, ◌-◌, ◌<◌, ◌≤◌, ◌^◌, List, [], ◌∷◌, Option, None, Some, refl, sym, ap, subst, ◌∙◌, arith, append-nil}
 use Rattle.std.specs.Prelude.{Contains, unwrap_or, replicate}
 use Rattle.std.specs.FinMap as maps
 use Rattle.std.specs.List.{AllByRecursion}
@@ -11,7 +11,7 @@ use Rattle.node_codec.specs.declared.body.Entry.{Entry}
 use Rattle.node_codec.specs.Record.{DataRecord}
 use Rattle.page_store.specs.Buffer.{Held}
 use Rattle.page_store.specs.declared.wants.Want.{Want}
-use Rattle.page_store.specs.Places.{IsRecordAt, FitsAt, NothingFits, block_want, child_want}
+use Rattle.page_store.specs.Places.{IsRecordAt, NothingFits, block_want, child_want}
 use Rattle.page_store.specs.Tree.{Parts, Mapped, Subtree, EachChild, joined, bound_of}
 use Rattle.page_store.proofs.RecordLaws.{one_record}
 use Rattle.btree_twigs.specs.declared.twigs.Child.{Child, Child-F, out-Child}
@@ -27,8 +27,7 @@ use Rattle.btree_walk.specs.Sights.{StandsOver}
 use Rattle.btree_walk.specs.Among.{StaysAmong}
 use Rattle.btree_update.specs.Among.{HaveNodes}
 use Rattle.btree_update.specs.declared.groves.Grove.{Grove}
-use Rattle.btree_update.specs.GroveTree.{Maps, MapsIn, MapsFrom, want_at, least_at, want_in}
-use Rattle.btree_update.specs.Maps.{LacksBlock}
+use Rattle.btree_update.specs.GroveTree.{MapsIn, MapsFrom, want_at, least_at, want_in}
 use Rattle.btree_update.specs.Roots.{IsRoot, IsRootBy}
 use Rattle.btree_update.specs.Groves.{IsSound, GroveMaps, places_of}
 use Rattle.btree_update.proofs.FoundLaws.{up_twig}
@@ -37,7 +36,6 @@ use Rattle.node_cache.specs.Kept.{Cached}
 use Rattle.grove_accounts.specs.Below.{HaveParts}
 use Rattle.grove_accounts.proofs.ListLaws.{each_append, each_weaker}
 use Rattle.grove_accounts.proofs.PartsLaws.{parts_each}
-use Rattle.grove_accounts.specs.Holding.{HoldsTree}
 use Rattle.device_session.specs.Sessions.{Session}
 use Rattle.device_session.specs.Holds.{Holds}
 use Rattle.btree_update.proofs.AscendLaws.{Ascends}

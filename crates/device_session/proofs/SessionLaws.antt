@@ -1,10 +1,9 @@
 -- What a session is from its mount on.
-use Rattle.std.proofs.Common.{◌≡◌, ◌⊎◌, inl, inr, ℕ, zero, suc, ◌<◌, ◌≤◌, false, List, [], ◌∷◌, ◌++◌, All, map, length, refl, sym, ap, subst, ◌∙◌, arith, append-nil}
+use Rattle.std.proofs.Common.{◌≡◌, ◌⊎◌, ℕ, zero, suc, ◌<◌, ◌≤◌, false, List, [], ◌∷◌, All, map, length, refl, sym, ap, subst, ◌∙◌, arith, append-nil}
 use Rattle.std.specs.Prelude.{Contains, Some}
 use Rattle.std.specs.FinMap.{from_entries}
-use Rattle.std.specs.List.{AllByRecursion}
 use Rattle.std.proofs.lemmas.List.Elements.{All-nil}
-use Rattle.sdbt_base.specs.Arrays.{Device, Blocks}
+use Rattle.sdbt_base.specs.Arrays.{Device}
 use Rattle.sdbt_base.specs.declared.lists.Unkept.{Unkept}
 use Rattle.platform.specs.declared.platforms.Platform.{Ghosts}
 use Rattle.platform.specs.Image.{Image, IsWhole}
@@ -13,21 +12,22 @@ use Rattle.platform.proofs.CallLaws.{looks_call}
 use Rattle.root_codec.specs.declared.root.Root.{Root}
 use Rattle.root_codec.specs.RootRecord.{root_bytes}
 use Rattle.page_store.specs.Roots.{IsRootWithin}
-use Rattle.page_store.specs.Tree.{Parts, Place, Mapped, joined}
-use Rattle.page_store.specs.Stands.{StandsBy, Stands, pairs_of}
+use Rattle.page_store.specs.Tree.{Place, Mapped, joined}
+use Rattle.page_store.specs.Stands.{StandsBy, Stands}
 use Rattle.page_store.specs.Kept.{IsRootOf}
 use Rattle.page_store.proofs.KeptLaws.{one_root_in, root_of_stands}
 use Rattle.btree_twigs.specs.Stubs.{Stub}
+use Rattle.btree_twigs.specs.declared.twigs.Child.TheVariants.{Kept as KeptChild}
 use Rattle.btree_walk.specs.Looks.{Looks as WalkLooks}
 use Rattle.btree_walk.specs.Sights.{StandsOver, IsOfPage}
 use Rattle.btree_walk.specs.Among.{IsAmong, KeepsAmong}
 use Rattle.node_cache.specs.declared.slots.Kept.{Kept}
-use Rattle.node_cache.specs.Kept.{Cached, cached}
+use Rattle.node_cache.specs.Kept.{Cached}
 use Rattle.btree_update.specs.declared.groves.Grove.{Grove}
 use Rattle.btree_update.specs.Held.{AreBelow}
-use Rattle.btree_update.specs.Groves.{places_of}
+use Rattle.btree_update.specs.Groves.{IsSound, places_of}
 use Rattle.grove_accounts.specs.Holding.{IsTreeOf, root_stub}
-use Rattle.grove_accounts.specs.Certs.{AreWritten, IsOwnStub, page_at}
+use Rattle.grove_accounts.specs.Certs.{IsOwnStub, page_at}
 use Rattle.grove_accounts.proofs.HoldingLaws.{holds_start, tree_place}
 use Rattle.device_session.specs.Sessions.{Session}
 use Rattle.device_session.specs.Open.{IsOpen, IsTreeFor, AreDataPages}
@@ -38,6 +38,20 @@ pub walk_looks : {S : Type 0} (P : Ghosts S) (most : ℕ) (old new : S) → Walk
 walk_looks P most old new l = looks_call P old new l.time l.image l.head l.capacity l.faults
 
 -- ---- a mount
+
+-- a tree of which no node is in memory is a root record's
+pub bare_tree : (root : Root) (grove : Grove) → IsSound grove → (grove.order ≡ root.order) × (grove.blocks ≡ root.blocks) × (grove.head ≡ root.head) × (grove.level ≡ root.level)
+    → grove.top ≡ KeptChild 0 root.addr root.key → (grove.gone.items ≡ []) × (grove.never.items ≡ []) → IsTreeOf root grove
+bare_tree root grove sound size top lists = record {
+  sound = sound;
+  order = size.0;
+  blocks = size.1;
+  head = size.2;
+  level = size.3;
+  top = top;
+  none_gone = lists.0;
+  none_never = lists.1;
+}
 
 -- a session with no change on the tree of its root record
 pub record IsFresh (session : Session) : Type 0 where

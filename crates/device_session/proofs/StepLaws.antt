@@ -38,7 +38,8 @@ use Rattle.device_session.specs.Publishing.{Commits, HasRaised, IsCommitCause}
 use Rattle.device_session.specs.Replies.{device_after}
 use Rattle.device_terms.proofs.MomentLaws.{still, then_published, once, stays_once, stays_then}
 use Rattle.device_terms.proofs.ServedLaws.{serves_still, serves_turned, served_published}
-use Rattle.device_session.proofs.CommitLaws.{IsReadied, Publishes, KeepsSealed, with_next, during_stands, held_stands, listed_sound, last_sealed, next_within, next_tree, next_stands, commit_turns, commit_keys, stopped_keys, commit_forgets}
+use Rattle.device_terms.proofs.StandingLaws.{during_stands}
+use Rattle.device_session.proofs.CommitLaws.{IsReadied, Publishes, KeepsSealed, with_next, held_stands, listed_sound, last_sealed, next_within, next_tree, next_stands, commit_turns, commit_keys, stopped_keys, commit_forgets}
 use Rattle.device_session.proofs.KeyLaws.{listed_fresh}
 use Rattle.device_session.proofs.CertifyingLaws.{commit_certifies}
 use Rattle.page_store.specs.Tree.{joined}

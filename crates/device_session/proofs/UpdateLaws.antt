@@ -1,6 +1,6 @@
 -- What an update makes of a session.
-use Rattle.std.proofs.Common.{◌≡◌, ◌≢◌, ◌⊎◌, inl, inr, ℕ, zero, suc, ◌+◌, ◌-◌, ◌||◌, ◌<◌, ◌≤◌, Bool, true, false, List, [], ◌∷◌, ◌++◌, All, IsTrue, length, refl, sym, ap, subst, ◌∙◌, arith}
-use Rattle.std.specs.Prelude.{Contains, Option, None, Some, Result, Ok, Err, IfOk, is_some}
+use Rattle.std.proofs.Common.{◌≡◌, ◌⊎◌, ℕ, ◌-◌, ◌||◌, ◌<◌, ◌≤◌, Bool, true, false, List, IsTrue, refl, sym, ap, subst, ◌∙◌, arith}
+use Rattle.std.specs.Prelude.{Contains, None, Some, Result, Ok, Err, IfOk, is_some}
 use Rattle.btree_update.specs.Roots.{RootMaps}
 use Rattle.std.specs.FinMap as maps
 use Rattle.std.specs.Bool.{OnTrue, OnFalse}
@@ -8,7 +8,7 @@ use Rattle.sdbt_base.specs.Arrays.{Device, Blocks}
 use Rattle.platform.specs.Image.{Image}
 use Rattle.root_codec.specs.declared.root.Root.{Root}
 use Rattle.page_store.specs.Buffer.{Held}
-use Rattle.page_store.specs.Tree.{Parts, Mapped, joined}
+use Rattle.page_store.specs.Tree.{Mapped, joined}
 use Rattle.btree_twigs.specs.Stubs.{Stub, Takes, stubs}
 use Rattle.btree_twigs.specs.Top.{IsTop}
 use Rattle.btree_walk.specs.Sights.{StandsOver}
@@ -23,13 +23,13 @@ use Rattle.btree_update.specs.Groves.{IsSound, IsReadBeside, IsReadBesideAt, Gro
 use Rattle.btree_update.specs.Beside.{IsReadWhere}
 use Rattle.btree_update.proofs.HelpingLaws.{from_weaker}
 use Rattle.node_cache.specs.Kept.{Cached}
-use Rattle.grove_accounts.specs.Holding.{HoldsTree, Turns, IsSameSize, IsTreeOf}
+use Rattle.grove_accounts.specs.Holding.{Turns, IsSameSize}
 use Rattle.sdbt_base.specs.declared.lists.Unkept.{Unkept}
-use Rattle.grove_accounts.specs.Certs.{IsOwnStub, AreWritten}
+use Rattle.grove_accounts.specs.Certs.{AreWritten}
 use Rattle.grove_accounts.proofs.HoldingLaws.{holds_ready, remove_holds}
 use Rattle.grove_accounts.proofs.OwnLaws.{removal_own, removal_written}
 use Rattle.device_session.specs.Sessions.{Session}
-use Rattle.device_session.specs.Open.{IsOpen, IsChangedTree, IsTreeFor, AreDataPages}
+use Rattle.device_session.specs.Open.{IsOpen, IsTreeFor, AreDataPages}
 use Rattle.device_session.specs.Holds.{Holds}
 use Rattle.device_session.specs.Keys.{HoldsListed}
 use Rattle.device_session.proofs.ArrayLaws.{array_of, array_take, array_has, array_lacks, count_less, remove_none}

@@ -1,5 +1,5 @@
 -- What a session is over any pages, forged ones too, and what of the pages below its root record isn't as it should be.
-use Rattle.std.specs.Prelude.{◌≡◌, ◌≢◌, ◌⊎◌, ◌<◌, ◌≤◌, ℕ, List, Option, None, Some, Bool, true, false, length}
+use Rattle.std.specs.Prelude.{◌≡◌, ◌≢◌, ◌⊎◌, ◌<◌, ◌≤◌, ℕ, List, None, Some, Bool, true, false, length}
 use Rattle.platform.specs.Image.{Image}
 use Rattle.node_codec.specs.declared.body.Entry.{Entry}
 use Rattle.root_codec.specs.declared.root.Root.{Root}
@@ -7,7 +7,7 @@ use Rattle.page_store.specs.Tree.{Parts, Mapped, Tree, Wrong}
 use Rattle.btree_walk.specs.Sights.{StandsOver}
 use Rattle.btree_update.specs.declared.groves.Grove.{Grove}
 use Rattle.btree_update.specs.Finding.{GroveFinds}
-use Rattle.btree_update.specs.Groves.{GroveMaps}
+use Rattle.btree_update.specs.Groves.{GroveMaps, IsWrongOnWay}
 use Rattle.grove_accounts.specs.Followed.{FollowsTree}
 use Rattle.device_session.specs.Sessions.{Session}
 
@@ -45,10 +45,30 @@ abbrev pub IsFound : Bool → List (List ℕ) → Session → ℕ → Type 0
 IsFound true pages session block = (entry : Entry) × GroveFinds pages block session.grove (Some entry)
 IsFound false pages session block = GroveFinds pages block session.grove None
 
--- what a write names that meets damage: a place of the root's tree that doesn't fit, or the root node, where a block that isn't mapped is to be and no more can
-abbrev pub IsWriteDamage : List (List ℕ) → Session → ℕ → ℕ → Type 0
-IsWriteDamage pages session block addr = Wrong pages session.root addr ⊎ ((addr ≡ session.root.addr) × IsAtLimit session × IsFound false pages session block)
+-- this is the root node, where a block that isn't mapped is to be and no more can
+abbrev pub IsPastLimit : List (List ℕ) → Session → ℕ → ℕ → Type 0
+IsPastLimit pages session block addr = (addr ≡ session.root.addr) × IsAtLimit session × IsFound false pages session block
 
--- and a trim: the root node where a block is mapped and none is counted
+-- this is the root node, where a block is mapped and none is counted
+abbrev pub IsUncounted : List (List ℕ) → Session → ℕ → ℕ → Type 0
+IsUncounted pages session block addr = (addr ≡ session.root.addr) × (session.mapped ≡ 0) × IsFound true pages session block
+
+-- what a write names that meets damage: a node on the way to the block, or beside it, that doesn't fit, or the root node
+abbrev pub IsWriteMisfit : List (List ℕ) → Session → ℕ → ℕ → Type 0
+IsWriteMisfit pages session block addr = IsWrongOnWay pages block session.grove addr ⊎ IsPastLimit pages session block addr
+
+-- of a session that follows the pages such a node is a place of the root's tree
+abbrev pub IsWriteDamage : List (List ℕ) → Session → ℕ → ℕ → Type 0
+IsWriteDamage pages session block addr = Wrong pages session.root addr ⊎ IsPastLimit pages session block addr
+
+-- the same of a trim
+abbrev pub IsTrimMisfit : List (List ℕ) → Session → ℕ → ℕ → Type 0
+IsTrimMisfit pages session block addr = IsWrongOnWay pages block session.grove addr ⊎ IsUncounted pages session block addr
+
 abbrev pub IsTrimDamage : List (List ℕ) → Session → ℕ → ℕ → Type 0
-IsTrimDamage pages session block addr = Wrong pages session.root addr ⊎ ((addr ≡ session.root.addr) × (session.mapped ≡ 0) × IsFound true pages session block)
+IsTrimDamage pages session block addr = Wrong pages session.root addr ⊎ IsUncounted pages session block addr
+
+-- what an update names that meets damage: by the look-ups alone, where the cache keeps what is on the pages, and as damage of the tree, where the session follows them
+pub record NamesDamage (image after : Image) (session : Session) (addr : ℕ) (Misfit Damage : Type 0) : Type 0 where
+  pub misfit : StandsOver image.readable session.cache → Misfit
+  pub damage : Follows session image → Damage × IsDamaged after.readable session.root addr

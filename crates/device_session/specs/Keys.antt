@@ -14,3 +14,7 @@ pub record HoldsListed (session : Session) (image : Image) (keys : List (List �
   pub contents : Blocks
   pub holds : Holds session image device contents
   pub listed : (s : Stub) → Contains (places_of session.grove) s → IsOwnStub session.root.head s → Contains keys s.key
+
+-- what lists the session's keys lists them still
+abbrev pub StaysListed : Image → Image → Session → Session → Type 0
+StaysListed image after session now = (keys : List (List ℕ)) → HoldsListed session image keys → HoldsListed now after keys

@@ -8,6 +8,8 @@ pub mod Changes
 pub mod Keys
 pub mod Ready
 pub mod Damage
+pub mod Going
+pub mod Mounting
 pub mod Replies
 pub mod Certifying
 pub mod Finishing

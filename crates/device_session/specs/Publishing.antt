@@ -1,5 +1,5 @@
 -- What a commit says: how it makes a session's changes the device's.
-use Rattle.std.specs.Prelude.{◌≡◌, ◌≢◌, ◌+◌, ◌≤◌, ℕ, false, [], List, Option, Some, Result, IfOk, OnOk, IfErr, IsOk, All}
+use Rattle.std.specs.Prelude.{◌≡◌, ◌≢◌, ◌+◌, ℕ, false, [], List, Some, Result, IfOk, OnOk, IfErr, IsOk, All}
 use Rattle.sdbt_base.specs.Faults.{Rose}
 use Rattle.sdbt_base.specs.Arrays.{Device, Blocks, committed_with}
 use Rattle.sdbt_base.specs.declared.sinks.Sink.{Ghosts as SinkGhosts}

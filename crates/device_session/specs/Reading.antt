@@ -38,13 +38,12 @@ abbrev pub KeepsWayTo : Session → ℕ → Type 0
 KeepsWayTo session block = KeepsWay session.cache.kept block session.grove
 
 -- what a read costs: one page for each level of the tree and one for the block at most, and none where the device has no such block; one alone where the cache
--- keeps the way to the block, as it does after a read that was done, where it has room for a node of each level. The room stays
+-- keeps the way to the block, as it does after a read that was done, where it has room for a node of each level
 pub record ReadsFew {S : Type 0} (P : Ghosts S) (block : ℕ) (platform after : S) (session now : Session) (result : Result (Unit {0}) ReadRefusal) : Type 0 where
   pub most : P.tells → P.reads after ≤ P.reads platform + (session.grove.level + 1)
   pub none : P.tells → blocks_of session ≤ block → P.reads after ≡ P.reads platform
   pub warm : P.tells → KeepsWayTo session block → P.reads after ≤ P.reads platform + 1
   pub fills : P.tells → OnOk result (now.grove.level ≤ room_of now → KeepsWayTo now block)
-  pub capacity : room_of now ≡ room_of session
 
 -- what was read of an array: the content of the block; a record that doesn't fit is never met
 abbrev pub ReadsArray : Blocks → ℕ → List ℕ → Result (Unit {0}) ReadRefusal → Type 0

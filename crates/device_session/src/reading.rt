@@ -18,6 +18,8 @@ impl Session {
     ghost use Rattle.device_session.specs.Open.{IsOpen, blocks_of, root_of};
     ghost use Rattle.device_session.specs.Holds.{Holds};
     ghost use Rattle.device_session.specs.Damage.{Follows};
+    ghost use Rattle.device_session.specs.Going.{GoesOn};
+    ghost use Rattle.device_session.specs.Keys.{StaysListed};
     ghost use Rattle.device_session.specs.Reading.{ReadsArray, FindsContent, IsFirstMisfit, ReadsFew};
 
     /// Puts the content of a block into the 4,096 bytes of `out`: zeros where it is not mapped.
@@ -37,7 +39,6 @@ impl Session {
         ensures array { P.tells → (device : Device) (contents : Blocks) → Holds self.old (P.history platform.old).present device contents
             → Holds self.new (P.history platform.new).present device contents × ReadsArray contents block out.new result }
         // On any pages: what is named is a place of the root's tree that doesn't fit.
-        ensures follows { P.tells → Follows self.old (P.history platform.old).present → Follows self.new (P.history platform.new).present }
         ensures damaged { P.tells → Follows self.old (P.history platform.old).present → (addr : ℕ)
             → IsErrOf result (ReadRefusal.BadRecord addr) → Wrong (P.history platform.old).present.readable (root_of self.old) addr }
         // The content is what the tree and the block's data record say, and what is named is the first record that doesn't fit. No count is
@@ -46,8 +47,9 @@ impl Session {
             → OnOk result (FindsContent (P.history platform.old).present.readable self.old.grove block out.new) }
         ensures misfit { P.tells → StandsOver (P.history platform.old).present.readable self.old.cache → (addr : ℕ)
             → IsErrOf result (ReadRefusal.BadRecord addr) → IsFirstMisfit (P.history platform.old).present.readable self.old.grove block addr }
-        ensures open { IsOpen self.new (P.head platform.new) }
-        ensures same { (self.new.root ≡ self.old.root) × (self.new.mapped ≡ self.old.mapped) × (self.new.is_touched ≡ self.old.is_touched) × (self.new.grove ≡ self.old.grove) }
+        ensures goes_on { GoesOn P.tells (P.history platform.old).present (P.history platform.new).present (P.head platform.new) self.old self.new }
+        ensures same { (self.new.mapped ≡ self.old.mapped) × (self.new.is_touched ≡ self.old.is_touched) × (self.new.grove ≡ self.old.grove) }
+        ensures listed { P.tells → StaysListed (P.history platform.old).present (P.history platform.new).present self.old self.new }
         ensures looks { Looks P.Platform platform.old platform.new }
         ensures reads { ReadsFew P.Platform block platform.old platform.new self.old self.new result }
         ensures cause { IsReadCause block (blocks_of self.old) (Rose (P.faults platform.old) (P.faults platform.new)) result }

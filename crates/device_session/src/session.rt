@@ -1,11 +1,7 @@
-ghost use Rattle.std.specs.Prelude.{◌≡◌, ◌≤◌, ℕ, List, [], Some, false, IfOk, IfErr, IsErrOf};
+ghost use Rattle.std.specs.Prelude.{◌≡◌, ◌≤◌, ℕ, List, IfOk, IfErr, IsErrOf};
 ghost use Rattle.sdbt_base.specs.Faults.{Rose};
-ghost use Rattle.sdbt_base.specs.Arrays.{Device};
 ghost use Rattle.platform.specs.Calls.{Looks};
-ghost use Rattle.root_codec.specs.RootRecord.{root_bytes};
 ghost use Rattle.page_store.specs.Buffer.{IsBlank};
-ghost use Rattle.page_store.specs.Stands.{Stands};
-ghost use Rattle.node_cache.specs.Kept.{cached};
 ghost use Rattle.device_session.specs.Causes.{IsMountCause};
 
 use crate::refusals::MountRefusal;
@@ -54,9 +50,8 @@ impl Model for Session {
 }
 
 impl Session {
-    ghost use Rattle.device_session.specs.Open.{IsOpen, AreDataPages, blocks_of, number_of, is_touched};
-    ghost use Rattle.device_session.specs.Holds.{Holds};
-    ghost use Rattle.device_session.specs.Damage.{Follows};
+    ghost use Rattle.device_session.specs.Open.{blocks_of, number_of};
+    ghost use Rattle.device_session.specs.Mounting.{Mounts};
 
     /// Opens a session on the device. It reads no page.
     ///
@@ -69,12 +64,7 @@ impl Session {
         cache: usize,
     ) -> Result<Session, MountRefusal>
         requires { cache ≤ 4096 }
-        ensures open { IfOk result (λ session. IsOpen session (P.head platform.new) × (is_touched session ≡ false) × AreDataPages session []) }
-        ensures holds { P.tells → (device : Device) → Stands (P.history platform.old).present (Some device)
-            → IfOk result (λ session. Holds session (P.history platform.new).present device device.contents) }
-        ensures follows { P.tells → IfOk result (λ session. Follows session (P.history platform.new).present) }
-        ensures empty { IfOk result (λ session. session.cache ≡ cached cache []) }
-        ensures found { P.tells → IfOk result (λ session. (P.history platform.old).present.cell ≡ Some (root_bytes session.root)) }
+        ensures mounts { IfOk result (Mounts P.Platform cache platform.old platform.new) }
         ensures refused { P.tells → IfErr result (λ refusal. IsMountCause (P.history platform.old).present.cell (P.head platform.old) refusal) }
         ensures looks { Looks P.Platform platform.old platform.new }
         ensures reads { P.tells → P.reads platform.new ≡ P.reads platform.old }

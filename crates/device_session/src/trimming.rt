@@ -1,11 +1,10 @@
-ghost use Rattle.std.specs.Prelude.{◌≡◌, ◌⊎◌, ◌<◌, ◌≤◌, ◌+◌, ℕ, List, false, OnErr, IsOk, IsErrOf};
+ghost use Rattle.std.specs.Prelude.{◌≡◌, ◌⊎◌, ◌<◌, ◌≤◌, ℕ, List, false, IsOk, IsErrOf};
 ghost use Rattle.sdbt_base.specs.Faults.{Rose};
 ghost use Rattle.sdbt_base.specs.Arrays.{Device, Blocks};
-ghost use Rattle.sdbt_base.specs.declared.lists.Unkept.{Unkept};
 ghost use Rattle.platform.specs.Calls.{Looks};
 ghost use Rattle.btree_walk.specs.Sights.{StandsOver};
 ghost use Rattle.device_session.specs.Causes.{IsTrimCause};
-ghost use Rattle.device_session.specs.Changes.{TrimsArray};
+ghost use Rattle.device_session.specs.Changes.{Trims};
 
 use crate::refusals::TrimRefusal;
 use crate::session::Session;
@@ -13,10 +12,11 @@ use btree_update::ReadyRefusal;
 use platform::Platform;
 
 impl Session {
-    ghost use Rattle.device_session.specs.Open.{IsOpen, AreDataPages, blocks_of, root_of, is_touched, needed_by};
+    ghost use Rattle.device_session.specs.Open.{IsOpen, blocks_of};
     ghost use Rattle.device_session.specs.Holds.{Holds};
-    ghost use Rattle.device_session.specs.Damage.{Follows, IsTrimDamage, IsDamaged, IsFound};
-    ghost use Rattle.device_session.specs.Keys.{HoldsListed};
+    ghost use Rattle.device_session.specs.Damage.{IsTrimMisfit, IsTrimDamage, NamesDamage, IsFound};
+    ghost use Rattle.device_session.specs.Going.{GoesOn, Updates};
+    ghost use Rattle.device_session.specs.Keys.{StaysListed};
 
     /// Unmaps a block, which then reads as zeros. One that is not mapped stays so, and nothing is touched.
     ///
@@ -27,22 +27,17 @@ impl Session {
     pub fn trim<P: Platform>(&mut self, platform: &mut P, block: u64) -> Result<(), TrimRefusal>
         requires { IsOpen self.old (P.head platform.old) }
         ensures array { P.tells → (device : Device) (contents : Blocks) → Holds self.old (P.history platform.old).present device contents
-            → TrimsArray self.new (P.history platform.new).present device contents block (is_touched self.old) result }
-        // On any pages: what is named is a place of the root's tree that doesn't fit, or the root node, where a block is mapped and none is
-        // counted; and a block is trimmed where one is counted, or it isn't mapped.
-        ensures follows { P.tells → Follows self.old (P.history platform.old).present → Follows self.new (P.history platform.new).present }
-        ensures damaged { P.tells → Follows self.old (P.history platform.old).present → (addr : ℕ) → IsErrOf result (TrimRefusal.BadRecord addr)
-            → IsTrimDamage (P.history platform.old).present.readable self.old block addr × IsDamaged (P.history platform.new).present.readable (root_of self.old) addr }
+            → Trims (P.history platform.new).present device contents block self.old self.new result }
+        // On any pages: what is named is a node that doesn't fit, or the root node, where a block is mapped and none is counted; and a block
+        // is trimmed where one is counted, or it isn't mapped.
+        ensures damaged { P.tells → (addr : ℕ) → IsErrOf result (TrimRefusal.BadRecord addr)
+            → NamesDamage (P.history platform.old).present (P.history platform.new).present self.old addr
+            (IsTrimMisfit (P.history platform.old).present.readable self.old block addr) (IsTrimDamage (P.history platform.old).present.readable self.old block addr) }
         ensures counter { P.tells → StandsOver (P.history platform.old).present.readable self.old.cache → IsOk result
             → IsFound false (P.history platform.old).present.readable self.old block ⊎ (1 ≤ self.old.mapped) }
-        ensures open { IsOpen self.new (P.head platform.new) }
-        ensures same { (self.new.root ≡ self.old.root) × OnErr result (is_touched self.new ≡ is_touched self.old) × (self.new.cache.capacity ≡ self.old.cache.capacity) }
-        ensures listed { P.tells → (keys : List (List ℕ)) → HoldsListed self.old (P.history platform.old).present keys
-            → HoldsListed self.new (P.history platform.new).present keys }
-        // The pages that the session wrote are those before, also where their blocks are mapped no more.
-        ensures pages { P.tells → (device : Device) (contents : Blocks) → Holds self.old (P.history platform.old).present device contents
-            → (pages : List Unkept) → AreDataPages self.old pages → AreDataPages self.new pages }
-        ensures needs { (needed_by self.new ≤ needed_by self.old + 41) × OnErr result (needed_by self.new ≡ needed_by self.old) }
+        ensures goes_on { GoesOn P.tells (P.history platform.old).present (P.history platform.new).present (P.head platform.new) self.old self.new }
+        ensures updates { Updates self.old self.new result }
+        ensures listed { P.tells → StaysListed (P.history platform.old).present (P.history platform.new).present self.old self.new }
         ensures looks { Looks P.Platform platform.old platform.new }
         ensures cause { IsTrimCause block (blocks_of self.old) (Rose (P.faults platform.old) (P.faults platform.new)) result }
     {

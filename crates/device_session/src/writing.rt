@@ -1,15 +1,12 @@
-ghost use Rattle.std.specs.Prelude.{◌≡◌, ◌⊎◌, ◌<◌, ◌≤◌, ◌+◌, ◌++◌, ◌∷◌, [], ℕ, List, true, false, All, IsTrue, OnOk, OnErr, IfErr, IsOk, IsErrOf, length};
+ghost use Rattle.std.specs.Prelude.{◌≡◌, ◌⊎◌, ◌<◌, ◌≤◌, ℕ, List, true, All, IsTrue, OnOk, IfErr, IsOk, IsErrOf, length};
 ghost use Rattle.std.specs.Bool.{OnFalse};
 ghost use Rattle.sdbt_base.specs.Faults.{Rose};
 ghost use Rattle.sdbt_base.specs.Arrays.{padded, Device, Blocks};
-ghost use Rattle.sdbt_base.specs.declared.lists.Unkept.{Unkept};
-ghost use Rattle.platform.specs.Calls.{Grows};
-ghost use Rattle.platform.specs.History.{CellStays};
 ghost use Rattle.page_store.specs.Keeping.{KeepsKeys};
 ghost use Rattle.btree_walk.specs.Sights.{StandsOver};
 ghost use Rattle.btree_update.specs.Groves.{CanInsert, CanRemove, places_of};
 ghost use Rattle.device_session.specs.Causes.{IsWriteCause, IsPutCause};
-ghost use Rattle.device_session.specs.Changes.{WritesArray, WriteAdds};
+ghost use Rattle.device_session.specs.Changes.{Writes, WriteAdds, WriteGrows};
 ghost use Rattle.device_session.specs.Ready.{IsReadyFor, counted_with};
 
 use crate::refusals::WriteRefusal;
@@ -20,9 +17,10 @@ use platform::Platform;
 use sdbt_base::Tape;
 
 impl Session {
-    ghost use Rattle.device_session.specs.Open.{IsOpen, AreDataPages, blocks_of, root_of, is_touched, needed_by};
+    ghost use Rattle.device_session.specs.Open.{IsOpen, blocks_of, is_touched};
     ghost use Rattle.device_session.specs.Holds.{Holds};
-    ghost use Rattle.device_session.specs.Damage.{Follows, IsWriteDamage, IsDamaged, IsFound, IsAtLimit, HasRoom};
+    ghost use Rattle.device_session.specs.Damage.{IsWriteMisfit, IsWriteDamage, NamesDamage, IsFound, IsAtLimit, HasRoom};
+    ghost use Rattle.device_session.specs.Going.{GoesOn, Updates};
     ghost use Rattle.device_session.specs.Keys.{HoldsListed};
 
     /// Writes a block: at most 4,096 bytes, and zeros up to its end. It is the session's alone until a commit.
@@ -41,30 +39,24 @@ impl Session {
         requires size { length content.now ≤ 4096 }
         requires open { IsOpen self.old (P.head platform.old) }
         ensures array { P.tells → (device : Device) (contents : Blocks) → Holds self.old (P.history platform.old).present device contents
-            → WritesArray self.new (P.history platform.new).present device contents block (padded content.now) result }
-        // On any pages: what is named is a place of the root's tree that doesn't fit, or the root node, where the block isn't mapped and no
-        // more can be; and a block is written where it is mapped, or another one can be.
-        ensures follows { P.tells → Follows self.old (P.history platform.old).present → Follows self.new (P.history platform.new).present }
-        ensures damaged { P.tells → Follows self.old (P.history platform.old).present → (addr : ℕ) → IsErrOf result (WriteRefusal.BadRecord addr)
-            → IsWriteDamage (P.history platform.old).present.readable self.old block addr × IsDamaged (P.history platform.new).present.readable (root_of self.old) addr }
+            → Writes (P.history platform.new).present device contents block (P.head platform.old) (padded content.now) self.old self.new result }
+        // On any pages: what is named is a node that doesn't fit, or the root node, where the block isn't mapped and no more can be; and a
+        // block is written where it is mapped, or another one can be.
+        ensures damaged { P.tells → (addr : ℕ) → IsErrOf result (WriteRefusal.BadRecord addr)
+            → NamesDamage (P.history platform.old).present (P.history platform.new).present self.old addr
+            (IsWriteMisfit (P.history platform.old).present.readable self.old block addr) (IsWriteDamage (P.history platform.old).present.readable self.old block addr) }
         ensures counter { P.tells → StandsOver (P.history platform.old).present.readable self.old.cache → IsOk result ⊎ IsErrOf result WriteRefusal.TapeFault
             → IsFound true (P.history platform.old).present.readable self.old block ⊎ HasRoom self.old }
-        ensures open { IsOpen self.new (P.head platform.new) }
-        ensures same { (self.new.root ≡ self.old.root) × OnOk result (is_touched self.new ≡ true) × OnErr result (is_touched self.new ≡ is_touched self.old)
-            × (self.new.cache.capacity ≡ self.old.cache.capacity) }
+        ensures goes_on { GoesOn P.tells (P.history platform.old).present (P.history platform.new).present (P.head platform.new) self.old self.new }
+        ensures touched { OnOk result (is_touched self.new ≡ true) }
+        ensures updates { Updates self.old self.new result }
         // Each moment keeps the keys that the image kept before, with the one that was drawn.
         ensures keeps { KeepsKeys P.tells (T.drawn tape.old) (T.drawn tape.new) (P.history platform.old) (P.history platform.new)
             (HoldsListed self.old (P.history platform.old).present) (HoldsListed self.new (P.history platform.new).present) }
         ensures adds { WriteAdds P.Platform T.Tape platform.old platform.new tape.old tape.new (places_of self.new.grove) block result }
-        // The page that was written is the session's, until a certificate told of it.
-        ensures pages { P.tells → (device : Device) (contents : Blocks) → Holds self.old (P.history platform.old).present device contents
-            → (pages : List Unkept) → AreDataPages self.old pages → OnErr result (AreDataPages self.new pages)
-            × OnOk result (AreDataPages self.new (pages ++ record { block = block; addr = P.head platform.old } ∷ [])) }
-        ensures needs { (needed_by self.new ≤ needed_by self.old + 41) × OnErr result (needed_by self.new ≡ needed_by self.old) }
         ensures cause { IsWriteCause block (blocks_of self.old) (P.head platform.old) (P.capacity platform.old)
             (Rose (P.faults platform.old) (P.faults platform.new)) (Rose (T.faults tape.old) (T.faults tape.new)) result }
-        ensures time { P.tells → CellStays (P.history platform.old) (P.history platform.new) }
-        ensures grows { Grows P.Platform platform.old platform.new × (T.faults tape.old ≤ T.faults tape.new) }
+        ensures grows { WriteGrows P.Platform T.Tape platform.old platform.new tape.old tape.new }
     {
         if block >= self.root.blocks {
             return Err(WriteRefusal::Range);
@@ -110,24 +102,17 @@ impl Session {
         requires limit { OnFalse is_mapped (HasRoom self.old) }
         ensures array { P.tells → (device : Device) (contents : Blocks) → Holds self.old (P.history platform.old).present device contents
             → IsReadyFor (P.history platform.old).present.readable block self.old.grove is_mapped
-            → WritesArray self.new (P.history platform.new).present device contents block (padded content.now) result }
-        ensures follows { P.tells → Follows self.old (P.history platform.old).present
-            → IsReadyFor (P.history platform.old).present.readable block self.old.grove is_mapped → Follows self.new (P.history platform.new).present }
-        ensures open { IsOpen self.new (P.head platform.new) }
-        ensures same { (self.new.root ≡ self.old.root) × OnOk result (is_touched self.new ≡ true) × OnErr result (is_touched self.new ≡ is_touched self.old)
-            × (self.new.cache.capacity ≡ self.old.cache.capacity) }
+            → Writes (P.history platform.new).present device contents block (P.head platform.old) (padded content.now) self.old self.new result }
+        ensures goes_on { GoesOn (P.tells × IsReadyFor (P.history platform.old).present.readable block self.old.grove is_mapped)
+            (P.history platform.old).present (P.history platform.new).present (P.head platform.new) self.old self.new }
+        ensures touched { OnOk result (is_touched self.new ≡ true) }
+        ensures updates { Updates self.old self.new result }
         ensures keeps { KeepsKeys P.tells (T.drawn tape.old) (T.drawn tape.new) (P.history platform.old) (P.history platform.new)
             (λ keys. HoldsListed self.old (P.history platform.old).present keys × IsReadyFor (P.history platform.old).present.readable block self.old.grove is_mapped)
             (HoldsListed self.new (P.history platform.new).present) }
         ensures adds { WriteAdds P.Platform T.Tape platform.old platform.new tape.old tape.new (places_of self.new.grove) block result }
-        ensures pages { P.tells → (device : Device) (contents : Blocks) → Holds self.old (P.history platform.old).present device contents
-            → IsReadyFor (P.history platform.old).present.readable block self.old.grove is_mapped
-            → (pages : List Unkept) → AreDataPages self.old pages → OnErr result (AreDataPages self.new pages)
-            × OnOk result (AreDataPages self.new (pages ++ record { block = block; addr = P.head platform.old } ∷ [])) }
-        ensures needs { (needed_by self.new ≤ needed_by self.old + 41) × OnErr result (needed_by self.new ≡ needed_by self.old) }
         ensures cause { IfErr result (IsPutCause (Rose (P.faults platform.old) (P.faults platform.new)) (Rose (T.faults tape.old) (T.faults tape.new))) }
-        ensures beside { P.tells → CellStays (P.history platform.old) (P.history platform.new) }
-        ensures grows { Grows P.Platform platform.old platform.new × (T.faults tape.old ≤ T.faults tape.new) }
+        ensures grows { WriteGrows P.Platform T.Tape platform.old platform.new tape.old tape.new }
     {
         are_bytes(content);
         let addr = platform.head();

@@ -8,6 +8,7 @@ use Rattle.btree_update.specs.GroveTree.{want_of}
 use Rattle.btree_update.specs.Held.{stub_at}
 use Rattle.btree_update.specs.Finding.{FindsBelow, ComesToWrong, FindsFrom, StopsFrom, KeepsFrom, level_from, CanGoOn}
 use Rattle.btree_update.proofs.KeptWay.{OnOk_from}
+use Rattle.btree_update.proofs.CacheLaws.{stands_on}
 use Rattle.btree_walk.specs.Among.{IsAmong}
 use Rattle.btree_update.specs.Among.{HaveSpot}
 use Rattle.btree_update.proofs.finding.find_from.Goals as goal
@@ -38,14 +39,12 @@ pub returns-in-Found-clause-uses : goal.returns-in-Found-clause-uses
 returns-in-Found-clause-uses g c = record {
   warm = λ keeps. refl;
   fills = λ tells room. subst (KeepsFrom c.args.cache.now.kept c.args.order c.args.block) (sym c.in-Found.is) (Some (record { low = c.args.block; addr = c.in-Found.addr; key = c.in-Found.key }), refl);
-  capacity = refl;
 }
 
 pub returns-in-Absent-clause-uses : goal.returns-in-Absent-clause-uses
 returns-in-Absent-clause-uses g c = record {
   warm = λ keeps. refl;
   fills = λ tells room. subst (KeepsFrom c.args.cache.now.kept c.args.order c.args.block) (sym c.in-Absent.is) (None, refl);
-  capacity = refl;
 }
 
 pub returns-in-Below-clause-uses : goal.returns-in-Below-clause-uses
@@ -63,11 +62,13 @@ returns-in-Below-clause-uses g c =
           subst (KeepsFrom new c.args.order c.args.block) (sym c.in-Below.is)
           (found, subst (λ k. FindsBelow (KeptFits new) c.args.block want k found) c.from_bytes-key.ensures (h.path, h.warm (omega (arith, level, c.find.ensures.capacity)))))
           (c.find.ensures.found tells);
-      capacity = c.find.ensures.capacity;
     }
 
-pub returns-in-Below-clause-among : goal.returns-in-Below-clause-among
-returns-in-Below-clause-among g c = λ tells stands places such kept.
-    (let pages = (g.P.Platform.history c.args.platform.now).present.readable in
-    let has = subst (λ s. HaveSpot pages s places) c.in-Below.is such in
-    c.find.ensures.among tells stands places (has.0, subst (IsAmong places c.in-Below.addr) (sym c.from_bytes-key.ensures) has.1) kept)
+pub returns-in-Below-clause-caches : goal.returns-in-Below-clause-caches
+returns-in-Below-clause-caches g c = record {
+  capacity = c.find.ensures.capacity;
+  stands = λ tells stands. stands_on _ _ _ stands (c.find.ensures.keeps tells);
+  among = λ tells stands places such kept.
+      (let has = subst (λ s. HaveSpot (g.P.Platform.history c.args.platform.now).present.readable s places) c.in-Below.is such in
+      c.find.ensures.among tells stands places (has.0, subst (IsAmong places c.in-Below.addr) (sym c.from_bytes-key.ensures) has.1) kept);
+}

@@ -8,7 +8,7 @@ use Rattle.btree_twigs.specs.declared.twigs.Child.{Child}
 use Rattle.btree_twigs.specs.declared.twigs.Child.TheVariants as made
 use Rattle.btree_twigs.specs.declared.twigs.Twig.{Twig}
 use Rattle.btree_twigs.specs.declared.twigs.Spot.{Spot}
-use Rattle.btree_twigs.specs.Stubs.{stubs_below}
+use Rattle.btree_twigs.specs.Stubs.{stubs, stubs_below}
 use Rattle.btree_twigs.specs.Shape.{IsTwig}
 use Rattle.btree_twigs.specs.Search.{IsSpot}
 use Rattle.btree_twigs.specs.Top.{top_least}
@@ -20,7 +20,9 @@ use Rattle.btree_update.proofs.RootHolds.{root_grown, root_lt}
 use Rattle.btree_update.proofs.FoundLaws.{looks_more, up_twig, goes_on, from_level, want_is}
 use Rattle.btree_update.proofs.KeptWay.{finds_there, OnOk_from, OnOk_map}
 use Rattle.btree_walk.specs.Among.{IsAmong}
+use Rattle.btree_update.specs.Among.{HaveNodes, HaveSpot}
 use Rattle.btree_update.proofs.AmongLaws.{grown_among, kept_among, spot_among}
+use Rattle.btree_update.proofs.CacheLaws.{stands_on, caches_fewer}
 use Rattle.btree_update.proofs.finding.find_root.Goals as goal
 
 -- where the search in the nodes in memory ends
@@ -132,7 +134,6 @@ returns-in-Grown-clause-uses g c =
           subst (RootKeeps new order block below high) (sym c.in-Grown.is)
           (at.0, subst (λ y. RootFindsBy (KeptFits new) order block below high y at.0) (sym (made.outs-Grown c.in-Grown.low twig)) (record { spot = spot; is = is; finds = at.1 })))
           (c.find_from.ensures.uses.fills tells);
-      capacity = c.find_from.ensures.uses.capacity;
     }
 
 pub returns-in-Kept-clause-uses : goal.returns-in-Kept-clause-uses
@@ -154,17 +155,21 @@ returns-in-Kept-clause-uses g c =
           subst (RootKeeps new order block below high) (sym c.in-Kept.is)
           (found, subst (λ y. RootFindsBy (KeptFits new) order block below high y found) (sym (made.outs-Kept c.in-Kept.low c.in-Kept.addr c.in-Kept.key)) (subst (λ w. FindsBelow (KeptFits new) block w c.in-Kept.key found) same from)))
           (c.find.ensures.found tells);
-      capacity = c.find.ensures.capacity;
     }
 
-pub returns-in-Grown-clause-among : goal.returns-in-Grown-clause-among
-returns-in-Grown-clause-among g c = λ tells stands places such kept.
-    (let pages = (g.P.Platform.history c.args.platform.now).present.readable in
+pub returns-in-Grown-clause-caches : goal.returns-in-Grown-clause-caches
+returns-in-Grown-clause-caches g c =
     let spot = spot_is c.args.order c.args.level c.args.block c.args.high (g.P.Platform.head c.args.platform.now) c.in-Grown.low c.in-Grown.twig c.args.top.now c.find-spot.result c.requires.can c.in-Grown.is c.find-spot.ensures in
-    let below = grown_among places c.args.level c.args.high c.in-Grown.low c.in-Grown.twig c.args.top.now c.in-Grown.is c.requires.can.one such.1 in
-    c.find_from.ensures.among tells stands places (spot_among pages places c.args.block (stubs_below (c.args.level - 1) c.args.high c.in-Grown.twig) c.find-spot.result such.0 below spot) kept)
+    caches_fewer g.P.Platform (λ pages. HaveNodes pages (stubs c.args.level c.args.high c.args.top.now)) (λ pages. HaveSpot pages c.find-spot.result) c.args.platform.now c.args.cache.now c.find_from.new.cache
+    (λ pages places such.
+    (let below = grown_among places c.args.level c.args.high c.in-Grown.low c.in-Grown.twig c.args.top.now c.in-Grown.is c.requires.can.one such.1 in
+    spot_among pages places c.args.block (stubs_below (c.args.level - 1) c.args.high c.in-Grown.twig) c.find-spot.result such.0 below spot)) c.find_from.ensures.caches
 
-pub returns-in-Kept-clause-among : goal.returns-in-Kept-clause-among
-returns-in-Kept-clause-among g c = λ tells stands places such kept.
-    (let at = kept_among places c.args.level c.args.high c.in-Kept.low c.in-Kept.addr c.in-Kept.key c.args.top.now c.in-Kept.is c.requires.can.one such.1 in
-    c.find.ensures.among tells stands places (such.0, subst (IsAmong places c.in-Kept.addr) (sym c.from_bytes-key.ensures) at) kept)
+pub returns-in-Kept-clause-caches : goal.returns-in-Kept-clause-caches
+returns-in-Kept-clause-caches g c = record {
+  capacity = c.find.ensures.capacity;
+  stands = λ tells stands. stands_on _ _ _ stands (c.find.ensures.keeps tells);
+  among = λ tells stands places such kept.
+      (let at = kept_among places c.args.level c.args.high c.in-Kept.low c.in-Kept.addr c.in-Kept.key c.args.top.now c.in-Kept.is c.requires.can.one such.1 in
+      c.find.ensures.among tells stands places (such.0, subst (IsAmong places c.in-Kept.addr) (sym c.from_bytes-key.ensures) at) kept);
+}

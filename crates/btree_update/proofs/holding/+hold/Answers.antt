@@ -30,12 +30,11 @@ use Rattle.btree_update.proofs.MappedLaws.{first_lacks, leaf_mapped, leaf_not, b
 use Rattle.page_store.specs.Places.{FitsAt}
 use Rattle.btree_update.specs.Finding.{FindsAmong, ChildFinds, IsFoundBy}
 use Rattle.btree_update.proofs.WayFinds.{found_as, beside_found, first_finds, way_finds, leaf_finds, child_finds, kept_finds}
-use Rattle.std.proofs.Common.{refl, ◌≤◌}
-use Rattle.page_store.specs.declared.wants.Want.{Want}
+use Rattle.std.proofs.Common.{refl}
 use Rattle.page_store.specs.Tree.{Place}
-use Rattle.btree_walk.specs.Among.{IsAmong, GoDown}
 use Rattle.btree_update.specs.Among.{HaveNodes}
-use Rattle.btree_update.proofs.AmongLaws.{child_among, grown_among, kept_among, read_among, below_among}
+use Rattle.btree_update.proofs.AmongLaws.{child_among, grown_among}
+use Rattle.btree_update.proofs.CacheLaws.{caches_fewer, caches_then, caches_read, nodes_below_read}
 use Rattle.btree_update.proofs.holding.+hold.Goals as goal
 
 nothing_before : (block high n : ℕ) (ds cs : List Child) → ds ≡ cs → n ≡ 0 → ((high : ℕ) → block < high → block < start_by low_of (drop n ds) high) → block < high → block < start_by low_of cs high
@@ -142,7 +141,7 @@ hold_below-returns-clause-bad g t c = λ tells stands addr is.
     c.place-at.ensures.within c.place-at.ensures.before c.place-at.ensures.after at.to c.index-child.ensures in
     let pages = (g.P.Platform.history c.args.platform.now).present.readable in
     let same : (g.P.Platform.history c.hold_way.new.platform).present.readable ≡ pages = ap (λ i. i.readable) (c.in_ok-left.ensures.looks.image tells) in
-    let stands' = subst (λ p. StandsOver p c.hold_way.new.cache) (sym same) (c.in_ok-left.ensures.stands tells stands) in
+    let stands' = subst (λ p. StandsOver p c.hold_way.new.cache) (sym same) (c.in_ok-left.ensures.caches.stands tells stands) in
     let near = c.hold_beside.ensures.bad tells stands' (take w.at cs) c.index-child.result.now (drop (suc w.at) cs) w.split (before_is w.at c.place-at.result cs w.within w.at_is) addr is in
     subst (λ p. WrongUnder p c.args.order c.args.block addr c.args.level c.args.high c.args.twig.now) same
     (wrong_near (g.P.Platform.history c.hold_way.new.platform).present.readable c.args.order c.args.level c.args.high c.args.block addr c.place-at.result c.args.twig.now c.index-child.result.now w near))
@@ -186,7 +185,7 @@ hold_below-returns-clause-beside g t c = λ tells stands.
     let pages = (g.P.Platform.history c.args.platform.now).present.readable in
     let Reads = IsReadAs pages c.args.order in
     let same : (g.P.Platform.history c.hold_way.new.platform).present.readable ≡ pages = ap (λ i. i.readable) (c.in_ok-left.ensures.looks.image tells) in
-    let stands' = subst (λ p. StandsOver p c.hold_way.new.cache) (sym same) (c.in_ok-left.ensures.stands tells stands) in
+    let stands' = subst (λ p. StandsOver p c.hold_way.new.cache) (sym same) (c.in_ok-left.ensures.caches.stands tells stands) in
     let f = subst (λ m. LeftOf Reads c.args.order c.args.block (c.args.level - 1) m c.index-child.result.now c.hold_way.new.held.items c.hold_way.new.beside.items c.in_ok-left.left) e (c.in_ok-left.ensures.beside tells stands) in
     IfOk_map _ _ c.hold_beside.result
     (λ after h. left_at Reads c.args.order c.args.block c.args.level at.least at.low c.args.high c.place-at.result c.args.twig.now c.index-child.result.now (above c.args.level c.if-level-eq0.false) at.shaped w
@@ -431,64 +430,54 @@ on_way_among : (pages : List (List ℕ)) (places : List Place) (order block leve
     HaveNodes pages (stubs_below level high twig) places → HaveNodes pages (stubs level end c) places
 on_way_among pages places order block level high n end twig c w is such = (such.0, child_among places level high w.at end (children_of twig) c w.split is such.1)
 
-pub hold_below-returns-in_err-left-clause-among : goal.hold_below-returns-in_err-left-clause-among
-hold_below-returns-in_err-left-clause-among g t c = λ tells stands places such kept.
-    (let pages = (g.P.Platform.history c.args.platform.now).present.readable in
+pub hold_below-returns-in_err-left-clause-caches : goal.hold_below-returns-in_err-left-clause-caches
+hold_below-returns-in_err-left-clause-caches g t c =
     let w = on_way c.args.order c.args.block c.args.level c.args.high c.place-at.result (children_of c.args.twig.now) c.deref.result.now c.index-child.result.now c.deref.ensures.value c.if-at-eq0.false
     c.place-at.ensures.within c.place-at.ensures.before c.place-at.ensures.after c.requires.can.to c.index-child.ensures in
     let e = end_is c.args.high c.place-at.result w.at c.end_of-end.result c.deref-2.result.now (children_of c.args.twig.now) c.deref-2.ensures.value w.at_is c.end_of-end.ensures in
-    c.in_err-left.ensures.among tells stands places (on_way_among pages places c.args.order c.args.block c.args.level c.args.high c.place-at.result c.end_of-end.result c.args.twig.now c.index-child.result.now w e such) kept)
+    let below = λ (pages : List (List ℕ)). HaveNodes pages (stubs_below c.args.level c.args.high c.args.twig.now) in
+    let child = λ (pages : List (List ℕ)). HaveNodes pages (stubs c.args.level c.end_of-end.result c.index-child.result.now) in
+    caches_fewer g.P.Platform below child c.args.platform.now c.args.cache.now c.hold_way.new.cache (λ pages places such. on_way_among pages places c.args.order c.args.block c.args.level c.args.high c.place-at.result c.end_of-end.result c.args.twig.now c.index-child.result.now w e such) c.in_err-left.ensures.caches
 
-pub hold_below-returns-clause-among : goal.hold_below-returns-clause-among
-hold_below-returns-clause-among g t c = λ tells stands places such kept.
-    (let pages = (g.P.Platform.history c.args.platform.now).present.readable in
+pub hold_below-returns-clause-caches : goal.hold_below-returns-clause-caches
+hold_below-returns-clause-caches g t c =
     let w = on_way c.args.order c.args.block c.args.level c.args.high c.place-at.result (children_of c.args.twig.now) c.deref.result.now c.index-child.result.now c.deref.ensures.value c.if-at-eq0.false
     c.place-at.ensures.within c.place-at.ensures.before c.place-at.ensures.after c.requires.can.to c.index-child.ensures in
     let e = end_is c.args.high c.place-at.result w.at c.end_of-end.result c.deref-2.result.now (children_of c.args.twig.now) c.deref-2.ensures.value w.at_is c.end_of-end.ensures in
-    let kept' = c.in_ok-left.ensures.among tells stands places (on_way_among pages places c.args.order c.args.block c.args.level c.args.high c.place-at.result c.end_of-end.result c.args.twig.now c.index-child.result.now w e such) kept in
-    let same : (g.P.Platform.history c.hold_way.new.platform).present.readable ≡ pages = ap (λ i. i.readable) (c.in_ok-left.ensures.looks.image tells) in
-    let stands' = subst (λ p. StandsOver p c.hold_way.new.cache) (sym same) (c.in_ok-left.ensures.stands tells stands) in
-    c.hold_beside.ensures.among tells stands' places (subst (λ p. HaveNodes p (stubs_below c.args.level c.args.high c.args.twig.now) places) (sym same) such) kept')
+    let below = λ (pages : List (List ℕ)). HaveNodes pages (stubs_below c.args.level c.args.high c.args.twig.now) in
+    let child = λ (pages : List (List ℕ)). HaveNodes pages (stubs c.args.level c.end_of-end.result c.index-child.result.now) in
+    let one = caches_fewer g.P.Platform below child c.args.platform.now c.args.cache.now c.hold_way.new.cache (λ pages places such. on_way_among pages places c.args.order c.args.block c.args.level c.args.high c.place-at.result c.end_of-end.result c.args.twig.now c.index-child.result.now w e such) c.in_ok-left.ensures.caches in
+    caches_then g.P.Platform below below c.args.platform.now c.hold_way.new.platform c.args.cache.now c.hold_way.new.cache c.hold_beside.new.cache c.in_ok-left.ensures.looks.image (λ tells stands places such. such) one c.hold_beside.ensures.caches
 
-pub hold_way-returns-in-Grown-clause-among : goal.hold_way-returns-in-Grown-clause-among
-hold_way-returns-in-Grown-clause-among g t c = λ tells stands places such kept.
-    c.hold_below.ensures.among tells stands places (such.0, grown_among places c.args.level c.args.high c.in-Grown.low c.in-Grown.twig c.args.child.now c.in-Grown.is c.requires.can.one such.1) kept
+pub hold_way-returns-in-Grown-clause-caches : goal.hold_way-returns-in-Grown-clause-caches
+hold_way-returns-in-Grown-clause-caches g t c =
+    caches_fewer g.P.Platform (λ pages. HaveNodes pages (stubs c.args.level c.args.high c.args.child.now)) (λ pages. HaveNodes pages (stubs_below (c.args.level - 1) c.args.high c.in-Grown.twig)) c.args.platform.now c.args.cache.now c.hold_below.new.cache
+    (λ pages places such. (such.0, grown_among places c.args.level c.args.high c.in-Grown.low c.in-Grown.twig c.args.child.now c.in-Grown.is c.requires.can.one such.1)) c.hold_below.ensures.caches
 
-pub hold_way-returns-in_err-twig-in-Kept-clause-among : goal.hold_way-returns-in_err-twig-in-Kept-clause-among
-hold_way-returns-in_err-twig-in-Kept-clause-among g t c = λ tells stands places such kept.
-    read_among places c.args.level c.args.high c.in-Kept.low c.in-Kept.addr c.in-Kept.key c.args.child.now c.args.cache.now c.read_kept.new.cache c.in-Kept.is c.requires.can.one such.1 c.in_err-twig-in-Kept.ensures.but kept
+pub hold_way-returns-in_err-twig-in-Kept-clause-caches : goal.hold_way-returns-in_err-twig-in-Kept-clause-caches
+hold_way-returns-in_err-twig-in-Kept-clause-caches g t c =
+    caches_read g.P.Platform c.args.level c.args.high c.in-Kept.low c.in-Kept.addr c.in-Kept.key c.args.child.now c.args.platform.now c.args.cache.now c.read_kept.new.cache c.in-Kept.is c.requires.can.one c.in_err-twig-in-Kept.ensures.capacity c.in_err-twig-in-Kept.ensures.stands c.in_err-twig-in-Kept.ensures.but
 
--- what is below a child that was read is among these places with it
-child_read_among : (pages after : List (List ℕ)) (places : List Place) (level high low addr : ℕ) (key : List ℕ) (want : Want) (twig : Twig) (c : Child) → after ≡ pages → want.addr ≡ addr → c ≡ made.Kept low addr key → 1 ≤ level →
-    IsNodeOf pages want key twig → HaveNodes pages (stubs level high c) places → HaveNodes after (stubs_below (level - 1) high twig) places
-child_read_among pages after places level high low addr key want twig c same addr_is is one node such = (
-  subst (λ p. GoDown p places) (sym same) such.0,
-  below_among pages places (level - 1) high want key twig such.0 (subst (λ a. IsAmong places a key) (sym addr_is) (kept_among places level high low addr key c is one such.1)) node,
-)
+pub hold_way-returns-in_err-left-in-Kept-clause-caches : goal.hold_way-returns-in_err-left-in-Kept-clause-caches
+hold_way-returns-in_err-left-in-Kept-clause-caches g t c =
+    let one = caches_read g.P.Platform c.args.level c.args.high c.in-Kept.low c.in-Kept.addr c.in-Kept.key c.args.child.now c.args.platform.now c.args.cache.now c.read_kept.new.cache c.in-Kept.is c.requires.can.one c.in_ok-twig-in-Kept.ensures.capacity c.in_ok-twig-in-Kept.ensures.stands c.in_ok-twig-in-Kept.ensures.but in
+    caches_then g.P.Platform (λ pages. HaveNodes pages (stubs c.args.level c.args.high c.args.child.now)) (λ pages. HaveNodes pages (stubs_below (c.args.level - 1) c.args.high c.in_ok-twig-in-Kept.twig)) c.args.platform.now c.read_kept.new.platform c.args.cache.now c.read_kept.new.cache c.hold_below-in-Kept.new.cache
+    c.in_ok-twig-in-Kept.ensures.looks.image
+    (λ tells stands places such. nodes_below_read _ places c.args.level c.args.high c.in-Kept.low c.in-Kept.addr c.in-Kept.key _ c.in_ok-twig-in-Kept.twig c.args.child.now refl c.in-Kept.is c.requires.can.one (c.in_ok-twig-in-Kept.ensures.reads tells stands) such)
+    one c.in_err-left-in-Kept.ensures.caches
 
-pub hold_way-returns-in_err-left-in-Kept-clause-among : goal.hold_way-returns-in_err-left-in-Kept-clause-among
-hold_way-returns-in_err-left-in-Kept-clause-among g t c = λ tells stands places such kept.
-    (let pages = (g.P.Platform.history c.args.platform.now).present.readable in
-    let same : (g.P.Platform.history c.read_kept.new.platform).present.readable ≡ pages = ap (λ i. i.readable) (c.in_ok-twig-in-Kept.ensures.looks.image tells) in
-    let stands' = subst (λ p. StandsOver p c.read_kept.new.cache) (sym same) (c.in_ok-twig-in-Kept.ensures.stands tells stands) in
-    let kept' = read_among places c.args.level c.args.high c.in-Kept.low c.in-Kept.addr c.in-Kept.key c.args.child.now c.args.cache.now c.read_kept.new.cache c.in-Kept.is c.requires.can.one such.1 c.in_ok-twig-in-Kept.ensures.but kept in
-    c.in_err-left-in-Kept.ensures.among tells stands' places
-    (child_read_among pages _ places c.args.level c.args.high c.in-Kept.low c.in-Kept.addr c.in-Kept.key _ c.in_ok-twig-in-Kept.twig c.args.child.now same refl c.in-Kept.is c.requires.can.one (c.in_ok-twig-in-Kept.ensures.reads tells stands) such) kept')
+pub hold_way-returns-in_err-hold-in-Kept-clause-caches : goal.hold_way-returns-in_err-hold-in-Kept-clause-caches
+hold_way-returns-in_err-hold-in-Kept-clause-caches g t c =
+    let one = caches_read g.P.Platform c.args.level c.args.high c.in-Kept.low c.in-Kept.addr c.in-Kept.key c.args.child.now c.args.platform.now c.args.cache.now c.read_kept.new.cache c.in-Kept.is c.requires.can.one c.in_ok-twig-in-Kept.ensures.capacity c.in_ok-twig-in-Kept.ensures.stands c.in_ok-twig-in-Kept.ensures.but in
+    caches_then g.P.Platform (λ pages. HaveNodes pages (stubs c.args.level c.args.high c.args.child.now)) (λ pages. HaveNodes pages (stubs_below (c.args.level - 1) c.args.high c.in_ok-twig-in-Kept.twig)) c.args.platform.now c.read_kept.new.platform c.args.cache.now c.read_kept.new.cache c.hold_below-in-Kept.new.cache
+    c.in_ok-twig-in-Kept.ensures.looks.image
+    (λ tells stands places such. nodes_below_read _ places c.args.level c.args.high c.in-Kept.low c.in-Kept.addr c.in-Kept.key _ c.in_ok-twig-in-Kept.twig c.args.child.now refl c.in-Kept.is c.requires.can.one (c.in_ok-twig-in-Kept.ensures.reads tells stands) such)
+    one c.in_ok-left-in-Kept.ensures.caches
 
-pub hold_way-returns-in_err-hold-in-Kept-clause-among : goal.hold_way-returns-in_err-hold-in-Kept-clause-among
-hold_way-returns-in_err-hold-in-Kept-clause-among g t c = λ tells stands places such kept.
-    (let pages = (g.P.Platform.history c.args.platform.now).present.readable in
-    let same : (g.P.Platform.history c.read_kept.new.platform).present.readable ≡ pages = ap (λ i. i.readable) (c.in_ok-twig-in-Kept.ensures.looks.image tells) in
-    let stands' = subst (λ p. StandsOver p c.read_kept.new.cache) (sym same) (c.in_ok-twig-in-Kept.ensures.stands tells stands) in
-    let kept' = read_among places c.args.level c.args.high c.in-Kept.low c.in-Kept.addr c.in-Kept.key c.args.child.now c.args.cache.now c.read_kept.new.cache c.in-Kept.is c.requires.can.one such.1 c.in_ok-twig-in-Kept.ensures.but kept in
-    c.in_ok-left-in-Kept.ensures.among tells stands' places
-    (child_read_among pages _ places c.args.level c.args.high c.in-Kept.low c.in-Kept.addr c.in-Kept.key _ c.in_ok-twig-in-Kept.twig c.args.child.now same refl c.in-Kept.is c.requires.can.one (c.in_ok-twig-in-Kept.ensures.reads tells stands) such) kept')
-
-pub hold_way-returns-in_ok-hold-in-Kept-clause-among : goal.hold_way-returns-in_ok-hold-in-Kept-clause-among
-hold_way-returns-in_ok-hold-in-Kept-clause-among g t c = λ tells stands places such kept.
-    (let pages = (g.P.Platform.history c.args.platform.now).present.readable in
-    let same : (g.P.Platform.history c.read_kept.new.platform).present.readable ≡ pages = ap (λ i. i.readable) (c.in_ok-twig-in-Kept.ensures.looks.image tells) in
-    let stands' = subst (λ p. StandsOver p c.read_kept.new.cache) (sym same) (c.in_ok-twig-in-Kept.ensures.stands tells stands) in
-    let kept' = read_among places c.args.level c.args.high c.in-Kept.low c.in-Kept.addr c.in-Kept.key c.args.child.now c.args.cache.now c.read_kept.new.cache c.in-Kept.is c.requires.can.one such.1 c.in_ok-twig-in-Kept.ensures.but kept in
-    c.in_ok-left-in-Kept.ensures.among tells stands' places
-    (child_read_among pages _ places c.args.level c.args.high c.in-Kept.low c.in-Kept.addr c.in-Kept.key _ c.in_ok-twig-in-Kept.twig c.args.child.now same refl c.in-Kept.is c.requires.can.one (c.in_ok-twig-in-Kept.ensures.reads tells stands) such) kept')
+pub hold_way-returns-in_ok-hold-in-Kept-clause-caches : goal.hold_way-returns-in_ok-hold-in-Kept-clause-caches
+hold_way-returns-in_ok-hold-in-Kept-clause-caches g t c =
+    let one = caches_read g.P.Platform c.args.level c.args.high c.in-Kept.low c.in-Kept.addr c.in-Kept.key c.args.child.now c.args.platform.now c.args.cache.now c.read_kept.new.cache c.in-Kept.is c.requires.can.one c.in_ok-twig-in-Kept.ensures.capacity c.in_ok-twig-in-Kept.ensures.stands c.in_ok-twig-in-Kept.ensures.but in
+    caches_then g.P.Platform (λ pages. HaveNodes pages (stubs c.args.level c.args.high c.args.child.now)) (λ pages. HaveNodes pages (stubs_below (c.args.level - 1) c.args.high c.in_ok-twig-in-Kept.twig)) c.args.platform.now c.read_kept.new.platform c.args.cache.now c.read_kept.new.cache c.hold_below-in-Kept.new.cache
+    c.in_ok-twig-in-Kept.ensures.looks.image
+    (λ tells stands places such. nodes_below_read _ places c.args.level c.args.high c.in-Kept.low c.in-Kept.addr c.in-Kept.key _ c.in_ok-twig-in-Kept.twig c.args.child.now refl c.in-Kept.is c.requires.can.one (c.in_ok-twig-in-Kept.ensures.reads tells stands) such)
+    one c.in_ok-left-in-Kept.ensures.caches

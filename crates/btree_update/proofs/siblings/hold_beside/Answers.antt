@@ -19,6 +19,7 @@ use Rattle.page_store.specs.Tree.{Place}
 use Rattle.btree_twigs.specs.Stubs.{stubs_below}
 use Rattle.btree_update.specs.Among.{HaveNodes}
 use Rattle.btree_update.proofs.AmongLaws.{child_among}
+use Rattle.btree_update.proofs.CacheLaws.{caches_fewer}
 use Rattle.btree_update.proofs.siblings.hold_beside.Goals as goal
 
 end_is : (high i end : ℕ) (ds cs : List Child) → ds ≡ cs → end ≡ start_by low_of (drop (i + 1) ds) high → end ≡ start_by low_of (drop (suc i) cs) high
@@ -109,26 +110,23 @@ beside_among : (pages : List (List ℕ)) (places : List Place) (level high i end
     end ≡ start_by low_of (drop (i + 1) ds) high → HaveNodes pages (stubs_below level high twig) places → HaveNodes pages (stubs level end d) places
 beside_among pages places level high i end twig ds d split same is such = (such.0, child_among places level high i end (children_of twig) d split (end_is high i end ds (children_of twig) same is) such.1)
 
-pub returns-in_err-help-in-Short-clause-among : goal.returns-in_err-help-in-Short-clause-among
-returns-in_err-help-in-Short-clause-among g c = λ tells stands places such kept.
-    (let pages = (g.P.Platform.history c.args.platform.now).present.readable in
+pub returns-in_err-help-in-Short-clause-caches : goal.returns-in_err-help-in-Short-clause-caches
+returns-in_err-help-in-Short-clause-caches g c =
     let lt : c.beside_of-other.result < length (children_of c.args.twig.now) = omega (arith, c.beside_of-other.ensures.within, c.len.ensures) in
     let split = split_here (children_of c.args.twig.now) c.beside_of-other.result c.index.result.now lt c.index.ensures in
-    c.in_err-help-in-Short.ensures.among tells stands places
-    (beside_among pages places c.args.level c.args.high c.beside_of-other.result c.end_of-end.result c.args.twig.now c.deref.result.now c.index.result.now split c.deref.ensures.value c.end_of-end.ensures such) kept)
+    caches_fewer g.P.Platform (λ pages. HaveNodes pages (stubs_below c.args.level c.args.high c.args.twig.now)) (λ pages. HaveNodes pages (stubs c.args.level c.end_of-end.result c.index.result.now)) c.args.platform.now c.args.cache.now c.read_help.new.cache
+    (λ pages places such. beside_among pages places c.args.level c.args.high c.beside_of-other.result c.end_of-end.result c.args.twig.now c.deref.result.now c.index.result.now split c.deref.ensures.value c.end_of-end.ensures such) c.in_err-help-in-Short.ensures.caches
 
-pub returns-in_err-keep-in-Short-clause-among : goal.returns-in_err-keep-in-Short-clause-among
-returns-in_err-keep-in-Short-clause-among g c = λ tells stands places such kept.
-    (let pages = (g.P.Platform.history c.args.platform.now).present.readable in
+pub returns-in_err-keep-in-Short-clause-caches : goal.returns-in_err-keep-in-Short-clause-caches
+returns-in_err-keep-in-Short-clause-caches g c =
     let lt : c.beside_of-other.result < length (children_of c.args.twig.now) = omega (arith, c.beside_of-other.ensures.within, c.len.ensures) in
     let split = split_here (children_of c.args.twig.now) c.beside_of-other.result c.index.result.now lt c.index.ensures in
-    c.in_ok-help-in-Short.ensures.among tells stands places
-    (beside_among pages places c.args.level c.args.high c.beside_of-other.result c.end_of-end.result c.args.twig.now c.deref.result.now c.index.result.now split c.deref.ensures.value c.end_of-end.ensures such) kept)
+    caches_fewer g.P.Platform (λ pages. HaveNodes pages (stubs_below c.args.level c.args.high c.args.twig.now)) (λ pages. HaveNodes pages (stubs c.args.level c.end_of-end.result c.index.result.now)) c.args.platform.now c.args.cache.now c.read_help.new.cache
+    (λ pages places such. beside_among pages places c.args.level c.args.high c.beside_of-other.result c.end_of-end.result c.args.twig.now c.deref.result.now c.index.result.now split c.deref.ensures.value c.end_of-end.ensures such) c.in_ok-help-in-Short.ensures.caches
 
-pub returns-in_ok-keep-in-Short-clause-among : goal.returns-in_ok-keep-in-Short-clause-among
-returns-in_ok-keep-in-Short-clause-among g c = λ tells stands places such kept.
-    (let pages = (g.P.Platform.history c.args.platform.now).present.readable in
+pub returns-in_ok-keep-in-Short-clause-caches : goal.returns-in_ok-keep-in-Short-clause-caches
+returns-in_ok-keep-in-Short-clause-caches g c =
     let lt : c.beside_of-other.result < length (children_of c.args.twig.now) = omega (arith, c.beside_of-other.ensures.within, c.len.ensures) in
     let split = split_here (children_of c.args.twig.now) c.beside_of-other.result c.index.result.now lt c.index.ensures in
-    c.in_ok-help-in-Short.ensures.among tells stands places
-    (beside_among pages places c.args.level c.args.high c.beside_of-other.result c.end_of-end.result c.args.twig.now c.deref.result.now c.index.result.now split c.deref.ensures.value c.end_of-end.ensures such) kept)
+    caches_fewer g.P.Platform (λ pages. HaveNodes pages (stubs_below c.args.level c.args.high c.args.twig.now)) (λ pages. HaveNodes pages (stubs c.args.level c.end_of-end.result c.index.result.now)) c.args.platform.now c.args.cache.now c.read_help.new.cache
+    (λ pages places such. beside_among pages places c.args.level c.args.high c.beside_of-other.result c.end_of-end.result c.args.twig.now c.deref.result.now c.index.result.now split c.deref.ensures.value c.end_of-end.ensures such) c.in_ok-help-in-Short.ensures.caches

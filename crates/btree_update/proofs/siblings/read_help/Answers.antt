@@ -10,7 +10,7 @@ use Rattle.btree_update.specs.Wrong.{IsWrongIn, IsWrongChild}
 use Rattle.btree_update.specs.Beside.{CanRead, loses_for, LendsFrom}
 use Rattle.btree_update.proofs.HoldLaws.{read_as}
 use Rattle.btree_update.proofs.BesideLaws.{want_beside, spares_of, beside_lt, node_at, lends_kept}
-use Rattle.btree_update.proofs.AmongLaws.{read_among}
+use Rattle.btree_update.proofs.CacheLaws.{caches_read}
 use Rattle.btree_update.proofs.siblings.read_help.Goals as goal
 
 pub read_kept-requires-clause-within : goal.read_kept-requires-clause-within
@@ -57,10 +57,12 @@ returns-in_ok-twig-in-Kept-clause-reads g c = λ tells stands.
     (lends_kept c.args.order c.args.level c.args.high (g.P.Platform.head c.args.platform.now) c.in-Kept.low c.in-Kept.addr c.in-Kept.key at Reads twig loses n
     (spares_of c.args.order (length (children_of twig)) c.can_lend-lends.result c.can_lend-lends.ensures.spare c.can_lend-lends.ensures.none)))
 
-pub returns-in_err-twig-in-Kept-clause-among : goal.returns-in_err-twig-in-Kept-clause-among
-returns-in_err-twig-in-Kept-clause-among g c = λ tells stands places such kept.
-    read_among places c.args.level c.args.high c.in-Kept.low c.in-Kept.addr c.in-Kept.key c.args.child.now c.args.cache.now c.read_kept.new.cache c.in-Kept.is (let l = c.requires.can.level_is in omega (arith, l)) such.1 c.in_err-twig-in-Kept.ensures.but kept
+pub returns-in_err-twig-in-Kept-clause-caches : goal.returns-in_err-twig-in-Kept-clause-caches
+returns-in_err-twig-in-Kept-clause-caches g c =
+    let l = c.requires.can.level_is in
+    caches_read g.P.Platform c.args.level c.args.high c.in-Kept.low c.in-Kept.addr c.in-Kept.key c.args.child.now c.args.platform.now c.args.cache.now c.read_kept.new.cache c.in-Kept.is (omega (arith, l)) c.in_err-twig-in-Kept.ensures.capacity c.in_err-twig-in-Kept.ensures.stands c.in_err-twig-in-Kept.ensures.but
 
-pub returns-in_ok-twig-in-Kept-clause-among : goal.returns-in_ok-twig-in-Kept-clause-among
-returns-in_ok-twig-in-Kept-clause-among g c = λ tells stands places such kept.
-    read_among places c.args.level c.args.high c.in-Kept.low c.in-Kept.addr c.in-Kept.key c.args.child.now c.args.cache.now c.read_kept.new.cache c.in-Kept.is (let l = c.requires.can.level_is in omega (arith, l)) such.1 c.in_ok-twig-in-Kept.ensures.but kept
+pub returns-in_ok-twig-in-Kept-clause-caches : goal.returns-in_ok-twig-in-Kept-clause-caches
+returns-in_ok-twig-in-Kept-clause-caches g c =
+    let l = c.requires.can.level_is in
+    caches_read g.P.Platform c.args.level c.args.high c.in-Kept.low c.in-Kept.addr c.in-Kept.key c.args.child.now c.args.platform.now c.args.cache.now c.read_kept.new.cache c.in-Kept.is (omega (arith, l)) c.in_ok-twig-in-Kept.ensures.capacity c.in_ok-twig-in-Kept.ensures.stands c.in_ok-twig-in-Kept.ensures.but

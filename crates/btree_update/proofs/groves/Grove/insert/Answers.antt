@@ -79,8 +79,19 @@ level_by level new_level new one (inr e) is = inr (omega (arith, one, e, is))
 
 pub returns-clause-level : goal.returns-clause-level
 returns-clause-level c =
-    let p = c.put_top.ensures.put (can_put c.args.block c.args.self.now c.open_root.new.top c.requires.can c.requires.small (c.open_root.ensures.opened (can_open c.args.block c.args.self.now c.requires.can))) in
-    level_by c.args.self.now.level p.new_level c.level_of-self.result c.requires.can.sound.one p.level_is (c.level_of-self.ensures ∙ top_level c.args.self.now.order p.new_level c.args.self.now.blocks c.put_top.new.top p.shaped)
+    let grove = c.args.self.now in
+    let can = can_open c.args.block grove c.requires.can in
+    let o = c.open_root.ensures.opened can in
+    let mid = c.open_root.new.top in
+    let put_at = can_put c.args.block grove mid c.requires.can c.requires.small o in
+    let p = c.put_top.ensures.put put_at in
+    record {
+      rises = level_by grove.level p.new_level c.level_of-self.result c.requires.can.sound.one p.level_is (c.level_of-self.ensures ∙ top_level grove.order p.new_level grove.blocks c.put_top.new.top p.shaped);
+      stays = λ remove.
+          (let helps = c.open_root.ensures.helps can Anywhere grove.beside.items remove.loses remove.beside in
+          let has = root_has AnyRead grove.order c.args.block (grove.level - 1) grove.blocks mid c.open_root.new.held.items grove.beside.items remove.loses o.shaped c.requires.can.to o.is_open helps in
+          c.level_of-self.ensures ∙ c.put_top.ensures.stays put_at has ∙ top_level grove.order (grove.level - 1) grove.blocks mid o.shaped ∙ sym can.level_is);
+    }
 
 pub returns-clause-has : goal.returns-clause-has
 returns-clause-has c =
@@ -93,16 +104,6 @@ returns-clause-has c =
     let has : Contains (stubs (suc p.new_level) blocks new) stub = subst (λ ss. Contains ss stub) (sym p.puts.now) (Contains-append_right p.puts.front (stub ∷ p.puts.back) stub (0, omega arith, refl)) in
     let at = subst (λ k. Contains (stubs k blocks new) stub) (sym l) has in
     subst (λ k. Contains (stubs c.level_of-self.result blocks new) (datum c.args.block c.args.addr k)) c.bytes.ensures.value at
-
-pub returns-clause-stays : goal.returns-clause-stays
-returns-clause-stays c remove =
-    let grove = c.args.self.now in
-    let can = can_open c.args.block grove c.requires.can in
-    let o = c.open_root.ensures.opened can in
-    let mid = c.open_root.new.top in
-    let helps = c.open_root.ensures.helps can Anywhere grove.beside.items remove.loses remove.beside in
-    let has = root_has AnyRead grove.order c.args.block (grove.level - 1) grove.blocks mid c.open_root.new.held.items grove.beside.items remove.loses o.shaped c.requires.can.to o.is_open helps in
-    c.level_of-self.ensures ∙ c.put_top.ensures.stays (can_put c.args.block grove mid c.requires.can c.requires.small o) has ∙ top_level grove.order (grove.level - 1) grove.blocks mid o.shaped ∙ sym can.level_is
 
 pub returns-clause-maps : goal.returns-clause-maps
 returns-clause-maps c pages mapped content held m there =

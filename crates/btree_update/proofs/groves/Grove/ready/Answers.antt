@@ -1,4 +1,4 @@
-use Rattle.std.proofs.Common.{◌≡◌, ◌≤◌, ◌-◌, ◌^◌, Err, refl, sym, ap, subst, arith}
+use Rattle.std.proofs.Common.{◌≡◌, ℕ, ◌≤◌, ◌-◌, ◌^◌, Err, refl, sym, ap, subst, arith}
 use Rattle.std.proofs.lemmas.Result.{err_from_is_err_and}
 use Rattle.btree_update.specs.declared.refusals.ReadyRefusal.TheVariants.{BadRecord}
 use Rattle.btree_update.specs.GroveTree.{MapsFrom}
@@ -6,6 +6,7 @@ use Rattle.btree_twigs.specs.Stubs.{stubs}
 use Rattle.btree_twigs.specs.Top.{top_least}
 use Rattle.btree_update.specs.Held.{AreBelow, AnyRead, IsReadAs, HeldFrom}
 use Rattle.btree_update.specs.Wrong.{WrongFrom}
+use Rattle.btree_update.specs.Groves.{IsWrongOnWay}
 use Rattle.btree_update.proofs.RootHolds.{root_holds}
 use Rattle.btree_update.proofs.BesideLaws.{loses_of}
 use Rattle.btree_update.proofs.OpenLaws.{lower}
@@ -26,21 +27,19 @@ hold_way-requires g c = record {
 pub returns-in_err-left-clause-bad : goal.returns-in_err-left-clause-bad
 returns-in_err-left-clause-bad g c =
     let p = err_from_is_err_and c.from_residual.result c.from_residual.ensures.1 in
-    rw (p.1, p.2) (λ tells stands addr is.
-    let same : c.in_err-left.field-0.0 ≡ BadRecord addr = cc in
-    subst (λ l. WrongFrom (g.P.Platform.history c.args.platform.now).present.readable c.args.self.now.order l c.args.block addr (c.args.self.now.level - 1) c.args.self.now.blocks c.args.self.now.top) c.least_of_root-least.ensures
-    (c.in_err-left.ensures.bad tells stands addr (ap Err same)))
-
-pub returns-in_err-left-clause-fits : goal.returns-in_err-left-clause-fits
-returns-in_err-left-clause-fits g c =
-    let p = err_from_is_err_and c.from_residual.result c.from_residual.ensures.1 in
-    rw (p.1, p.2) (λ tells stands mapped maps addr is.
+    rw (p.1, p.2) (λ tells stands.
     (let grove = c.args.self.now in
-    let same : c.in_err-left.field-0.0 ≡ BadRecord addr = cc in
-    let head : g.P.Platform.head c.args.platform.now ≤ 2 ^ 64 = omega (arith, g.met.P.Platform.has_room c.args.platform.now, g.met.P.Platform.is_limited c.args.platform.now) in
-    let small = subst (λ k. AreBelow (2 ^ 64) (stubs k grove.blocks grove.top)) (above_it grove.level c.requires.sound.one) (lower _ (2 ^ 64) (stubs grove.level grove.blocks grove.top) head c.requires.within) in
-    let wrong = subst (λ l. WrongFrom (g.P.Platform.history c.args.platform.now).present.readable grove.order l c.args.block addr (grove.level - 1) grove.blocks grove.top) c.least_of_root-least.ensures (c.in_err-left.ensures.bad tells stands addr (ap Err same)) in
-    from_never (g.P.Platform.history c.args.platform.now).present.readable grove.order (top_least (grove.level - 1)) c.args.block addr (grove.level - 1) grove.blocks grove.top mapped small maps wrong))
+    let pages = (g.P.Platform.history c.args.platform.now).present.readable in
+    let wrong : (addr : ℕ) → c.in_err-left.field-0.0 ≡ BadRecord addr → IsWrongOnWay pages c.args.block grove addr = λ addr same.
+    subst (λ l. WrongFrom pages grove.order l c.args.block addr (grove.level - 1) grove.blocks grove.top) c.least_of_root-least.ensures (c.in_err-left.ensures.bad tells stands addr (ap Err same)) in
+    record {
+      wrong = λ addr is. (let same : c.in_err-left.field-0.0 ≡ BadRecord addr = cc in wrong addr same);
+      never = λ mapped maps addr is.
+          (let same : c.in_err-left.field-0.0 ≡ BadRecord addr = cc in
+          let head : g.P.Platform.head c.args.platform.now ≤ 2 ^ 64 = omega (arith, g.met.P.Platform.has_room c.args.platform.now, g.met.P.Platform.is_limited c.args.platform.now) in
+          let small = subst (λ k. AreBelow (2 ^ 64) (stubs k grove.blocks grove.top)) (above_it grove.level c.requires.sound.one) (lower _ (2 ^ 64) (stubs grove.level grove.blocks grove.top) head c.requires.within) in
+          from_never pages grove.order (top_least (grove.level - 1)) c.args.block addr (grove.level - 1) grove.blocks grove.top mapped small maps (wrong addr same));
+    }))
 
 pub returns-in_err-make_spares-clause-sound : goal.returns-in_err-make_spares-clause-sound
 returns-in_err-make_spares-clause-sound g c =

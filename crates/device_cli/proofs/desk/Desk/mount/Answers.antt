@@ -12,7 +12,6 @@ use Rattle.device_cli.proofs.ServedLaws.{halts_still}
 use Rattle.device_cli.proofs.ServingLaws.{serves_already, serves_mounted, serves_no_device}
 use Rattle.device_course.proofs.KeysLaws.{on_start, on_look, listed_image, mount_listed}
 use Rattle.device_session.proofs.CountLaws.{needs_none}
-use Rattle.device_session.proofs.KeyLaws.{listed_fresh}
 use Rattle.device_cli.proofs.Choices.{some_of}
 use Rattle.device_cli.proofs.LookLaws.{warm_less, warm_mounted}
 use Rattle.device_cli.proofs.desk.Desk.mount.Goals as goal
@@ -35,9 +34,9 @@ returns-in-Ok-clause-answered g c told entry rep =
     let old : World = world_of P c.args.self.now.session c.args.platform.now in
     let new : World = world_of P (Some c.in-Ok.session) c.mount.new.platform in
     let none : c.args.self.now.session ≡ None = grind (arith, common_steps, c.is_some.ensures, c.if-is_some.false) in
-    let found = c.in-Ok.ensures.found told in
-    serves_mounted old new entry c.in-Ok.session c.number-number.result none (λ e. cc) refl c.in-Ok.ensures.open.1
-    (λ d stands. let holds = c.in-Ok.ensures.holds told d stands in (holds, c.number-number.ensures ∙ holds.stands.number))
+    let found = c.in-Ok.ensures.mounts.found told in
+    serves_mounted old new entry c.in-Ok.session c.number-number.result none (λ e. cc) refl c.in-Ok.ensures.mounts.untouched
+    (λ d stands. let holds = c.in-Ok.ensures.mounts.holds told d stands in (holds, c.number-number.ensures ∙ holds.stands.number))
     (c.mount.ensures.looks.time told) rep
 
 pub returns-in-Err-NoDevice-clause-answered : goal.returns-in-Err-NoDevice-clause-answered
@@ -75,7 +74,7 @@ returns-then-is_some-clause-keeps g c = λ drawn written. on_start _ drawn writt
 pub returns-in-Ok-clause-keeps : goal.returns-in-Ok-clause-keeps
 returns-in-Ok-clause-keeps g c = λ drawn written. on_look _ drawn written c.args.self.now.session _ _ _ _ c.mount.ensures.looks.image c.mount.ensures.looks.time (λ told keys kept h.
     let none : c.args.self.now.session ≡ None = grind (arith, common_steps, c.is_some.ensures, c.if-is_some.false) in
-    mount_listed c.args.self.now.session (g.P.Platform.history c.args.platform.now).present keys keys _ _ none (c.in-Ok.ensures.found told) h (λ device stands. listed_fresh c.in-Ok.session (g.P.Platform.history c.mount.new.platform).present device device.contents keys c.in-Ok.ensures.open.2 (c.in-Ok.ensures.holds told device stands)))
+    mount_listed c.args.self.now.session (g.P.Platform.history c.args.platform.now).present keys keys _ _ none (c.in-Ok.ensures.mounts.found told) h (λ device stands. c.in-Ok.ensures.mounts.listed told device stands keys))
 
 pub returns-in-Err-NoDevice-clause-keeps : goal.returns-in-Err-NoDevice-clause-keeps
 returns-in-Err-NoDevice-clause-keeps g c = λ drawn written. on_look _ drawn written c.args.self.now.session _ _ _ _ c.mount.ensures.looks.image c.mount.ensures.looks.time (λ told keys kept h. listed_image _ _ _ keys (c.mount.ensures.looks.image told) h)
@@ -91,7 +90,7 @@ returns-in-Err-Memory-clause-keeps g c = λ drawn written. on_look _ drawn writt
 
 pub returns-in-Ok-clause-enough : goal.returns-in-Ok-clause-enough
 returns-in-Ok-clause-enough g c updates enough =
-    omega (arith, needs_none c.in-Ok.session (g.P.Platform.head c.mount.new.platform) c.in-Ok.ensures.open.0 c.in-Ok.ensures.open.1)
+    omega (arith, needs_none c.in-Ok.session (g.P.Platform.head c.mount.new.platform) c.in-Ok.ensures.mounts.is_open c.in-Ok.ensures.mounts.untouched)
 
 -- ---- what is read
 
@@ -99,7 +98,7 @@ pub returns-then-is_some-clause-looks : goal.returns-then-is_some-clause-looks
 returns-then-is_some-clause-looks g c told before warm look = (omega arith, λ done. warm_less c.args.self.now.session before warm)
 
 pub returns-in-Ok-clause-looks : goal.returns-in-Ok-clause-looks
-returns-in-Ok-clause-looks g c told before warm look = (omega (arith, c.mount.ensures.reads told), λ done. warm_mounted c.in-Ok.session (ap (λ cache. cache.capacity) c.in-Ok.ensures.empty))
+returns-in-Ok-clause-looks g c told before warm look = (omega (arith, c.mount.ensures.reads told), λ done. warm_mounted c.in-Ok.session (ap (λ cache. cache.capacity) c.in-Ok.ensures.mounts.empty))
 
 pub returns-in-Err-NoDevice-clause-looks : goal.returns-in-Err-NoDevice-clause-looks
 returns-in-Err-NoDevice-clause-looks g c told before warm look = (omega (arith, c.mount.ensures.reads told), λ done. warm_less c.args.self.now.session before warm)

@@ -9,7 +9,7 @@ use Rattle.script_lang.specs.Commands.{Read}
 use Rattle.device_cli.proofs.ServedLaws.{at, with_session, has_session, serves_still, halts_still, serves_range, serves_damaged, gives_unmounted_read, gives_content, gives_read_range}
 use Rattle.device_cli.proofs.ServingLaws.{serves_unmounted}
 use Rattle.device_cli.proofs.CellLaws.{after_looked, mounted_still, wrong_page}
-use Rattle.device_course.proofs.KeysLaws.{on_start, on_look, listed_some, listed_read, needed_read}
+use Rattle.device_course.proofs.KeysLaws.{on_start, on_look, listed_some, needed_read}
 use Rattle.device_cli.specs.World.{AreEnough}
 use Rattle.device_cli.specs.Pages.{updates_after}
 use Rattle.device_cli.proofs.EnoughLaws.{enough_kept}
@@ -40,7 +40,7 @@ returns-in-Ok-clause-answered g c told entry rep =
     with_session old c.in-Some.session entry taken rep (λ state. Serves old new state (Read c.args.block) (Ok (said c.reply_with_content.result c.read.new.out)))
     (λ d t holds touched.
     let within : c.args.block < d.blocks = subst (λ (n : ℕ). c.args.block < n) holds.stands.blocks c.in-Ok.ensures.cause in
-    let after = has_session new c.read.new.self d t refl (c.in-Ok.ensures.array told d t.contents holds).0 (c.in-Ok.ensures.same.2 ∙ touched) in
+    let after = has_session new c.read.new.self d t refl (c.in-Ok.ensures.array told d t.contents holds).0 (c.in-Ok.ensures.same.1 ∙ touched) in
     subst (λ (r : Reply). Serves old new (at d t) (Read c.args.block) (Ok r)) (sym c.reply_with_content.ensures.value)
     (serves_still old new (at d t) (at d t) (Read c.args.block) (content_reply c.read.new.out) (has_session old c.in-Some.session d t taken holds touched)
     (gives_content (is_full old (Read c.args.block)) d t c.args.block c.read.new.out within (c.in-Ok.ensures.array told d t.contents holds).1) after (c.read.ensures.looks.time told)))
@@ -49,7 +49,7 @@ pub returns-in-Err-Range-clause-answered : goal.returns-in-Err-Range-clause-answ
 returns-in-Err-Range-clause-answered g c told entry rep =
     let P = g.P.Platform in
     let old = world_of P c.args.self.now.session c.args.platform.now in
-    serves_range old (world_of P (Some c.read.new.self) c.read.new.platform) c.in-Some.session c.read.new.self entry (Read c.args.block) c.args.block c.in-Some.is refl rep (λ d t holds. (c.read.ensures.array told d t.contents holds).0) c.read.ensures.same.2
+    serves_range old (world_of P (Some c.read.new.self) c.read.new.platform) c.in-Some.session c.read.new.self entry (Read c.args.block) c.args.block c.in-Some.is refl rep (λ d t holds. (c.read.ensures.array told d t.contents holds).0) c.read.ensures.same.1
     (rw c.in-Err-Range.field-0-is at c.in-Err-Range.ensures.cause) (λ d t past. gives_read_range (is_full old (Read c.args.block)) d t c.args.block past) (c.read.ensures.looks.time told)
 
 pub returns-in-Err-BadRecord-clause-answered : goal.returns-in-Err-BadRecord-clause-answered
@@ -67,10 +67,10 @@ pub returns-in_default-clause-keeps : goal.returns-in_default-clause-keeps
 returns-in_default-clause-keeps g c = λ drawn written. on_start _ drawn written c.args.self.now.session _ _
 
 pub returns-in-Ok-clause-keeps : goal.returns-in-Ok-clause-keeps
-returns-in-Ok-clause-keeps g c = λ drawn written. on_look _ drawn written c.args.self.now.session _ _ _ _ c.read.ensures.looks.image c.read.ensures.looks.time (λ told keys kept h. listed_read c.in-Some.session c.read.new.self _ _ keys c.read.ensures.same.0 c.read.ensures.same.3 (λ device contents holds. (c.read.ensures.array told device contents holds).0) (listed_some _ c.in-Some.session _ keys c.in-Some.is h))
+returns-in-Ok-clause-keeps g c = λ drawn written. on_look _ drawn written c.args.self.now.session _ _ _ _ c.read.ensures.looks.image c.read.ensures.looks.time (λ told keys kept h. c.read.ensures.listed told keys (listed_some _ c.in-Some.session _ keys c.in-Some.is h))
 
 pub returns-in-Err-Range-clause-keeps : goal.returns-in-Err-Range-clause-keeps
-returns-in-Err-Range-clause-keeps g c = λ drawn written. on_look _ drawn written c.args.self.now.session _ _ _ _ c.read.ensures.looks.image c.read.ensures.looks.time (λ told keys kept h. listed_read c.in-Some.session c.read.new.self _ _ keys c.read.ensures.same.0 c.read.ensures.same.3 (λ device contents holds. (c.read.ensures.array told device contents holds).0) (listed_some _ c.in-Some.session _ keys c.in-Some.is h))
+returns-in-Err-Range-clause-keeps g c = λ drawn written. on_look _ drawn written c.args.self.now.session _ _ _ _ c.read.ensures.looks.image c.read.ensures.looks.time (λ told keys kept h. c.read.ensures.listed told keys (listed_some _ c.in-Some.session _ keys c.in-Some.is h))
 
 pub returns-in-Err-BadRecord-clause-keeps : goal.returns-in-Err-BadRecord-clause-keeps
 returns-in-Err-BadRecord-clause-keeps g c = λ drawn written. on_look _ drawn written c.args.self.now.session _ _ _ _ c.read.ensures.looks.image c.read.ensures.looks.time (λ told keys kept h. tt)
@@ -79,18 +79,18 @@ pub returns-in-Err-PlatformFault-clause-keeps : goal.returns-in-Err-PlatformFaul
 returns-in-Err-PlatformFault-clause-keeps g c = λ drawn written. on_look _ drawn written c.args.self.now.session _ _ _ _ c.read.ensures.looks.image c.read.ensures.looks.time (λ told keys kept h. tt)
 
 pub returns-in-Ok-clause-after : goal.returns-in-Ok-clause-after
-returns-in-Ok-clause-after g c = after_looked _ _ _ _ _ _ _ c.read.ensures.looks c.in-Ok.ensures.open
-    (λ told. mounted_still _ c.in-Some.session _ _ _ c.in-Some.is (c.requires.mounted told) c.read.ensures.same.0 (c.read.ensures.looks.time told) (c.read.ensures.follows told))
+returns-in-Ok-clause-after g c = after_looked _ _ _ _ _ _ _ c.read.ensures.looks c.in-Ok.ensures.goes_on.is_open
+    (λ told. mounted_still _ c.in-Some.session _ _ _ c.in-Some.is (c.requires.mounted told) c.read.ensures.goes_on.root (c.read.ensures.looks.time told) (c.read.ensures.goes_on.follows told))
     (search rules) (search rules) (search rules)
 
 pub returns-in-Ok-clause-enough : goal.returns-in-Ok-clause-enough
 returns-in-Ok-clause-enough g c updates enough =
     subst (λ (r : Reply). AreEnough (Some c.read.new.self) (updates_after r updates)) (sym c.reply_with_content.ensures.value)
-    (enough_kept c.args.self.now.session c.in-Some.session c.read.new.self updates c.in-Some.is (needed_read c.in-Some.session c.read.new.self c.in-Ok.ensures.same.3) enough)
+    (enough_kept c.args.self.now.session c.in-Some.session c.read.new.self updates c.in-Some.is (needed_read c.in-Some.session c.read.new.self c.in-Ok.ensures.same.2) enough)
 
 pub returns-in-Err-Range-clause-enough : goal.returns-in-Err-Range-clause-enough
 returns-in-Err-Range-clause-enough g c updates enough =
-    enough_kept c.args.self.now.session c.in-Some.session c.read.new.self updates c.in-Some.is (needed_read c.in-Some.session c.read.new.self c.read.ensures.same.3) enough
+    enough_kept c.args.self.now.session c.in-Some.session c.read.new.self updates c.in-Some.is (needed_read c.in-Some.session c.read.new.self c.read.ensures.same.2) enough
 
 -- what is named is a place of the tree below the root record in the cell
 pub returns-in-Err-BadRecord-clause-damage : goal.returns-in-Err-BadRecord-clause-damage
@@ -122,7 +122,7 @@ returns-in-Ok-clause-looks g c told before warm look =
     let low = open_there c.args.self.now.session c.in-Some.session (P.head c.args.platform.now) c.in-Some.is c.requires.ready in
     let there = warm_there c.args.self.now.session c.in-Some.session before c.in-Some.is warm in (
       read_cost P c.args.block c.args.platform.now c.read.new.platform c.in-Some.session c.read.new.self _ before told low there c.in-Ok.ensures.reads,
-      λ done. warm_after P c.args.block c.args.platform.now c.read.new.platform c.in-Some.session c.read.new.self before told c.in-Ok.ensures.open.level there c.in-Ok.ensures.reads,
+      λ done. warm_after P c.args.block c.args.platform.now c.read.new.platform c.in-Some.session c.read.new.self before told c.in-Ok.ensures.goes_on.is_open.level there c.in-Ok.ensures.goes_on.capacity c.in-Ok.ensures.reads,
     )
 
 pub returns-in-Err-Range-clause-looks : goal.returns-in-Err-Range-clause-looks
@@ -132,7 +132,7 @@ returns-in-Err-Range-clause-looks g c told before warm look =
     let there = warm_there c.args.self.now.session c.in-Some.session before c.in-Some.is warm in
     let past = rw c.in-Err-Range.field-0-is at c.in-Err-Range.ensures.cause in (
       read_cost P c.args.block c.args.platform.now c.read.new.platform c.in-Some.session c.read.new.self _ before told low there c.in-Err-Range.ensures.reads,
-      λ done. (omega (arith, c.read.ensures.reads.capacity, has_room c.in-Some.session before there), λ within. absurd (omega (arith, within, past, ap (λ (root : Root). root.blocks) c.read.ensures.same.0))),
+      λ done. (omega (arith, c.read.ensures.goes_on.capacity, has_room c.in-Some.session before there), λ within. absurd (omega (arith, within, past, ap (λ (root : Root). root.blocks) c.read.ensures.goes_on.root))),
     )
 
 pub returns-in-Err-BadRecord-clause-looks : goal.returns-in-Err-BadRecord-clause-looks

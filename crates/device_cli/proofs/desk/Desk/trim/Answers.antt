@@ -32,8 +32,8 @@ returns-in-Ok-clause-answered g c told entry rep =
     with_session old c.in-Some.session entry taken rep (λ state. Serves old new state (Trim c.args.block) (Ok replies.Done))
     (λ d t holds touched.
     let within : c.args.block < d.blocks = subst (λ (n : ℕ). c.args.block < n) holds.stands.blocks c.in-Ok.ensures.cause in
-    let after = has_session new c.trim.new.self d (unmapped t c.args.block) refl (c.in-Ok.ensures.array told d t.contents holds).0
-    ((c.in-Ok.ensures.array told d t.contents holds).1 ∙ ap (λ (b : Bool). b || contains_key t.contents c.args.block) touched) in
+    let after = has_session new c.trim.new.self d (unmapped t c.args.block) refl (c.in-Ok.ensures.array told d t.contents holds).array.0
+    ((c.in-Ok.ensures.array told d t.contents holds).array.1 ∙ ap (λ (b : Bool). b || contains_key t.contents c.args.block) touched) in
     serves_still old new (at d t) (at d (unmapped t c.args.block)) (Trim c.args.block) replies.Done (has_session old c.in-Some.session d t taken holds touched)
     (gives_trimmed (is_full old (Trim c.args.block)) d t c.args.block within) after (c.trim.ensures.looks.time told))
 
@@ -41,14 +41,14 @@ pub returns-in-Err-Range-clause-answered : goal.returns-in-Err-Range-clause-answ
 returns-in-Err-Range-clause-answered g c told entry rep =
     let P = g.P.Platform in
     let old = world_of P c.args.self.now.session c.args.platform.now in
-    serves_range old (world_of P (Some c.trim.new.self) c.trim.new.platform) c.in-Some.session c.trim.new.self entry (Trim c.args.block) c.args.block c.in-Some.is refl rep (λ d t holds. (rw c.in-Err-Range.field-0-is at c.in-Err-Range.ensures.array) told d t.contents holds) c.in-Err-Range.ensures.same.1
+    serves_range old (world_of P (Some c.trim.new.self) c.trim.new.platform) c.in-Some.session c.trim.new.self entry (Trim c.args.block) c.args.block c.in-Some.is refl rep (λ d t holds. ((rw c.in-Err-Range.field-0-is at c.in-Err-Range.ensures.array) told d t.contents holds).array) c.in-Err-Range.ensures.updates.touched_still
     (rw c.in-Err-Range.field-0-is at c.in-Err-Range.ensures.cause) (λ d t past. gives_trim_range (is_full old (Trim c.args.block)) d t c.args.block past) (c.trim.ensures.looks.time told)
 
 pub returns-in-Err-BadRecord-clause-answered : goal.returns-in-Err-BadRecord-clause-answered
 returns-in-Err-BadRecord-clause-answered g c told entry rep =
     let P = g.P.Platform in
     serves_damaged (world_of P c.args.self.now.session c.args.platform.now) (world_of P (Some c.trim.new.self) c.trim.new.platform) c.in-Some.session entry (Trim c.args.block) c.in-Err-BadRecord.addr c.in-Some.is rep
-    (λ d t holds. (rw c.in-Err-BadRecord.field-0-is at c.in-Err-BadRecord.ensures.array) told d t.contents holds)
+    (λ d t holds. ((rw c.in-Err-BadRecord.field-0-is at c.in-Err-BadRecord.ensures.array) told d t.contents holds).array)
 
 pub returns-in-Err-PlatformFault-clause-answered : goal.returns-in-Err-PlatformFault-clause-answered
 returns-in-Err-PlatformFault-clause-answered g c told entry rep =
@@ -79,17 +79,17 @@ pub returns-in-Err-PlatformFault-clause-keeps : goal.returns-in-Err-PlatformFaul
 returns-in-Err-PlatformFault-clause-keeps g c = λ drawn written. on_look _ drawn written c.args.self.now.session _ _ _ _ c.trim.ensures.looks.image c.trim.ensures.looks.time (λ told keys kept h. tt)
 
 pub returns-in-Ok-clause-after : goal.returns-in-Ok-clause-after
-returns-in-Ok-clause-after g c = after_looked _ _ _ _ _ _ _ c.trim.ensures.looks c.in-Ok.ensures.open
-    (λ told. mounted_still _ c.in-Some.session _ _ _ c.in-Some.is (c.requires.mounted told) c.trim.ensures.same.0 (c.trim.ensures.looks.time told) (c.trim.ensures.follows told))
+returns-in-Ok-clause-after g c = after_looked _ _ _ _ _ _ _ c.trim.ensures.looks c.in-Ok.ensures.goes_on.is_open
+    (λ told. mounted_still _ c.in-Some.session _ _ _ c.in-Some.is (c.requires.mounted told) c.trim.ensures.goes_on.root (c.trim.ensures.looks.time told) (c.trim.ensures.goes_on.follows told))
     (search rules) (search rules) (λ e. cc)
 
 pub returns-in-Ok-clause-enough : goal.returns-in-Ok-clause-enough
 returns-in-Ok-clause-enough g c updates enough =
-    enough_more c.args.self.now.session c.in-Some.session c.trim.new.self updates c.in-Some.is c.trim.ensures.needs.0 enough
+    enough_more c.args.self.now.session c.in-Some.session c.trim.new.self updates c.in-Some.is c.trim.ensures.updates.needs enough
 
 pub returns-in-Err-Range-clause-enough : goal.returns-in-Err-Range-clause-enough
 returns-in-Err-Range-clause-enough g c updates enough =
-    enough_kept c.args.self.now.session c.in-Some.session c.trim.new.self updates c.in-Some.is c.in-Err-Range.ensures.needs.1 enough
+    enough_kept c.args.self.now.session c.in-Some.session c.trim.new.self updates c.in-Some.is c.in-Err-Range.ensures.updates.needs_still enough
 
 -- what is named is a wrong page below the root record in the cell
 pub returns-in-Err-BadRecord-clause-damage : goal.returns-in-Err-BadRecord-clause-damage
@@ -98,4 +98,4 @@ returns-in-Err-BadRecord-clause-damage g c told addr is =
     let named : refusals.BadRecord c.in-Err-BadRecord.addr ≡ refusals.BadRecord addr = cc in
     wrong_page c.args.self.now.session c.in-Some.session (P.head c.args.platform.now) addr (P.history c.args.platform.now) (P.history c.trim.new.platform) c.in-Some.is (rw c.in-Some.is at c.requires.ready)
     (c.requires.mounted told) (c.trim.ensures.looks.time told)
-    (λ follows. ((rw c.in-Err-BadRecord.field-0-is at c.in-Err-BadRecord.ensures.damaged) told follows addr (ap Err named)).1)
+    (λ follows. (((rw c.in-Err-BadRecord.field-0-is at c.in-Err-BadRecord.ensures.damaged) told addr (ap Err named)).damage follows).1)

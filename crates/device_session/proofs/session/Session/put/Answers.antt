@@ -1,25 +1,29 @@
-use Rattle.std.proofs.Common.{◌≡◌, ◌∙◌, ◌⊎◌, inl, inr, ℕ, [], ◌∷◌, ◌++◌, ◌+◌, ◌-◌, ◌<◌, ◌≤◌, ◌^◌, Bool, true, false, List, IsTrue, refl, sym, ap, subst, arith}
-use Rattle.std.specs.Prelude.{Contains, Some}
-use Rattle.std.specs.Bool.{OnTrue, OnFalse}
+use Rattle.std.proofs.Common.{◌≡◌, ◌∙◌, ℕ, [], ◌∷◌, ◌++◌, ◌+◌, ◌<◌, ◌≤◌, List, IsTrue, refl, sym, ap, subst, arith}
+use Rattle.std.specs.Prelude.{Contains, Some, Err}
+use Rattle.sdbt_base.specs.declared.lists.Unkept.{Unkept}
+use Rattle.std.specs.Bool.{OnFalse}
 use Rattle.std.specs.FinMap as maps
 use Rattle.sdbt_base.specs.Arrays.{Device, Blocks, padded}
-use Rattle.platform.specs.Image.{Image, with_page}
-use Rattle.platform.proofs.Moments.{Extends-earlier, whole-now}
+use Rattle.platform.specs.Image.{with_page}
+use Rattle.platform.proofs.Moments.{Extends-earlier, During-step, whole-now}
 use Rattle.seal_record.specs.Sealing.{masked}
 use Rattle.node_codec.specs.Record.{DataRecord, record_bytes}
 use Rattle.page_store.specs.Buffer.{Held}
 use Rattle.page_store.specs.Keeping.{KeepsKeys, IsNextRecord}
 use Rattle.page_store.proofs.KeepingLaws.{keeps_from}
-use Rattle.btree_update.specs.declared.groves.Grove.{Grove}
-use Rattle.btree_update.specs.Groves.{CanInsert, CanRemove, places_of}
-use Rattle.btree_twigs.specs.Stubs.{Stub, datum}
+use Rattle.btree_update.specs.Groves.{CanInsert, CanRemove, places_of, grown_in}
+use Rattle.btree_twigs.specs.Stubs.{datum}
 use Rattle.grove_accounts.specs.Holding.{Arrives, IsSameSize}
 use Rattle.device_session.specs.Sessions.{Session}
-use Rattle.device_session.specs.Open.{IsOpen, AreDataPages}
+use Rattle.device_session.specs.declared.refusals.WriteRefusal.{WriteRefusal}
+use Rattle.device_session.specs.Changes.{WriteGrows}
+use Rattle.device_session.specs.Going.{GoesOn, Updates}
+use Rattle.device_session.specs.Open.{IsOpen, AreDataPages, needed_by}
+use Rattle.device_session.proofs.GoingLaws.{updates_none}
 use Rattle.device_session.specs.Holds.{Holds}
 use Rattle.device_session.specs.Keys.{HoldsListed}
 use Rattle.device_session.specs.Ready.{IsReadyFor, counted_with}
-use Rattle.device_session.proofs.InsertLaws.{IsInsertion, Inserts, with_inserted, arrived, padded_bytes, later_holds, later_listed, later_open, inserted_open, inserted_holds, inserted_listed, inserted_pages, below_more, level_stays, count_few, at_false, more_listed}
+use Rattle.device_session.proofs.InsertLaws.{IsInsertion, with_inserted, arrived, padded_bytes, later_holds, later_listed, later_open, inserted_open, inserted_holds, inserted_listed, inserted_pages, below_more, level_stays, count_few, at_false, more_listed}
 use Rattle.device_session.specs.Damage.{Follows, HasRoom}
 use Rattle.device_session.proofs.DamageLaws.{follows_later, follows_inserted}
 use Rattle.device_session.specs.contracts.session.Session.{the_view}
@@ -89,24 +93,66 @@ still_follows g c told f =
     follows_later (the_view c.self.inside) c.append.new.self (g.P.Platform.history c.args.platform.now).present _ (g.P.Platform.head c.args.platform.now) (is_open g c) (sym (g.met.P.Platform.counts_pages told c.args.platform.now))
     (whole-now (g.P.Platform.history c.args.platform.now)) (Extends-earlier _ _ (c.append.ensures.time told).extends) (subst (λ (s : Session). Follows s (g.P.Platform.history c.args.platform.now).present) (sym c.self.view_is) f)
 
-pub returns-in-Err-TapeFault-clause-array : goal.returns-in-Err-TapeFault-clause-array
-returns-in-Err-TapeFault-clause-array g c = λ told device contents h r.
+-- an append that failed leaves the array and the pages
+still_array : (g : Over) (c : After-append g) → g.P.Platform.tells → (device : Device) (contents : Blocks) → Holds c.args.self.now (g.P.Platform.history c.args.platform.now).present device contents → Holds (record (the_view c.self.inside) { buffers = c.append.new.self }) (g.P.Platform.history c.append.new.platform).present device contents
+still_array g c told device contents h =
     later_holds (the_view c.self.inside) c.append.new.self _ _ device contents (whole-now (g.P.Platform.history c.args.platform.now)) (Extends-earlier _ _ (c.append.ensures.time told).extends) (c.append.ensures.cell told)
     (subst (λ (s : Session). Holds s (g.P.Platform.history c.args.platform.now).present device contents) (sym c.self.view_is) h)
+
+still_pages : (g : Over) (c : After-append g) (pages : List Unkept) → AreDataPages c.args.self.now pages → AreDataPages (the_view c.self.inside) pages
+still_pages g c pages are = subst (λ (s : Session). AreDataPages s pages) (sym c.self.view_is) are
+
+pub returns-in-Err-TapeFault-clause-array : goal.returns-in-Err-TapeFault-clause-array
+returns-in-Err-TapeFault-clause-array g c = λ told device contents h r.
+    let at = (goal.at.returns-in-Err-TapeFault-clause-array g c).After-append in
+    record { array = still_array g at told device contents h; pages = λ pages are. (still_pages g at pages are, tt) }
 
 pub returns-in-Err-PlatformFault-clause-array : goal.returns-in-Err-PlatformFault-clause-array
 returns-in-Err-PlatformFault-clause-array g c = λ told device contents h r.
-    later_holds (the_view c.self.inside) c.append.new.self _ _ device contents (whole-now (g.P.Platform.history c.args.platform.now)) (Extends-earlier _ _ (c.append.ensures.time told).extends) (c.append.ensures.cell told)
-    (subst (λ (s : Session). Holds s (g.P.Platform.history c.args.platform.now).present device contents) (sym c.self.view_is) h)
+    let at = (goal.at.returns-in-Err-PlatformFault-clause-array g c).After-append in
+    record { array = still_array g at told device contents h; pages = λ pages are. (still_pages g at pages are, tt) }
 
-pub returns-in-Err-PlatformFault-clause-follows : goal.returns-in-Err-PlatformFault-clause-follows
-returns-in-Err-PlatformFault-clause-follows g c = λ told f r. still_follows g (goal.at.returns-in-Err-PlatformFault-clause-follows g c).After-append told f
+still_goes_on : (g : Over) (c : After-append g) → GoesOn (g.P.Platform.tells × IsReadyFor (g.P.Platform.history c.args.platform.now).present.readable c.args.block c.args.self.now.grove c.args.is_mapped) (g.P.Platform.history c.args.platform.now).present
+    (g.P.Platform.history c.append.new.platform).present (g.P.Platform.head c.append.new.platform) c.args.self.now (record (the_view c.self.inside) { buffers = c.append.new.self })
+still_goes_on g c = record {
+  follows = λ known f. still_follows g c known.0 f;
+  is_open = later_open (the_view c.self.inside) c.append.new.self _ _ c.append.ensures.head_rises (is_open g c);
+  root = ap (λ (s : Session). s.root) c.self.view_is;
+  capacity = ap (λ (s : Session). s.cache.capacity) c.self.view_is;
+}
 
-pub returns-in-Err-TapeFault-clause-follows : goal.returns-in-Err-TapeFault-clause-follows
-returns-in-Err-TapeFault-clause-follows g c = λ told f r. still_follows g (goal.at.returns-in-Err-TapeFault-clause-follows g c).After-append told f
+pub returns-in-Err-PlatformFault-clause-goes_on : goal.returns-in-Err-PlatformFault-clause-goes_on
+returns-in-Err-PlatformFault-clause-goes_on g c = still_goes_on g (goal.at.returns-in-Err-PlatformFault-clause-goes_on g c).After-append
 
-pub returns-in-Err-PlatformFault-clause-open : goal.returns-in-Err-PlatformFault-clause-open
-returns-in-Err-PlatformFault-clause-open g c = later_open (the_view c.self.inside) c.append.new.self _ _ c.append.ensures.head_rises (is_open g (goal.at.returns-in-Err-PlatformFault-clause-open g c).After-append)
+pub returns-in-Err-TapeFault-clause-goes_on : goal.returns-in-Err-TapeFault-clause-goes_on
+returns-in-Err-TapeFault-clause-goes_on g c = still_goes_on g (goal.at.returns-in-Err-TapeFault-clause-goes_on g c).After-append
+
+still_updates : (g : Over) (c : After-append g) (refusal : WriteRefusal) → Updates c.args.self.now (record (the_view c.self.inside) { buffers = c.append.new.self }) (Err refusal)
+still_updates g c refusal =
+    subst (λ (s : Session). Updates s (record (the_view c.self.inside) { buffers = c.append.new.self }) (Err refusal)) c.self.view_is (updates_none (the_view c.self.inside) (record (the_view c.self.inside) { buffers = c.append.new.self }) (Err refusal) refl refl)
+
+pub returns-in-Err-PlatformFault-clause-updates : goal.returns-in-Err-PlatformFault-clause-updates
+returns-in-Err-PlatformFault-clause-updates g c = still_updates g (goal.at.returns-in-Err-PlatformFault-clause-updates g c).After-append _
+
+pub returns-in-Err-TapeFault-clause-updates : goal.returns-in-Err-TapeFault-clause-updates
+returns-in-Err-TapeFault-clause-updates g c = still_updates g (goal.at.returns-in-Err-TapeFault-clause-updates g c).After-append _
+
+-- an append that was done or failed
+grows : (g : Over) (c : After-append g) → WriteGrows g.P.Platform g.T.Tape c.args.platform.now c.append.new.platform c.args.tape.now c.append.new.tape
+grows g c = record {
+  time = λ told. During-step _ _ (λ image. image.cell ≡ (g.P.Platform.history c.args.platform.now).present.cell) (c.append.ensures.time told) refl (c.append.ensures.cell told);
+  by_one = record { rises = c.append.ensures.head_rises; by_one = c.append.ensures.head_by_one; capacity = c.append.ensures.capacity; faults = c.append.ensures.platform_faults };
+  tape_faults = c.append.ensures.tape_faults;
+}
+
+pub returns-in-Err-PlatformFault-clause-grows : goal.returns-in-Err-PlatformFault-clause-grows
+returns-in-Err-PlatformFault-clause-grows g c = grows g (goal.at.returns-in-Err-PlatformFault-clause-grows g c).After-append
+
+pub returns-in-Err-TapeFault-clause-grows : goal.returns-in-Err-TapeFault-clause-grows
+returns-in-Err-TapeFault-clause-grows g c = grows g (goal.at.returns-in-Err-TapeFault-clause-grows g c).After-append
+
+pub returns-clause-grows : goal.returns-clause-grows
+returns-clause-grows g c = grows g (goal.at.returns-clause-grows g c).After-append
 
 -- an append that failed keeps the keys
 appends : (g : Over) (c : After-append g) (Done : List (List ℕ) → Type 0) → (g.P.Platform.tells → (keys more : List (List ℕ)) → HoldsListed (the_view c.self.inside) (g.P.Platform.history c.args.platform.now).present keys → IsReadyFor (g.P.Platform.history c.args.platform.now).present.readable c.args.block c.args.self.now.grove c.args.is_mapped →
@@ -134,22 +180,27 @@ returns-in-Err-PlatformFault-clause-keeps g c = appends g (goal.at.returns-in-Er
 pub returns-clause-array : goal.returns-clause-array
 returns-clause-array g c = λ told device contents h r.
     let at = goal.at.returns-clause-array g c in
+    let session = the_view c.self.inside in
+    let inserted = insertion g at.After-insert (arrives g at.In-Ok) told r in
     let k = subst (λ (s : Session). Holds s (g.P.Platform.history c.args.platform.now).present device contents) (sym c.self.view_is) h in
-    subst (λ n. Holds (with_inserted (the_view c.self.inside) c.insert.new.self n c.append.new.self) (g.P.Platform.history c.append.new.platform).present device (maps.insert contents c.args.block (padded c.args.content.now))) (sym c.count_with-self-inside.ensures)
-    (inserted_holds (the_view c.self.inside) _ _ device contents c.args.block c.in-Ok.placed.addr c.in-Ok.placed.key (padded c.args.content.now) c.args.is_mapped c.insert.new.self c.append.new.self (insertion g at.After-insert (arrives g at.In-Ok) told r) k)
+    let address : c.in-Ok.placed.addr ≡ g.P.Platform.head c.args.platform.now = c.in-Ok.ensures.address in
+    record {
+      array = subst (λ n. Holds (with_inserted session c.insert.new.self n c.append.new.self) (g.P.Platform.history c.append.new.platform).present device (maps.insert contents c.args.block (padded c.args.content.now))) (sym c.count_with-self-inside.ensures)
+          (inserted_holds session _ _ device contents c.args.block c.in-Ok.placed.addr c.in-Ok.placed.key (padded c.args.content.now) c.args.is_mapped c.insert.new.self c.append.new.self inserted k);
+      pages = λ pages are. (
+        tt,
+        subst (λ n. AreDataPages (with_inserted session c.insert.new.self (counted_with c.args.is_mapped c.self.inside.mapped) c.append.new.self) (pages ++ record { block = c.args.block; addr = n } ∷ [])) address
+            (inserted_pages session _ _ device contents c.args.block c.in-Ok.placed.addr c.in-Ok.placed.key (padded c.args.content.now) c.args.is_mapped c.insert.new.self c.append.new.self pages inserted k (still_pages g at.After-append pages are)),
+      );
+    }
 
-pub returns-clause-follows : goal.returns-clause-follows
+pub returns-clause-goes_on : goal.returns-clause-goes_on
 unfolding insertion
-returns-clause-follows g c = λ told f r.
-    let at = goal.at.returns-clause-follows g c in
-    let k = subst (λ (s : Session). Follows s (g.P.Platform.history c.args.platform.now).present) (sym c.self.view_is) f in
-    subst (λ n. Follows (with_inserted (the_view c.self.inside) c.insert.new.self n c.append.new.self) (g.P.Platform.history c.append.new.platform).present) (sym c.count_with-self-inside.ensures)
-    (follows_inserted (the_view c.self.inside) _ _ c.args.block c.in-Ok.placed.addr c.in-Ok.placed.key (padded c.args.content.now) c.args.is_mapped c.insert.new.self c.append.new.self (insertion g at.After-insert (arrives g at.In-Ok) told r)
-    (sym (g.met.P.Platform.counts_pages told c.args.platform.now)) (λ mapped content read maps there. c.insert.ensures.maps (g.P.Platform.history c.append.new.platform).present.readable mapped content read maps there) k)
-
-pub returns-clause-open : goal.returns-clause-open
-returns-clause-open g c =
-    let at = goal.at.returns-clause-open g c in
+returns-clause-goes_on g c =
+    let at = goal.at.returns-clause-goes_on g c in
+    let session = the_view c.self.inside in
+    let old = (g.P.Platform.history c.args.platform.now).present in
+    let new = (g.P.Platform.history c.append.new.platform).present in
     let head = g.P.Platform.head c.args.platform.now in
     let now = g.P.Platform.head c.append.new.platform in
     let o = is_open g at.After-append in
@@ -157,10 +208,28 @@ returns-clause-open g c =
     let below = c.insert.ensures.below now (below_more head now c.self.inside.grove (omega (arith, grown)) o.below) (omega (arith, c.in-Ok.ensures.address, grown)) in
     let limit = subst (λ (s : Session). OnFalse c.args.is_mapped (HasRoom s)) (sym c.self.view_is) c.requires.limit in
     let can = subst (λ (s : Session). CanInsert c.args.block s.grove × (IsTrue c.args.is_mapped → CanRemove c.args.block s.grove)) (sym c.self.view_is) c.requires.can in
-    subst (λ n. IsOpen (with_inserted (the_view c.self.inside) c.insert.new.self n c.append.new.self) now) (sym c.count_with-self-inside.ensures)
-    (inserted_open (the_view c.self.inside) c.insert.new.self (counted_with c.args.is_mapped c.self.inside.mapped) c.append.new.self head now (size g at.After-insert) c.insert.ensures.top
-    (level_stays c.args.is_mapped c.self.inside.grove.level c.insert.new.self.level (λ yes. c.insert.ensures.stays (can.1 yes)) c.insert.ensures.level (at_false c.args.is_mapped _ _ (λ l. l.1) limit) o.level)
-    below (count_few c.args.is_mapped c.self.inside.mapped c.self.inside.root.blocks (at_false c.args.is_mapped _ _ (λ l. l.0) limit) o.mapped) (omega (arith, grown)) o)
+    record {
+      follows = λ known f.
+          let k = subst (λ (s : Session). Follows s old) (sym c.self.view_is) f in
+          subst (λ n. Follows (with_inserted session c.insert.new.self n c.append.new.self) new) (sym c.count_with-self-inside.ensures)
+          (follows_inserted session _ _ c.args.block c.in-Ok.placed.addr c.in-Ok.placed.key (padded c.args.content.now) c.args.is_mapped c.insert.new.self c.append.new.self (insertion g at.After-insert (arrives g at.In-Ok) known.0 known.1)
+          (sym (g.met.P.Platform.counts_pages known.0 c.args.platform.now)) (λ mapped content read maps there. c.insert.ensures.maps new.readable mapped content read maps there) k);
+      is_open = subst (λ n. IsOpen (with_inserted session c.insert.new.self n c.append.new.self) now) (sym c.count_with-self-inside.ensures)
+          (inserted_open session c.insert.new.self (counted_with c.args.is_mapped c.self.inside.mapped) c.append.new.self head now (size g at.After-insert) c.insert.ensures.top
+          (level_stays c.args.is_mapped c.self.inside.grove.level c.insert.new.self.level (λ yes. c.insert.ensures.level.stays (can.1 yes)) c.insert.ensures.level.rises (at_false c.args.is_mapped _ _ (λ l. l.1) limit) o.level)
+          below (count_few c.args.is_mapped c.self.inside.mapped c.self.inside.root.blocks (at_false c.args.is_mapped _ _ (λ l. l.0) limit) o.mapped) (omega (arith, grown)) o);
+      root = ap (λ (s : Session). s.root) c.self.view_is;
+      capacity = ap (λ (s : Session). s.cache.capacity) c.self.view_is;
+    }
+
+pub returns-clause-updates : goal.returns-clause-updates
+returns-clause-updates g c =
+    let o = is_open g (goal.at.returns-clause-updates g c).After-append in
+    record {
+      needs = subst (λ (s : Session). grown_in c.insert.new.self ≤ needed_by s + 41) c.self.view_is (let grown = c.insert.ensures.grown in let low = o.level in omega (arith, grown, low));
+      needs_still = tt;
+      touched_still = tt;
+    }
 
 pub returns-clause-keeps : goal.returns-clause-keeps
 returns-clause-keeps g c =
@@ -185,15 +254,4 @@ returns-clause-adds g c =
         drew = c.in-Ok.ensures.drew;
         place = subst (λ n. Contains (places_of c.insert.new.self) (datum c.args.block n c.in-Ok.placed.key)) address c.insert.ensures.has;
       },
-    )
-
-pub returns-clause-pages : goal.returns-clause-pages
-returns-clause-pages g c = λ told device contents h r pages are.
-    let at = goal.at.returns-clause-pages g c in
-    let k = subst (λ (s : Session). Holds s (g.P.Platform.history c.args.platform.now).present device contents) (sym c.self.view_is) h in
-    let were = subst (λ (s : Session). AreDataPages s pages) (sym c.self.view_is) are in
-    let address : c.in-Ok.placed.addr ≡ g.P.Platform.head c.args.platform.now = c.in-Ok.ensures.address in (
-      tt,
-      subst (λ n. AreDataPages (with_inserted (the_view c.self.inside) c.insert.new.self (counted_with c.args.is_mapped c.self.inside.mapped) c.append.new.self) (pages ++ record { block = c.args.block; addr = n } ∷ [])) address
-          (inserted_pages (the_view c.self.inside) _ _ device contents c.args.block c.in-Ok.placed.addr c.in-Ok.placed.key (padded c.args.content.now) c.args.is_mapped c.insert.new.self c.append.new.self pages (insertion g at.After-insert (arrives g at.In-Ok) told r) k were),
     )

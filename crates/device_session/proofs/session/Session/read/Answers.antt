@@ -1,8 +1,7 @@
-use Rattle.std.proofs.Common.{◌≡◌, ◌∙◌, ◌<◌, ◌≤◌, ◌^◌, ℕ, List, None, Some, inl, inr, refl, ap, sym, subst, arith}
-use Rattle.std.specs.Prelude.{replicate, OnOk}
+use Rattle.std.proofs.Common.{◌≡◌, ◌∙◌, ◌<◌, ℕ, None, Some, inl, inr, ap, sym, subst, arith}
+use Rattle.std.specs.Prelude.{replicate}
 use Rattle.sdbt_base.specs.Arrays.{Device, Blocks}
 use Rattle.platform.specs.Image.{Image}
-use Rattle.node_codec.specs.declared.body.Entry.{Entry}
 use Rattle.node_codec.specs.Record.{DataRecord}
 use Rattle.page_store.specs.Places.{FitsAt, NothingFits, block_want}
 use Rattle.btree_walk.specs.Mapped.{IsMappedAs}
@@ -10,10 +9,14 @@ use Rattle.btree_walk.specs.Sights.{StandsOver}
 use Rattle.btree_update.specs.Finding.{GroveFinds, GroveStops}
 use Rattle.device_session.specs.Sessions.{Session}
 use Rattle.device_session.specs.Holds.{Holds}
-use Rattle.device_session.proofs.ReadLaws.{IsArray, held_array, holds_looked, content_none, entry_read, entry_fits}
+use Rattle.device_session.proofs.ReadLaws.{held_array, holds_looked, content_none, entry_read, entry_fits}
 use Rattle.device_session.proofs.CostLaws.{few_none, few_found}
-use Rattle.device_session.specs.Damage.{Follows}
-use Rattle.device_session.proofs.DamageLaws.{follows_looked, misfit_wrong}
+use Rattle.page_store.specs.Buffer.{Held}
+use Rattle.device_session.specs.Going.{GoesOn}
+use Rattle.device_session.specs.Keys.{StaysListed}
+use Rattle.device_session.proofs.DamageLaws.{misfit_wrong}
+use Rattle.device_session.proofs.GoingLaws.{goes_start, goes_looked}
+use Rattle.device_session.proofs.KeyLaws.{listed_looked}
 use Rattle.device_session.specs.contracts.session.Session.{the_view}
 use Rattle.device_session.proofs.session.Session.read.Given.{Over}
 use Rattle.device_session.proofs.session.Session.read.Goals.{After-find, In-Some}
@@ -26,8 +29,15 @@ held g c device contents h = subst (λ (s : Session). Holds s (g.P.Platform.hist
 cached : (g : Over) (c : After-find g) → StandsOver (g.P.Platform.history c.args.platform.now).present.readable c.args.self.now.cache → StandsOver (g.P.Platform.history c.args.platform.now).present.readable (the_view c.self.inside).cache
 cached g c h = subst (λ (s : Session). StandsOver (g.P.Platform.history c.args.platform.now).present.readable s.cache) (sym c.self.view_is) h
 
-followed : (g : Over) (c : After-find g) → Follows c.args.self.now (g.P.Platform.history c.args.platform.now).present → Follows (the_view c.self.inside) (g.P.Platform.history c.args.platform.now).present
-followed g c f = subst (λ (s : Session). Follows s (g.P.Platform.history c.args.platform.now).present) (sym c.self.view_is) f
+-- what a look leaves
+goes : (g : Over) (c : After-find g) (buffers : Held) (after : Image) (pages : ℕ) → (g.P.Platform.tells → after ≡ (g.P.Platform.history c.args.platform.now).present) → pages ≡ g.P.Platform.head c.args.platform.now →
+    GoesOn g.P.Platform.tells (g.P.Platform.history c.args.platform.now).present after pages c.args.self.now (record (the_view c.self.inside) { cache = c.find.new.cache; buffers = buffers })
+goes g c buffers after pages still head =
+    goes_looked g.P.Platform.tells (g.P.Platform.history c.args.platform.now).present after (g.P.Platform.head c.args.platform.now) pages c.args.self.now (the_view c.self.inside) c.find.new.cache buffers c.self.view_is still head c.find.ensures.caches.stands c.find.ensures.caches.capacity c.requires.open
+
+listed : (g : Over) (c : After-find g) (buffers : Held) (after : Image) → g.P.Platform.tells → after ≡ (g.P.Platform.history c.args.platform.now).present →
+    StaysListed (g.P.Platform.history c.args.platform.now).present after c.args.self.now (record (the_view c.self.inside) { cache = c.find.new.cache; buffers = buffers })
+listed g c buffers after told still = listed_looked c.args.self.now (the_view c.self.inside) c.find.new.cache buffers (g.P.Platform.history c.args.platform.now).present after c.self.view_is still (c.find.ensures.caches.stands told) (c.find.ensures.caches.among told)
 
 pub returns-in-Err-BadRecord-clause-array : goal.returns-in-Err-BadRecord-clause-array
 returns-in-Err-BadRecord-clause-array g c = λ told device contents h.
@@ -35,17 +45,9 @@ returns-in-Err-BadRecord-clause-array g c = λ told device contents h.
     let a = held_array (the_view c.self.inside) (g.P.Platform.history c.args.platform.now).present device contents k in
     absurd (c.find.ensures.fits told k.cached a.mapped a.maps_are c.in-Err-BadRecord.addr (cc))
 
-pub returns-in-Err-BadRecord-clause-follows : goal.returns-in-Err-BadRecord-clause-follows
-returns-in-Err-BadRecord-clause-follows g c = λ told f.
-    follows_looked (the_view c.self.inside) c.find.new.cache c.find.new.buf _ _ (c.find.ensures.looks.image told) (c.find.ensures.stands told) (followed g (goal.at.returns-in-Err-BadRecord-clause-follows g c).After-find f)
-
 pub returns-in-Err-PlatformFault-clause-array : goal.returns-in-Err-PlatformFault-clause-array
 returns-in-Err-PlatformFault-clause-array g c = λ told device contents h.
-    (holds_looked (the_view c.self.inside) c.find.new.cache c.find.new.buf _ _ device contents (c.find.ensures.looks.image told) (c.find.ensures.stands told) (c.find.ensures.among told) (held g (goal.at.returns-in-Err-PlatformFault-clause-array g c).After-find device contents h), tt)
-
-pub returns-in-Err-PlatformFault-clause-follows : goal.returns-in-Err-PlatformFault-clause-follows
-returns-in-Err-PlatformFault-clause-follows g c = λ told f.
-    follows_looked (the_view c.self.inside) c.find.new.cache c.find.new.buf _ _ (c.find.ensures.looks.image told) (c.find.ensures.stands told) (followed g (goal.at.returns-in-Err-PlatformFault-clause-follows g c).After-find f)
+    (holds_looked (the_view c.self.inside) c.find.new.cache c.find.new.buf _ _ device contents (c.find.ensures.looks.image told) (c.find.ensures.caches.stands told) (c.find.ensures.caches.among told) (held g (goal.at.returns-in-Err-PlatformFault-clause-array g c).After-find device contents h), tt)
 
 pub returns-in-Err-BadRecord-clause-misfit : goal.returns-in-Err-BadRecord-clause-misfit
 returns-in-Err-BadRecord-clause-misfit g c = λ told h addr is.
@@ -58,13 +60,9 @@ returns-in_default-clause-array g c = λ told device contents h.
     let k = held g (goal.at.returns-in_default-clause-array g c).After-find device contents h in
     let a = held_array (the_view c.self.inside) (g.P.Platform.history c.args.platform.now).present device contents k in
     let none = subst (IsMappedAs a.mapped c.args.block) c.in_default.is (c.in-Ok.ensures.maps told k.cached a.mapped a.maps_are) in (
-      holds_looked (the_view c.self.inside) c.find.new.cache c.find.new.buf _ _ device contents (c.find.ensures.looks.image told) (c.find.ensures.stands told) (c.find.ensures.among told) k,
+      holds_looked (the_view c.self.inside) c.find.new.cache c.find.new.buf _ _ device contents (c.find.ensures.looks.image told) (c.find.ensures.caches.stands told) (c.find.ensures.caches.among told) k,
       c.fill.ensures.after (λ y same. same) ∙ ap (λ (n : ℕ). replicate n 0) c.requires.size ∙ sym (content_none a.mapped contents c.args.block a.contents_are none),
     )
-
-pub returns-in_default-clause-follows : goal.returns-in_default-clause-follows
-returns-in_default-clause-follows g c = λ told f.
-    follows_looked (the_view c.self.inside) c.find.new.cache c.find.new.buf _ _ (c.find.ensures.looks.image told) (c.find.ensures.stands told) (followed g (goal.at.returns-in_default-clause-follows g c).After-find f)
 
 pub returns-in_default-clause-finds : goal.returns-in_default-clause-finds
 returns-in_default-clause-finds g c = λ told h.
@@ -96,13 +94,9 @@ returns-clause-array g c = λ told device contents h.
     let some = subst (IsMappedAs a.mapped c.args.block) c.in-Some.is (c.in-Ok.ensures.maps told k.cached a.mapped a.maps_are) in
     let small = (rw c.in-Some.is at c.in-Ok.ensures.entry).1 in
     let there = subst (λ (i : Image). FitsAt i.readable (block_want c.in-Some.entry.addr c.args.block) c.in-Some.entry.key (DataRecord c.args.block c.read_block.new.out)) (c.find.ensures.looks.image told) (c.in-Ok-read_block.ensures.fits told) in (
-      holds_looked (the_view c.self.inside) c.find.new.cache c.read_block.new.buffers old.present (g.P.Platform.history c.read_block.new.platform).present device contents (c.read_block.ensures.looks.image told ∙ c.find.ensures.looks.image told) (c.find.ensures.stands told) (c.find.ensures.among told) k,
+      holds_looked (the_view c.self.inside) c.find.new.cache c.read_block.new.buffers old.present (g.P.Platform.history c.read_block.new.platform).present device contents (c.read_block.ensures.looks.image told ∙ c.find.ensures.looks.image told) (c.find.ensures.caches.stands told) (c.find.ensures.caches.among told) k,
       entry_read old.present (the_view c.self.inside).grove contents c.args.block c.in-Some.entry c.read_block.new.out a some (omega (arith, small, g.met.P.Platform.has_room c.args.platform.now, g.met.P.Platform.is_limited c.args.platform.now)) there.0,
     )
-
-pub returns-clause-follows : goal.returns-clause-follows
-returns-clause-follows g c = λ told f.
-    follows_looked (the_view c.self.inside) c.find.new.cache c.read_block.new.buffers _ _ (c.read_block.ensures.looks.image told ∙ c.find.ensures.looks.image told) (c.find.ensures.stands told) (followed g (goal.at.returns-clause-follows g c).After-find f)
 
 pub returns-clause-finds : goal.returns-clause-finds
 returns-clause-finds g c = λ told h. record {
@@ -121,10 +115,6 @@ returns-in-Err-BadRecord-read_block-clause-array g c = λ told device contents h
     let nothing = subst (λ (i : Image). NothingFits i.readable (block_want c.in-Some.entry.addr c.args.block) c.in-Some.entry.key) (c.find.ensures.looks.image told) (c.read_block.ensures.nothing_fits told c.in-Err-BadRecord-read_block.field-0-0 (cc)) in
     absurd (entry_fits old.present (the_view c.self.inside).grove contents c.args.block c.in-Some.entry a some nothing)
 
-pub returns-in-Err-BadRecord-read_block-clause-follows : goal.returns-in-Err-BadRecord-read_block-clause-follows
-returns-in-Err-BadRecord-read_block-clause-follows g c = λ told f.
-    follows_looked (the_view c.self.inside) c.find.new.cache c.read_block.new.buffers _ _ (c.read_block.ensures.looks.image told ∙ c.find.ensures.looks.image told) (c.find.ensures.stands told) (followed g (goal.at.returns-in-Err-BadRecord-read_block-clause-follows g c).After-find f)
-
 pub returns-in-Err-BadRecord-read_block-clause-misfit : goal.returns-in-Err-BadRecord-read_block-clause-misfit
 returns-in-Err-BadRecord-read_block-clause-misfit g c = λ told h addr is.
     let named : addr ≡ c.in-Some.entry.addr = let same : c.in-Some.entry.addr ≡ addr = cc in sym same in
@@ -134,11 +124,7 @@ returns-in-Err-BadRecord-read_block-clause-misfit g c = λ told h addr is.
 pub returns-in-Err-PlatformFault-read_block-clause-array : goal.returns-in-Err-PlatformFault-read_block-clause-array
 returns-in-Err-PlatformFault-read_block-clause-array g c = λ told device contents h.
     let k = held g (goal.at.returns-in-Err-PlatformFault-read_block-clause-array g c).After-find device contents h in
-    (holds_looked (the_view c.self.inside) c.find.new.cache c.read_block.new.buffers _ _ device contents (c.read_block.ensures.looks.image told ∙ c.find.ensures.looks.image told) (c.find.ensures.stands told) (c.find.ensures.among told) k, tt)
-
-pub returns-in-Err-PlatformFault-read_block-clause-follows : goal.returns-in-Err-PlatformFault-read_block-clause-follows
-returns-in-Err-PlatformFault-read_block-clause-follows g c = λ told f.
-    follows_looked (the_view c.self.inside) c.find.new.cache c.read_block.new.buffers _ _ (c.read_block.ensures.looks.image told ∙ c.find.ensures.looks.image told) (c.find.ensures.stands told) (followed g (goal.at.returns-in-Err-PlatformFault-read_block-clause-follows g c).After-find f)
+    (holds_looked (the_view c.self.inside) c.find.new.cache c.read_block.new.buffers _ _ device contents (c.read_block.ensures.looks.image told ∙ c.find.ensures.looks.image told) (c.find.ensures.caches.stands told) (c.find.ensures.caches.among told) k, tt)
 
 -- what is named is a wrong place
 pub returns-in-Err-BadRecord-clause-damaged : goal.returns-in-Err-BadRecord-clause-damaged
@@ -153,6 +139,47 @@ returns-in-Err-BadRecord-read_block-clause-damaged g c = λ told f addr is.
     let nothing = subst (λ (i : Image). NothingFits i.readable (block_want c.in-Some.entry.addr c.args.block) c.in-Some.entry.key) (c.find.ensures.looks.image told) (c.read_block.ensures.nothing_fits told c.in-Err-BadRecord-read_block.field-0-0 (cc)) in
     misfit_wrong c.args.self.now (g.P.Platform.history c.args.platform.now).present c.args.block addr (g.P.Platform.head c.args.platform.now) c.requires.open f
     (inr (c.in-Some.entry, found g (goal.at.returns-in-Err-BadRecord-read_block-clause-damaged g c).In-Some told f.cached, named, nothing))
+
+-- ---- what it leaves
+
+pub returns-then-block-self-clause-goes_on : goal.returns-then-block-self-clause-goes_on
+returns-then-block-self-clause-goes_on g c = goes_start _ _ _ _ c.requires.open
+
+pub returns-in-Err-BadRecord-clause-goes_on : goal.returns-in-Err-BadRecord-clause-goes_on
+returns-in-Err-BadRecord-clause-goes_on g c = goes g (goal.at.returns-in-Err-BadRecord-clause-goes_on g c).After-find _ _ _ c.find.ensures.looks.image c.find.ensures.looks.head
+
+pub returns-in-Err-BadRecord-clause-listed : goal.returns-in-Err-BadRecord-clause-listed
+returns-in-Err-BadRecord-clause-listed g c = λ told. listed g (goal.at.returns-in-Err-BadRecord-clause-listed g c).After-find _ _ told (c.find.ensures.looks.image told)
+
+pub returns-in-Err-PlatformFault-clause-goes_on : goal.returns-in-Err-PlatformFault-clause-goes_on
+returns-in-Err-PlatformFault-clause-goes_on g c = goes g (goal.at.returns-in-Err-PlatformFault-clause-goes_on g c).After-find _ _ _ c.find.ensures.looks.image c.find.ensures.looks.head
+
+pub returns-in-Err-PlatformFault-clause-listed : goal.returns-in-Err-PlatformFault-clause-listed
+returns-in-Err-PlatformFault-clause-listed g c = λ told. listed g (goal.at.returns-in-Err-PlatformFault-clause-listed g c).After-find _ _ told (c.find.ensures.looks.image told)
+
+pub returns-in_default-clause-goes_on : goal.returns-in_default-clause-goes_on
+returns-in_default-clause-goes_on g c = goes g (goal.at.returns-in_default-clause-goes_on g c).After-find _ _ _ c.find.ensures.looks.image c.find.ensures.looks.head
+
+pub returns-in_default-clause-listed : goal.returns-in_default-clause-listed
+returns-in_default-clause-listed g c = λ told. listed g (goal.at.returns-in_default-clause-listed g c).After-find _ _ told (c.find.ensures.looks.image told)
+
+pub returns-in-Err-BadRecord-read_block-clause-goes_on : goal.returns-in-Err-BadRecord-read_block-clause-goes_on
+returns-in-Err-BadRecord-read_block-clause-goes_on g c = goes g (goal.at.returns-in-Err-BadRecord-read_block-clause-goes_on g c).After-find _ _ _ (λ told. c.read_block.ensures.looks.image told ∙ c.find.ensures.looks.image told) (c.read_block.ensures.looks.head ∙ c.find.ensures.looks.head)
+
+pub returns-in-Err-BadRecord-read_block-clause-listed : goal.returns-in-Err-BadRecord-read_block-clause-listed
+returns-in-Err-BadRecord-read_block-clause-listed g c = λ told. listed g (goal.at.returns-in-Err-BadRecord-read_block-clause-listed g c).After-find _ _ told (c.read_block.ensures.looks.image told ∙ c.find.ensures.looks.image told)
+
+pub returns-in-Err-PlatformFault-read_block-clause-goes_on : goal.returns-in-Err-PlatformFault-read_block-clause-goes_on
+returns-in-Err-PlatformFault-read_block-clause-goes_on g c = goes g (goal.at.returns-in-Err-PlatformFault-read_block-clause-goes_on g c).After-find _ _ _ (λ told. c.read_block.ensures.looks.image told ∙ c.find.ensures.looks.image told) (c.read_block.ensures.looks.head ∙ c.find.ensures.looks.head)
+
+pub returns-in-Err-PlatformFault-read_block-clause-listed : goal.returns-in-Err-PlatformFault-read_block-clause-listed
+returns-in-Err-PlatformFault-read_block-clause-listed g c = λ told. listed g (goal.at.returns-in-Err-PlatformFault-read_block-clause-listed g c).After-find _ _ told (c.read_block.ensures.looks.image told ∙ c.find.ensures.looks.image told)
+
+pub returns-clause-goes_on : goal.returns-clause-goes_on
+returns-clause-goes_on g c = goes g (goal.at.returns-clause-goes_on g c).After-find _ _ _ (λ told. c.read_block.ensures.looks.image told ∙ c.find.ensures.looks.image told) (c.read_block.ensures.looks.head ∙ c.find.ensures.looks.head)
+
+pub returns-clause-listed : goal.returns-clause-listed
+returns-clause-listed g c = λ told. listed g (goal.at.returns-clause-listed g c).After-find _ _ told (c.read_block.ensures.looks.image told ∙ c.find.ensures.looks.image told)
 
 -- ---- what it costs
 

@@ -1,4 +1,4 @@
-use Rattle.std.proofs.Common.{◌≡◌, ◌≤◌, ℕ, Bool, List, IsTrue, refl, sym, ap, subst, arith}
+use Rattle.std.proofs.Common.{List, IsTrue, sym, subst}
 use Rattle.std.specs.Prelude.{IfOk}
 use Rattle.std.specs.Bool.{OnTrue, OnFalse}
 use Rattle.platform.specs.Image.{Image}
@@ -9,8 +9,9 @@ use Rattle.btree_update.specs.Groves.{IsReadFrom, IsReadBeside, IsWrongOnWay, Gr
 use Rattle.device_session.specs.Sessions.{Session}
 use Rattle.device_session.specs.Holds.{Holds}
 use Rattle.device_session.specs.Keys.{HoldsListed}
-use Rattle.device_session.specs.Damage.{Follows, IsFound}
-use Rattle.device_session.proofs.DamageLaws.{follows_ready, found_by}
+use Rattle.device_session.specs.Damage.{IsFound}
+use Rattle.device_session.proofs.DamageLaws.{found_by}
+use Rattle.device_session.proofs.GoingLaws.{goes_ready}
 use Rattle.device_session.specs.Ready.{IsReadyFor}
 use Rattle.device_session.proofs.ReadLaws.{held_array, cached_looked}
 use Rattle.device_session.proofs.UpdateLaws.{ready_holds, ready_listed, ready_maps, both}
@@ -22,25 +23,20 @@ returns-clause-holds g c = λ told device contents h.
     let image = (g.P.Platform.history c.args.platform.now).present in
     let k = subst (λ (s : Session). Holds s image device contents) (sym c.self.view_is) h in
     let a = held_array (the_view c.self.inside) image device contents k in (
-      ready_holds (the_view c.self.inside) c.ready.new.self c.ready.new.cache c.ready.new.buf image _ device contents (c.ready.ensures.looks.image told) c.ready.ensures.tree c.ready.ensures.sound (c.ready.ensures.stands told) (c.ready.ensures.among told) k,
-      λ addr. c.ready.ensures.fits told k.cached a.mapped a.maps_are addr,
+      ready_holds (the_view c.self.inside) c.ready.new.self c.ready.new.cache c.ready.new.buf image _ device contents (c.ready.ensures.looks.image told) c.ready.ensures.tree c.ready.ensures.sound (c.ready.ensures.caches.stands told) (c.ready.ensures.caches.among told) k,
+      λ addr. (c.ready.ensures.bad told k.cached).never a.mapped a.maps_are addr,
     )
 
 pub returns-clause-listed : goal.returns-clause-listed
 returns-clause-listed g c = λ told keys h.
     let image = (g.P.Platform.history c.args.platform.now).present in
     let k = subst (λ (s : Session). HoldsListed s image keys) (sym c.self.view_is) h in
-    ready_listed (the_view c.self.inside) c.ready.new.self c.ready.new.cache c.ready.new.buf image _ keys (c.ready.ensures.looks.image told) c.ready.ensures.tree c.ready.ensures.sound (c.ready.ensures.stands told) (c.ready.ensures.among told) k
+    ready_listed (the_view c.self.inside) c.ready.new.self c.ready.new.cache c.ready.new.buf image _ keys (c.ready.ensures.looks.image told) c.ready.ensures.tree c.ready.ensures.sound (c.ready.ensures.caches.stands told) (c.ready.ensures.caches.among told) k
 
-pub returns-clause-cached : goal.returns-clause-cached
-returns-clause-cached g c = λ told h.
-    let image = (g.P.Platform.history c.args.platform.now).present in
-    cached_looked image _ (the_view c.self.inside).cache c.ready.new.cache (c.ready.ensures.looks.image told) (c.ready.ensures.stands told) (subst (λ (s : Session). StandsOver image.readable s.cache) (sym c.self.view_is) h)
-
-pub returns-clause-follows : goal.returns-clause-follows
-returns-clause-follows g c = λ told f.
-    let image = (g.P.Platform.history c.args.platform.now).present in
-    follows_ready (the_view c.self.inside) c.ready.new.self c.ready.new.cache c.ready.new.buf image _ (c.ready.ensures.looks.image told) c.ready.ensures.tree (c.ready.ensures.stands told) (subst (λ (s : Session). Follows s image) (sym c.self.view_is) f)
+pub returns-clause-goes_on : goal.returns-clause-goes_on
+returns-clause-goes_on g c =
+    let P = g.P.Platform in
+    goes_ready P.tells (P.history c.args.platform.now).present _ (P.head c.args.platform.now) _ c.args.self.now (the_view c.self.inside) c.ready.new.self c.ready.new.cache c.ready.new.buf c.self.view_is c.ready.ensures.looks.image c.ready.ensures.looks.head c.ready.ensures.tree c.ready.ensures.sound c.ready.ensures.caches.stands c.ready.ensures.caches.capacity c.requires.open
 
 pub returns-clause-ready : goal.returns-clause-ready
 returns-clause-ready g c = λ told h.
@@ -52,16 +48,9 @@ returns-clause-ready g c = λ told h.
     (IsReadyFor image.readable c.args.block grove)
     (λ b reads mapped. record { way = reads.0; beside = reads.1; mapped = λ map m. mapped map (ready_maps image.readable (the_view c.self.inside).grove grove map c.ready.ensures.tree m) })
     c.ready.result (c.ready.ensures.reads told over) (c.ready.ensures.mapped told over) in
-    subst (λ (i : Image). IfOk c.ready.result (IsReadyFor i.readable c.args.block grove)) (sym (c.ready.ensures.looks.image told)) all
-
-pub returns-clause-bad : goal.returns-clause-bad
-returns-clause-bad g c = λ told h addr is.
-    let image = (g.P.Platform.history c.args.platform.now).present in
-    let over = subst (λ (s : Session). StandsOver image.readable s.cache) (sym c.self.view_is) h in
-    subst (λ (s : Session). IsWrongOnWay image.readable c.args.block s.grove addr) c.self.view_is (c.ready.ensures.bad told over addr is)
-
-pub returns-clause-found : goal.returns-clause-found
-returns-clause-found g c = λ told h.
-    let image = (g.P.Platform.history c.args.platform.now).present in
-    let over = subst (λ (s : Session). StandsOver image.readable s.cache) (sym c.self.view_is) h in
-    subst (λ (s : Session). IfOk c.ready.result (λ mapped. IsFound mapped image.readable s c.args.block)) c.self.view_is (found_by image.readable c.args.block (the_view c.self.inside) c.ready.result (c.ready.ensures.finds told over))
+    record {
+      cached = cached_looked image _ (the_view c.self.inside).cache c.ready.new.cache (c.ready.ensures.looks.image told) (c.ready.ensures.caches.stands told) over;
+      ready = subst (λ (i : Image). IfOk c.ready.result (IsReadyFor i.readable c.args.block grove)) (sym (c.ready.ensures.looks.image told)) all;
+      found = subst (λ (s : Session). IfOk c.ready.result (λ mapped. IsFound mapped image.readable s c.args.block)) c.self.view_is (found_by image.readable c.args.block (the_view c.self.inside) c.ready.result (c.ready.ensures.finds told over));
+      bad = λ addr is. subst (λ (s : Session). IsWrongOnWay image.readable c.args.block s.grove addr) c.self.view_is ((c.ready.ensures.bad told over).wrong addr is);
+    }

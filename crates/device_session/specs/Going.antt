@@ -1,0 +1,20 @@
+-- What each call of a session says of it beside its purpose.
+use Rattle.std.specs.Prelude.{◌≡◌, ◌≤◌, ◌+◌, ℕ, Result, OnErr}
+use Rattle.platform.specs.Image.{Image}
+use Rattle.device_session.specs.Sessions.{Session}
+use Rattle.device_session.specs.Open.{IsOpen, is_touched, needed_by}
+use Rattle.device_session.specs.Damage.{Follows}
+
+-- the session goes on after a call: open on so many pages, on its root record, with room for as many nodes in its cache
+pub record GoesOn (Known : Type 0) (image after : Image) (pages : ℕ) (session now : Session) : Type 0 where
+  -- on any pages that the call found as they are known to be
+  pub follows : Known → Follows session image → Follows now after
+  pub is_open : IsOpen now pages
+  pub root : now.root ≡ session.root
+  pub capacity : now.cache.capacity ≡ session.cache.capacity
+
+-- an update makes a commit need 41 pages more at most; one that was refused leaves what it needs, and whether something was changed
+pub record Updates {E : Type 0} (session now : Session) (result : Result (Unit {0}) E) : Type 0 where
+  pub needs : needed_by now ≤ needed_by session + 41
+  pub needs_still : OnErr result (needed_by now ≡ needed_by session)
+  pub touched_still : OnErr result (is_touched now ≡ is_touched session)
