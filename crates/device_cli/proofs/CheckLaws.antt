@@ -1,6 +1,6 @@
 -- What follows of a check, by its exit status.
-use Rattle.std.proofs.Common.{◌≡◌, ℕ, ◌<◌, ◌≤◌, ◌^◌, List, [], ◌++◌, Option, None, Some, Result, Ok, Err, length, ◌⊎◌, inl, inr, refl, sym, ◌∙◌, subst, ap, arith, length-append}
-use Rattle.std.specs.Prelude.{IfErr, ◌-◌}
+use Rattle.std.proofs.Common.{◌≡◌, ℕ, ◌≤◌, List, [], ◌++◌, Option, None, Some, Result, Ok, Err, length, ◌⊎◌, inl, inr, refl, sym, ◌∙◌, subst, ap, arith, length-append}
+use Rattle.std.specs.Prelude.{IfErr}
 use Rattle.std.proofs.lemmas.List.{append-nil}
 use Rattle.sdbt_base.specs.Told.{Gave, Got, IsAtEnd}
 use Rattle.platform.specs.Image.{Image}
@@ -24,7 +24,7 @@ use Rattle.device_course.specs.Marks.{last_mark}
 use Rattle.device_course.specs.Course.{Made}
 use Rattle.device_course.proofs.MadeLaws.{made_none, shut}
 use Rattle.device_terms.specs.Served.{IsServedCell, IsServedImage}
-use Rattle.device_cli.specs.Run.{Counts, counts, NoneRose, HasCause, IsBlamedOn}
+use Rattle.device_cli.specs.Run.{Counts, NoneRose, HasCause}
 use Rattle.device_cli.specs.Replied.{damage_line}
 use Rattle.device_cli.specs.Checks.{Checks, IsAcceptable, IsInCell, IsSaid, IsSo, finding_line, status_at, status_of_finding}
 use Rattle.device_cli.specs.declared.checking.Finding.{Finding}

@@ -4,8 +4,6 @@ use Rattle.std.specs.Prelude.{IfErr}
 use Rattle.sdbt_base.specs.Arrays.{Device, closed}
 use Rattle.platform.specs.History.{History, Steps}
 use Rattle.platform.proofs.Moments.{During-start}
-use Rattle.cert_maker.specs.Cert.{Cert}
-use Rattle.root_codec.specs.declared.root.Root.{Root}
 use Rattle.page_store.specs.Stands.{Stands}
 use Rattle.device_session.specs.Sessions.{Session}
 use Rattle.device_terms.specs.Served.{IsServedImage}

@@ -1,6 +1,6 @@
 -- Laws on counts of faults and on what stops are due to.
-use Rattle.std.proofs.Common.{◌≡◌, ◌⊎◌, inl, inr, ℕ, ◌≤◌, ◌<◌, ◌^◌, List, Option, Result, Ok, Err, length, subst, arith}
-use Rattle.std.specs.Prelude.{IfErr, ◌-◌}
+use Rattle.std.proofs.Common.{◌≡◌, ◌⊎◌, inl, inr, ℕ, ◌≤◌, ◌^◌, List, Option, Result, Ok, Err, length, subst, arith}
+use Rattle.std.specs.Prelude.{IfErr}
 use Rattle.sdbt_base.specs.Faults.{Rose}
 use Rattle.sdbt_base.proofs.FaultLaws.{Rose-within}
 use Rattle.device_cli.specs.Run.{Counts, NoneFell, HasCause, IsOfLine, TookUntil}

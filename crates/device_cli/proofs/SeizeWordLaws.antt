@@ -1,6 +1,6 @@
 -- What follows of the word `seize`, by its exit status.
-use Rattle.std.proofs.Common.{◌≡◌, ℕ, zero, suc, ◌<◌, ◌^◌, List, [], ◌∷◌, ◌++◌, Option, None, Some, Ok, Err, ◌⊎◌, inl, inr, length, take, drop, get_or, refl, sym, ◌∙◌, subst, ap, arith, append_assoc, append-nil}
-use Rattle.std.specs.Prelude.{IfErr, ◌-◌, flat_map}
+use Rattle.std.proofs.Common.{◌≡◌, ℕ, zero, suc, ◌<◌, List, [], ◌∷◌, ◌++◌, Option, None, Some, Ok, Err, ◌⊎◌, inl, inr, length, take, drop, get_or, refl, sym, ◌∙◌, subst, ap, arith, append_assoc, append-nil}
+use Rattle.std.specs.Prelude.{IfErr, flat_map}
 use Rattle.sdbt_base.specs.Told.{Got, GotPart}
 use Rattle.sdbt_base.proofs.ToldLaws.{Got-then, GotPart-then}
 use Rattle.platform.specs.Image.{Image}
@@ -9,7 +9,7 @@ use Rattle.seizure.specs.Report.{Begins, Seized}
 use Rattle.device_terms.specs.Served.{IsServedCell}
 use Rattle.seizure.specs.declared.opened.Opened.{Opened}
 use Rattle.device_cli.specs.Replied.{Ending, HasPut, IsSound, damage_line, exit_of}
-use Rattle.device_cli.specs.Run.{Counts, counts, NoneRose, HasCause, IsBlamedOn}
+use Rattle.device_cli.specs.Run.{Counts, NoneRose, HasCause}
 use Rattle.device_cli.specs.Given.{HasBadRecord}
 use Rattle.device_cli.specs.Seizing.{IsReportOf, IsRefused, Seizes, opened_line}
 use Rattle.device_cli.specs.declared.stop.DeviceStop.{DeviceStop}

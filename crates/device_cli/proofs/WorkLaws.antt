@@ -3,7 +3,6 @@ use Rattle.std.proofs.Common.{◌≡◌, ℕ, ◌+◌, ◌-◌, ◌*◌, ◌≤�
 use Rattle.std.proofs.lemmas.List.{append-nil}
 use Rattle.std.specs.Prelude.{IfErr, flat_map}
 use Rattle.sdbt_base.specs.Arrays.{Device, closed}
-use Rattle.sdbt_base.specs.Faults.{Rose}
 use Rattle.sdbt_base.proofs.ToldLaws.{Got-nothing}
 use Rattle.platform.proofs.Moments.{During-start}
 use Rattle.page_store.proofs.StandsLaws.{stands_during}
@@ -25,7 +24,6 @@ use Rattle.device_cli.proofs.CompleteLaws.{complete_at}
 use Rattle.device_cli.proofs.RanLaws.{Ran-refused, Ran-last}
 use Rattle.device_cli.proofs.ScriptLaws.{answers_with}
 use Rattle.device_session.specs.Sessions.{Session}
-use Rattle.platform.specs.History.{History}
 
 -- ---- what is put
 

@@ -1,18 +1,14 @@
-use Rattle.std.proofs.Common.{rules, ◌≡◌, ◌≤◌, ◌⊎◌, inl, inr, length, [], Result, Ok, Err, None, List, Option, ℕ, refl, sym, subst, arith, ◌∙◌}
-use Rattle.std.specs.Prelude.{map, string_bytes, IfErr}
+use Rattle.std.proofs.Common.{rules, ◌≡◌, ◌≤◌, inl, inr, length, [], Result, Ok, Err, None, List, ℕ, refl, sym, subst, arith, ◌∙◌}
+use Rattle.std.specs.Prelude.{map, string_bytes}
 use Rattle.std.proofs.lemmas.List.{length-map}
-use Rattle.sdbt_base.specs.Arrays.{closed}
 use Rattle.sdbt_base.specs.Told.{Got}
 use Rattle.sdbt_base.proofs.ToldLaws.{Gave-nothing}
-use Rattle.platform.specs.Image.{Image}
 use Rattle.device_terms.specs.Served.{IsServedCell}
 use Rattle.device_course.specs.States.{IsLater, around}
-use Rattle.device_course.proofs.KeysLaws.{on_start}
-use Rattle.device_course.proofs.MadeLaws.{shut, made_start}
 use Rattle.device_cli.specs.Given.{HasBadRecord}
-use Rattle.device_cli.specs.Handed.{Handed, handed}
+use Rattle.device_cli.specs.Handed.{handed}
 use Rattle.device_cli.specs.Replied.{Ending, damage_line}
-use Rattle.device_cli.specs.Run.{Counts, counts, HasCause, status_of}
+use Rattle.device_cli.specs.Run.{status_of}
 use Rattle.device_cli.specs.Seizing.{IsRefused, Seizes}
 use Rattle.device_cli.specs.Words.{AreSeizeWords, AreWorkWords, records_of}
 use Rattle.device_cli.specs.Working.{Working}
@@ -189,13 +185,13 @@ returns-in-Ok-check-clause-refuses g c =
       bad_root_only = λ told e served. absurd ((bad e).1 told served);
       bad_root = search rules;
       unserved = λ told e. record {
-          undrawn = refl;
-          untaken = c.in-Ok-check.ensures.untaken (bad e).0;
-          unput = refl;
-          pages = c.check.ensures.head;
-          line = bad_line (g.O.Sink.written c.args.output.now) (g.O.Sink.written c.check.new.output) c.in-Ok-check.finding (bad e).0 checks.is.1;
-          image = image_stays _ _ (c.check.ensures.time told) (c.check.ensures.image told);
-        };
+        undrawn = refl;
+        untaken = c.in-Ok-check.ensures.untaken (bad e).0;
+        unput = refl;
+        pages = c.check.ensures.head;
+        line = bad_line (g.O.Sink.written c.args.output.now) (g.O.Sink.written c.check.new.output) c.in-Ok-check.finding (bad e).0 checks.is.1;
+        image = image_stays _ _ (c.check.ensures.time told) (c.check.ensures.image told);
+      };
       other_words = search rules;
     }
 
@@ -275,13 +271,13 @@ returns-in-Err-seize_word-clause-refuses g c =
           subst (λ (records : List (List ℕ)). HasBadRecord head records) c.records_of.ensures (only_word head image records served_there ((refused e).0 told));
       bad_root = search rules;
       unserved = λ told e. record {
-          undrawn = refl;
-          untaken = refl;
-          unput = refl;
-          pages = c.seize_word.ensures.head;
-          line = (refused e).1;
-          image = image_stays _ _ (c.seize_word.ensures.time told) (c.seize_word.ensures.image told);
-        };
+        undrawn = refl;
+        untaken = refl;
+        unput = refl;
+        pages = c.seize_word.ensures.head;
+        line = (refused e).1;
+        image = image_stays _ _ (c.seize_word.ensures.time told) (c.seize_word.ensures.image told);
+      };
       other_words = search rules;
     }
 
