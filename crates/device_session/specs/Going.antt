@@ -5,9 +5,9 @@ use Rattle.device_session.specs.Sessions.{Session}
 use Rattle.device_session.specs.Open.{IsOpen, is_touched, needed_by}
 use Rattle.device_session.specs.Damage.{Follows}
 
--- the session goes on after a call: open on so many pages, on its root record, with room for as many nodes in its cache
+-- after a call the session goes on: open on so many pages, on its root record, with room for as many nodes in its cache; and where this is known it follows
+-- the pages still, whatever they are
 pub record GoesOn (Known : Type 0) (image after : Image) (pages : ℕ) (session now : Session) : Type 0 where
-  -- on any pages that the call found as they are known to be
   pub follows : Known → Follows session image → Follows now after
   pub is_open : IsOpen now pages
   pub root : now.root ≡ session.root
