@@ -6,6 +6,7 @@ pub mod Leaf
 pub mod Stands
 pub mod Kept
 pub mod Keeping
+pub mod Appending
 pub mod Floors
 pub mod Disclosing
 pub mod Reading

@@ -1,4 +1,4 @@
--- What the read of a page does to a platform beside its purpose.
+-- What a look does to a platform beside its purpose.
 use Rattle.std.specs.Prelude.{◌≡◌, ◌≤◌, ◌+◌}
 use Rattle.platform.specs.History.{Steps}
 use Rattle.platform.specs.declared.platforms.Platform.{Ghosts}
@@ -11,4 +11,13 @@ pub record ReadsPage {S : Type 0} (P : Ghosts S) (old new : S) : Type 0 where
   pub capacity : P.capacity new ≡ P.capacity old
   pub reads_rise : P.tells → P.reads old ≤ P.reads new
   pub reads_by_one : P.tells → P.reads new ≤ P.reads old + 1
+  pub faults : P.faults old ≤ P.faults new
+
+-- a call that looks at the cell alone: the image stays, and no page is read or added
+pub record ReadsCell {S : Type 0} (P : Ghosts S) (old new : S) : Type 0 where
+  pub image : P.tells → (P.history new).present ≡ (P.history old).present
+  pub time : P.tells → Steps (P.history old) (P.history new)
+  pub head : P.head new ≡ P.head old
+  pub capacity : P.capacity new ≡ P.capacity old
+  pub reads : P.tells → P.reads new ≡ P.reads old
   pub faults : P.faults old ≤ P.faults new

@@ -1,11 +1,9 @@
-ghost use Rattle.std.specs.Prelude.{◌≡◌, ◌<◌, ◌≤◌, ◌+◌, ℕ, List, All, Contains, IfOk, OnOk, IsErrOf};
+ghost use Rattle.std.specs.Prelude.{◌≡◌, ◌<◌, All, Contains, IfOk, IsErrOf};
 ghost use Rattle.sdbt_base.specs.Faults.{Rose};
 ghost use Rattle.sdbt_base.specs.Bytes.{IsBytes};
-ghost use Rattle.sdbt_base.specs.Told.{Drew};
-ghost use Rattle.platform.specs.Image.{with_page, MayHavePage};
-ghost use Rattle.platform.specs.History.{Steps};
 ghost use Rattle.seal_record.specs.Sealing.{masked};
 ghost use Rattle.node_codec.specs.Record.{Record, FitsRecord, record_bytes};
+ghost use Rattle.page_store.specs.Appending.{IsPlaced, MayBePlaced, AddsOne};
 ghost use Rattle.page_store.specs.Keeping.{KeepsKeys, IsNextRecord};
 
 use crate::buffers::Buffers;
@@ -35,22 +33,11 @@ impl Buffers {
     ) -> Result<Placed, AppendFault>
         requires { P.head platform.old < P.capacity platform.old }
 
-        ensures address { IfOk result (λ placed. placed.addr ≡ P.head platform.old) }
-        ensures key { IfOk result (λ placed. IsBytes 32 placed.key) }
-        ensures drew { IfOk result (λ placed. Drew (T.drawn tape.old) placed.key (T.drawn tape.new)) }
-        ensures appended { P.tells → IfOk result (λ placed. let page = masked placed.key self.old.body in
-            (P.history platform.new).present ≡ with_page (P.history platform.old).present page page) }
-
-        ensures undrawn { IsErrOf result AppendFault.TapeFault → T.drawn tape.new ≡ T.drawn tape.old }
-        ensures untouched { IsErrOf result AppendFault.TapeFault → P.head platform.new ≡ P.head platform.old }
-        ensures unchanged { P.tells → IsErrOf result AppendFault.TapeFault →
-            (P.history platform.new).present ≡ (P.history platform.old).present }
-        ensures idle { IsErrOf result AppendFault.TapeFault → platform.new ≡ platform.old }
-        // The page that may have been handed over is sealed under a key that was drawn for it.
+        ensures placed { IfOk result (IsPlaced P.Platform T.Tape self.old.body platform.old platform.new tape.old tape.new) }
+        ensures idle { IsErrOf result AppendFault.TapeFault →
+            (platform.new ≡ platform.old) × (T.drawn tape.new ≡ T.drawn tape.old) }
         ensures spent { IsErrOf result AppendFault.PlatformFault →
-            (key : List ℕ) × IsBytes 32 key × Drew (T.drawn tape.old) key (T.drawn tape.new)
-            × (P.tells → MayHavePage (P.history platform.old).present (masked key self.old.body)
-            (P.history platform.new).present) }
+            MayBePlaced P.Platform T.Tape self.old.body platform.old platform.new tape.old tape.new }
 
         // Where the body is a record of the next address: a page that was handed over is that record, sealed under the key that
         // was drawn, and with this key each moment keeps the keys that the image kept before.
@@ -60,19 +47,11 @@ impl Buffers {
             (IsNextRecord (P.history platform.old).present value)
             (λ keys. IfOk result (λ placed. Contains keys placed.key)) }
 
-        ensures cell { P.tells → (P.history platform.new).present.cell ≡ (P.history platform.old).present.cell }
-        ensures time { P.tells → Steps (P.history platform.old) (P.history platform.new) }
-        ensures head_ok { OnOk result (P.head platform.new ≡ P.head platform.old + 1) }
-        ensures head_rises { P.head platform.old ≤ P.head platform.new }
-        ensures head_by_one { P.head platform.new ≤ P.head platform.old + 1 }
-        ensures capacity { P.capacity platform.new ≡ P.capacity platform.old }
-        ensures reads { P.tells → P.reads platform.new ≡ P.reads platform.old }
+        ensures adds { AddsOne P.Platform T.Tape platform.old platform.new tape.old tape.new }
         ensures body { self.new.body ≡ self.old.body }
 
-        ensures platform_faults { P.faults platform.old ≤ P.faults platform.new }
         ensures platform_cause { IsErrOf result AppendFault.PlatformFault →
             Rose (P.faults platform.old) (P.faults platform.new) }
-        ensures tape_faults { T.faults tape.old ≤ T.faults tape.new }
         ensures tape_cause { IsErrOf result AppendFault.TapeFault →
             Rose (T.faults tape.old) (T.faults tape.new) }
     {

@@ -1,9 +1,9 @@
 ghost use Rattle.std.specs.Prelude.{◌≡◌, ◌<◌, ◌≤◌, ◌+◌, ℕ, List, Some, IfOk, OnOk, OnErr, length, slice_get};
 ghost use Rattle.sdbt_base.specs.Faults.{Rose};
-ghost use Rattle.platform.specs.History.{Steps};
 ghost use Rattle.seal_record.specs.Sealing.{masked};
 ghost use Rattle.node_codec.specs.Record.{DataRecord, NodeRecord, FitsNode, record_bytes};
 ghost use Rattle.page_store.specs.Buffer.{Held, content_of, IsBlank};
+ghost use Rattle.page_store.specs.Reading.{ReadsPage};
 ghost use Rattle.sdbt_base.specs.Arrays.{padded};
 
 use node_codec::{Entry, encode_block, encode_node};
@@ -91,14 +91,8 @@ impl Buffers {
             (slice_get (P.history platform.old).present.readable addr ≡ Some self.new.page) }
         ensures body { OnOk result (self.new.body ≡ masked key.now self.new.page) }
         ensures size { OnOk result (length self.new.body ≡ 4128) }
-        ensures image { P.tells → (P.history platform.new).present ≡ (P.history platform.old).present }
-        ensures time { P.tells → Steps (P.history platform.old) (P.history platform.new) }
-        ensures head { P.head platform.new ≡ P.head platform.old }
-        ensures capacity { P.capacity platform.new ≡ P.capacity platform.old }
+        ensures reads_page { ReadsPage P.Platform platform.old platform.new }
         ensures reads_ok { P.tells → OnOk result (P.reads platform.new ≡ P.reads platform.old + 1) }
-        ensures reads_rise { P.tells → P.reads platform.old ≤ P.reads platform.new }
-        ensures reads_by_one { P.tells → P.reads platform.new ≤ P.reads platform.old + 1 }
-        ensures faults { P.faults platform.old ≤ P.faults platform.new }
         ensures cause { OnErr result (Rose (P.faults platform.old) (P.faults platform.new)) }
     {
         platform.read(addr, &mut self.page)?;

@@ -1,7 +1,7 @@
-ghost use Rattle.std.specs.Prelude.{◌≡◌, ◌≢◌, ◌≤◌, None, Some, IfOk, IfSome, IfNone, IsErrOf, length};
+ghost use Rattle.std.specs.Prelude.{◌≡◌, ◌≢◌, None, Some, IfOk, IfSome, IfNone, IsErrOf, length};
 ghost use Rattle.sdbt_base.specs.Faults.{Rose};
-ghost use Rattle.platform.specs.History.{Steps};
 ghost use Rattle.root_codec.specs.RootRecord.{root_bytes};
+ghost use Rattle.page_store.specs.Reading.{ReadsCell};
 ghost use Rattle.page_store.specs.Roots.{IsRootWithin, IsBadCell};
 ghost use Rattle.root_codec.specs.declared.root.Root.{Root};
 
@@ -23,12 +23,7 @@ pub fn current<P: Platform>(platform: &mut P) -> Result<Option<Root>, CurrentRef
     ensures bad { P.tells → IsErrOf result CurrentRefusal.BadRoot →
         IsBadCell (P.head platform.old) (P.history platform.old).present.cell }
 
-    ensures image { P.tells → (P.history platform.new).present ≡ (P.history platform.old).present }
-    ensures time { P.tells → Steps (P.history platform.old) (P.history platform.new) }
-    ensures head { P.head platform.new ≡ P.head platform.old }
-    ensures capacity { P.capacity platform.new ≡ P.capacity platform.old }
-    ensures reads { P.tells → P.reads platform.new ≡ P.reads platform.old }
-    ensures faults { P.faults platform.old ≤ P.faults platform.new }
+    ensures reads_cell { ReadsCell P.Platform platform.old platform.new }
     ensures cause { IsErrOf result CurrentRefusal.PlatformFault →
         Rose (P.faults platform.old) (P.faults platform.new) }
 {

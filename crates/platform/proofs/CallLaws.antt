@@ -1,7 +1,7 @@
 -- Looks one after another.
 use Rattle.std.proofs.Common.{◌≡◌, ◌≤◌, Option, List, ℕ, refl, ◌∙◌, ap, arith}
 use Rattle.platform.specs.Image.{Image}
-use Rattle.platform.specs.History.{History, Steps, CellStays}
+use Rattle.platform.specs.History.{Steps}
 use Rattle.platform.specs.Calls.{Looks}
 use Rattle.platform.specs.declared.platforms.Platform.{Ghosts}
 use Rattle.platform.proofs.Moments.{During-start, During-step, During-then, During-weaker}

@@ -1,5 +1,6 @@
 pub mod Image
 pub mod Calls
+pub mod Counts
 pub mod Failures
 pub mod Folder
 pub mod History

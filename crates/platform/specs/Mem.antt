@@ -1,12 +1,13 @@
 -- A platform in memory, as contracts see it.
-use Rattle.std.specs.Prelude.{◌≡◌, ◌⊎◌, ◌≤◌, ◌+◌, ◌↔◌, ℕ, Bool, true, false, List, Option, Some, IsSome, Result, IsErr, slice_index}
+use Rattle.std.specs.Prelude.{◌≡◌, ◌⊎◌, ◌<◌, ◌≤◌, ◌+◌, ◌-◌, ◌^◌, ◌↔◌, ℕ, Bool, true, false, List, Option, Some, IsSome, Result, IsErr, OnOk, OnErr, slice_index}
 use Rattle.sdbt_base.specs.Faults.{Rose, next_count}
 use Rattle.platform.specs.declared.failures.CallKind.{CallKind}
+use Rattle.platform.specs.declared.failures.CallKind.TheVariants.{Read}
 use Rattle.platform.specs.declared.failures.Failure.{Failure}
 use Rattle.platform.specs.declared.mem_platform.MemPlatform.{MemPlatform}
 use Rattle.platform.specs.Failures.{place_of, listed, counted}
 use Rattle.platform.specs.Image.{Image}
-use Rattle.platform.specs.History.{History}
+use Rattle.platform.specs.History.{History, Steps}
 use Rattle.platform.specs.Kept.{store_history}
 
 -- the images of all its moments so far
@@ -72,3 +73,24 @@ pub record IsSameRest (old new : MemPlatform) : Type 0 where
   pub reads : reads_of new ≡ reads_of old
   pub faults : faults_of new ≡ faults_of old
   pub starved : starved_of new ≡ starved_of old
+
+-- a call that failed counts one fault, as long as the count has room for it, and another none
+pub record TellsFaults {T E : Type 0} (old new : MemPlatform) (result : Result T E) : Type 0 where
+  pub rises : faults_of old ≤ faults_of new
+  pub cause : OnErr result (Rose (faults_of old) (faults_of new))
+  pub none : OnOk result (faults_of new ≡ faults_of old)
+  pub one : OnErr result (faults_of new ≡ next_count (faults_of old))
+
+-- a call that reads no page is one step of the history
+pub record StepsBeside (old new : MemPlatform) : Type 0 where
+  pub time : Steps (mem_history old) (mem_history new)
+  pub capacity : capacity_of new ≡ capacity_of old
+  pub reads : reads_of new ≡ reads_of old
+
+-- a read counts where it is answered, and where it is told to fail with its effect
+pub record CountsRead {T E : Type 0} (old new : MemPlatform) (result : Result T E) : Type 0 where
+  pub answered : OnOk result (reads_of new ≡ reads_of old + 1)
+  pub rises : reads_of old ≤ reads_of new
+  pub by_one : reads_of new ≤ reads_of old + 1
+  pub with_effect : due old Read ≡ Some true → ¬ (Starved old new) → reads_of old < 2 ^ 64 - 1 → reads_of new ≡ reads_of old + 1
+  pub without_effect : due old Read ≡ Some false → reads_of new ≡ reads_of old

@@ -4,6 +4,7 @@ ghost use Rattle.std.specs.Io.KnownBytes.{Appends, Consumes};
 ghost use Rattle.std.specs.Io.Seek.{MovesTo};
 ghost use Rattle.std.specs.Int.{div_ceil};
 ghost use Rattle.sdbt_base.specs.Faults.{Rose, next_count};
+ghost use Rattle.platform.specs.Counts.{MayRiseByOne};
 ghost use Rattle.platform.specs.Places.{ReadsAt, WritesAt};
 ghost use Rattle.platform.specs.Refusals.{ShowsCause, TellsFile, TellsHeld};
 ghost use Rattle.platform.specs.Folder.{CountsFault, MarksTorn, TellsMissing, IsEmptyIfMissing};
@@ -192,6 +193,7 @@ impl<R: Files + Alloc + Clone + Drop> Platform for FilePlatform<R> {
     ghost use Rattle.std.specs.Prelude.{◌≡◌, ◌↔◌, ◌≤◌, ◌<◌, ◌+◌, ◌*◌, ◌^◌, ℕ, length, false, IsTrue, IsErr, IfOk, OnOk, OnErr};
     ghost use Rattle.sdbt_base.specs.Faults.{Rose};
     ghost use Rattle.platform.specs.Places.{ReadsAt, WritesAt};
+    ghost use Rattle.platform.specs.Counts.{MayRiseByOne};
     ghost use Rattle.platform.specs.Folder.{CountsFault, MarksTorn};
     ghost use Rattle.std.proofs.Common.{rules};
     ghost use Rattle.platform.specs.Untold.{untold};
@@ -226,13 +228,12 @@ impl<R: Files + Alloc + Clone + Drop> Platform for FilePlatform<R> {
         requires size { length page.now ≡ RECORD }
         requires room { self.old.head < MAX_PAGES }
 
-        ensures address { IfOk result (λ address. address ≡ self.old.head) }
+        ensures address { IfOk result (λ address.
+            (address ≡ self.old.head) × (self.new.head ≡ self.old.head + 1)) }
         ensures written { OnOk result (WritesAt R.File.stream_position R.File.contents
             self.old.media self.new.media (self.old.head * RECORD) page.now) }
         ensures torn { MarksTorn self.old.head self.new.head self.old.is_torn self.new.is_torn result }
-        ensures head_ok { OnOk result (self.new.head ≡ self.old.head + 1) }
-        ensures head_rises { self.old.head ≤ self.new.head }
-        ensures head_by_one { self.new.head ≤ self.old.head + 1 }
+        ensures head { MayRiseByOne self.old.head self.new.head }
         ensures faults { self.old.faults ≤ self.new.faults }
         ensures cause { OnErr result (Rose self.old.faults self.new.faults) }
         ensures counted { CountsFault self.old.faults self.new.faults result }

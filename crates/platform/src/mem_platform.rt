@@ -151,9 +151,10 @@ impl MemPlatform {
 impl Platform for MemPlatform {
     ghost use Rattle.std.specs.Prelude.{◌≡◌, ◌↔◌, ◌⊎◌, ◌<◌, ◌≤◌, ◌+◌, ◌-◌, ◌^◌, ℕ, true, false, Some, None, IsTrue, IsSome, IsErr, IfOk, OnOk, OnErr, length, slice_get, refl};
     ghost use Rattle.sdbt_base.specs.Faults.{Rose, next_count};
+    ghost use Rattle.platform.specs.Counts.{MayRiseByOne};
     ghost use Rattle.platform.specs.Image.{with_page, with_cell, all_synced, IsEither, MayHavePage};
     ghost use Rattle.platform.specs.History.{Steps};
-    ghost use Rattle.platform.specs.Mem.{mem_history, image_of_now, due, starved_of, reads_of, faults_of, capacity_of, FailsAsListed, Starved, Counts, HasEffect};
+    ghost use Rattle.platform.specs.Mem.{mem_history, image_of_now, due, starved_of, reads_of, faults_of, capacity_of, FailsAsListed, Starved, Counts, HasEffect, TellsFaults, StepsBeside, CountsRead};
 
     ghost tells = { Unit {0} };
 
@@ -185,27 +186,18 @@ impl Platform for MemPlatform {
         requires size { length page.now ≡ RECORD }
         requires room { length (image_of_now self.old).recorded < capacity_of self.old }
 
-        ensures address { IfOk result
-            (λ address. address ≡ length (image_of_now self.old).recorded) }
+        ensures address { IfOk result (λ address.
+            (address ≡ length (image_of_now self.old).recorded)
+            × (length (image_of_now self.new).recorded ≡ length (image_of_now self.old).recorded + 1)) }
         ensures appended { OnOk result
             (image_of_now self.new ≡ with_page (image_of_now self.old) page.now page.now) }
         ensures either { MayHavePage (image_of_now self.old) page.now (image_of_now self.new) }
         ensures cell { (image_of_now self.new).cell ≡ (image_of_now self.old).cell }
-        ensures time { Steps (mem_history self.old) (mem_history self.new) }
+        ensures beside { StepsBeside self.old self.new }
 
-        ensures head_ok { OnOk result
-            (length (image_of_now self.new).recorded
-            ≡ length (image_of_now self.old).recorded + 1) }
-        ensures head_rises { length (image_of_now self.old).recorded
-            ≤ length (image_of_now self.new).recorded }
-        ensures head_by_one { length (image_of_now self.new).recorded
-            ≤ length (image_of_now self.old).recorded + 1 }
-        ensures capacity { capacity_of self.new ≡ capacity_of self.old }
-        ensures reads { reads_of self.new ≡ reads_of self.old }
-        ensures faults { faults_of self.old ≤ faults_of self.new }
-        ensures cause { OnErr result (Rose (faults_of self.old) (faults_of self.new)) }
-        ensures no_fault { OnOk result (faults_of self.new ≡ faults_of self.old) }
-        ensures one_fault { OnErr result (faults_of self.new ≡ next_count (faults_of self.old)) }
+        ensures head { MayRiseByOne (length (image_of_now self.old).recorded)
+            (length (image_of_now self.new).recorded) }
+        ensures faults { TellsFaults self.old self.new result }
 
         ensures fails { FailsAsListed CallKind.Append self.old self.new result }
         ensures effect { HasEffect CallKind.Append self.old self.new
@@ -238,24 +230,13 @@ impl Platform for MemPlatform {
         ensures head { length (image_of_now self.new).recorded
             ≡ length (image_of_now self.old).recorded }
         ensures capacity { capacity_of self.new ≡ capacity_of self.old }
-        ensures reads_ok { OnOk result (reads_of self.new ≡ reads_of self.old + 1) }
-        ensures reads_rise { reads_of self.old ≤ reads_of self.new }
-        ensures reads_by_one { reads_of self.new ≤ reads_of self.old + 1 }
-        ensures faults { faults_of self.old ≤ faults_of self.new }
-        ensures cause { OnErr result (Rose (faults_of self.old) (faults_of self.new)) }
-        ensures no_fault { OnOk result (faults_of self.new ≡ faults_of self.old) }
-        ensures one_fault { OnErr result (faults_of self.new ≡ next_count (faults_of self.old)) }
+        ensures reads { CountsRead self.old self.new result }
+        ensures faults { TellsFaults self.old self.new result }
 
         // A read fails too where its count has come to its end.
         ensures fails { IsErr result
             ↔ (IsSome (due self.old CallKind.Read)
             ⊎ (Starved self.old self.new ⊎ (reads_of self.old ≡ 2 ^ 64 - 1))) }
-        // A read that is told to fail with its effect counts as read.
-        ensures with_effect { due self.old CallKind.Read ≡ Some true →
-            ¬ (Starved self.old self.new) → reads_of self.old < 2 ^ 64 - 1
-            → reads_of self.new ≡ reads_of self.old + 1 }
-        ensures without_effect { due self.old CallKind.Read ≡ Some false → reads_of self.new
-            ≡ reads_of self.old }
         ensures starved { starved_of self.new ≡ starved_of self.old }
         ensures counts { Counts CallKind.Read self.old self.new }
     {
@@ -276,16 +257,11 @@ impl Platform for MemPlatform {
         ensures either { IsEither (image_of_now self.old) (all_synced (image_of_now self.old))
             (image_of_now self.new) }
         ensures cell { (image_of_now self.new).cell ≡ (image_of_now self.old).cell }
-        ensures time { Steps (mem_history self.old) (mem_history self.new) }
+        ensures beside { StepsBeside self.old self.new }
 
         ensures head { length (image_of_now self.new).recorded
             ≡ length (image_of_now self.old).recorded }
-        ensures capacity { capacity_of self.new ≡ capacity_of self.old }
-        ensures reads { reads_of self.new ≡ reads_of self.old }
-        ensures faults { faults_of self.old ≤ faults_of self.new }
-        ensures cause { OnErr result (Rose (faults_of self.old) (faults_of self.new)) }
-        ensures no_fault { OnOk result (faults_of self.new ≡ faults_of self.old) }
-        ensures one_fault { OnErr result (faults_of self.new ≡ next_count (faults_of self.old)) }
+        ensures faults { TellsFaults self.old self.new result }
 
         ensures fails { FailsAsListed CallKind.Sync self.old self.new result }
         ensures effect { HasEffect CallKind.Sync self.old self.new
@@ -313,16 +289,11 @@ impl Platform for MemPlatform {
         ensures bytes { IfOk result
             (λ full. IsTrue full → (image_of_now self.old).cell ≡ Some into.new) }
         ensures image { image_of_now self.new ≡ image_of_now self.old }
-        ensures time { Steps (mem_history self.old) (mem_history self.new) }
+        ensures beside { StepsBeside self.old self.new }
 
         ensures head { length (image_of_now self.new).recorded
             ≡ length (image_of_now self.old).recorded }
-        ensures capacity { capacity_of self.new ≡ capacity_of self.old }
-        ensures reads { reads_of self.new ≡ reads_of self.old }
-        ensures faults { faults_of self.old ≤ faults_of self.new }
-        ensures cause { OnErr result (Rose (faults_of self.old) (faults_of self.new)) }
-        ensures no_fault { OnOk result (faults_of self.new ≡ faults_of self.old) }
-        ensures one_fault { OnErr result (faults_of self.new ≡ next_count (faults_of self.old)) }
+        ensures faults { TellsFaults self.old self.new result }
 
         ensures fails { FailsAsListed CallKind.Load self.old self.new result }
         ensures starved { starved_of self.new ≡ starved_of self.old }
@@ -342,16 +313,11 @@ impl Platform for MemPlatform {
             (image_of_now self.new ≡ with_cell (image_of_now self.old) (Some bytes.now)) }
         ensures either { IsEither (image_of_now self.old)
             (with_cell (image_of_now self.old) (Some bytes.now)) (image_of_now self.new) }
-        ensures time { Steps (mem_history self.old) (mem_history self.new) }
+        ensures beside { StepsBeside self.old self.new }
 
         ensures head { length (image_of_now self.new).recorded
             ≡ length (image_of_now self.old).recorded }
-        ensures capacity { capacity_of self.new ≡ capacity_of self.old }
-        ensures reads { reads_of self.new ≡ reads_of self.old }
-        ensures faults { faults_of self.old ≤ faults_of self.new }
-        ensures cause { OnErr result (Rose (faults_of self.old) (faults_of self.new)) }
-        ensures no_fault { OnOk result (faults_of self.new ≡ faults_of self.old) }
-        ensures one_fault { OnErr result (faults_of self.new ≡ next_count (faults_of self.old)) }
+        ensures faults { TellsFaults self.old self.new result }
 
         ensures fails { FailsAsListed CallKind.Swap self.old self.new result }
         ensures effect { HasEffect CallKind.Swap self.old self.new
@@ -379,16 +345,11 @@ impl Platform for MemPlatform {
             (image_of_now self.new ≡ with_cell (image_of_now self.old) None) }
         ensures either { IsEither (image_of_now self.old) (with_cell (image_of_now self.old) None)
             (image_of_now self.new) }
-        ensures time { Steps (mem_history self.old) (mem_history self.new) }
+        ensures beside { StepsBeside self.old self.new }
 
         ensures head { length (image_of_now self.new).recorded
             ≡ length (image_of_now self.old).recorded }
-        ensures capacity { capacity_of self.new ≡ capacity_of self.old }
-        ensures reads { reads_of self.new ≡ reads_of self.old }
-        ensures faults { faults_of self.old ≤ faults_of self.new }
-        ensures cause { OnErr result (Rose (faults_of self.old) (faults_of self.new)) }
-        ensures no_fault { OnOk result (faults_of self.new ≡ faults_of self.old) }
-        ensures one_fault { OnErr result (faults_of self.new ≡ next_count (faults_of self.old)) }
+        ensures faults { TellsFaults self.old self.new result }
 
         ensures fails { FailsAsListed CallKind.Clear self.old self.new result }
         ensures effect { HasEffect CallKind.Clear self.old self.new

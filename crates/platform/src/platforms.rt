@@ -1,5 +1,6 @@
 ghost use Rattle.std.specs.Prelude.{◌≡◌, ◌↔◌, ◌<◌, ◌≤◌, ◌+◌, ◌^◌, ℕ, Some, None, IsTrue, IsSome, IfOk, OnOk, OnErr, length, slice_get};
 ghost use Rattle.sdbt_base.specs.Faults.{Rose};
+ghost use Rattle.platform.specs.Counts.{MayRiseByOne};
 ghost use Rattle.platform.specs.Image.{with_page, with_cell, all_synced, IsEither, MayHavePage};
 ghost use Rattle.platform.specs.History.{History, Steps};
 
@@ -46,7 +47,8 @@ pub trait Platform {
         requires size { length page.now ≡ RECORD }
         requires room { head self.old < capacity self.old }
 
-        ensures address { IfOk result (λ address. address ≡ head self.old) }
+        ensures address { IfOk result (λ address.
+            (address ≡ head self.old) × (head self.new ≡ head self.old + 1)) }
         ensures appended { tells → OnOk result
             ((history self.new).present ≡ with_page (history self.old).present page.now page.now) }
         ensures either { tells → MayHavePage (history self.old).present page.now
@@ -54,9 +56,7 @@ pub trait Platform {
         ensures cell { tells → (history self.new).present.cell ≡ (history self.old).present.cell }
         ensures time { tells → Steps (history self.old) (history self.new) }
 
-        ensures head_ok { OnOk result (head self.new ≡ head self.old + 1) }
-        ensures head_rises { head self.old ≤ head self.new }
-        ensures head_by_one { head self.new ≤ head self.old + 1 }
+        ensures head { MayRiseByOne (head self.old) (head self.new) }
         ensures capacity { capacity self.new ≡ capacity self.old }
         ensures reads { tells → reads self.new ≡ reads self.old }
         ensures faults { faults self.old ≤ faults self.new }

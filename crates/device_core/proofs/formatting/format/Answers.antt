@@ -36,10 +36,10 @@ written g c = first_root c.args.blocks c.args.order c.in-Ok-append.placed.addr c
 -- is the first of a device
 written_first : (g : Over) (c : In-Ok-append g) → IsFirst (written g c) c.args.blocks c.args.order
 written_first g c =
-    let address : c.in-Ok-append.placed.addr ≡ g.P.Platform.head c.load_root.new.self = c.in-Ok-append.ensures.address in
+    let address : c.in-Ok-append.placed.addr ≡ g.P.Platform.head c.load_root.new.self = c.in-Ok-append.ensures.placed.address in
     is_first c.args.blocks c.args.order c.in-Ok-append.placed.addr c.in-Ok-append.placed.key c.requires.sized.0 c.requires.sized.1 c.requires.ordered.0 c.requires.ordered.1 c.requires.ordered.2
     (omega (arith, address, c.head.ensures.value, c.capacity.ensures.value, c.head.ensures.room, c.head.ensures.limit, c.if-head-capacity.false))
-    c.in-Ok-append.ensures.key
+    c.in-Ok-append.ensures.placed.key
 
 -- the calls of a format, whether the last step was taken or failed
 calls : (g : Over) (c : After-publish g) → IsFirst (first_root c.args.blocks c.args.order c.in-Ok-append.placed.addr c.in-Ok-append.placed.key) c.args.blocks c.args.order → let history = g.P.Platform.history in
@@ -47,16 +47,16 @@ calls : (g : Over) (c : After-publish g) → IsFirst (first_root c.args.blocks c
     (first_root c.args.blocks c.args.order c.in-Ok-append.placed.addr c.in-Ok-append.placed.key) c.args.blocks c.args.order
 calls g c first =
     let pages = g.met.P.Platform.counts_pages in
-    let address : c.in-Ok-append.placed.addr ≡ g.P.Platform.head c.load_root.new.self = c.in-Ok-append.ensures.address in
+    let address : c.in-Ok-append.placed.addr ≡ g.P.Platform.head c.load_root.new.self = c.in-Ok-append.ensures.placed.address in
     record {
       first = first;
       look = c.load_root.ensures.time;
       same = c.load_root.ensures.image;
       empty = λ told. empty_cell c.in-Ok.is_full (g.P.Platform.history c.args.platform.now).present.cell c.if-is_full.false (c.in-Ok.ensures.full told);
       at_end = λ told. address ∙ sym (pages told c.load_root.new.self);
-      steps = c.append.ensures.time;
-      cell = c.append.ensures.cell;
-      appended = λ told. first_page _ _ (first_root c.args.blocks c.args.order c.in-Ok-append.placed.addr c.in-Ok-append.placed.key) c.head-addr.result _ (c.in-Ok-append.ensures.appended told) (ap (λ (b : Held). b.body) c.put_node.ensures) (c.head-addr.ensures.value ∙ sym address);
+      steps = c.append.ensures.adds.time;
+      cell = c.append.ensures.adds.cell;
+      appended = λ told. first_page _ _ (first_root c.args.blocks c.args.order c.in-Ok-append.placed.addr c.in-Ok-append.placed.key) c.head-addr.result _ (c.in-Ok-append.ensures.placed.image told) (ap (λ (b : Held). b.body) c.put_node.ensures) (c.head-addr.ensures.value ∙ sym address);
       stays = λ told. pages told c.publish.new.platform ∙ (c.publish.ensures.head ∙ sym (pages told c.append.new.platform));
       turns = c.publish.ensures.time;
     }
@@ -98,12 +98,12 @@ put_node-requires g c = no_entries_fit c.head-addr.result
 pub returns-in-Err-TapeFault-clause-time : goal.returns-in-Err-TapeFault-clause-time
 returns-in-Err-TapeFault-clause-time g c = λ told device stands.
     during_stands _ _ device (Some (new_device c.args.blocks c.args.order)) stands
-    (call_more _ _ _ (one_look _ _ (c.load_root.ensures.time told) (c.load_root.ensures.image told)) (c.append.ensures.time told) (c.append.ensures.cell told))
+    (call_more _ _ _ (one_look _ _ (c.load_root.ensures.time told) (c.load_root.ensures.image told)) (c.append.ensures.adds.time told) (c.append.ensures.adds.cell told))
 
 pub returns-in-Err-PlatformFault-clause-time : goal.returns-in-Err-PlatformFault-clause-time
 returns-in-Err-PlatformFault-clause-time g c = λ told device stands.
     during_stands _ _ device (Some (new_device c.args.blocks c.args.order)) stands
-    (call_more _ _ _ (one_look _ _ (c.load_root.ensures.time told) (c.load_root.ensures.image told)) (c.append.ensures.time told) (c.append.ensures.cell told))
+    (call_more _ _ _ (one_look _ _ (c.load_root.ensures.time told) (c.load_root.ensures.image told)) (c.append.ensures.adds.time told) (c.append.ensures.adds.cell told))
 
 pub publish-requires : goal.publish-requires
 publish-requires g c = (written_first g (goal.at.publish-requires g c).In-Ok-append).fits
@@ -111,7 +111,7 @@ publish-requires g c = (written_first g (goal.at.publish-requires g c).In-Ok-app
 pub returns-in-Ok-publish-clause-made : goal.returns-in-Ok-publish-clause-made
 returns-in-Ok-publish-clause-made g c = λ told.
     let all = calls g (goal.at.returns-in-Ok-publish-clause-made g c).After-publish (written_first g (goal.at.returns-in-Ok-publish-clause-made g c).In-Ok-append) in
-    let address : c.in-Ok-append.placed.addr ≡ g.P.Platform.head c.load_root.new.self = c.in-Ok-append.ensures.address in
+    let address : c.in-Ok-append.placed.addr ≡ g.P.Platform.head c.load_root.new.self = c.in-Ok-append.ensures.placed.address in
     let stands = format_stands _ _ _ _ _ _ _ _ all told (c.in-Ok-publish.ensures.published told) in (
       stands.0,
       stands.1,
@@ -120,9 +120,9 @@ returns-in-Ok-publish-clause-made g c = λ told.
         ap (λ (i : Image). i.cell) (c.in-Ok-publish.ensures.published told),
         record {
           earlier = [];
-          drew = c.in-Ok-append.ensures.drew;
-          node = omega (arith, address, c.in-Ok-append.ensures.head_ok, c.publish.ensures.head);
-          head = omega (arith, address, c.in-Ok-append.ensures.head_ok, c.publish.ensures.head);
+          drew = c.in-Ok-append.ensures.placed.drew;
+          node = omega (arith, address, c.in-Ok-append.ensures.placed.head, c.publish.ensures.head);
+          head = omega (arith, address, c.in-Ok-append.ensures.placed.head, c.publish.ensures.head);
         },
       ),
     )
@@ -184,12 +184,12 @@ returns-in_default-first_entry-clause-discloses g c = look_discloses _ _ _ _ c.l
 pub returns-in-Err-TapeFault-clause-discloses : goal.returns-in-Err-TapeFault-clause-discloses
 returns-in-Err-TapeFault-clause-discloses g c =
     first_discloses _ _ _ _ _ _ c.put_node.new.self.body c.head-addr.result _ _ c.load_root.ensures.time c.load_root.ensures.image c.append.ensures.keeps (sealed_body g (goal.at.returns-in-Err-TapeFault-clause-discloses g c).After-append) c.head-addr.ensures.value
-    c.append.ensures.time c.append.ensures.cell
+    c.append.ensures.adds.time c.append.ensures.adds.cell
 
 pub returns-in-Err-PlatformFault-clause-discloses : goal.returns-in-Err-PlatformFault-clause-discloses
 returns-in-Err-PlatformFault-clause-discloses g c =
     first_discloses _ _ _ _ _ _ c.put_node.new.self.body c.head-addr.result _ _ c.load_root.ensures.time c.load_root.ensures.image c.append.ensures.keeps (sealed_body g (goal.at.returns-in-Err-PlatformFault-clause-discloses g c).After-append) c.head-addr.ensures.value
-    c.append.ensures.time c.append.ensures.cell
+    c.append.ensures.adds.time c.append.ensures.adds.cell
 
 pub returns-in-Ok-publish-clause-discloses : goal.returns-in-Ok-publish-clause-discloses
 returns-in-Ok-publish-clause-discloses g c =
@@ -232,38 +232,38 @@ returns-in-Err-TapeFault-clause-cause g c = (
       image = λ told. c.append.ensures.unchanged told (cc) ∙ c.load_root.ensures.image told;
       drawn = c.append.ensures.undrawn (cc);
     },
-    λ told. call_more _ _ _ (one_look _ _ (c.load_root.ensures.time told) (c.load_root.ensures.image told)) (c.append.ensures.time told) (c.append.ensures.cell told),
+    λ told. call_more _ _ _ (one_look _ _ (c.load_root.ensures.time told) (c.load_root.ensures.image told)) (c.append.ensures.adds.time told) (c.append.ensures.adds.cell told),
   ),
 )
 
 pub returns-in-Ok-publish-clause-cause : goal.returns-in-Ok-publish-clause-cause
-returns-in-Ok-publish-clause-cause g c = (λ told. empty_cell c.in-Ok.is_full (g.P.Platform.history c.args.platform.now).present.cell c.if-is_full.false (c.in-Ok.ensures.full told), λ none. absurd (omega (arith, none, c.head.ensures.value, c.capacity.ensures.value, c.load_root.ensures.head, c.load_root.ensures.capacity, c.if-head-capacity.false)), omega (arith, c.in-Ok-append.ensures.head_ok, c.load_root.ensures.head, c.publish.ensures.head))
+returns-in-Ok-publish-clause-cause g c = (λ told. empty_cell c.in-Ok.is_full (g.P.Platform.history c.args.platform.now).present.cell c.if-is_full.false (c.in-Ok.ensures.full told), λ none. absurd (omega (arith, none, c.head.ensures.value, c.capacity.ensures.value, c.load_root.ensures.head, c.load_root.ensures.capacity, c.if-head-capacity.false)), omega (arith, c.in-Ok-append.ensures.placed.head, c.load_root.ensures.head, c.publish.ensures.head))
 
 pub returns-in-Err-Ledger-clause-cause : goal.returns-in-Err-Ledger-clause-cause
 returns-in-Err-Ledger-clause-cause g c =
     let cause = rw c.in-Err-Ledger.field-0-is at c.in-Err-Ledger.ensures.cause in (
       cause.0,
       λ none. absurd (omega (arith, none, c.head.ensures.value, c.capacity.ensures.value, c.load_root.ensures.head, c.load_root.ensures.capacity, c.if-head-capacity.false)),
-      λ told. stays_then _ _ _ (call_more _ _ _ (one_look _ _ (c.load_root.ensures.time told) (c.load_root.ensures.image told)) (c.append.ensures.time told) (c.append.ensures.cell told)) (cause.1 told),
+      λ told. stays_then _ _ _ (call_more _ _ _ (one_look _ _ (c.load_root.ensures.time told) (c.load_root.ensures.image told)) (c.append.ensures.adds.time told) (c.append.ensures.adds.cell told)) (cause.1 told),
     )
 
 pub returns-in-Err-Ledger-clause-certifies : goal.returns-in-Err-Ledger-clause-certifies
 returns-in-Err-Ledger-clause-certifies g c =
     let at = goal.at.returns-in-Err-Ledger-clause-certifies g c in
-    let address : c.in-Ok-append.placed.addr ≡ g.P.Platform.head c.load_root.new.self = c.in-Ok-append.ensures.address in
+    let address : c.in-Ok-append.placed.addr ≡ g.P.Platform.head c.load_root.new.self = c.in-Ok-append.ensures.placed.address in
     format_certifies _ _ _ _ _ _ _ _ _ _ _ _ _ _ _ (λ was ok. absurd cc) (address ∙ c.load_root.ensures.head) (c.head-addr.ensures.value ∙ c.load_root.ensures.head)
     (calls g at.After-publish (written_first g at.In-Ok-append)) c.in-Ok-first_entry.ensures (rw c.bytes.ensures at c.publish.ensures.put)
 
 pub returns-clause-certifies : goal.returns-clause-certifies
 returns-clause-certifies g c =
     let at = goal.at.returns-clause-certifies g c in
-    let address : c.in-Ok-append.placed.addr ≡ g.P.Platform.head c.load_root.new.self = c.in-Ok-append.ensures.address in
+    let address : c.in-Ok-append.placed.addr ≡ g.P.Platform.head c.load_root.new.self = c.in-Ok-append.ensures.placed.address in
     format_certifies _ _ _ _ _ _ _ _ _ _ _ _ _ _ _ (λ was ok. absurd cc) (address ∙ c.load_root.ensures.head) (c.head-addr.ensures.value ∙ c.load_root.ensures.head)
     (calls g at.After-publish (written_first g at.In-Ok-append)) c.in-Ok-first_entry.ensures (rw c.bytes.ensures at c.publish.ensures.put)
 
 pub returns-in-Ok-publish-clause-certifies : goal.returns-in-Ok-publish-clause-certifies
 returns-in-Ok-publish-clause-certifies g c =
     let at = goal.at.returns-in-Ok-publish-clause-certifies g c in
-    let address : c.in-Ok-append.placed.addr ≡ g.P.Platform.head c.load_root.new.self = c.in-Ok-append.ensures.address in
+    let address : c.in-Ok-append.placed.addr ≡ g.P.Platform.head c.load_root.new.self = c.in-Ok-append.ensures.placed.address in
     format_certifies _ _ _ _ _ _ _ _ _ _ _ _ _ _ _ (λ was ok. was (ap is_ok c.in-Ok-publish.is)) (address ∙ c.load_root.ensures.head) (c.head-addr.ensures.value ∙ c.load_root.ensures.head)
     (calls g at.After-publish (written_first g at.In-Ok-append)) c.in-Ok-first_entry.ensures (rw c.bytes.ensures at c.publish.ensures.put)

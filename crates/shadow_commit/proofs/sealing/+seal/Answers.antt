@@ -4,12 +4,10 @@ use Rattle.std.proofs.lemmas.List.Elements.{All-from_recursion}
 use Rattle.node_codec.specs.declared.body.Entry.{Entry}
 use Rattle.node_codec.specs.Record.{NodeRecord, FitsNode, record_bytes}
 use Rattle.page_store.specs.declared.appending.Placed.{Placed}
+use Rattle.page_store.specs.Appending.{IsPlaced}
 use Rattle.page_store.specs.Buffer.{Held}
-use Rattle.platform.specs.Image.{with_page}
 use Rattle.sdbt_base.specs.Bytes.{IsBytes}
-use Rattle.sdbt_base.specs.Told.{Drew}
-use Rattle.seal_record.specs.Sealing.{masked}
-use Rattle.std.specs.Prelude.{IfOk, OnOk}
+use Rattle.std.specs.Prelude.{IfOk}
 use Rattle.btree_twigs.specs.Stubs.{children_of, sum_by, nodes, stubs, stubs_by, stubs_below, low_of}
 use Rattle.btree_twigs.specs.Shape.{EachBy, IsChild}
 use Rattle.shadow_commit.specs.NewTree.{AreNodesOver}
@@ -160,12 +158,10 @@ seal_twig-returns-clause-sealed g t c at =
     let new = (history c.append.new.platform).present in
     if_ok (λ placed. Adds (λ ns. SealsNode (Seals at.level) at.level head (children_of c.args.twig.now) ns placed.addr placed.key) tells old new head (g.P.Platform.head c.append.new.platform) (drawn c.args.tape.now) (drawn c.append.new.tape))
     c.append.result (λ placed is.
-    let address : placed.addr ≡ now = subst (λ r. IfOk r (λ (placed : Placed). placed.addr ≡ now)) is c.append.ensures.address in
-    let key : IsBytes 32 placed.key = subst (λ r. IfOk r (λ (placed : Placed). IsBytes 32 placed.key)) is c.append.ensures.key in
-    let drew : Drew (drawn c.loop-child.tape) placed.key (drawn c.append.new.tape) = subst (λ r. IfOk r (λ (placed : Placed). Drew (drawn c.loop-child.tape) placed.key (drawn c.append.new.tape))) is c.append.ensures.drew in
+    let at_head : IsPlaced g.P.Platform g.T.Tape c.put_node.new.self.body c.loop-child.platform c.append.new.platform c.loop-child.tape c.append.new.tape placed
+    = subst (λ r. IfOk r (IsPlaced g.P.Platform g.T.Tape c.put_node.new.self.body c.loop-child.platform c.append.new.platform c.loop-child.tape c.append.new.tape)) is c.append.ensures.placed in
+    let address : placed.addr ≡ now = at_head.address in
     let body = c.put_node.new.self.body in
-    let image : tells → new ≡ with_page mid (masked placed.key body) (masked placed.key body) = λ told. subst (λ r. IfOk r (λ (placed : Placed). new ≡ with_page mid (masked placed.key body) (masked placed.key body))) is (c.append.ensures.appended told) in
-    let up : g.P.Platform.head c.append.new.platform ≡ now + 1 = subst (λ r. OnOk r (g.P.Platform.head c.append.new.platform ≡ now + 1)) is c.append.ensures.head_ok in
     let node : Sealed = record { addr = placed.addr; key = placed.key; level = suc at.level; entries = es } in
     let body_is : body ≡ record_bytes placed.addr (NodeRecord (suc at.level) es) = ap (λ (b : Held). b.body) c.put_node.ensures ∙ body_as _ _ _ _ _ _ (c.head.ensures.value ∙ sym address) at.shaped.level_is c.deref.ensures.0 in
     let each : Adds (λ ns. SealsEach (Seals at.level) head (children_of c.args.twig.now) ns es) tells old mid head now (drawn c.args.tape.now) (drawn c.loop-child.tape)
@@ -173,8 +169,8 @@ seal_twig-returns-clause-sealed g t c at =
     (λ ns h. subst (λ xs. SealsEach (Seals at.level) head xs ns es) all h) so_far in
     adds_then (λ ns. SealsEach (Seals at.level) head (children_of c.args.twig.now) ns es) (λ ms. ms ≡ node ∷ []) (λ ns. SealsNode (Seals at.level) at.level head (children_of c.args.twig.now) ns placed.addr placed.key)
     tells old mid new head now (g.P.Platform.head c.append.new.platform) (drawn c.args.tape.now) (drawn c.loop-child.tape) (drawn c.append.new.tape)
-    (λ ns ms at_is each one. record { entries = es; below = ns; each = each; addr_is = address ∙ at_is; key_is = key; is = ap (λ xs. ns ++ xs) one })
-    each (adds_page tells mid new now (g.P.Platform.head c.append.new.platform) (drawn c.loop-child.tape) (drawn c.append.new.tape) node body body_is image up drew))
+    (λ ns ms at_is each one. record { entries = es; below = ns; each = each; addr_is = address ∙ at_is; key_is = at_head.key; is = ap (λ xs. ns ++ xs) one })
+    each (adds_page tells mid new now (g.P.Platform.head c.append.new.platform) (drawn c.loop-child.tape) (drawn c.append.new.tape) node body body_is at_head.image at_head.head at_head.drew))
 
 pub seal_twig-returns-clause-within : goal.seal_twig-returns-clause-within
 seal_twig-returns-clause-within g t c at =
@@ -186,7 +182,7 @@ seal_twig-returns-clause-within g t c at =
     let so_far = inv.sealed at in
     let count = children_count at.level head (take i cs) so_far.nodes c.loop-child.entries.items so_far.is in
     let all : take i cs ≡ children_of c.args.twig.now = take_all i cs (omega (arith, c.loop-child-test.false)) ∙ inv.same in
-    omega (arith, c.append.ensures.head_by_one, so_far.head, count, ap (sum_by (nodes at.level)) all)
+    omega (arith, c.append.ensures.adds.grows.by_one, so_far.head, count, ap (sum_by (nodes at.level)) all)
 
 pub seal_child-returns-in-Kept-clause-beside : goal.seal_child-returns-in-Kept-clause-beside
 seal_child-returns-in-Kept-clause-beside g t c = beside_start g.P.Platform g.T.Tape c.args.platform.now c.args.tape.now
@@ -205,8 +201,8 @@ seal_twig-returns-in_err-entry-clause-beside g t c =
 
 pub seal_twig-returns-clause-beside : goal.seal_twig-returns-clause-beside
 seal_twig-returns-clause-beside g t c =
-    let E = c.append.ensures in
-    let last = beside_call g.P.Platform g.T.Tape c.loop-child.platform c.append.new.platform c.loop-child.tape c.append.new.tape E.time E.cell E.head_rises E.capacity E.reads E.platform_faults E.tape_faults in
+    let E = c.append.ensures.adds in
+    let last = beside_call g.P.Platform g.T.Tape c.loop-child.platform c.append.new.platform c.loop-child.tape c.append.new.tape E.time E.cell E.grows.rises E.grows.capacity E.reads E.grows.faults E.tape_faults in
     beside_then g.P.Platform g.T.Tape c.args.platform.now c.loop-child.platform c.append.new.platform c.args.tape.now c.loop-child.tape c.append.new.tape c.loop-child.invariant.beside last
 
 pub seal_twig-returns-in_err-entry-clause-stops : goal.seal_twig-returns-in_err-entry-clause-stops
@@ -263,13 +259,13 @@ seal_twig-returns-clause-stops g t c at = λ err.
     let before : Are [] = subst (AreNodesOver head (stubs_below at.level at.high twig)) (sym (append-nil so_far.nodes)) (subst (λ ss. AreNodesOver head ss so_far.nodes) same done.over) in
     let stops : Stops Are tells mid new (drawn c.loop-child.tape) (drawn c.append.new.tape) =
     fault_cases c.append.result (Stops Are tells mid new (drawn c.loop-child.tape) (drawn c.append.new.tape)) err
-    (λ is. stops_none Are tells mid new (drawn c.loop-child.tape) (drawn c.append.new.tape) before (λ told. c.append.ensures.unchanged told is) (c.append.ensures.undrawn is))
+    (λ is. stops_none Are tells mid new (drawn c.loop-child.tape) (drawn c.append.new.tape) before (λ told. ap (λ platform. (g.P.Platform.history platform).present) (c.append.ensures.idle is).0) (c.append.ensures.idle is).1)
     (λ is.
     let spent = c.append.ensures.spent is in
-    let node : Sealed = record { addr = now; key = spent.0; level = suc at.level; entries = es } in
+    let node : Sealed = record { addr = now; key = spent.key; level = suc at.level; entries = es } in
     let body_is : c.put_node.new.self.body ≡ record_bytes now (NodeRecord (suc at.level) es) = ap (λ (b : Held). b.body) c.put_node.ensures ∙ body_as _ _ _ _ _ _ c.head.ensures.value at.shaped.level_is c.deref.ensures.0 in
     stops_one Are tells mid new (drawn c.loop-child.tape) (drawn c.append.new.tape) node c.put_node.new.self.body
-    (subst (λ ss. AreNodesOver head ss (so_far.nodes ++ node ∷ [])) same (over_node head places so_far.nodes node done.over so_far.head (fits, All-from_recursion (λ (e : Entry). IsBytes 32 e.key) es keys) done.listed)) body_is spent.3 spent.2)
+    (subst (λ ss. AreNodesOver head ss (so_far.nodes ++ node ∷ [])) same (over_node head places so_far.nodes node done.over so_far.head (fits, All-from_recursion (λ (e : Entry). IsBytes 32 e.key) es keys) done.listed)) body_is spent.image spent.drew)
     in
     adds_stops (λ ns. SealsEach (Seals at.level) head (take i cs) ns es) Are (AreNodesOver head (stubs_below at.level at.high twig)) tells (history c.args.platform.now).present mid new
     head now (drawn c.args.tape.now) (drawn c.loop-child.tape) (drawn c.append.new.tape) so_far (λ ms are. are) stops

@@ -23,10 +23,10 @@ returns-clause-mounts g c =
     let fresh : IsFresh _ = record { untouched = refl; mapped = refl; tree = tree; none = none } in
     let own = fresh_pages _ pages within fresh in
     let holds : P.tells → (device : Device) → Stands (P.history c.args.platform.now).present (Some device) → Holds _ image device device.contents = λ told device stands.
-    let same = sym (c.current.ensures.image told) in
+    let same = sym (c.current.ensures.reads_cell.image told) in
     fresh_holds _ image device pages within (whole-now (P.history c.current.new.platform)) (subst (λ (i : Image). i.cell ≡ Some (root_bytes c.in-Some.root)) same (found told)) fresh (subst (λ (i : Image). Stands i (Some device)) same stands) in
     record {
-      is_open = fresh_open _ pages _ within c.of-grove.ensures.below c.current.ensures.head fresh;
+      is_open = fresh_open _ pages _ within c.of-grove.ensures.below c.current.ensures.reads_cell.head fresh;
       untouched = refl;
       pages = own;
       empty = c.in-Ok-new-2.ensures;

@@ -58,14 +58,14 @@ arrives g c told =
     let addr = c.in-Ok.placed.addr in
     let key = c.in-Ok.placed.key in
     let text = padded c.args.content.now in
-    let address : addr ≡ g.P.Platform.head c.args.platform.now = c.in-Ok.ensures.address in
+    let address : addr ≡ g.P.Platform.head c.args.platform.now = c.in-Ok.ensures.placed.address in
     let body : c.put_block.new.self.body ≡ record_bytes addr (DataRecord c.args.block text) = ap (λ (b : Held). b.body) c.put_block.ensures ∙ ap (λ (n : ℕ). record_bytes n (DataRecord c.args.block text)) (c.head-addr.ensures.value ∙ sym address) in
     let o = subst (λ (s : Session). IsOpen s (g.P.Platform.head c.args.platform.now)) (sym c.self.view_is) c.requires.open in
     let to = subst (λ (s : Session). c.args.block < s.root.blocks) (sym c.self.view_is) c.requires.room.0 in
-    arrived image (g.P.Platform.history c.append.new.platform).present c.args.block addr key text (whole-now (g.P.Platform.history c.args.platform.now)) (Extends-earlier _ _ (c.append.ensures.time told).extends)
+    arrived image (g.P.Platform.history c.append.new.platform).present c.args.block addr key text (whole-now (g.P.Platform.history c.args.platform.now)) (Extends-earlier _ _ (c.append.ensures.adds.time told).extends)
     (address ∙ sym (g.met.P.Platform.counts_pages told c.args.platform.now)) (omega (arith, address, g.met.P.Platform.has_room c.args.platform.now, g.met.P.Platform.is_limited c.args.platform.now))
     (omega (arith, to, o.served.in_range.blocks_most)) (padded_bytes c.args.content.now c.requires.size c.are_bytes.ensures)
-    (c.in-Ok.ensures.appended told ∙ ap (λ (b : List ℕ). with_page image (masked key b) (masked key b)) body)
+    (c.in-Ok.ensures.placed.image told ∙ ap (λ (b : List ℕ). with_page image (masked key b) (masked key b)) body)
 
 -- the insertion, over a tree that is ready for it
 insertion : (g : Over) (c : After-insert g) → (g.P.Platform.tells → Arrives (g.P.Platform.history c.args.platform.now).present (g.P.Platform.history c.append.new.platform).present c.args.block c.in-Ok.placed.addr c.in-Ok.placed.key (padded c.args.content.now)) → g.P.Platform.tells → IsReadyFor (g.P.Platform.history c.args.platform.now).present.readable c.args.block c.args.self.now.grove c.args.is_mapped →
@@ -76,7 +76,7 @@ insertion g c come told r =
     let ready = subst (λ (s : Session). IsReadyFor image.readable c.args.block s.grove c.args.is_mapped) (sym c.self.view_is) r in
     record {
       whole = whole-now (g.P.Platform.history c.args.platform.now);
-      cell = c.append.ensures.cell told;
+      cell = c.append.ensures.adds.cell told;
       size = size g c;
       to = subst (λ (s : Session). c.args.block < s.root.blocks) (sym c.self.view_is) c.requires.room.0;
       arrives = come told;
@@ -91,12 +91,12 @@ insertion g c come told r =
 still_follows : (g : Over) (c : After-append g) → g.P.Platform.tells → Follows c.args.self.now (g.P.Platform.history c.args.platform.now).present → Follows (record (the_view c.self.inside) { buffers = c.append.new.self }) (g.P.Platform.history c.append.new.platform).present
 still_follows g c told f =
     follows_later (the_view c.self.inside) c.append.new.self (g.P.Platform.history c.args.platform.now).present _ (g.P.Platform.head c.args.platform.now) (is_open g c) (sym (g.met.P.Platform.counts_pages told c.args.platform.now))
-    (whole-now (g.P.Platform.history c.args.platform.now)) (Extends-earlier _ _ (c.append.ensures.time told).extends) (subst (λ (s : Session). Follows s (g.P.Platform.history c.args.platform.now).present) (sym c.self.view_is) f)
+    (whole-now (g.P.Platform.history c.args.platform.now)) (Extends-earlier _ _ (c.append.ensures.adds.time told).extends) (subst (λ (s : Session). Follows s (g.P.Platform.history c.args.platform.now).present) (sym c.self.view_is) f)
 
 -- an append that failed leaves the array and the pages
 still_array : (g : Over) (c : After-append g) → g.P.Platform.tells → (device : Device) (contents : Blocks) → Holds c.args.self.now (g.P.Platform.history c.args.platform.now).present device contents → Holds (record (the_view c.self.inside) { buffers = c.append.new.self }) (g.P.Platform.history c.append.new.platform).present device contents
 still_array g c told device contents h =
-    later_holds (the_view c.self.inside) c.append.new.self _ _ device contents (whole-now (g.P.Platform.history c.args.platform.now)) (Extends-earlier _ _ (c.append.ensures.time told).extends) (c.append.ensures.cell told)
+    later_holds (the_view c.self.inside) c.append.new.self _ _ device contents (whole-now (g.P.Platform.history c.args.platform.now)) (Extends-earlier _ _ (c.append.ensures.adds.time told).extends) (c.append.ensures.adds.cell told)
     (subst (λ (s : Session). Holds s (g.P.Platform.history c.args.platform.now).present device contents) (sym c.self.view_is) h)
 
 still_pages : (g : Over) (c : After-append g) (pages : List Unkept) → AreDataPages c.args.self.now pages → AreDataPages (the_view c.self.inside) pages
@@ -116,7 +116,7 @@ still_goes_on : (g : Over) (c : After-append g) → GoesOn (g.P.Platform.tells �
     (g.P.Platform.history c.append.new.platform).present (g.P.Platform.head c.append.new.platform) c.args.self.now (record (the_view c.self.inside) { buffers = c.append.new.self })
 still_goes_on g c = record {
   follows = λ known f. still_follows g c known.0 f;
-  is_open = later_open (the_view c.self.inside) c.append.new.self _ _ c.append.ensures.head_rises (is_open g c);
+  is_open = later_open (the_view c.self.inside) c.append.new.self _ _ c.append.ensures.adds.grows.rises (is_open g c);
   root = ap (λ (s : Session). s.root) c.self.view_is;
   capacity = ap (λ (s : Session). s.cache.capacity) c.self.view_is;
 }
@@ -140,9 +140,9 @@ returns-in-Err-TapeFault-clause-updates g c = still_updates g (goal.at.returns-i
 -- an append that was done or failed
 grows : (g : Over) (c : After-append g) → WriteGrows g.P.Platform g.T.Tape c.args.platform.now c.append.new.platform c.args.tape.now c.append.new.tape
 grows g c = record {
-  time = λ told. During-step _ _ (λ image. image.cell ≡ (g.P.Platform.history c.args.platform.now).present.cell) (c.append.ensures.time told) refl (c.append.ensures.cell told);
-  by_one = record { rises = c.append.ensures.head_rises; by_one = c.append.ensures.head_by_one; capacity = c.append.ensures.capacity; faults = c.append.ensures.platform_faults };
-  tape_faults = c.append.ensures.tape_faults;
+  time = λ told. During-step _ _ (λ image. image.cell ≡ (g.P.Platform.history c.args.platform.now).present.cell) (c.append.ensures.adds.time told) refl (c.append.ensures.adds.cell told);
+  by_one = c.append.ensures.adds.grows;
+  tape_faults = c.append.ensures.adds.tape_faults;
 }
 
 pub returns-in-Err-PlatformFault-clause-grows : goal.returns-in-Err-PlatformFault-clause-grows
@@ -169,11 +169,11 @@ appends g c Done done =
 
 pub returns-in-Err-TapeFault-clause-keeps : goal.returns-in-Err-TapeFault-clause-keeps
 returns-in-Err-TapeFault-clause-keeps g c = appends g (goal.at.returns-in-Err-TapeFault-clause-keeps g c).After-append _ (λ told keys more h r.
-    later_listed (the_view c.self.inside) c.append.new.self _ _ (keys ++ more) (whole-now (g.P.Platform.history c.args.platform.now)) (Extends-earlier _ _ (c.append.ensures.time told).extends) (c.append.ensures.cell told) (more_listed (the_view c.self.inside) _ keys more h))
+    later_listed (the_view c.self.inside) c.append.new.self _ _ (keys ++ more) (whole-now (g.P.Platform.history c.args.platform.now)) (Extends-earlier _ _ (c.append.ensures.adds.time told).extends) (c.append.ensures.adds.cell told) (more_listed (the_view c.self.inside) _ keys more h))
 
 pub returns-in-Err-PlatformFault-clause-keeps : goal.returns-in-Err-PlatformFault-clause-keeps
 returns-in-Err-PlatformFault-clause-keeps g c = appends g (goal.at.returns-in-Err-PlatformFault-clause-keeps g c).After-append _ (λ told keys more h r.
-    later_listed (the_view c.self.inside) c.append.new.self _ _ (keys ++ more) (whole-now (g.P.Platform.history c.args.platform.now)) (Extends-earlier _ _ (c.append.ensures.time told).extends) (c.append.ensures.cell told) (more_listed (the_view c.self.inside) _ keys more h))
+    later_listed (the_view c.self.inside) c.append.new.self _ _ (keys ++ more) (whole-now (g.P.Platform.history c.args.platform.now)) (Extends-earlier _ _ (c.append.ensures.adds.time told).extends) (c.append.ensures.adds.cell told) (more_listed (the_view c.self.inside) _ keys more h))
 
 -- ---- where the record was put
 
@@ -183,7 +183,7 @@ returns-clause-array g c = λ told device contents h r.
     let session = the_view c.self.inside in
     let inserted = insertion g at.After-insert (arrives g at.In-Ok) told r in
     let k = subst (λ (s : Session). Holds s (g.P.Platform.history c.args.platform.now).present device contents) (sym c.self.view_is) h in
-    let address : c.in-Ok.placed.addr ≡ g.P.Platform.head c.args.platform.now = c.in-Ok.ensures.address in
+    let address : c.in-Ok.placed.addr ≡ g.P.Platform.head c.args.platform.now = c.in-Ok.ensures.placed.address in
     record {
       array = subst (λ n. Holds (with_inserted session c.insert.new.self n c.append.new.self) (g.P.Platform.history c.append.new.platform).present device (maps.insert contents c.args.block (padded c.args.content.now))) (sym c.count_with-self-inside.ensures)
           (inserted_holds session _ _ device contents c.args.block c.in-Ok.placed.addr c.in-Ok.placed.key (padded c.args.content.now) c.args.is_mapped c.insert.new.self c.append.new.self inserted k);
@@ -204,8 +204,8 @@ returns-clause-goes_on g c =
     let head = g.P.Platform.head c.args.platform.now in
     let now = g.P.Platform.head c.append.new.platform in
     let o = is_open g at.After-append in
-    let grown : head + 1 ≡ now = omega (arith, c.in-Ok.ensures.head_ok) in
-    let below = c.insert.ensures.below now (below_more head now c.self.inside.grove (omega (arith, grown)) o.below) (omega (arith, c.in-Ok.ensures.address, grown)) in
+    let grown : head + 1 ≡ now = omega (arith, c.in-Ok.ensures.placed.head) in
+    let below = c.insert.ensures.below now (below_more head now c.self.inside.grove (omega (arith, grown)) o.below) (omega (arith, c.in-Ok.ensures.placed.address, grown)) in
     let limit = subst (λ (s : Session). OnFalse c.args.is_mapped (HasRoom s)) (sym c.self.view_is) c.requires.limit in
     let can = subst (λ (s : Session). CanInsert c.args.block s.grove × (IsTrue c.args.is_mapped → CanRemove c.args.block s.grove)) (sym c.self.view_is) c.requires.can in
     record {
@@ -247,11 +247,11 @@ returns-clause-keeps g c =
 
 pub returns-clause-adds : goal.returns-clause-adds
 returns-clause-adds g c =
-    let address : c.in-Ok.placed.addr ≡ g.P.Platform.head c.args.platform.now = c.in-Ok.ensures.address in (
-      c.in-Ok.ensures.head_ok,
+    let address : c.in-Ok.placed.addr ≡ g.P.Platform.head c.args.platform.now = c.in-Ok.ensures.placed.address in (
+      c.in-Ok.ensures.placed.head,
       record {
         key = c.in-Ok.placed.key;
-        drew = c.in-Ok.ensures.drew;
+        drew = c.in-Ok.ensures.placed.drew;
         place = subst (λ n. Contains (places_of c.insert.new.self) (datum c.args.block n c.in-Ok.placed.key)) address c.insert.ensures.has;
       },
     )

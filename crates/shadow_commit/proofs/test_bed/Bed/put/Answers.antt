@@ -13,7 +13,7 @@ still_below head old new keeps below =
     (subst (λ t. AreBelow head (stubs old.level old.blocks t)) (sym keeps.top) below))
 
 pub ready-requires : goal.ready-requires
-ready-requires c = record { sound = c.self.invariant.0; to = omega (arith, c.self.invariant.3, c.if-block-self.false); within = lower (length c.self.inside.platform.store.medium.recorded) (length c.append.new.self.store.medium.recorded) (places_of c.self.inside.grove) c.append.ensures.head_rises c.self.invariant.5 }
+ready-requires c = record { sound = c.self.invariant.0; to = omega (arith, c.self.invariant.3, c.if-block-self.false); within = lower (length c.self.inside.platform.store.medium.recorded) (length c.append.new.self.store.medium.recorded) (places_of c.self.inside.grove) c.append.ensures.head.rises c.self.invariant.5 }
 
 pub invariant_of-self-2 : goal.invariant_of-self-2
 invariant_of-self-2 c =
@@ -22,8 +22,8 @@ invariant_of-self-2 c =
     let first = length c.self.inside.platform.store.medium.recorded in
     let head = length c.ready.new.platform.store.medium.recorded in
     let same = c.ready.ensures.looks.head in
-    let up = c.in-Ok.ensures.head_ok in
-    let at = c.in-Ok.ensures.address in
+    let up = c.in-Ok.ensures.address.1 in
+    let at = c.in-Ok.ensures.address.0 in
     let below = lower first head (places_of old) (omega (arith, same, up)) inv.5 in
     let lt : c.in-Ok.addr < head = omega (arith, same, up, at) in (
       c.insert.ensures.sound,
