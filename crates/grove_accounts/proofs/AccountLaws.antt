@@ -1,17 +1,17 @@
 -- What a tree keeps account of, as places leave it and come to it.
-use Rattle.std.proofs.Common.{◌≡◌, ◌≢◌, ◌⊎◌, inl, inr, ℕ, zero, suc, ◌+◌, ◌<◌, ◌≤◌, List, [], ◌∷◌, ◌++◌, All, map, length, get_or, refl, sym, ap, subst, ◌∙◌, arith, append-nil}
+use Rattle.std.proofs.Common.{◌≡◌, ◌≢◌, ◌⊎◌, inl, inr, ℕ, zero, suc, ◌<◌, ◌≤◌, List, [], ◌∷◌, ◌++◌, All, map, refl, sym, ap, ◌∙◌, arith}
 use Rattle.std.specs.Prelude.{AllPairs, Contains}
 use Rattle.std.specs.List.Sorted.{IsPermutation}
 use Rattle.std.proofs.lemmas.List.Elements.{All-nil, All-cons, All-head, All-weaker, All-append, All-map, All-contains, All-contains_itself, Contains-append_left, Contains-append_right, Contains-append_cases}
 use Rattle.std.proofs.lemmas.List.Kept.{AllPairs-cons}
-use Rattle.std.proofs.lemmas.List.Sorted.{IsPermutation-sym, IsPermutation-refl, All-permutation, Contains-permutation}
+use Rattle.std.proofs.lemmas.List.Sorted.{IsPermutation-sym, All-permutation, Contains-permutation}
 use Rattle.platform.specs.Logged.{AllPairs-first, AllPairs-rest, AllPairs-nil}
 use Rattle.key_graph.proofs.ChainLaws.{map_contains}
 use Rattle.sdbt_base.specs.Traces.{DataOf, NodeOver}
 use Rattle.sdbt_base.specs.declared.lists.Unkept.{Unkept}
 use Rattle.page_store.specs.Tree.{Place}
 use Rattle.grove_accounts.specs.Accounts.{Accounts, IsOwn, LacksAddress, HasAddress}
-use Rattle.grove_accounts.proofs.ListLaws.{AreApart, all_left, all_right, apart_permutation, apart_right, apart_from}
+use Rattle.grove_accounts.proofs.ListLaws.{AreApart, all_right, apart_from}
 use Rattle.grove_accounts.proofs.PartsLaws.{IsInner}
 
 -- ---- the tree of a root record itself

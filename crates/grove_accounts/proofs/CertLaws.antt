@@ -1,7 +1,6 @@
 -- The certificate of a tree with changes.
-use Rattle.std.proofs.Common.{◌≡◌, ◌≢◌, ◌⊎◌, inl, inr, ℕ, zero, suc, ◌<◌, ◌≤◌, List, [], ◌∷◌, ◌++◌, All, map, length, get_or, refl, sym, ap, subst, ◌∙◌, arith}
+use Rattle.std.proofs.Common.{◌≡◌, ◌≢◌, ◌⊎◌, inl, inr, ℕ, zero, suc, ◌<◌, ◌≤◌, List, [], ◌∷◌, ◌++◌, All, length, get_or, refl, sym, ap, subst, ◌∙◌, arith}
 use Rattle.std.specs.Prelude.{AllPairs, Contains, None, Some}
-use Rattle.std.specs.List.Sorted.{IsPermutation}
 use Rattle.std.proofs.lemmas.Bool.{cases_eq, eq-eqb, ne_eqb}
 use Rattle.std.proofs.lemmas.Option.{none-some, same_Some}
 use Rattle.std.proofs.lemmas.List.Elements.{All-head, All-tail, All-weaker, All-contains, All-contains_itself, Contains-append_left, Contains-append_right, Contains-append_cases}
@@ -10,8 +9,7 @@ use Rattle.platform.specs.Logged.{AllPairs-rest}
 use Rattle.platform.specs.Image.{Image}
 use Rattle.sdbt_base.specs.Traces.{TraceEntry, Traced, DataOf, NodeOver}
 use Rattle.sdbt_base.specs.declared.lists.Unkept.{Unkept}
-use Rattle.key_graph.specs.Trace.{Has, entry_in}
-use Rattle.key_graph.proofs.ChainLaws.{contains_map, map_contains}
+use Rattle.key_graph.specs.Trace.{Has}
 use Rattle.root_codec.specs.declared.root.Root.{Root}
 use Rattle.page_store.specs.Tree.{Parts, Place, Subtree, joined}
 use Rattle.cert_maker.specs.Differ.{Differ}
@@ -22,10 +20,10 @@ use Rattle.btree_update.specs.declared.groves.Grove.{Grove}
 use Rattle.btree_update.specs.Groves.{places_of}
 use Rattle.btree_update.specs.GroveTree.{want_in}
 use Rattle.grove_accounts.specs.Below.{HaveParts}
-use Rattle.grove_accounts.specs.Accounts.{Accounts, IsOwn, LacksAddress, HasAddress}
+use Rattle.grove_accounts.specs.Accounts.{IsOwn, LacksAddress, HasAddress}
 use Rattle.grove_accounts.specs.Holding.{HoldsTree}
 use Rattle.grove_accounts.specs.Certs.{told, told_stub, page_at, IsOwnStub, AreWritten, AddsNodes, IsSealedTree}
-use Rattle.grove_accounts.proofs.ListLaws.{AreApart, all_left, all_right, apart_permutation}
+use Rattle.grove_accounts.proofs.ListLaws.{AreApart, all_left, all_right}
 use Rattle.grove_accounts.proofs.PartsLaws.{IsInner}
 
 -- ---- what places say of an address

@@ -1,6 +1,6 @@
 -- What a tree with changes is over an image, from its root record over insertions and removals.
-use Rattle.std.proofs.Common.{◌≡◌, ◌≢◌, ◌⊎◌, inl, inr, ℕ, zero, suc, ◌+◌, ◌-◌, ◌==◌, if◌then◌else◌, ◌<◌, ◌≤◌, List, [], ◌∷◌, ◌++◌, All, map, take, length, refl, sym, ap, subst, ◌∙◌, arith, append-nil}
-use Rattle.std.specs.Prelude.{AllPairs, Contains, Option, None, Some, slice_get}
+use Rattle.std.proofs.Common.{◌≡◌, ◌⊎◌, inl, inr, ℕ, zero, suc, ◌-◌, ◌==◌, if◌then◌else◌, ◌<◌, ◌≤◌, List, [], ◌∷◌, ◌++◌, All, map, take, length, refl, sym, ap, subst, ◌∙◌, arith, append-nil}
+use Rattle.std.specs.Prelude.{Contains, Option, None, Some, slice_get}
 use Rattle.std.specs.List.{AllByRecursion}
 use Rattle.std.specs.List.Sorted.{IsPermutation}
 use Rattle.std.proofs.lemmas.Bool.{cases_lt, eq-eqb}
@@ -11,9 +11,8 @@ use Rattle.sdbt_base.specs.Traces.{DataOf}
 use Rattle.sdbt_base.specs.Arrays.{Device}
 use Rattle.sdbt_base.specs.declared.lists.Unkept.{Unkept}
 use Rattle.platform.specs.Image.{Image, IsEarlier}
-use Rattle.node_codec.specs.Record.{DataRecord}
 use Rattle.root_codec.specs.declared.root.Root.{Root}
-use Rattle.page_store.specs.Places.{IsRecordAt, root_want}
+use Rattle.page_store.specs.Places.{root_want}
 use Rattle.page_store.specs.Tree.{Tree, Parts, Place, Mapped, Subtree, joined, data_parts}
 use Rattle.page_store.specs.Stands.{StandsBy}
 use Rattle.page_store.proofs.TreeLaws.{subtree_kept}
@@ -22,7 +21,7 @@ use Rattle.btree_twigs.proofs.Finds.{kept_stub}
 use Rattle.btree_twigs.specs.Updates.{IsOpen}
 use Rattle.btree_update.specs.Opens.{Opens}
 use Rattle.btree_update.specs.declared.groves.Grove.{Grove}
-use Rattle.btree_update.specs.GroveTree.{Maps, want_at, least_at, want_in}
+use Rattle.btree_update.specs.GroveTree.{want_at, least_at, want_in}
 use Rattle.btree_update.specs.Maps.{MapPuts, MapTakes}
 use Rattle.btree_update.specs.Groves.{IsSound, IsAddressOf, KeepsTree, LetsGo, places_of}
 use Rattle.btree_update.proofs.Places.{in_maps}
@@ -30,8 +29,8 @@ use Rattle.btree_update.proofs.GroveLaws.{above_it}
 use Rattle.grove_accounts.specs.Below.{HaveParts, GroveHas}
 use Rattle.grove_accounts.specs.Accounts.{Accounts, IsOwn}
 use Rattle.grove_accounts.specs.Holding.{IsAccounted, HoldsTree, Arrives, Turns, IsSameSize, IsTreeOf, root_stub, data_place}
-use Rattle.grove_accounts.proofs.ListLaws.{AreApart, past, same_order, all_left, all_right, each_left, each_right, each_append, each_weaker, apart_permutation, apart_right}
-use Rattle.grove_accounts.proofs.PartsLaws.{OpensParts, opens_parts, opens_all, HaveBoth, parts_split, parts_append, parts_from, parts_each, places_between, mapped_between, joined_places, joined_mapped, IsInner}
+use Rattle.grove_accounts.proofs.ListLaws.{AreApart, past, all_left, all_right, each_left, each_right, each_append, each_weaker, apart_permutation, apart_right}
+use Rattle.grove_accounts.proofs.PartsLaws.{OpensParts, opens_parts, opens_all, parts_split, parts_append, parts_from, parts_each, places_between, mapped_between, joined_places, joined_mapped, IsInner}
 use Rattle.grove_accounts.proofs.AccountLaws.{accounts_start, accounts_permuted, accounts_later, accounts_gone, accounts_never, accounts_come, inner_committed}
 use Rattle.grove_accounts.proofs.PlaceLaws.{IsUnder, AreBelowRoot, IsPlaceOf, under_root, places_below, open_below, puts_no_root, takes_no_root, mid_at}
 

@@ -1,5 +1,5 @@
 -- The data records that a tree wrote itself, over an update.
-use Rattle.std.proofs.Common.{◌≡◌, ◌⊎◌, inl, inr, ℕ, zero, suc, ◌<◌, ◌≤◌, List, [], ◌∷◌, ◌++◌, All, map, refl, sym, ap, subst, ◌∙◌, arith}
+use Rattle.std.proofs.Common.{◌≡◌, ◌⊎◌, inl, inr, ℕ, zero, suc, ◌<◌, ◌≤◌, List, [], ◌∷◌, ◌++◌, All, map, refl, sym, ap, subst, arith}
 use Rattle.std.specs.Prelude.{Contains, Option, None, Some}
 use Rattle.std.specs.List.{AllByRecursion}
 use Rattle.std.proofs.lemmas.Bool.{cases_lt}
@@ -12,7 +12,7 @@ use Rattle.page_store.specs.Tree.{Parts, Place, Subtree, joined}
 use Rattle.btree_twigs.specs.Stubs.{Stub, Puts, Takes, datum}
 use Rattle.btree_update.specs.declared.groves.Grove.{Grove}
 use Rattle.btree_update.specs.GroveTree.{stubs_at, want_in}
-use Rattle.btree_update.specs.Held.{stub_at, IsReadAs}
+use Rattle.btree_update.specs.Held.{stub_at}
 use Rattle.btree_update.specs.Opens.{Opens, Same, Here, Within, Then}
 use Rattle.btree_update.specs.Groves.{LetsGo, places_of}
 use Rattle.btree_update.proofs.Readings.{read_same}

@@ -1,5 +1,5 @@
 -- What stands below the places of a tree, as they are opened.
-use Rattle.std.proofs.Common.{◌≡◌, ◌≢◌, ◌⊎◌, inl, inr, ℕ, zero, suc, ◌+◌, ◌/◌, ◌<◌, ◌≤◌, List, [], ◌∷◌, ◌++◌, All, map, length, refl, sym, ap, subst, ◌∙◌, arith, append_assoc, append-nil}
+use Rattle.std.proofs.Common.{◌≡◌, ℕ, zero, suc, ◌<◌, ◌≤◌, List, [], ◌∷◌, ◌++◌, All, map, refl, sym, ap, subst, ◌∙◌, arith, append_assoc, append-nil}
 use Rattle.std.specs.List.{AllByRecursion}
 use Rattle.std.specs.List.Sorted.{IsPermutation}
 use Rattle.std.proofs.lemmas.List.{map-append}
@@ -8,12 +8,11 @@ use Rattle.std.proofs.lemmas.List.Sorted.{IsPermutation-refl}
 use Rattle.sdbt_base.specs.Traces.{NodeOver}
 use Rattle.node_codec.specs.declared.body.Entry.{Entry}
 use Rattle.node_codec.specs.Record.{NodeRecord}
-use Rattle.page_store.specs.declared.wants.Want.{Want}
-use Rattle.page_store.specs.Tree.{Parts, Place, Mapped, Subtree, EachChild, joined}
+use Rattle.page_store.specs.Tree.{Parts, Place, Subtree, EachChild, joined}
 use Rattle.page_store.proofs.RecordLaws.{one_record}
 use Rattle.btree_twigs.specs.declared.twigs.Twig.{Twig}
 use Rattle.btree_twigs.specs.Stubs.{Stub, stubs_below}
-use Rattle.btree_update.specs.GroveTree.{HasEach, want_at, stubs_at, want_in}
+use Rattle.btree_update.specs.GroveTree.{HasEach, want_at, stubs_at}
 use Rattle.btree_update.specs.Held.{stub_at, IsReadAs}
 use Rattle.btree_update.specs.Opens.{Opens, Same, Here, Within, Then}
 use Rattle.btree_update.proofs.Places.{entries_have}

@@ -1,4 +1,4 @@
-use Rattle.std.proofs.Common.{rules, ◌≡◌, ap, refl, sym, subst, inr, Err}
+use Rattle.std.proofs.Common.{rules, ◌≡◌, ap, sym, subst, inr, Err}
 use Rattle.std.proofs.lemmas.Result.{err_from_is_err_and}
 use Rattle.page_store.specs.declared.refusals.FetchRefusal.TheVariants.{BadRecord}
 use Rattle.node_codec.specs.declared.body.NodeBody.{NodeBody}

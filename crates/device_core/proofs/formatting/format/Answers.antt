@@ -223,14 +223,14 @@ pub returns-in_default-first_entry-clause-cause : goal.returns-in_default-first_
 returns-in_default-first_entry-clause-cause g c = (λ none. absurd (omega (arith, none, c.head.ensures.value, c.capacity.ensures.value, c.load_root.ensures.head, c.load_root.ensures.capacity, c.if-head-capacity.false)), (record { head = c.load_root.ensures.head; image = c.load_root.ensures.image; drawn = refl }, λ told. one_look _ _ (c.load_root.ensures.time told) (c.load_root.ensures.image told)))
 
 pub returns-in-Err-TapeFault-clause-cause : goal.returns-in-Err-TapeFault-clause-cause
-returns-in-Err-TapeFault-clause-cause g c = (
+returns-in-Err-TapeFault-clause-cause g c = let idle = c.append.ensures.idle (cc) in (
   c.append.ensures.tape_cause (cc),
   λ none. absurd (omega (arith, none, c.head.ensures.value, c.capacity.ensures.value, c.load_root.ensures.head, c.load_root.ensures.capacity, c.if-head-capacity.false)),
   (
     record {
-      head = c.append.ensures.untouched (cc) ∙ c.load_root.ensures.head;
-      image = λ told. c.append.ensures.unchanged told (cc) ∙ c.load_root.ensures.image told;
-      drawn = c.append.ensures.undrawn (cc);
+      head = ap g.P.Platform.head idle.0 ∙ c.load_root.ensures.head;
+      image = λ told. ap (λ platform. (g.P.Platform.history platform).present) idle.0 ∙ c.load_root.ensures.image told;
+      drawn = idle.1;
     },
     λ told. call_more _ _ _ (one_look _ _ (c.load_root.ensures.time told) (c.load_root.ensures.image told)) (c.append.ensures.adds.time told) (c.append.ensures.adds.cell told),
   ),

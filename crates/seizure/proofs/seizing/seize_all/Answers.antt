@@ -8,4 +8,4 @@ returns-clause-unread g c = λ told no_key empty.
     (let P = g.P.Platform in
     let none : c.in-Ok.root ≡ None = root_none (P.history c.args.platform.now).present.cell c.in-Ok.root empty (c.in-Ok.ensures.found told) in
     let nothing : c.in_ok-work.work.keys ≡ [] = nothing_wanted c.in_ok-work.work.keys (roots_of c.args.keys.now c.in-Ok.root) c.in_ok-work.ensures.keys (ap (roots_of c.args.keys.now) none ∙ no_key) in
-    ap P.reads (c.seize_from.ensures.unread nothing) ∙ c.in-Ok.ensures.reads told)
+    ap P.reads (c.seize_from.ensures.unread nothing) ∙ c.in-Ok.ensures.reads_cell.reads told)

@@ -3,7 +3,6 @@ use Rattle.std.proofs.lemmas.List.{take_all}
 use Rattle.std.proofs.lemmas.List.Elements.{All-from_recursion}
 use Rattle.node_codec.specs.declared.body.Entry.{Entry}
 use Rattle.node_codec.specs.Record.{NodeRecord, FitsNode, record_bytes}
-use Rattle.page_store.specs.declared.appending.Placed.{Placed}
 use Rattle.page_store.specs.Appending.{IsPlaced}
 use Rattle.page_store.specs.Buffer.{Held}
 use Rattle.sdbt_base.specs.Bytes.{IsBytes}
