@@ -1,5 +1,5 @@
 -- The words of a key's generator are the keystream.
-use Rattle.std.proofs.Common.{◌≡◌, ℕ, ◌+◌, ◌*◌, ◌/◌, ◌%◌, ◌≤◌, ◌-◌, List, ◌++◌, length, take, sym, ap, ◌∙◌, arith}
+use Rattle.std.proofs.Common.{◌≡◌, ℕ, ◌+◌, ◌/◌, ◌%◌, ◌≤◌, ◌-◌, List, take, sym, ap, ◌∙◌, arith}
 use Rattle.std.proofs.lemmas.List.{take_at}
 use Rattle.rand_chacha.specs.ChaCha.{ChaCha, key_of, of_seed}
 use Rattle.chacha_words.specs.Words.{words}
