@@ -1,7 +1,5 @@
 //! What is live, and what a certificate makes of it.
 ghost use Rattle.std.specs.Prelude.{◌≡◌, ℕ, None, OnOk};
-ghost use Rattle.std.specs.Ordering.{nat_cmp};
-ghost use Rattle.std.specs.BTreeMap.{get};
 ghost use Rattle.cert_maker.specs.Cert.{Cert};
 
 use crate::change::Change;

@@ -1,5 +1,5 @@
 //! Rules 6, 7 and 8: what the added nodes take over, each child once, and that they hang together.
-ghost use Rattle.std.specs.Prelude.{◌≡◌, ◌↔◌, ◌==◌, ℕ, [], Option, true, false, IsTrue, IfNone, IfOk, length, slice_index, take};
+ghost use Rattle.std.specs.Prelude.{◌≡◌, ◌↔◌, ℕ, [], Option, true, false, IsTrue, IfNone, IfOk, length, slice_index, take};
 ghost use Rattle.std.specs.Ordering.{nat_cmp};
 ghost use Rattle.std.specs.BTreeSet.{contains};
 ghost use Rattle.cert_maker.specs.Cert.{Cert};

@@ -1,5 +1,5 @@
 //! The run of a chain: rule after rule, certificate after certificate.
-ghost use Rattle.std.specs.Prelude.{◌↔◌, ◌++◌, ◌∷◌, [], List, None, IsTrue};
+ghost use Rattle.std.specs.Prelude.{◌++◌, ◌∷◌, [], List, None};
 
 use crate::change::Change;
 use crate::listing::listed;

@@ -1,5 +1,5 @@
 //! The run of a ledger's chain.
-ghost use Rattle.std.specs.Prelude.{◌≡◌, ◌<◌, ◌+◌, List, None, drop, length};
+ghost use Rattle.std.specs.Prelude.{◌<◌, ◌+◌, List, None, drop, length};
 ghost use Rattle.cert_maker.specs.Cert as said;
 ghost use Rattle.cert_checker.specs.Chain.{chain_of, last_or, live_after, picks};
 ghost use Rattle.cert_checker.specs.First.{FirstBroken};

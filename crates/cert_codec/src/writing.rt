@@ -1,10 +1,10 @@
 //! From a certificate to text.
-ghost use Rattle.std.specs.Prelude.{◌≡◌, ◌<◌, ◌^◌, ◌++◌, ◌∷◌, [], ℕ, List, Bool, map, decimal, is_ok, IfOk, OnOk};
+ghost use Rattle.std.specs.Prelude.{◌≡◌, ◌<◌, ◌^◌, ◌++◌, map, decimal, IfOk, OnOk};
 ghost use Rattle.std.specs.List.{AllByRecursion};
 ghost use Rattle.serde_json.specs.View.{items_of};
 ghost use Rattle.serde_json.specs.Written.{items_text, compact_text, comma_if};
 ghost use Rattle.cert_maker.specs.Added.{traced};
-ghost use Rattle.cert_codec.specs.Text.{whole, numbers, array_of, added_json, never_json, cert_json, entry, PageFits, TracedFits, Fits};
+ghost use Rattle.cert_codec.specs.Text.{whole, numbers, array_of, added_json, never_json, entry, PageFits, TracedFits, Fits};
 
 use cert_maker::{Added, AddedList, Cert};
 use sdbt_base::{Addrs, Line, Memory, Unkept, UnkeptList};

@@ -1,5 +1,5 @@
 //! Laws of traces. The functions do nothing: each has its law as its contract.
-ghost use Rattle.std.specs.Prelude.{◌≡◌, ◌≢◌, ℕ, List, AllPairs};
+ghost use Rattle.std.specs.Prelude.{◌≢◌, ℕ, List, AllPairs};
 ghost use Rattle.root_codec.specs.declared.root.Root.{Root};
 ghost use Rattle.page_store.specs.Tree.{Parts, Tree};
 ghost use Rattle.key_graph.specs.Trace.{IsTraceTree};

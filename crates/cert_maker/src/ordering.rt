@@ -1,5 +1,5 @@
 //! Lists in the order of their addresses.
-ghost use Rattle.std.specs.Prelude.{◌≡◌, IfOk};
+ghost use Rattle.std.specs.Prelude.{IfOk};
 ghost use Rattle.cert_maker.specs.Ordered.{AreOneEach, IsOrderOf};
 
 use sdbt_base::{Addrs, Memory, Unkept, UnkeptList};

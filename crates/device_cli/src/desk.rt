@@ -1,11 +1,9 @@
 //! What a run keeps between lines, and the answer to each command.
-ghost use Rattle.std.specs.Prelude.{◌≡◌, ◌≢◌, ◌<◌, ◌≤◌, ◌+◌, ◌⊎◌, ℕ, List, Option, true, false, IsNone, IsOk, IfOk, OnOk, IfErr, IsErrOf, IfSome, None, Some, Ok, take};
+ghost use Rattle.std.specs.Prelude.{◌≡◌, ◌≢◌, ◌<◌, ◌≤◌, ◌⊎◌, ℕ, List, Option, true, false, IfOk, IfErr, IsErrOf, None, Some, Ok, take};
 ghost use Rattle.sdbt_base.specs.Faults.{Rose};
 ghost use Rattle.script_lang.specs.Commands as commands;
 ghost use Rattle.script_lang.specs.Commands.{FitsBlock as FitsCommand, asked};
 ghost use Rattle.script_lang.specs.Replies.{CanWrite, FitsBlock, said};
-ghost use Rattle.script_lang.specs.Arrays.{in_limits};
-ghost use Rattle.device_terms.specs.Served.{IsServedImage};
 ghost use Rattle.device_cli.specs.Run.{counts, IsBlamed};
 ghost use Rattle.platform.specs.History.{During};
 ghost use Rattle.seizure.specs.Opened.{count_of_kind};

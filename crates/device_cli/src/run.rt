@@ -1,12 +1,11 @@
 //! Serves a script line by line.
-ghost use Rattle.std.specs.Prelude.{◌≡◌, ◌≤◌, ◌⊎◌, ◌∷◌, [], ◌++◌, ℕ, List, IfErr, OnOk, IsOk, IsErrOf, ◌+◌, length, IfSome, IfNone, Option, None, ⊤, option_copied};
+ghost use Rattle.std.specs.Prelude.{◌≡◌, ◌≤◌, ◌⊎◌, ◌∷◌, [], ◌++◌, ℕ, List, IfErr, OnOk, IsOk, IsErrOf, ◌+◌, IfSome, IfNone, Option, None, ⊤, option_copied};
 ghost use Rattle.sdbt_base.specs.Faults.{Rose};
 ghost use Rattle.sdbt_base.specs.Told.{Got, GotPart};
 ghost use Rattle.script_lang.specs.Grammar.{Spells, IsBad};
-ghost use Rattle.text_lines.specs.Lines.{HasNone, whole_lines_of, rest_of, last_line as line_at_end};
+ghost use Rattle.text_lines.specs.Lines.{whole_lines_of, rest_of, last_line as line_at_end};
 ghost use Rattle.script_lang.specs.Commands.{FitsBlock as FitsCommand, asked};
 ghost use Rattle.script_lang.specs.Replies.{CanWrite, FitsBlock, line_of, said};
-ghost use Rattle.platform.specs.History.{During};
 ghost use Rattle.device_terms.specs.Served.{IsServedImage};
 ghost use Rattle.device_session.specs.Sessions.{Session};
 ghost use Rattle.device_cli.specs.Desk.{Before, AfterLine};

@@ -9,7 +9,7 @@ ghost use Rattle.device_course.specs.Keys.{KeepsOn};
 ghost use Rattle.device_cli.specs.Replied.{HasPut, exit_of};
 ghost use Rattle.device_cli.specs.Run.{counts, IsBlamedOn, status_of};
 ghost use Rattle.device_cli.specs.Unserved.{IsUnserved};
-ghost use Rattle.device_cli.specs.Working.{Worked, script_of};
+ghost use Rattle.device_cli.specs.Working.{Worked};
 ghost use Rattle.device_cli.specs.World.{world_of};
 
 use crate::run::{last_line, run};

@@ -1,8 +1,8 @@
-ghost use Rattle.std.specs.Prelude.{◌≡◌, ◌<◌, ◌≤◌, ◌+◌, ℕ, List, OnOk, IsErrOf, length};
+ghost use Rattle.std.specs.Prelude.{◌≡◌, ◌<◌, ◌≤◌, ◌+◌, ℕ, OnOk, IsErrOf, length};
 ghost use Rattle.sdbt_base.specs.Faults.{Rose};
 ghost use Rattle.sdbt_base.specs.Arrays.{Device, Blocks};
 ghost use Rattle.platform.specs.Calls.{Looks};
-ghost use Rattle.node_codec.specs.Record.{Record, DataRecord};
+ghost use Rattle.node_codec.specs.Record.{DataRecord};
 ghost use Rattle.page_store.specs.Places.{NothingFits, FitsAt, block_want};
 ghost use Rattle.page_store.specs.Tree.{Wrong};
 ghost use Rattle.btree_walk.specs.Sights.{StandsOver};

@@ -1,4 +1,4 @@
-ghost use Rattle.std.specs.Prelude.{◌≡◌, ◌<◌, ◌*◌, ◌≤◌, ℕ, List, IfOk, IsErrOf, IsTrue};
+ghost use Rattle.std.specs.Prelude.{◌≡◌, ◌<◌, ◌*◌, ℕ, IfOk, IsErrOf, IsTrue};
 ghost use Rattle.sdbt_base.specs.Faults.{Rose};
 ghost use Rattle.sdbt_base.specs.Arrays.{Device, Blocks};
 ghost use Rattle.btree_walk.specs.Looks.{Looks};

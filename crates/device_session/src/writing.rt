@@ -1,4 +1,4 @@
-ghost use Rattle.std.specs.Prelude.{◌≡◌, ◌⊎◌, ◌<◌, ◌≤◌, ℕ, List, true, All, IsTrue, OnOk, IfErr, IsOk, IsErrOf, length};
+ghost use Rattle.std.specs.Prelude.{◌≡◌, ◌⊎◌, ◌<◌, ◌≤◌, ℕ, true, All, IsTrue, OnOk, IfErr, IsOk, IsErrOf, length};
 ghost use Rattle.std.specs.Bool.{OnFalse};
 ghost use Rattle.sdbt_base.specs.Faults.{Rose};
 ghost use Rattle.sdbt_base.specs.Arrays.{padded, Device, Blocks};

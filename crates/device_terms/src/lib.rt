@@ -2,7 +2,7 @@
 //! replaced, and what a call discloses, draws and adds. The functions do nothing: each has a law as its contract.
 #![tactic(auto)]
 
-ghost use Rattle.std.specs.Prelude.{◌≡◌, Some};
+ghost use Rattle.std.specs.Prelude.{◌≡◌};
 ghost use Rattle.platform.specs.Image.{Image};
 ghost use Rattle.platform.specs.History.{History, During, Turns};
 ghost use Rattle.device_terms.specs.Served.{IsServedImage};

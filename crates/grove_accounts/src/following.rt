@@ -1,5 +1,5 @@
 //! Laws of trees with changes over any pages, forged ones too. The functions do nothing: each has its law as its contract.
-ghost use Rattle.std.specs.Prelude.{◌≡◌, ◌<◌, ◌≤◌, ◌⊎◌, ℕ, Bool, IsTrue, List, Some};
+ghost use Rattle.std.specs.Prelude.{◌<◌, ◌≤◌, ◌⊎◌, ℕ, Bool, IsTrue, List, Some};
 ghost use Rattle.platform.specs.Image.{Image, IsEarlier};
 ghost use Rattle.node_codec.specs.declared.body.Entry.{Entry};
 ghost use Rattle.node_codec.specs.Record.{DataRecord};

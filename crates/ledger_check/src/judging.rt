@@ -1,5 +1,5 @@
 //! Reads a ledger from its input, and has it judged.
-ghost use Rattle.std.specs.Prelude.{◌≡◌, ◌≤◌, IsErrOf};
+ghost use Rattle.std.specs.Prelude.{◌≤◌, IsErrOf};
 ghost use Rattle.sdbt_base.specs.Faults.{Rose};
 ghost use Rattle.ledger_check.specs.Judging.{FromInput, IsRead, Judged};
 

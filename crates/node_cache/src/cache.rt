@@ -1,8 +1,8 @@
-ghost use Rattle.std.specs.Prelude.{◌≡◌, ◌↔◌, ◌<◌, ◌≤◌, List, [], ◌∷◌, None, Some, IfOk, IfSome, IfNone, IsSome, IsTrue, length, map, nat_eq, slice_get, take};
+ghost use Rattle.std.specs.Prelude.{◌≡◌, ◌↔◌, ◌<◌, ◌≤◌, List, [], ◌∷◌, None, Some, IfOk, IfSome, IfNone, IsSome, IsTrue, length, map, nat_eq, slice_get};
 ghost use Rattle.std.specs.Borrow.{sem};
 ghost use Rattle.std.specs.Option.{option_copied};
 ghost use Rattle.std.specs.List.{IsDistinct};
-ghost use Rattle.std.specs.Map.{keys_of, lookup, lookup_entry, remove_entry};
+ghost use Rattle.std.specs.Map.{keys_of, lookup, remove_entry};
 ghost use Rattle.lru.specs.LruCache.{lru_cache, promoted};
 ghost use Rattle.std.specs.NonZero.{non_zero_usize_get};
 ghost use Rattle.node_codec.specs.declared.body.NodeBody.{NodeBody};

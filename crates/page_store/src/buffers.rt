@@ -1,4 +1,4 @@
-ghost use Rattle.std.specs.Prelude.{◌≡◌, ◌<◌, ◌≤◌, ◌+◌, ℕ, List, Some, IfOk, OnOk, OnErr, length, slice_get};
+ghost use Rattle.std.specs.Prelude.{◌≡◌, ◌<◌, ◌≤◌, ◌+◌, Some, IfOk, OnOk, OnErr, length, slice_get};
 ghost use Rattle.sdbt_base.specs.Faults.{Rose};
 ghost use Rattle.seal_record.specs.Sealing.{masked};
 ghost use Rattle.node_codec.specs.Record.{DataRecord, NodeRecord, FitsNode, record_bytes};

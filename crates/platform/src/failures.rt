@@ -1,5 +1,5 @@
 //! Failures that a platform in memory is told to have.
-ghost use Rattle.std.specs.Prelude.{◌≡◌, ◌<◌, ℕ, [], IfOk, slice_index};
+ghost use Rattle.std.specs.Prelude.{◌≡◌, ◌<◌, [], IfOk, slice_index};
 ghost use Rattle.sdbt_base.specs.Faults.{next_count};
 ghost use Rattle.platform.specs.Failures.{place_of, listed, counted, no_calls};
 

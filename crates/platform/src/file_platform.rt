@@ -190,7 +190,7 @@ impl<R: Files + Alloc + Clone + Drop> FilePlatform<R> {
 }
 
 impl<R: Files + Alloc + Clone + Drop> Platform for FilePlatform<R> {
-    ghost use Rattle.std.specs.Prelude.{◌≡◌, ◌↔◌, ◌≤◌, ◌<◌, ◌+◌, ◌*◌, ◌^◌, ℕ, length, false, IsTrue, IsErr, IfOk, OnOk, OnErr};
+    ghost use Rattle.std.specs.Prelude.{◌≡◌, ◌↔◌, ◌≤◌, ◌<◌, ◌+◌, ◌*◌, ◌^◌, length, false, IsTrue, IsErr, IfOk, OnOk, OnErr};
     ghost use Rattle.sdbt_base.specs.Faults.{Rose};
     ghost use Rattle.platform.specs.Places.{ReadsAt, WritesAt};
     ghost use Rattle.platform.specs.Counts.{MayRiseByOne};

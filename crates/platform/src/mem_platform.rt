@@ -1,5 +1,5 @@
 //! A platform in memory.
-ghost use Rattle.std.specs.Prelude.{◌≡◌, ◌↔◌, ◌⊎◌, ◌<◌, ◌≤◌, ◌+◌, ◌-◌, ◌^◌, [], ℕ, Some, None, IsTrue, IsSome, IsErr, IfOk, OnOk, OnErr, All, length, slice_get};
+ghost use Rattle.std.specs.Prelude.{◌≡◌, ◌↔◌, ◌⊎◌, ◌<◌, ◌≤◌, ◌+◌, ◌-◌, ◌^◌, [], Some, None, IsTrue, IsSome, IsErr, IfOk, OnOk, OnErr, All, length, slice_get};
 ghost use Rattle.medium_trace.specs.Trace.{Tears};
 ghost use Rattle.sdbt_base.specs.Faults.{Rose, next_count};
 ghost use Rattle.platform.specs.Image.{blank, with_page, with_cell, all_synced, MayLeave};
@@ -149,7 +149,7 @@ impl MemPlatform {
 }
 
 impl Platform for MemPlatform {
-    ghost use Rattle.std.specs.Prelude.{◌≡◌, ◌↔◌, ◌⊎◌, ◌<◌, ◌≤◌, ◌+◌, ◌-◌, ◌^◌, ℕ, true, false, Some, None, IsTrue, IsSome, IsErr, IfOk, OnOk, OnErr, length, slice_get, refl};
+    ghost use Rattle.std.specs.Prelude.{◌≡◌, ◌↔◌, ◌⊎◌, ◌<◌, ◌≤◌, ◌+◌, ◌-◌, ◌^◌, false, Some, None, IsTrue, IsSome, IsErr, IfOk, OnOk, OnErr, length, slice_get, refl};
     ghost use Rattle.sdbt_base.specs.Faults.{Rose, next_count};
     ghost use Rattle.platform.specs.Counts.{MayRiseByOne};
     ghost use Rattle.platform.specs.Image.{with_page, with_cell, all_synced, IsEither, MayHavePage};

@@ -1,5 +1,5 @@
 //! One run of the top call, over objects in memory.
-ghost use Rattle.std.specs.Prelude.{◌<◌, ◌≤◌, ◌^◌};
+ghost use Rattle.std.specs.Prelude.{◌<◌};
 
 use device_cli::run_main;
 use platform::{Failure, MemPlatform, Platform};

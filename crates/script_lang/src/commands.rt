@@ -1,6 +1,6 @@
 //! The commands of a script, and the grammar of their lines.
 
-ghost use Rattle.std.specs.Prelude.{◌≡◌, ◌<◌, ℕ, List, ◌++◌, length, IfSome, IfNone};
+ghost use Rattle.std.specs.Prelude.{◌≡◌, ◌<◌, ℕ, List, length, IfSome, IfNone};
 ghost use Rattle.script_lang.specs.Commands as commands;
 ghost use Rattle.script_lang.specs.Commands.{Command as Asked, FitsBlock, asked};
 ghost use Rattle.script_lang.specs.Grammar.{Spells, IsBad};

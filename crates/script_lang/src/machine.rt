@@ -1,6 +1,6 @@
 //! The array machine as plain code.
 
-ghost use Rattle.std.specs.Prelude.{◌≡◌, ◌≢◌, ◌-◌, ◌^◌, ◌<◌, ◌≤◌, ℕ, List, [], length, None, IfOk, OnErr, IsTrue, ◌↔◌, nat_lt, if◌then◌else◌};
+ghost use Rattle.std.specs.Prelude.{◌≡◌, ◌≢◌, ◌-◌, ◌^◌, ◌<◌, ◌≤◌, ℕ, List, length, None, IfOk, OnErr};
 ghost use Rattle.script_lang.specs.Arrays.{Counted, in_limits, number_of, step, trimmed, content_reply};
 ghost use Rattle.script_lang.specs.Answers.{answer, none_counted};
 ghost use Rattle.sdbt_base.specs.Arrays.{State, written, unmapped, padded, content_of};

@@ -1,7 +1,6 @@
 //! Reading replies back.
 
-ghost use Rattle.std.specs.Prelude.{◌≡◌, ◌≢◌, ◌++◌, codes, flat_map, ◌<◌, ◌↔◌, ◌^◌, ℕ, List, Some, length, IfSome, IfNone, IsSomeAnd, IsTrue, take, ◌≤◌};
-ghost use Rattle.hex.specs.Hex.{encode_lower};
+ghost use Rattle.std.specs.Prelude.{◌≡◌, ◌≢◌, ◌++◌, codes, flat_map, ◌<◌, ◌↔◌, ◌^◌, ℕ, List, Some, IfSome, IfNone, IsSomeAnd, IsTrue, take, ◌≤◌};
 ghost use Rattle.script_lang.specs.Replies as replies;
 ghost use Rattle.script_lang.specs.Replies.{Reply as Answer, said, FitsBlock, text_of, line_of, is_refusal, IsReply, IsFront, IsTrimmed, IsWords, hex_or_dash};
 ghost use Rattle.text_lines.specs.Lines.{HasNone};

@@ -1,6 +1,6 @@
 //! The parts of a line: numbers, hex text and the words between single spaces.
 
-ghost use Rattle.std.specs.Prelude.{◌≡◌, ◌≢◌, ℕ, List, [], ◌∷◌, ◌++◌, IfSome, IfNone, IsSomeAnd, ◌<◌, ◌≤◌, ◌^◌, take};
+ghost use Rattle.std.specs.Prelude.{◌≡◌, ℕ, List, ◌∷◌, ◌++◌, IfSome, IfNone, IsSomeAnd, ◌<◌, ◌≤◌, ◌^◌, take};
 ghost use Rattle.std.specs.Fmt.{decimal};
 ghost use Rattle.script_lang.specs.Grammar.{IsNumber, IsHex};
 ghost use Rattle.text_lines.specs.Lines.{HasNone};

@@ -1,6 +1,6 @@
 //! Writing replies: the line is built in a buffer of fixed size, which is used again and again.
 
-ghost use Rattle.std.specs.Prelude.{◌≡◌, ◌+◌, ◌*◌, ◌≤◌, [], ◌∷◌, ◌++◌, length, OnOk, OnErr, IsTrue, ◌↔◌};
+ghost use Rattle.std.specs.Prelude.{◌≡◌, ◌+◌, ◌*◌, ◌≤◌, [], ◌++◌, length, OnOk, OnErr, IsTrue, ◌↔◌};
 ghost use Rattle.hex.specs.Hex.{encode_lower};
 
 use crate::line_buffer::LineBuffer;

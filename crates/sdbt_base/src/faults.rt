@@ -1,5 +1,4 @@
 //! The answers of a call that could not be done.
-ghost use Rattle.std.specs.Prelude.{◌≡◌};
 
 use std::alloc::{AllocError, AllocFailed};
 use std::error::Error;

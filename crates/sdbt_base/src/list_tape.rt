@@ -1,5 +1,5 @@
 //! A tape of listed keys.
-ghost use Rattle.std.specs.Prelude.{◌≡◌, ℕ, ◌≤◌, ◌↔◌, ◌⊎◌, ◌∷◌, Some, List, [], length, take, drop, Contains, IfOk, OnErr, IsErr, is_err, if◌then◌else◌};
+ghost use Rattle.std.specs.Prelude.{◌≡◌, ◌≤◌, ◌↔◌, ◌⊎◌, ◌∷◌, Some, [], length, take, drop, Contains, IfOk, OnErr, IsErr, is_err, if◌then◌else◌};
 ghost use Rattle.sdbt_base.specs.Faults.{Rose, next_count};
 ghost use Rattle.sdbt_base.specs.Objects.{TapeState};
 ghost use Rattle.sdbt_base.specs.Told.{Drew};

@@ -1,5 +1,5 @@
 //! A sink in memory.
-ghost use Rattle.std.specs.Prelude.{◌≡◌, ℕ, ◌<◌, ◌≤◌, ◌↔◌, ◌⊎◌, ◌++◌, Some, List, [], length, take, IfOk, IfSome, OnOk, OnErr, IsErr, IsSome, is_err, if◌then◌else◌};
+ghost use Rattle.std.specs.Prelude.{◌≡◌, ◌<◌, ◌≤◌, ◌↔◌, ◌⊎◌, ◌++◌, Some, [], take, IfOk, IfSome, OnOk, OnErr, IsErr, IsSome, is_err, if◌then◌else◌};
 ghost use Rattle.sdbt_base.specs.Faults.{Rose, next_count};
 ghost use Rattle.sdbt_base.specs.Objects.{SinkState, fails_after};
 ghost use Rattle.sdbt_base.specs.Told.{Got, GotPart};

@@ -1,5 +1,5 @@
 //! A source in memory.
-ghost use Rattle.std.specs.Prelude.{◌≡◌, ℕ, ◌<◌, ◌≤◌, ◌↔◌, Some, List, [], length, take, drop, min, Contains, IfOk, IfSome, OnErr, IsErr, is_err, if◌then◌else◌};
+ghost use Rattle.std.specs.Prelude.{◌≡◌, ◌<◌, ◌≤◌, ◌↔◌, Some, [], length, take, drop, min, Contains, IfOk, IfSome, OnErr, IsErr, is_err, if◌then◌else◌};
 ghost use Rattle.sdbt_base.specs.Faults.{Rose, next_count};
 ghost use Rattle.sdbt_base.specs.Objects.{SourceState};
 ghost use Rattle.sdbt_base.specs.Told.{Gave};

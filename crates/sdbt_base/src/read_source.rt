@@ -1,5 +1,5 @@
 //! A source over a reader of std.
-ghost use Rattle.std.specs.Prelude.{◌≡◌, ℕ, Option, List, None, IsTrue, IsSome, if◌then◌else◌};
+ghost use Rattle.std.specs.Prelude.{◌≡◌, None, IsTrue, IsSome, if◌then◌else◌};
 
 use crate::{Source, SourceFault};
 use std::io::{ErrorKind, Read};

@@ -1,5 +1,5 @@
 //! Where bytes go.
-ghost use Rattle.std.specs.Prelude.{◌≡◌, ℕ, ◌≤◌, Option, List, OnOk, OnErr};
+ghost use Rattle.std.specs.Prelude.{ℕ, ◌≤◌, Option, List, OnOk, OnErr};
 ghost use Rattle.sdbt_base.specs.Faults.{Rose};
 ghost use Rattle.sdbt_base.specs.Told.{Got, GotPart};
 

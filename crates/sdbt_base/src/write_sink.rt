@@ -1,5 +1,5 @@
 //! A sink over a writer of std.
-ghost use Rattle.std.specs.Prelude.{◌≡◌, ℕ, Option, List, None, IsTrue, IsSome, if◌then◌else◌};
+ghost use Rattle.std.specs.Prelude.{◌≡◌, None, IsTrue, IsSome, if◌then◌else◌};
 
 use crate::{Sink, SinkFault, write_whole};
 use std::io::Write;

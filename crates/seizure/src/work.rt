@@ -1,8 +1,8 @@
 //! What a search has found: keys to try, and bodies that were opened.
-ghost use Rattle.std.specs.Prelude.{◌≡◌, ◌<◌, ◌++◌, ◌∷◌, [], All, Contains, OnOk, length};
+ghost use Rattle.std.specs.Prelude.{◌≡◌, ◌<◌, ◌++◌, ◌∷◌, [], Contains, OnOk, length};
 ghost use Rattle.key_graph.specs.Opening.{kind_of, count_of, key_in};
 ghost use Rattle.seizure.specs.Opened.{told_of, IsOrderOf};
-ghost use Rattle.seizure.specs.Work.{KnowsItsKeys, Gains, HasBelow, HasKey};
+ghost use Rattle.seizure.specs.Work.{KnowsItsKeys, Gains, HasKey};
 
 use crate::opened::{Opened, ascend};
 use crate::report::Report;

@@ -1,5 +1,5 @@
 //! Laws of commits. The functions do nothing: each has its law as its contract.
-ghost use Rattle.std.specs.Prelude.{◌≡◌, ◌≢◌, ◌-◌, ◌≤◌, ℕ, List, AllPairs, length};
+ghost use Rattle.std.specs.Prelude.{◌≢◌, ◌-◌, ◌≤◌, List, AllPairs, length};
 ghost use Rattle.sdbt_base.specs.declared.lists.Unkept.{Unkept};
 ghost use Rattle.platform.specs.Image.{Image};
 ghost use Rattle.root_codec.specs.declared.root.Root.{Root};

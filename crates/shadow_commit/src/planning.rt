@@ -1,5 +1,5 @@
 //! What a sealing will append, told before it begins: addresses and children follow from the shape alone.
-ghost use Rattle.std.specs.Prelude.{◌≡◌, ◌==◌, ◌<◌, ◌≤◌, ◌+◌, ◌++◌, [], ◌∷◌, suc, ℕ, List, IfOk, OnOk, if◌then◌else◌};
+ghost use Rattle.std.specs.Prelude.{◌≡◌, ◌==◌, ◌<◌, ◌+◌, ◌++◌, [], ◌∷◌, ℕ, List, IfOk, OnOk, if◌then◌else◌};
 ghost use Rattle.node_codec.specs.declared.body.Entry.{Entry};
 ghost use Rattle.btree_twigs.specs.Stubs.{datum, children_of, nodes, nodes_below, stubs, stubs_below};
 ghost use Rattle.shadow_commit.specs.Sealed.{Sealed, Seals, SealsNode};

@@ -1,5 +1,5 @@
 //! A commit that is ready but for its root record.
-ghost use Rattle.std.specs.Prelude.{◌≡◌, ◌≤◌, Some, OnOk, IfOk, OnErr};
+ghost use Rattle.std.specs.Prelude.{◌≡◌, Some, OnOk, IfOk, OnErr};
 ghost use Rattle.sdbt_base.specs.Faults.{Rose};
 ghost use Rattle.platform.specs.Image.{with_cell, IsEither};
 ghost use Rattle.platform.specs.History.{Steps};

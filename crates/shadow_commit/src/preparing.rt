@@ -1,5 +1,5 @@
 //! A commit up to its root record.
-ghost use Rattle.std.specs.Prelude.{◌≡◌, ◌≤◌, ◌+◌, suc, ℕ, List, IfOk, IsErr, IsErrOf};
+ghost use Rattle.std.specs.Prelude.{◌≡◌, ◌≤◌, ◌+◌, suc, IfOk, IsErr, IsErrOf};
 ghost use Rattle.sdbt_base.specs.Faults.{Rose};
 ghost use Rattle.page_store.specs.Keeping.{KeepsKeys};
 ghost use Rattle.btree_twigs.specs.Stubs.{stubs, nodes};

@@ -1,5 +1,5 @@
 //! How the nodes in memory are sealed.
-ghost use Rattle.std.specs.Prelude.{◌≡◌, ◌<◌, ◌≤◌, ◌+◌, suc, IfOk, IsErr, IsErrOf, All, ℕ, List};
+ghost use Rattle.std.specs.Prelude.{◌≡◌, ◌<◌, ◌≤◌, ◌+◌, suc, IfOk, IsErr, IsErrOf, All};
 ghost use Rattle.sdbt_base.specs.Bytes.{IsBytes};
 ghost use Rattle.sdbt_base.specs.Faults.{Rose};
 ghost use Rattle.btree_twigs.specs.Stubs.{children_of, nodes, nodes_below, stubs, stubs_below};

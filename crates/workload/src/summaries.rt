@@ -1,5 +1,5 @@
 //! What the replies to a script come to.
-ghost use Rattle.std.specs.Prelude.{◌≡◌, ◌+◌, ℕ, List, length, drop, flat_map};
+ghost use Rattle.std.specs.Prelude.{◌≡◌, ◌+◌, List, length, drop, flat_map};
 ghost use Rattle.script_lang.specs.Replies.{Reply, line_of};
 ghost use Rattle.workload.specs.Summaries.{refused};
 
