@@ -20,16 +20,3 @@ pub use laws::{
 };
 pub use opening::open_way;
 pub use refusals::ReadyRefusal;
-
-#[cfg(test)]
-mod test_bed;
-#[cfg(test)]
-mod test_device;
-#[cfg(test)]
-mod test_pair;
-#[cfg(test)]
-mod test_shape;
-#[cfg(test)]
-mod test_steps;
-#[cfg(test)]
-mod tests;

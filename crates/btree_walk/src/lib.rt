@@ -27,8 +27,3 @@ pub use list_laws::{
 pub use listing::{addresses, entries};
 pub use refusals::WalkRefusal;
 pub use turns::fits;
-
-#[cfg(test)]
-mod builder;
-#[cfg(test)]
-mod tests;

@@ -24,6 +24,3 @@ pub use laws::{
     facts_stay, fits_first, fits_next, fits_waits, format_fits, one_first, soundness, succession,
 };
 pub use verdict::{CheckRefusal, Verdict};
-
-#[cfg(test)]
-mod tests;

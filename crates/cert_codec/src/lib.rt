@@ -11,6 +11,3 @@ pub use laws::{
 };
 pub use reading::read_line;
 pub use writing::line;
-
-#[cfg(test)]
-mod tests;

@@ -9,6 +9,3 @@ mod ordering;
 pub use added::{Added, AddedList};
 pub use certs::Cert;
 pub use laws::trees_are_traces;
-
-#[cfg(test)]
-mod tests;

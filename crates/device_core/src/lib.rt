@@ -13,6 +13,3 @@ mod refusals;
 pub use erasing::erase;
 pub use formatting::format;
 pub use refusals::{EraseRefusal, FormatRefusal};
-
-#[cfg(test)]
-mod tests;

@@ -15,6 +15,3 @@ pub use refusals::{
     CommitFault, CommitReply, MountRefusal, ReadRefusal, TrimRefusal, WriteRefusal,
 };
 pub use session::Session;
-
-#[cfg(test)]
-mod tests;

@@ -21,6 +21,3 @@ pub use laws::{
 };
 pub use reach::reached;
 pub use traces::{Trace, TraceEntry};
-
-#[cfg(test)]
-mod tests;

@@ -10,6 +10,3 @@ mod source_tape;
 
 pub use seed_tape::SeedTape;
 pub use source_tape::SourceTape;
-
-#[cfg(test)]
-mod tests;

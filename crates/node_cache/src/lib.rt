@@ -10,6 +10,3 @@ mod slots;
 pub use cache::{NodeCache, Put};
 #[doc(hidden)]
 pub use slots::{Kept, Slot};
-
-#[cfg(test)]
-mod tests;

@@ -29,6 +29,3 @@ pub use nodes::fetch_node;
 pub use refusals::{AppendFault, CurrentRefusal, FetchRefusal};
 pub use roots::current;
 pub use wants::Want;
-
-#[cfg(test)]
-mod tests;

@@ -15,12 +15,3 @@ pub use lock_file::LockFile;
 pub use mem_platform::MemPlatform;
 pub use platforms::Platform;
 pub use refusals::{FolderFile, OpenRefusal};
-
-#[cfg(test)]
-mod call_tests;
-#[cfg(test)]
-mod file_tests;
-#[cfg(test)]
-mod logged_files;
-#[cfg(test)]
-mod tests;

@@ -8,6 +8,3 @@ mod root;
 pub use decoding::decode_root;
 pub use encoding::encode_root;
 pub use root::{Root, one_spelling};
-
-#[cfg(test)]
-mod tests;

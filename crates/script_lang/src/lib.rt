@@ -18,6 +18,3 @@ pub use reading::{is_refusal_text, read_reply, replies_are_determined, replies_a
 pub use replies::Reply;
 pub use words::parse_number;
 pub use writing::ReplyWriter;
-
-#[cfg(test)]
-mod tests;

@@ -35,6 +35,3 @@ pub use sources::Source;
 pub use tapes::Tape;
 pub use transfers::{copy_front, read_whole, write_whole};
 pub use write_sink::WriteSink;
-
-#[cfg(test)]
-mod tests;

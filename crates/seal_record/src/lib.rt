@@ -14,6 +14,3 @@ mod records;
 
 pub use keystream::stream_front;
 pub use records::{front_wanted, seal, stamped, unseal};
-
-#[cfg(test)]
-mod tests;

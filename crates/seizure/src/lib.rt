@@ -23,6 +23,3 @@ pub use paging::{seize_pages, seize_pages_all};
 pub use refusals::SeizeRefusal;
 pub use report::Report;
 pub use seizing::{seize, seize_all};
-
-#[cfg(test)]
-mod tests;

@@ -19,8 +19,3 @@ pub use laws::{changes_stand, commit_differs};
 pub use prepared::Prepared;
 pub use preparing::prepare;
 pub use refusals::CommitRefusal;
-
-#[cfg(test)]
-mod test_bed;
-#[cfg(test)]
-mod tests;

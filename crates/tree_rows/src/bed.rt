@@ -1,0 +1,202 @@
+//! A grove over a device in memory, with all that its calls ask for.
+ghost use Rattle.std.specs.Prelude.{◌≡◌, length};
+ghost use Rattle.platform.specs.Mem.{image_of_now};
+ghost use Rattle.btree_update.specs.Groves.{IsSound, places_of};
+ghost use Rattle.btree_update.specs.Held.{AreBelow};
+
+use crate::device::{Device, key_of};
+use crate::shape::nodes_of;
+use btree_update::{Grove, ReadyRefusal};
+use node_cache::NodeCache;
+use node_codec::Entry;
+use page_store::FetchRefusal;
+use platform::Platform;
+use root_codec::Root;
+use std::alloc::Global;
+use std::marker::Model;
+
+/// A grove, the device that it stands on, and a cache before it.
+#[derive(Drop)]
+pub(crate) struct Bed {
+    device: Device,
+    cache: NodeCache,
+    root: Root,
+    grove: Grove,
+}
+
+impl Model for Bed {
+    ghost use Rattle.std.specs.Prelude.{◌≡◌, length};
+    ghost use Rattle.platform.specs.Mem.{image_of_now};
+    ghost use Rattle.btree_update.specs.Groves.{IsSound, places_of};
+    ghost use Rattle.btree_update.specs.Held.{AreBelow};
+
+    ghost Value = { Unit {0} };
+
+    ghost view = { λ b. tt };
+
+    ghost invariant = { λ b. IsSound b.grove × (b.grove.blocks ≡ b.root.blocks) × AreBelow (length (image_of_now b.device.platform).recorded) (places_of b.grove) };
+}
+
+impl Bed {
+    /// A device of this order, with so many blocks, of which none is mapped: an empty leaf at address 0.
+    pub(crate) fn new(alloc: Global, order: u16, blocks: u64, pages: u32) -> Option<Bed> {
+        let mut device = Device::new(alloc, pages)?;
+        let leaf = device.node(0, 1, &[])?;
+        Bed::over(alloc, device, order, blocks, 1, &leaf)
+    }
+
+    /// The tree of this root node.
+    pub(crate) fn over(
+        alloc: Global,
+        device: Device,
+        order: u16,
+        blocks: u64,
+        level: u8,
+        top: &Entry,
+    ) -> Option<Bed> {
+        let root = Root {
+            order,
+            level,
+            blocks,
+            commit: 0,
+            addr: top.addr,
+            key: top.key,
+            mapped: 0,
+            head: device.platform.head(),
+        };
+        if !root.is_in_range() {
+            return None;
+        }
+        let cache = NodeCache::new(alloc, 16).ok()?;
+        let grove = Grove::of(alloc, &root);
+        Some(Bed {
+            device,
+            cache,
+            root,
+            grove,
+        })
+    }
+
+    /// The same tree after a commit: its nodes in memory are on the medium.
+    pub(crate) fn commit(self, alloc: Global) -> Option<Bed> {
+        let Bed {
+            mut device,
+            root,
+            grove,
+            ..
+        } = self;
+        let top = device.seal(alloc, grove.top())?;
+        Bed::over(alloc, device, root.order, root.blocks, grove.level(), &top)
+    }
+
+    /// Makes ready for an update of a block.
+    pub(crate) fn ready(
+        &mut self,
+        alloc: Global,
+        block: u64,
+    ) -> Option<Result<bool, ReadyRefusal>> {
+        if block >= self.root.blocks {
+            return None;
+        }
+        Some(
+            self.grove.ready(
+                alloc,
+                block,
+                &mut self.device.platform,
+                &mut self.cache,
+                &mut self.device.buffers,
+            ),
+        )
+    }
+
+    /// Appends a page for a data record, and answers its address.
+    pub(crate) fn datum(&mut self) -> Option<u64> {
+        self.device.datum()
+    }
+
+    /// Maps a block to a data record at an address below the head.
+    pub(crate) fn put(&mut self, alloc: Global, block: u64, addr: u64) -> Option<()> {
+        if block >= self.root.blocks || self.grove.level() == 255 {
+            return None;
+        }
+        if addr >= self.device.platform.head() {
+            return None;
+        }
+        let _is_mapped = self
+            .grove
+            .ready(
+                alloc,
+                block,
+                &mut self.device.platform,
+                &mut self.cache,
+                &mut self.device.buffers,
+            )
+            .ok()?;
+        self.grove.insert(block, addr, key_of(addr));
+        Some(())
+    }
+
+    /// Maps a block to nothing, and answers whether it was mapped.
+    pub(crate) fn take(&mut self, alloc: Global, block: u64) -> Option<bool> {
+        if block >= self.root.blocks {
+            return None;
+        }
+        let is_mapped = self
+            .grove
+            .ready(
+                alloc,
+                block,
+                &mut self.device.platform,
+                &mut self.cache,
+                &mut self.device.buffers,
+            )
+            .ok()?;
+        if is_mapped {
+            self.grove.remove(block);
+        }
+        Some(is_mapped)
+    }
+
+    /// The address of the data record of a block, if it is mapped; none where the block is not one of the device.
+    pub(crate) fn find(&mut self, block: u64) -> Result<Option<u64>, FetchRefusal> {
+        if block >= self.root.blocks {
+            return Ok(None);
+        }
+        let found = self.grove.find(
+            block,
+            &mut self.device.platform,
+            &mut self.cache,
+            &mut self.device.buffers,
+        )?;
+        Ok(found.map(|entry| entry.addr))
+    }
+
+    /// The number of pages on the medium.
+    pub(crate) fn head(&self) -> u64 {
+        self.device.platform.head()
+    }
+
+    /// How many nodes are in memory.
+    pub(crate) fn grown(&self) -> u64 {
+        self.grove.grown()
+    }
+
+    /// The tree.
+    pub(crate) fn grove(&self) -> &Grove {
+        &self.grove
+    }
+
+    /// How many nodes are in memory, where they are shaped as they may be, or `None`.
+    pub(crate) fn shape(&self) -> Option<u64> {
+        let level = self.grove.level();
+        let least = if level == 1 { 0 } else { 2 };
+        nodes_of(
+            self.grove.top(),
+            self.root.order as usize,
+            level,
+            least,
+            0,
+            self.root.blocks,
+        )
+    }
+}
