@@ -12,6 +12,6 @@ mod taking;
 mod twigs;
 
 pub use finding::find;
-pub use putting::{put, put_datum, put_top};
+pub use putting::{put, put_top};
 pub use taking::{take, take_top};
 pub use twigs::{Child, Spot, Twig, addr_of, end_of, level_of, low_of, place};

@@ -8,11 +8,11 @@ ghost use Rattle.std.specs.Option.{option_to_list};
 ghost use Rattle.btree_twigs.specs.Top.{child_level, CanPutTop, IsTopPut, CanRaise, IsRaised};
 
 use crate::lists::{insert, move_tail, push, take_spare};
-use crate::twigs::{Child, Twig, addr_of, level_of, low_of, place};
+use crate::twigs::{Child, Twig, level_of, low_of, place};
 use std::mem;
 
-/// Puts the data record of a block into a leaf, and answers the address of the one that was there.
-pub fn put_datum(children: &mut Vec<Child>, block: u64, addr: u64, key: [u8; 32]) -> Option<u64>
+/// Puts the data record of a block into a leaf, in the place of the one that was there.
+fn put_datum(children: &mut Vec<Child>, block: u64, addr: u64, key: [u8; 32])
     requires { vec_len children.old < vec_capacity children.old }
     ensures put { (order least most low high : ℕ) → IsNode order 0 least most low high children.old.items → low ≤ block → block < high
         → IsPut order 0 least (most + 1) low high (datum block addr key) children.old.items children.new.items }
@@ -29,16 +29,13 @@ pub fn put_datum(children: &mut Vec<Child>, block: u64, addr: u64, key: [u8; 32]
     let at = place(children, block);
     if at == 0 {
         insert(children, 0, child);
-        return None;
+        return;
     }
-    let last = &children[at - 1];
-    if low_of(last) < block {
+    if low_of(&children[at - 1]) < block {
         insert(children, at, child);
-        return None;
+        return;
     }
-    let old = addr_of(last);
     children[at - 1] = child;
-    old
 }
 
 /// Cuts a node in two, and answers the part on the right.
@@ -88,7 +85,7 @@ pub fn put(
         → length (children_of twig.new) ≡ length (children_of twig.old) }
 {
     if twig.level == 1 {
-        let _old = put_datum(&mut twig.children, block, addr, key);
+        put_datum(&mut twig.children, block, addr, key);
         return;
     }
     let at = place(&twig.children, block);

@@ -57,8 +57,8 @@ below_way order block n twig spares child at w = record {
 
 pub put-returns-then-twig-eq1-clause-put : goal.put-returns-then-twig-eq1-clause-put
 put-returns-then-twig-eq1-clause-put t c at =
-    leaf_put c.args.order c.args.block at.level at.least at.low at.high (out-Twig c.args.twig.now).level c.args.addr c.args.key c.args.twig.now c.put_datum-old.new.children
-    at.shaped at.shaped.level_is c.if-twig-eq1.true at.from at.to (omega (arith, c.put_datum-old.ensures.capacity, at.shaped.room)) (c.put_datum-old.ensures.put c.args.order at.least c.args.order at.low at.high)
+    leaf_put c.args.order c.args.block at.level at.least at.low at.high (out-Twig c.args.twig.now).level c.args.addr c.args.key c.args.twig.now c.put_datum.new.children
+    at.shaped at.shaped.level_is c.if-twig-eq1.true at.from at.to (omega (arith, c.put_datum.ensures.capacity, at.shaped.room)) (c.put_datum.ensures.put c.args.order at.least c.args.order at.low at.high)
 
 pub put-put_below-requires : goal.put-put_below-requires
 put-put_below-requires t c =
@@ -171,7 +171,7 @@ put_below-returns-clause-spares t c at count h =
     c.split.ensures.spares count (e.spares open_at (count + 1) (fewer c.args.order (count + 1 + at.level) (count + suc at.level) _ (omega arith) h))
 
 pub put-returns-then-twig-eq1-clause-nodes : goal.put-returns-then-twig-eq1-clause-nodes
-put-returns-then-twig-eq1-clause-nodes t c at = leaf_nodes at.level (out-Twig c.args.twig.now).level c.args.twig.now c.put_datum-old.new.children at.shaped.level_is c.if-twig-eq1.true
+put-returns-then-twig-eq1-clause-nodes t c at = leaf_nodes at.level (out-Twig c.args.twig.now).level c.args.twig.now c.put_datum.new.children at.shaped.level_is c.if-twig-eq1.true
 
 pub put-returns-in-None-clause-nodes : goal.put-returns-in-None-clause-nodes
 put-returns-in-None-clause-nodes t c at =
@@ -217,7 +217,7 @@ put_below-returns-clause-nodes t c at =
 
 pub put-returns-then-twig-eq1-clause-levels : goal.put-returns-then-twig-eq1-clause-levels
 put-returns-then-twig-eq1-clause-levels t c medium m at =
-    leaf_rows medium c.args.order c.args.block at.level at.high (out-Twig c.args.twig.now).level c.args.twig.now c.put_datum-old.new.children at.shaped.level_is c.if-twig-eq1.true c.put_datum-old.ensures.lows
+    leaf_rows medium c.args.order c.args.block at.level at.high (out-Twig c.args.twig.now).level c.args.twig.now c.put_datum.new.children at.shaped.level_is c.if-twig-eq1.true c.put_datum.ensures.lows
 
 -- a child begins where it did
 begins_alike : (order level high : ℕ) (stub : Stub) (old new : Child) (part : Option Child) → IsChildPut order level high stub old new part → low_of new ≡ low_of old
@@ -271,8 +271,8 @@ put_below-returns-clause-levels t c medium m at =
 pub put-returns-then-twig-eq1-clause-stays : goal.put-returns-then-twig-eq1-clause-stays
 put-returns-then-twig-eq1-clause-stays t c at has =
     let zero_is : at.level ≡ 0 = omega (arith, at.shaped.level_is, c.if-twig-eq1.true) in
-    ap length (children_of_roll (record { level = (out-Twig c.args.twig.now).level; children = c.put_datum-old.new.children }))
-    ∙ c.put_datum-old.ensures.stays c.args.order at.least c.args.order at.low at.high
+    ap length (children_of_roll (record { level = (out-Twig c.args.twig.now).level; children = c.put_datum.new.children }))
+    ∙ c.put_datum.ensures.stays c.args.order at.least c.args.order at.low at.high
     (subst (λ l. IsNode c.args.order l at.least c.args.order at.low at.high (children_of c.args.twig.now)) zero_is at.shaped.node) at.to
     (subst (λ l. HasDatum c.args.block (stubs_below l at.high c.args.twig.now)) zero_is has)
 

@@ -45,18 +45,18 @@ returns-then-low_of-block-clause-put c order least most low high h le lt =
     let cs = c.args.children.now.items in
     let after = subst (λ ds. c.args.block < start_by low_of (drop c.place-at.result ds) high) c.deref.ensures.value (c.place-at.ensures.after high lt) in
     subst (IsPut order 0 least (most + 1) low high (datum c.args.block c.args.addr c.args.key) cs) (sym c.insert-then-low_of-block.ensures.items)
-    (at_inserted order least most low high c.args.block c.args.addr c.args.key cs h (c.place-at.result - 1) c.place-at.result c.index-last.result.now
-    (omega arith) (omega arith) c.index-last.ensures (omega arith) after)
+    (at_inserted order least most low high c.args.block c.args.addr c.args.key cs h (c.place-at.result - 1) c.place-at.result c.index.result.now
+    (omega arith) (omega arith) c.index.ensures (omega arith) after)
 
 pub returns-clause-put : goal.returns-clause-put
 returns-clause-put c order least most low high h le lt =
     let cs = c.args.children.now.items in
     let n = c.place-at.result in
-    let last = c.index-last.result.now in
+    let last = c.index.result.now in
     let before = subst (λ ds. AllByRecursion (λ d. low_of d ≤ c.args.block) (take n ds)) c.deref.ensures.value c.place-at.ensures.before in
-    let at_most = at_end (λ d. low_of d ≤ c.args.block) cs (n - 1) n last (omega arith) (omega arith) c.index-last.ensures before in
+    let at_most = at_end (λ d. low_of d ≤ c.args.block) cs (n - 1) n last (omega arith) (omega arith) c.index.ensures before in
     at_replaced order least most low high c.args.block c.args.addr c.args.key cs h (n - 1) last
-    (omega arith) c.index-last.ensures (omega arith)
+    (omega arith) c.index.ensures (omega arith)
 
 -- the lows: before all others, behind the last one before it, and in the place of the one that is there
 lows_inserted : (cs : List Child) (i n : ℕ) (c d : Child) → suc i ≡ n → i < length cs → c ≡ get_or cs i c → TakesLow (low_of d) (map low_of cs) (map low_of (insert cs n d))
@@ -85,19 +85,19 @@ returns-then-low_of-block-clause-lows c =
     let d = made.Kept c.args.block c.args.addr c.args.key in
     subst (λ ds. TakesLow c.args.block (map low_of cs) (map low_of ds)) (sym c.insert-then-low_of-block.ensures.items)
     (subst (λ l. TakesLow l (map low_of cs) (map low_of (insert cs n d))) (low_of_kept c.args.block c.args.addr c.args.key)
-    (lows_inserted cs (n - 1) n c.index-last.result.now d (omega arith) (omega arith) c.index-last.ensures))
+    (lows_inserted cs (n - 1) n c.index.result.now d (omega arith) (omega arith) c.index.ensures))
 
 pub returns-clause-lows : goal.returns-clause-lows
 returns-clause-lows c =
     let cs = c.args.children.now.items in
     let n = c.place-at.result in
-    let last = c.index-last.result.now in
+    let last = c.index.result.now in
     let d = made.Kept c.args.block c.args.addr c.args.key in
     let before = subst (λ ds. AllByRecursion (λ d. low_of d ≤ c.args.block) (take n ds)) c.deref.ensures.value c.place-at.ensures.before in
-    let at_most = at_end (λ d. low_of d ≤ c.args.block) cs (n - 1) n last (omega arith) (omega arith) c.index-last.ensures before in
+    let at_most = at_end (λ d. low_of d ≤ c.args.block) cs (n - 1) n last (omega arith) (omega arith) c.index.ensures before in
     let low_d = low_of_kept c.args.block c.args.addr c.args.key in
     subst (λ l. TakesLow l (map low_of cs) (map low_of (set cs (n - 1) d))) low_d
-    (lows_replaced cs (n - 1) last d (omega arith) c.index-last.ensures (omega (arith, low_d, at_most)))
+    (lows_replaced cs (n - 1) last d (omega arith) c.index.ensures (omega (arith, low_d, at_most)))
 
 pub returns-then-at-eq0-clause-stays : goal.returns-then-at-eq0-clause-stays
 returns-then-at-eq0-clause-stays c order least most low high h lt has =
@@ -109,7 +109,7 @@ pub returns-then-low_of-block-clause-stays : goal.returns-then-low_of-block-clau
 returns-then-low_of-block-clause-stays c order least most low high h lt has =
     let cs = c.args.children.now.items in
     let n = c.place-at.result in
-    let last = c.index-last.result.now in
+    let last = c.index.result.now in
     let after = subst (λ ds. c.args.block < start_by low_of (drop n ds) high) c.deref.ensures.value (c.place-at.ensures.after high lt) in
-    let is = leaf_low order least most low high c.args.block (n - 1) n cs last h (omega arith) (omega arith) c.index-last.ensures (omega arith) after has in
+    let is = leaf_low order least most low high c.args.block (n - 1) n cs last h (omega arith) (omega arith) c.index.ensures (omega arith) after has in
     absurd (omega (arith, is))
