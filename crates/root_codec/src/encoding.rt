@@ -1,6 +1,7 @@
-ghost use Rattle.std.specs.Prelude.{◌≡◌, length};
+ghost use Rattle.std.specs.Prelude.{◌≡◌, length, take, drop};
+ghost use Rattle.std.specs.List.{concat};
 ghost use Rattle.sdbt_base.specs.Bytes.{IsBytes};
-ghost use Rattle.root_codec.specs.RootRecord.{FitsRoot, root_bytes};
+ghost use Rattle.root_codec.specs.RootRecord.{FitsRoot, root_bytes, root_fields};
 
 use crate::root::Root;
 
@@ -17,6 +18,16 @@ pub fn encode_root(root: &Root, out: &mut [u8])
     ensures record { out.new ≡ root_bytes root.now }
     ensures key { IsBytes 32 root.now.key }
 {
+    let (front, back) = out.split_at_mut(40);
+    put_front(root, front);
+    put_back(root, back);
+}
+
+/// Writes what stands before the key: the stamp, the version, what the device is, its commit and the address of its root node.
+fn put_front(root: &Root, out: &mut [u8])
+    requires { length out.old ≡ 40 }
+    ensures { out.new ≡ concat (take 8 (root_fields root.now)) }
+{
     let (field, rest) = out.split_at_mut(8);
     field.copy_from_slice(&STAMP);
     let (field, rest) = rest.split_at_mut(2);
@@ -31,9 +42,16 @@ pub fn encode_root(root: &Root, out: &mut [u8])
     field.copy_from_slice(&root.blocks.to_be_bytes());
     let (field, rest) = rest.split_at_mut(8);
     field.copy_from_slice(&root.commit.to_be_bytes());
-    let (field, rest) = rest.split_at_mut(8);
-    field.copy_from_slice(&root.addr.to_be_bytes());
-    let (field, rest) = rest.split_at_mut(32);
+    rest.copy_from_slice(&root.addr.to_be_bytes());
+}
+
+/// Writes the key and what stands behind it: how many blocks are mapped, the head, and zeros.
+fn put_back(root: &Root, out: &mut [u8])
+    requires { length out.old ≡ 88 }
+    ensures fields { out.new ≡ concat (drop 8 (root_fields root.now)) }
+    ensures key { IsBytes 32 root.now.key }
+{
+    let (field, rest) = out.split_at_mut(32);
     field.copy_from_slice(&root.key.bytes());
     let (field, rest) = rest.split_at_mut(8);
     field.copy_from_slice(&root.mapped.to_be_bytes());

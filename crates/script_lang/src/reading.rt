@@ -9,7 +9,7 @@ ghost use Rattle.std.specs.List.{AllByRecursion};
 ghost use Rattle.std.specs.Bool.{OnTrue, OnFalse};
 
 use crate::replies::Reply;
-use crate::words::{number_before, parse_hex, parse_number};
+use crate::words::{is_text, number_before, parse_hex, parse_number};
 use crate::writing::is_hex_of;
 use sdbt_base::BLOCK;
 
@@ -83,28 +83,32 @@ fn read_words(line: &[u8]) -> Option<Reply>
     ensures fits { IfSome result FitsBlock }
     ensures none { IfNone result ((answer : Answer) → IsWords answer → line.now ≢ text_of answer) }
 {
-    match line {
-        b"formatted" => Some(Reply::Formatted),
-        b"ok" => Some(Reply::Done),
-        b"dropped" => Some(Reply::Dropped),
-        b"erased" => Some(Reply::Erased),
-        b"bad" => Some(Reply::Bad),
-        b"unmounted" => Some(Reply::Unmounted),
-        // As a pattern so long a text is not proved.
-        _ if is_text(line, b"already mounted") => Some(Reply::AlreadyMounted),
-        b"not empty" => Some(Reply::NotEmpty),
-        b"no device" => Some(Reply::NoDevice),
-        b"range" => Some(Reply::Range),
-        b"full" => Some(Reply::Full),
-        _ => None,
+    // A pattern of so many texts takes the prover a minute; this chain takes it seconds.
+    if is_text(line, b"formatted") {
+        Some(Reply::Formatted)
+    } else if is_text(line, b"ok") {
+        Some(Reply::Done)
+    } else if is_text(line, b"dropped") {
+        Some(Reply::Dropped)
+    } else if is_text(line, b"erased") {
+        Some(Reply::Erased)
+    } else if is_text(line, b"bad") {
+        Some(Reply::Bad)
+    } else if is_text(line, b"unmounted") {
+        Some(Reply::Unmounted)
+    } else if is_text(line, b"already mounted") {
+        Some(Reply::AlreadyMounted)
+    } else if is_text(line, b"not empty") {
+        Some(Reply::NotEmpty)
+    } else if is_text(line, b"no device") {
+        Some(Reply::NoDevice)
+    } else if is_text(line, b"range") {
+        Some(Reply::Range)
+    } else if is_text(line, b"full") {
+        Some(Reply::Full)
+    } else {
+        None
     }
-}
-
-/// Whether a line is this text.
-fn is_text(line: &[u8], text: &[u8]) -> bool
-    ensures { IsTrue result ↔ (line.now ≡ text.now) }
-{
-    line == text
 }
 
 /// `data HEX`, in lower case and without trailing zero bytes, or `data -`.

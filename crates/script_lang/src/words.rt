@@ -1,11 +1,18 @@
 //! The parts of a line: numbers, hex text and the words between single spaces.
 
-ghost use Rattle.std.specs.Prelude.{◌≡◌, ℕ, List, ◌∷◌, ◌++◌, IfSome, IfNone, IsSomeAnd, ◌<◌, ◌≤◌, ◌^◌, take};
+ghost use Rattle.std.specs.Prelude.{◌≡◌, ℕ, List, ◌∷◌, ◌++◌, IfSome, IfNone, IsSomeAnd, IsTrue, ◌↔◌, ◌<◌, ◌≤◌, ◌^◌, take};
 ghost use Rattle.std.specs.Fmt.{decimal};
 ghost use Rattle.script_lang.specs.Grammar.{IsNumber, IsHex};
 ghost use Rattle.text_lines.specs.Lines.{HasNone};
 
 use sdbt_base::BLOCK;
+
+/// Whether a line is this text.
+pub(crate) fn is_text(line: &[u8], text: &[u8]) -> bool
+    ensures { IsTrue result ↔ (line.now ≡ text.now) }
+{
+    line == text
+}
 
 /// The number that a text spells: decimal digits with no sign and no leading zero, at most 2^64-1.
 pub fn parse_number(text: &[u8]) -> Option<u64>

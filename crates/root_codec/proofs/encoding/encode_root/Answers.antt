@@ -1,7 +1,7 @@
--- Each field is written in its place.
+-- The front, and then what stands behind it.
 use Rattle.root_codec.specs.RootRecord.{root_fields}
 use Rattle.root_codec.proofs.encoding.encode_root.Goals as goal
 
 pub returns-clause-record : goal.returns-clause-record
 unfolding root_fields
-returns-clause-record c = simp (c.copy_from_slice.ensures.after, c.copy_from_slice-2.ensures.after, c.copy_from_slice-3.ensures.after, c.copy_from_slice-4.ensures.after, c.copy_from_slice-5.ensures.after, c.copy_from_slice-6.ensures.after, c.copy_from_slice-7.ensures.after, c.copy_from_slice-8.ensures.after, c.copy_from_slice-9.ensures.after, c.copy_from_slice-10.ensures.after, c.copy_from_slice-11.ensures.after, c.copy_from_slice-12.ensures.after, c.to_be_bytes.ensures, c.to_be_bytes-2.ensures, c.to_be_bytes-3.ensures, c.to_be_bytes-4.ensures, c.to_be_bytes-5.ensures, c.to_be_bytes-6.ensures, c.to_be_bytes-7.ensures, c.bytes.ensures.value)
+returns-clause-record c = simp (c.put_front.ensures, c.put_back.ensures.fields)
