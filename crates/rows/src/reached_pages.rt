@@ -1,7 +1,6 @@
 //! Which pages the key in the cell reaches, found by trying each key on each page, against those of the tree.
 
-use crate::run::{SPLIT, lose_power};
-use device_cli::run_main;
+use crate::run::{SPLIT, lose_power, status_of};
 use key_tape::SeedTape;
 use medium_trace::Pages;
 use node_codec::{Body, decode};
@@ -78,7 +77,7 @@ fn serve(
     let mut input = MemSource::new(alloc, script.as_bytes(), 4_096, &[])?;
     let mut output = MemSink::new(alloc, &[])?;
     let mut ledger = MemSink::new(alloc, &[])?;
-    Ok(run_main(
+    Ok(status_of(
         alloc,
         &[],
         platform,

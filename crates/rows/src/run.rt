@@ -3,7 +3,7 @@ ghost use Rattle.std.specs.Prelude.{◌<◌};
 
 use device_cli::run_main;
 use platform::{Failure, MemPlatform, Platform};
-use sdbt_base::{Line, ListTape, MemSink, MemSource, Memory};
+use sdbt_base::{Line, ListTape, MemSink, MemSource, Memory, Tape};
 use std::alloc::Global;
 use std::process::Abort;
 use std::test::Fail;
@@ -73,6 +73,19 @@ impl<'a> Given<'a> {
     }
 }
 
+/// Hands all to the top call. Its contract is not said again here, so that the proofs of these tests don't carry it along.
+pub(crate) fn status_of<T: Tape>(
+    alloc: Global,
+    words: &[String],
+    platform: &mut MemPlatform,
+    tape: &mut T,
+    input: &mut MemSource,
+    output: &mut MemSink,
+    ledger: &mut MemSink,
+) -> u8 {
+    run_main(alloc, words, platform, tape, input, output, ledger)
+}
+
 /// Runs a script over a platform. The keys are 24 of one byte each, of which that of a page is its address and one
 /// as long as no draw was lost, and others where there are more pages.
 pub(crate) fn run_over(
@@ -90,7 +103,7 @@ pub(crate) fn run_over(
     let mut input = MemSource::new(alloc, given.script, given.step.max(1), given.failing_takes)?;
     let mut output = MemSink::new(alloc, given.failing_puts)?;
     let mut ledger = MemSink::new(alloc, given.failing_entries)?;
-    let status = run_main(
+    let status = status_of(
         alloc,
         given.words,
         platform,

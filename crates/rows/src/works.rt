@@ -1,5 +1,5 @@
 //! What the word `work` shows: of the script of a seed, under keys of several seeds, and over a device that is there or too small.
-use device_cli::run_main;
+use crate::run::status_of;
 use key_tape::SeedTape;
 use platform::{MemPlatform, Platform};
 use script_lang::{Reply, read_reply};
@@ -33,7 +33,7 @@ fn work(
     let mut input = MemSource::new(alloc, b"erase\n", 4_096, &[])?;
     let mut output = MemSink::new(alloc, failing_puts)?;
     let mut ledger = MemSink::new(alloc, &[])?;
-    let status = run_main(
+    let status = status_of(
         alloc,
         &words,
         platform,
