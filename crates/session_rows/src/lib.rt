@@ -2,6 +2,8 @@
 #![tactic(auto)]
 
 #[cfg(test)]
+mod bench;
+#[cfg(test)]
 mod made_devices;
 #[cfg(test)]
 mod seized_pages;

@@ -1,0 +1,157 @@
+//! A device in memory with an open session. Its calls say nothing, so that the proofs of tests don't carry what a session's say.
+ghost use Rattle.std.specs.Prelude.{◌≤◌, length};
+ghost use Rattle.platform.specs.Mem.{image_of_now};
+ghost use Rattle.device_session.specs.Open.{IsOpen};
+
+use device_session::{CommitReply, ReadRefusal, Session, TrimRefusal, WriteRefusal};
+use page_store::Buffers;
+use platform::{MemPlatform, Platform};
+use root_codec::{Root, encode_root};
+use sdbt_base::{BLOCK, ListTape, MemSink, ROOT};
+use std::alloc::Global;
+use std::marker::Model;
+
+/// A medium in memory, keys for its pages, its ledger, and a session.
+#[derive(Drop)]
+pub(crate) struct Bench {
+    platform: MemPlatform,
+    tape: ListTape,
+    ledger: MemSink,
+    session: Session,
+}
+
+impl Model for Bench {
+    ghost use Rattle.std.specs.Prelude.{length};
+    ghost use Rattle.platform.specs.Mem.{image_of_now};
+    ghost use Rattle.device_session.specs.Open.{IsOpen};
+
+    ghost Value = { Unit {0} };
+
+    ghost view = { λ b. tt };
+
+    ghost invariant = { λ b. IsOpen b.session (length (image_of_now b.platform).recorded) };
+}
+
+/// Keys for the pages of a small medium, each of one byte of its own.
+fn keys() -> [[u8; 32]; 16] {
+    let mut keys = [[0; 32]; 16];
+    for (number, key) in keys.iter_mut().enumerate() {
+        key[0] = number as u8;
+    }
+    keys
+}
+
+/// Makes a device of 64 blocks of order 4, none of them mapped, on a blank medium; none where anything is refused.
+fn make(alloc: Global, platform: &mut MemPlatform, tape: &mut ListTape) -> Option<()> {
+    let mut buffers = Buffers::new(alloc).ok()?;
+    if platform.head() != 0 || platform.capacity() == 0 {
+        return None;
+    }
+    buffers.put_node(0, 1, &[]);
+    let placed = buffers.append(platform, tape).ok()?;
+    platform.sync().ok()?;
+    let root = Root {
+        order: 4,
+        level: 1,
+        blocks: 64,
+        commit: 0,
+        addr: 0,
+        key: placed.key,
+        mapped: 0,
+        head: 1,
+    };
+    let mut bytes = [0; ROOT];
+    encode_root(&root, &mut bytes);
+    platform.swap_root(&bytes).ok()
+}
+
+impl Bench {
+    /// A device of 64 blocks of order 4 on a medium of so many pages, of which the empty leaf has the first.
+    pub(crate) fn new(alloc: Global, pages: u32) -> Option<Bench> {
+        let mut platform = MemPlatform::blank(alloc, u64::from(pages));
+        let mut tape = ListTape::new(alloc, &keys(), &[]).ok()?;
+        make(alloc, &mut platform, &mut tape)?;
+        let ledger = MemSink::new(alloc, &[]).ok()?;
+        Bench::over(alloc, platform, tape, ledger)
+    }
+
+    /// The device that is there, with a session that keeps four nodes.
+    fn over(
+        alloc: Global,
+        platform: MemPlatform,
+        tape: ListTape,
+        ledger: MemSink,
+    ) -> Option<Bench> {
+        let mut platform = platform;
+        let session = Session::mount(alloc, &mut platform, 4).ok()?;
+        Some(Bench {
+            platform,
+            tape,
+            ledger,
+            session,
+        })
+    }
+
+    /// Goes on with a session that is opened anew.
+    pub(crate) fn mounted(self, alloc: Global) -> Option<Bench> {
+        let Bench {
+            platform,
+            tape,
+            ledger,
+            ..
+        } = self;
+        Bench::over(alloc, platform, tape, ledger)
+    }
+
+    /// Writes one byte to a block.
+    pub(crate) fn write(&mut self, block: u64, byte: u8) -> Result<(), WriteRefusal> {
+        self.session
+            .write(&mut self.platform, &mut self.tape, block, &[byte])
+    }
+
+    /// Unmaps a block.
+    pub(crate) fn trim(&mut self, block: u64) -> Result<(), TrimRefusal> {
+        self.session.trim(&mut self.platform, block)
+    }
+
+    /// The first byte of a block.
+    pub(crate) fn read(&mut self, block: u64) -> Result<u8, ReadRefusal> {
+        let mut content = [7; BLOCK];
+        self.session.read(&mut self.platform, block, &mut content)?;
+        Ok(content[0])
+    }
+
+    /// Commits, and goes on where no call failed.
+    pub(crate) fn commit(self) -> Option<(Bench, CommitReply)> {
+        let Bench {
+            mut platform,
+            mut tape,
+            mut ledger,
+            mut session,
+        } = self;
+        let reply = session.commit(&mut platform, &mut tape, &mut ledger).ok()?;
+        let bench = Bench {
+            platform,
+            tape,
+            ledger,
+            session,
+        };
+        Some((bench, reply))
+    }
+
+    /// The number of pages on the medium.
+    pub(crate) fn head(&self) -> u64 {
+        self.platform.head()
+    }
+
+    /// The session's commit number, how many blocks are mapped, and how many there are.
+    pub(crate) fn counts(&self) -> (u64, u64, u64) {
+        let session = &self.session;
+        (session.number(), session.mapped(), session.blocks())
+    }
+
+    /// What was put to the ledger.
+    pub(crate) fn entries(&self) -> &[u8] {
+        self.ledger.bytes()
+    }
+}
