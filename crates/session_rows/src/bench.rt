@@ -1,8 +1,4 @@
 //! A device in memory with an open session. Its calls say nothing, so that the proofs of tests don't carry what a session's say.
-ghost use Rattle.std.specs.Prelude.{◌≤◌, length};
-ghost use Rattle.platform.specs.Mem.{image_of_now};
-ghost use Rattle.device_session.specs.Open.{IsOpen};
-
 use device_session::{CommitReply, ReadRefusal, Session, TrimRefusal, WriteRefusal};
 use page_store::Buffers;
 use platform::{MemPlatform, Platform};
