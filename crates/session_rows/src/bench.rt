@@ -1,9 +1,8 @@
 //! A device in memory with an open session. Its calls say nothing, so that the proofs of tests don't carry what a session's say.
+use device_core::format;
 use device_session::{CommitReply, ReadRefusal, Session, TrimRefusal, WriteRefusal};
-use page_store::Buffers;
 use platform::{MemPlatform, Platform};
-use root_codec::{Root, encode_root};
-use sdbt_base::{BLOCK, ListTape, MemSink, ROOT};
+use sdbt_base::{BLOCK, ListTape, MemSink};
 use std::alloc::Global;
 use std::marker::Model;
 
@@ -37,36 +36,14 @@ fn keys() -> [[u8; 32]; 16] {
     keys
 }
 
-/// Makes a device of 64 blocks of order 4, none of them mapped, on a blank medium; none where anything is refused.
-fn make(alloc: Global, platform: &mut MemPlatform, tape: &mut ListTape) -> Option<()> {
-    let mut buffers = Buffers::new(alloc).ok()?;
-    if platform.head() != 0 || platform.capacity() == 0 {
-        return None;
-    }
-    buffers.put_node(0, 1, &[]);
-    let placed = buffers.append(platform, tape).ok()?;
-    platform.sync().ok()?;
-    let root = Root {
-        order: 4,
-        level: 1,
-        blocks: 64,
-        commit: 0,
-        addr: 0,
-        key: placed.key,
-        mapped: 0,
-        head: 1,
-    };
-    let mut bytes = [0; ROOT];
-    encode_root(&root, &mut bytes);
-    platform.swap_root(&bytes).ok()
-}
-
 impl Bench {
-    /// A device of 64 blocks of order 4 on a medium of so many pages, of which the empty leaf has the first.
+    /// A device of 64 blocks of order 4 on a medium of so many pages, of which the empty leaf has the first. The ledger
+    /// begins behind the entry of the format.
     pub(crate) fn new(alloc: Global, pages: u32) -> Option<Bench> {
         let mut platform = MemPlatform::blank(alloc, u64::from(pages));
         let mut tape = ListTape::new(alloc, &keys(), &[]).ok()?;
-        make(alloc, &mut platform, &mut tape)?;
+        let mut first = MemSink::new(alloc, &[]).ok()?;
+        format(alloc, &mut platform, &mut tape, &mut first, 64, 4).ok()?;
         let ledger = MemSink::new(alloc, &[]).ok()?;
         Bench::over(alloc, platform, tape, ledger)
     }
