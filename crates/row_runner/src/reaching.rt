@@ -1,0 +1,126 @@
+//! Which pages keys reach, found by trying each key on each page, and which pages a tree has.
+use medium_trace::Pages;
+use node_codec::{Body, decode};
+use root_codec::Root;
+use sdbt_base::{Key, Memory, RECORD};
+use seal_record::{stamped, unseal};
+use std::alloc::Global;
+
+/// How many keys or places a search takes up at most.
+const MOST: usize = 65_536;
+
+/// Which of the pages chains of opening from a key reach: each key that one of them yields is tried on every page.
+pub(crate) fn reached_from(alloc: Global, pages: &Pages, key: Key) -> Result<Vec<bool>, Memory> {
+    let mut reached = vec![in alloc; false; pages.len()]?;
+    let mut found = Vec::new(alloc);
+    found.push(key)?;
+    for next in 0..MOST {
+        let Some(key) = found.get(next) else {
+            break;
+        };
+        let key = *key;
+        try_key(pages, &key, &mut reached, &mut found)?;
+    }
+    Ok(reached)
+}
+
+/// Tries a key on every page that was not reached yet.
+fn try_key(
+    pages: &Pages,
+    key: &Key,
+    reached: &mut [bool],
+    found: &mut Vec<Key>,
+) -> Result<(), Memory> {
+    for (addr, is_reached) in reached.iter_mut().enumerate() {
+        if !*is_reached && addr < pages.len() && stamped(key, addr as u64, pages.at(addr)) {
+            *is_reached = true;
+            add_yielded(key, pages.at(addr), found)?;
+        }
+    }
+    Ok(())
+}
+
+/// Adds the keys that a key yields on a page that it opens: those of the first 85 entries at most, by the page's count.
+fn add_yielded(key: &Key, page: &[u8; RECORD], found: &mut Vec<Key>) -> Result<(), Memory> {
+    let mut body = [0; RECORD];
+    unseal(key, page, &mut body);
+    if body[16] != 2 {
+        return Ok(());
+    }
+    let count = u16::from_be_bytes([body[18], body[19]]).min(85) as usize;
+    for entry in 0..count {
+        let mut bytes = [0; 32];
+        let from = 48 * entry + 48;
+        bytes.copy_from_slice(&body[from..from + 32]);
+        found.push(Key::from_bytes(bytes))?;
+    }
+    Ok(())
+}
+
+/// A place of a tree. Data records are of level 0.
+#[derive(Clone, Copy)]
+struct Place {
+    addr: u64,
+    key: Key,
+    level: u8,
+}
+
+/// Which of the pages the tree of a root record has: its nodes, and the data records that its leaves name.
+pub(crate) fn tree_of(alloc: Global, pages: &Pages, root: &Root) -> Result<Vec<bool>, Memory> {
+    let mut tree = vec![in alloc; false; pages.len()]?;
+    let mut places = Vec::new(alloc);
+    places.push(Place {
+        addr: root.addr,
+        key: root.key,
+        level: root.level,
+    })?;
+    for next in 0..MOST {
+        let Some(place) = places.get(next) else {
+            break;
+        };
+        let place = *place;
+        if let Some(is_there) = tree.get_mut(place.addr as usize) {
+            *is_there = true;
+        }
+        add_children(pages, &place, &mut places)?;
+    }
+    Ok(tree)
+}
+
+/// Adds the places that a node names.
+fn add_children(pages: &Pages, place: &Place, places: &mut Vec<Place>) -> Result<(), Memory> {
+    let addr = place.addr as usize;
+    if place.level == 0 || addr >= pages.len() {
+        return Ok(());
+    }
+    let mut body = [0; RECORD];
+    unseal(&place.key, pages.at(addr), &mut body);
+    if let Some(Body::Node { node }) = decode(&body, place.addr) {
+        for entry in node.entries.iter() {
+            places.push(Place {
+                addr: entry.addr,
+                key: entry.key,
+                level: place.level - 1,
+            })?;
+        }
+    }
+    Ok(())
+}
+
+/// The numbers of the keys in a list that open a page at its address.
+pub(crate) fn openers(
+    alloc: Global,
+    keys: &[Key],
+    pages: &Pages,
+    addr: usize,
+) -> Result<Vec<usize>, Memory> {
+    let mut found = Vec::new(alloc);
+    if addr < pages.len() {
+        for (number, key) in keys.iter().enumerate() {
+            if stamped(key, addr as u64, pages.at(addr)) {
+                found.push(number)?;
+            }
+        }
+    }
+    Ok(found)
+}

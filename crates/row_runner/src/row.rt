@@ -1,0 +1,229 @@
+//! A row, line by line.
+use crate::keys::Keys;
+use crate::lines::{LineFault, end, number, word};
+use crate::serving::Ran;
+use crate::showing::{show, write_end};
+use crate::state::Scene;
+use key_tape::SeedTape;
+use sdbt_base::{Line, Memory};
+use std::alloc::Global;
+use std::str::SplitWhitespace;
+
+/// A row that is being followed: the text that is written of it, the objects of its runs, and the run whose script is being read.
+#[derive(Drop)]
+pub(crate) struct Row {
+    alloc: Global,
+    text: Line,
+    scene: Scene,
+    names: Vec<(String, String)>,
+    run: Option<Run>,
+    step: usize,
+    is_whole: bool,
+}
+
+/// The words of a run, and its script so far.
+#[derive(Drop)]
+struct Run {
+    words: Vec<String>,
+    script: Line,
+}
+
+impl Row {
+    /// A row of no line yet, whose scripts come so many bytes a take where it doesn't say otherwise.
+    pub(crate) fn new(alloc: Global, step: usize) -> Row {
+        Row {
+            alloc,
+            text: Line::new(alloc),
+            scene: Scene::new(alloc),
+            names: Vec::new(alloc),
+            run: None,
+            step,
+            is_whole: true,
+        }
+    }
+
+    /// What is written of the row.
+    pub(crate) fn text(&self) -> &[u8] {
+        self.text.bytes()
+    }
+
+    /// Whether each line was one of a row's.
+    pub(crate) fn is_whole(&self) -> bool {
+        self.is_whole
+    }
+
+    /// Goes on by the lines of a text, to its end.
+    pub(crate) fn follow_all(&mut self, text: &str) -> Result<(), Memory> {
+        for line in text.strip_suffix('\n').unwrap_or(text).split('\n') {
+            self.follow(line)?;
+        }
+        self.finish()
+    }
+
+    /// Goes on by a line.
+    fn follow(&mut self, line: &str) -> Result<(), Memory> {
+        if line.starts_with('<') || line.starts_with('=') {
+            return Ok(());
+        }
+        if let Some(text) = line.strip_prefix('>') {
+            self.write("", line.as_bytes())?;
+            return self.read_script(text);
+        }
+        self.finish()?;
+        self.write("", line.as_bytes())?;
+        match self.obey(line) {
+            Ok(()) => Ok(()),
+            Err(LineFault::Memory) => Err(Memory),
+            Err(LineFault::Unknown) => self.refuse(),
+        }
+    }
+
+    /// Serves the run whose script has been read, and writes how it ended.
+    fn finish(&mut self) -> Result<(), Memory> {
+        let Some(run) = self.run.take() else {
+            return Ok(());
+        };
+        let ran = self.scene.run(&run.words, run.script.bytes(), self.step)?;
+        self.write_output(&ran)?;
+        write_end(self.alloc, &self.scene, &ran, &mut self.text)
+    }
+
+    /// Writes what a run put: a last line without a line feed behind another mark.
+    fn write_output(&mut self, ran: &Ran) -> Result<(), Memory> {
+        for part in ran.output.bytes().split_inclusive(|byte| *byte == b'\n') {
+            match part.strip_suffix(b"\n") {
+                Some(line) => self.write("< ", line)?,
+                None => self.write("<~ ", part)?,
+            }
+        }
+        Ok(())
+    }
+
+    /// Writes a line of the row.
+    fn write(&mut self, mark: &str, line: &[u8]) -> Result<(), Memory> {
+        self.text.append(mark.as_bytes())?;
+        self.text.append(line)?;
+        self.text.append(b"\n")
+    }
+
+    /// Says that the line before is none of a row's.
+    fn refuse(&mut self) -> Result<(), Memory> {
+        self.is_whole = false;
+        self.write("= ", b"no line of a row")
+    }
+
+    /// A line of a script: behind `> ` the line; behind `>~ ` text without a line feed; behind `>* COUNT ` text that many times.
+    fn read_script(&mut self, text: &str) -> Result<(), Memory> {
+        let Some(run) = &mut self.run else {
+            return self.refuse();
+        };
+        let script = &mut run.script;
+        if let Some(part) = text.strip_prefix("~ ") {
+            return script.append(part.as_bytes());
+        }
+        if let Some(part) = text.strip_prefix("* ") {
+            let (count, part) = part.split_once(' ').unwrap_or((part, ""));
+            let count: u32 = count.parse().unwrap_or(0);
+            for _ in 0..count {
+                script.append(part.as_bytes())?;
+            }
+            return Ok(());
+        }
+        script.append(text.strip_prefix(' ').unwrap_or(text).as_bytes())?;
+        script.append(b"\n")
+    }
+
+    /// Does what a line says.
+    fn obey(&mut self, line: &str) -> Result<(), LineFault> {
+        let mut words = line.split_whitespace();
+        let words = &mut words;
+        let Some(first) = words.next() else {
+            return Ok(());
+        };
+        if first.starts_with('#') {
+            Ok(())
+        } else if first == "run" {
+            self.begin_run(words)
+        } else if first == "medium" {
+            self.scene.begin(words)
+        } else if first == "fail" {
+            self.scene.fail(words)
+        } else if first == "show" {
+            show(self.alloc, &mut self.scene, words, &mut self.text)
+        } else {
+            self.prepare(first, words)
+        }
+    }
+
+    /// Does what a line says that stands before a run: `keys`, `take`, `let`, `cut`, `page` or `cell`.
+    fn prepare(&mut self, first: &str, words: &mut SplitWhitespace<'_>) -> Result<(), LineFault> {
+        if first == "keys" {
+            self.scene.keys = keys_of(words)?;
+            end(words)
+        } else if first == "take" {
+            self.step = number(words)?.min(65_536) as usize;
+            end(words)
+        } else if first == "let" {
+            let name = String::from_str(self.alloc, word(words)?)?;
+            let value = String::from_str(self.alloc, word(words)?)?;
+            self.names.push((name, value))?;
+            end(words)
+        } else if first == "cut" {
+            self.scene.lose_power();
+            end(words)
+        } else if first == "page" {
+            self.scene.set_page(words)
+        } else if first == "cell" {
+            self.scene.set_cell(words)
+        } else {
+            Err(LineFault::Unknown)
+        }
+    }
+
+    /// `run WORD..`: a run with these words, of which `$NAME` stands for what that was let be, `''` for an empty word, and `<ledger` for a script that is the
+    /// ledger so far.
+    fn begin_run(&mut self, words: &mut SplitWhitespace<'_>) -> Result<(), LineFault> {
+        let mut all = Vec::new(self.alloc);
+        let mut script = Line::new(self.alloc);
+        for word in words {
+            if word == "<ledger" {
+                script.append(self.scene.ledger.bytes())?;
+            } else {
+                all.push(String::from_str(self.alloc, self.meant_by(word))?)?;
+            }
+        }
+        self.run = Some(Run { words: all, script });
+        Ok(())
+    }
+
+    /// What a word stands for: `''` for an empty one.
+    fn meant_by<'a>(&'a self, word: &'a str) -> &'a str {
+        if word == "''" {
+            return "";
+        }
+        let Some(name) = word.strip_prefix('$') else {
+            return word;
+        };
+        let named = self
+            .names
+            .iter()
+            .rev()
+            .find(|named| named.0.as_str() == name);
+        match named {
+            Some((_, value)) => value.as_str(),
+            None => word,
+        }
+    }
+}
+
+/// The keys that words say: `rising`, or `seed` and a number.
+fn keys_of(words: &mut SplitWhitespace<'_>) -> Result<Keys, LineFault> {
+    let kind = word(words)?;
+    if kind == "rising" {
+        Ok(Keys::Rising)
+    } else if kind == "seed" {
+        Ok(Keys::Seeded(SeedTape::new(number(words)?)))
+    } else {
+        Err(LineFault::Unknown)
+    }
+}

@@ -1,0 +1,89 @@
+//! One run of the top call, over objects in memory.
+use crate::keys::{Keys, rising};
+use device_cli::run_main;
+use platform::{Failure, MemPlatform, Platform};
+use sdbt_base::{Line, MemSink, MemSource, Memory, Tape};
+use std::alloc::Global;
+
+/// What fails in the next run: calls of the platform, and by their numbers from 1 takes, draws, and puts to the output and to the
+/// ledger, each put with how many bytes it still writes.
+#[derive(Drop)]
+pub(crate) struct Faults {
+    pub(crate) calls: Vec<Failure>,
+    pub(crate) takes: Vec<u64>,
+    pub(crate) draws: Vec<u64>,
+    pub(crate) puts: Vec<(u64, usize)>,
+    pub(crate) entries: Vec<(u64, usize)>,
+}
+
+impl Faults {
+    /// Nothing fails.
+    pub(crate) fn none(alloc: Global) -> Faults {
+        Faults {
+            calls: Vec::new(alloc),
+            takes: Vec::new(alloc),
+            draws: Vec::new(alloc),
+            puts: Vec::new(alloc),
+            entries: Vec::new(alloc),
+        }
+    }
+}
+
+/// How a run ended, what it wrote, and how often its platform, its output or its ledger was ever given no memory.
+#[derive(Drop)]
+pub(crate) struct Ran {
+    pub(crate) status: u8,
+    pub(crate) output: Line,
+    pub(crate) entries: Line,
+    pub(crate) starved: u64,
+}
+
+/// Hands words and a script, of which so many bytes come a take, to the top call.
+pub(crate) fn serve(
+    alloc: Global,
+    platform: &mut MemPlatform,
+    keys: &mut Keys,
+    faults: &Faults,
+    words: &[String],
+    script: &[u8],
+    step: usize,
+) -> Result<Ran, Memory> {
+    platform.set_failures(&faults.calls)?;
+    let mut input = MemSource::new(alloc, script, step.max(1), &faults.takes)?;
+    let mut output = MemSink::new(alloc, &faults.puts)?;
+    let mut ledger = MemSink::new(alloc, &faults.entries)?;
+    let ends = (&mut input, &mut output, &mut ledger);
+    let status = match keys {
+        Keys::Rising => {
+            let mut tape = rising(alloc, platform.head(), &faults.draws)?;
+            status_of(alloc, words, platform, &mut tape, ends)
+        }
+        Keys::Seeded(tape) => status_of(alloc, words, platform, tape, ends),
+    };
+    platform.set_failures(&[])?;
+    let sinks = output.starved().saturating_add(ledger.starved());
+    Ok(Ran {
+        status,
+        output: copied(alloc, output.bytes())?,
+        entries: copied(alloc, ledger.bytes())?,
+        starved: platform.starved().saturating_add(sinks),
+    })
+}
+
+/// Hands all to the top call. Its contract is not said again here, so that no proof above carries it along.
+fn status_of<T: Tape>(
+    alloc: Global,
+    words: &[String],
+    platform: &mut MemPlatform,
+    tape: &mut T,
+    (input, output, ledger): (&mut MemSource, &mut MemSink, &mut MemSink),
+) -> u8 {
+    run_main(alloc, words, platform, tape, input, output, ledger)
+}
+
+/// These bytes.
+fn copied(alloc: Global, bytes: &[u8]) -> Result<Line, Memory> {
+    let mut line = Line::new(alloc);
+    line.append(bytes)?;
+    Ok(line)
+}

@@ -1,0 +1,157 @@
+//! What a row shows of the objects of its runs.
+use crate::lines::{LineFault, end, number, word};
+use crate::reaching::{openers, reached_from, tree_of};
+use crate::serving::Ran;
+use crate::state::Scene;
+use key_tape::SeedTape;
+use platform::Platform;
+use root_codec::decode_root;
+use sdbt_base::{Key, Line, Memory, RECORD, Tape};
+use std::alloc::Global;
+use std::str::SplitWhitespace;
+
+/// How many keys of a seed are tried.
+const KEYS: usize = 16;
+
+/// Adds how a run ended to a text: its status, the pages that the medium has then, how many of them are synced, the bytes of the ledger,
+/// and whether the root record is another one than before.
+pub(crate) fn write_end(
+    alloc: Global,
+    scene: &Scene,
+    ran: &Ran,
+    text: &mut Line,
+) -> Result<(), Memory> {
+    let status = ran.status;
+    let (pages, synced) = (scene.platform.head(), scene.platform.synced());
+    let ledger = scene.ledger.bytes().len();
+    let cell = if scene.platform.cell() == scene.cell {
+        ""
+    } else {
+        " new root"
+    };
+    let memory = if ran.starved > 0 { " no memory" } else { "" };
+    let line = format!(in alloc;
+        "= status {status} pages {pages} synced {synced} ledger {ledger}{cell}{memory}\n"
+    )?;
+    text.append(line.as_bytes())
+}
+
+/// Adds what the words ask for to a text.
+pub(crate) fn show(
+    alloc: Global,
+    scene: &mut Scene,
+    words: &mut SplitWhitespace<'_>,
+    text: &mut Line,
+) -> Result<(), LineFault> {
+    let what = word(words)?;
+    if what == "reads" {
+        let reads = scene.platform.reads().saturating_sub(scene.reads);
+        text.append(format!(in alloc; "= reads {reads}\n")?.as_bytes())?;
+    } else if what == "cell" {
+        show_cell(alloc, scene, text)?;
+    } else if what == "ledger" {
+        show_ledger(scene, text)?;
+    } else if what == "page" {
+        show_page(alloc, scene, number(words)?, text)?;
+    } else if what == "openers" {
+        show_openers(alloc, scene, number(words)?, text)?;
+    } else if what == "reached" {
+        show_reached(alloc, scene, text)?;
+    } else {
+        return Err(LineFault::Unknown);
+    }
+    end(words)
+}
+
+/// The root record in hex digits.
+fn show_cell(alloc: Global, scene: &Scene, text: &mut Line) -> Result<(), Memory> {
+    match scene.platform.cell() {
+        Some(cell) => {
+            let digits = hex::encode(alloc, cell.as_slice())?;
+            text.append(format!(in alloc; "= cell {digits}\n")?.as_bytes())
+        }
+        None => text.append(b"= cell empty\n"),
+    }
+}
+
+/// The lines of the ledger that aren't empty.
+fn show_ledger(scene: &Scene, text: &mut Line) -> Result<(), Memory> {
+    for line in scene.ledger.bytes().split(|byte| *byte == b'\n') {
+        if !line.is_empty() {
+            text.append(b"= ")?;
+            text.append(line)?;
+            text.append(b"\n")?;
+        }
+    }
+    Ok(())
+}
+
+/// Whether a page reads as zeros.
+fn show_page(
+    alloc: Global,
+    scene: &mut Scene,
+    addr: u64,
+    text: &mut Line,
+) -> Result<(), LineFault> {
+    let mut page = [7; RECORD];
+    if addr >= scene.platform.head() || scene.platform.read(addr, &mut page).is_err() {
+        return Err(LineFault::Unknown);
+    }
+    let what = if page == [0; RECORD] {
+        "zeros"
+    } else {
+        "a record"
+    };
+    text.append(format!(in alloc; "= page {addr} reads as {what}\n")?.as_bytes())?;
+    Ok(())
+}
+
+/// Which of the first keys of a seed open each page.
+fn show_openers(alloc: Global, scene: &Scene, seed: u64, text: &mut Line) -> Result<(), LineFault> {
+    let keys = first_keys(alloc, seed)?;
+    let distinct = keys
+        .iter()
+        .filter(|one| keys.iter().filter(|other| *other == *one).count() == 1)
+        .count();
+    text.append(format!(in alloc; "= keys {KEYS} distinct {distinct}\n")?.as_bytes())?;
+    let pages = scene.platform.recorded();
+    for addr in 0..pages.len() {
+        let found = openers(alloc, &keys, pages, addr)?;
+        text.append(format!(in alloc; "= page {addr} opened by keys {found:?}\n")?.as_bytes())?;
+    }
+    Ok(())
+}
+
+/// The first keys of a seed.
+fn first_keys(alloc: Global, seed: u64) -> Result<Vec<Key>, LineFault> {
+    let mut tape = SeedTape::new(seed);
+    let mut keys = Vec::new(alloc);
+    for _ in 0..KEYS {
+        if let Ok(key) = tape.draw() {
+            keys.push(key.spend())?;
+        }
+    }
+    Ok(keys)
+}
+
+/// The pages that the key in the cell reaches, and those of the tree.
+fn show_reached(alloc: Global, scene: &Scene, text: &mut Line) -> Result<(), LineFault> {
+    let cell = scene.platform.cell().ok_or(LineFault::Unknown)?;
+    let root = decode_root(&cell).ok_or(LineFault::Unknown)?;
+    let pages = scene.platform.recorded();
+    let reached = numbers_of(alloc, &reached_from(alloc, pages, root.key)?)?;
+    let tree = numbers_of(alloc, &tree_of(alloc, pages, &root)?)?;
+    text.append(format!(in alloc; "= reached {reached:?}\n= tree {tree:?}\n")?.as_bytes())?;
+    Ok(())
+}
+
+/// The places at which a list says yes.
+fn numbers_of(alloc: Global, list: &[bool]) -> Result<Vec<usize>, Memory> {
+    let mut numbers = Vec::new(alloc);
+    for (number, is_there) in list.iter().enumerate() {
+        if *is_there {
+            numbers.push(number)?;
+        }
+    }
+    Ok(numbers)
+}

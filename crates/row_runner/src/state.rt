@@ -1,0 +1,208 @@
+//! The objects in memory that the runs of a row share.
+use crate::forging::{change, page_of, root_of};
+use crate::keys::Keys;
+use crate::lines::{LineFault, end, number, word};
+use crate::serving::{Faults, Ran, serve};
+use medium_trace::Pages;
+use platform::{CallKind, Failure, MemPlatform, Platform};
+use sdbt_base::{Line, MAX_PAGES, Memory, RECORD, ROOT};
+use std::alloc::Global;
+use std::mem::replace;
+use std::str::SplitWhitespace;
+
+/// How many pages a medium can have where a row doesn't say it.
+const PAGES: u64 = 262_144;
+
+/// A medium with a root cell, the keys of its pages, its ledger, and what fails in the next run.
+#[derive(Drop)]
+pub(crate) struct Scene {
+    alloc: Global,
+    pub(crate) platform: MemPlatform,
+    capacity: u64,
+    pub(crate) keys: Keys,
+    pub(crate) ledger: Line,
+    faults: Faults,
+    /// How many reads of pages there were before the last run.
+    pub(crate) reads: u64,
+    /// The root record before the last run.
+    pub(crate) cell: Option<[u8; ROOT]>,
+}
+
+impl Scene {
+    /// A blank medium whose keys rise.
+    pub(crate) fn new(alloc: Global) -> Scene {
+        Scene {
+            alloc,
+            platform: MemPlatform::blank(alloc, PAGES),
+            capacity: PAGES,
+            keys: Keys::Rising,
+            ledger: Line::new(alloc),
+            faults: Faults::none(alloc),
+            reads: 0,
+            cell: None,
+        }
+    }
+
+    /// `medium PAGES`: everything anew, over a blank medium that can have so many pages.
+    pub(crate) fn begin(&mut self, words: &mut SplitWhitespace<'_>) -> Result<(), LineFault> {
+        let capacity = number(words)?;
+        end(words)?;
+        if capacity > MAX_PAGES {
+            return Err(LineFault::Unknown);
+        }
+        *self = Scene {
+            platform: MemPlatform::blank(self.alloc, capacity),
+            capacity,
+            ..Scene::new(self.alloc)
+        };
+        Ok(())
+    }
+
+    /// Serves a script or another word; the ledger's entries come behind those that were there.
+    pub(crate) fn run(
+        &mut self,
+        words: &[String],
+        script: &[u8],
+        step: usize,
+    ) -> Result<Ran, Memory> {
+        self.reads = self.platform.reads();
+        self.cell = self.platform.cell();
+        let faults = replace(&mut self.faults, Faults::none(self.alloc));
+        let ran = serve(
+            self.alloc,
+            &mut self.platform,
+            &mut self.keys,
+            &faults,
+            words,
+            script,
+            step,
+        )?;
+        self.ledger.append(ran.entries.bytes())?;
+        Ok(ran)
+    }
+
+    /// `cut`: the power is lost, and each page that was not synced is torn.
+    pub(crate) fn lose_power(&mut self) {
+        let platform = &mut self.platform;
+        for addr in platform.synced()..platform.head() {
+            if addr >= platform.synced() && addr < platform.head() {
+                platform.power_cut(&[addr]);
+            }
+        }
+    }
+
+    /// `fail CALL NTH [done]`, `fail take NTH`, `fail draw NTH`, `fail put NTH BYTES` or `fail entry NTH BYTES`: what fails in the
+    /// next run; a call of the platform with its effect, or without; a put with so many bytes written.
+    pub(crate) fn fail(&mut self, words: &mut SplitWhitespace<'_>) -> Result<(), LineFault> {
+        let kind = word(words)?;
+        let nth = number(words)?;
+        let more = words.next();
+        let faults = &mut self.faults;
+        if kind == "take" {
+            faults.takes.push(nth)?;
+        } else if kind == "draw" {
+            faults.draws.push(nth)?;
+        } else if kind == "put" {
+            faults.puts.push((nth, count_of(more)?))?;
+        } else if kind == "entry" {
+            faults.entries.push((nth, count_of(more)?))?;
+        } else {
+            let call = call_of(kind)?;
+            let effect = more.is_some_and(|word| word == "done");
+            faults.calls.push(Failure { call, nth, effect })?;
+        }
+        end(words)
+    }
+
+    /// `page ADDR put PLACE HEX`, `page ADDR flip PLACE HEX` or `page ADDR holds FIELDS`: another page at an address, or one more.
+    pub(crate) fn set_page(&mut self, words: &mut SplitWhitespace<'_>) -> Result<(), LineFault> {
+        let addr = number(words)?;
+        let how = word(words)?;
+        let page = if how == "holds" {
+            page_of(addr, words)?
+        } else {
+            let mut page = self.page_at(addr);
+            change(how, &mut page, words)?;
+            page
+        };
+        end(words)?;
+        let cell = self.platform.cell();
+        self.rebuild(Some((addr, &page)), cell)
+    }
+
+    /// `cell put PLACE HEX`, `cell flip PLACE HEX`, `cell holds FIELDS` or `cell clear`: another root record.
+    pub(crate) fn set_cell(&mut self, words: &mut SplitWhitespace<'_>) -> Result<(), LineFault> {
+        let how = word(words)?;
+        let cell = if how == "clear" {
+            None
+        } else if how == "holds" {
+            Some(root_of(words)?)
+        } else {
+            let mut cell = self.platform.cell().unwrap_or([0; ROOT]);
+            change(how, &mut cell, words)?;
+            Some(cell)
+        };
+        end(words)?;
+        self.rebuild(None, cell)
+    }
+
+    /// The page at an address; zeros where there is none.
+    fn page_at(&self, addr: u64) -> [u8; RECORD] {
+        let pages = self.platform.recorded();
+        if addr < pages.len() as u64 {
+            *pages.at(addr as usize)
+        } else {
+            [0; RECORD]
+        }
+    }
+
+    /// A platform with the same pages but for one, or one more, all of them synced, and this cell.
+    fn rebuild(
+        &mut self,
+        changed: Option<(u64, &[u8; RECORD])>,
+        cell: Option<[u8; ROOT]>,
+    ) -> Result<(), LineFault> {
+        let mut pages = Pages::new(self.alloc);
+        let old = self.platform.recorded();
+        let (place, page) = changed.unwrap_or((u64::MAX, &[0; RECORD]));
+        for addr in 0..old.len() {
+            let is_changed = addr as u64 == place;
+            pages.push(if is_changed { page } else { old.at(addr) })?;
+        }
+        if place == old.len() as u64 {
+            pages.push(page)?;
+        }
+        if pages.len() as u64 > self.capacity || self.capacity > MAX_PAGES {
+            return Err(LineFault::Unknown);
+        }
+        self.platform = MemPlatform::from_parts(self.alloc, pages, cell, self.capacity);
+        Ok(())
+    }
+}
+
+/// How many bytes a word says.
+fn count_of(word: Option<&str>) -> Result<usize, LineFault> {
+    word.ok_or(LineFault::Unknown)?
+        .parse()
+        .ok()
+        .ok_or(LineFault::Unknown)
+}
+
+/// The kind of call that a word names.
+fn call_of(word: &str) -> Result<CallKind, LineFault> {
+    if word == "append" {
+        Ok(CallKind::Append)
+    } else if word == "read" {
+        Ok(CallKind::Read)
+    } else if word == "sync" {
+        Ok(CallKind::Sync)
+    } else if word == "load" {
+        Ok(CallKind::Load)
+    } else if word == "swap" {
+        Ok(CallKind::Swap)
+    } else if word == "clear" {
+        Ok(CallKind::Clear)
+    } else {
+        Err(LineFault::Unknown)
+    }
+}
