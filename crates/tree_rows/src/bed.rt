@@ -8,7 +8,6 @@ use crate::device::{Device, key_of};
 use crate::shape::nodes_of;
 use btree_update::{Grove, ReadyRefusal};
 use node_cache::NodeCache;
-use node_codec::Entry;
 use page_store::FetchRefusal;
 use platform::Platform;
 use root_codec::Root;
@@ -38,36 +37,28 @@ impl Model for Bed {
 }
 
 impl Bed {
-    /// A device of this order, with so many blocks, of which none is mapped: an empty leaf at address 0.
-    pub(crate) fn new(alloc: Global, order: u16, blocks: u64, pages: u32) -> Option<Bed> {
-        let mut device = Device::new(alloc, pages)?;
-        let leaf = device.node(0, 1, &[])?;
-        Bed::over(alloc, device, order, blocks, 1, &leaf)
-    }
-
-    /// The tree of this root node.
+    /// The tree of a root node at an address and of a level, with this order and so many blocks.
     pub(crate) fn over(
         alloc: Global,
         device: Device,
-        order: u16,
-        blocks: u64,
+        cache: NodeCache,
+        size: (u16, u64),
         level: u8,
-        top: &Entry,
+        addr: u64,
     ) -> Option<Bed> {
         let root = Root {
-            order,
+            order: size.0,
             level,
-            blocks,
+            blocks: size.1,
             commit: 0,
-            addr: top.addr,
-            key: top.key,
+            addr,
+            key: key_of(addr),
             mapped: 0,
             head: device.platform.head(),
         };
         if !root.is_in_range() {
             return None;
         }
-        let cache = NodeCache::new(alloc, 16).ok()?;
         let grove = Grove::of(alloc, &root);
         Some(Bed {
             device,
@@ -81,12 +72,19 @@ impl Bed {
     pub(crate) fn commit(self, alloc: Global) -> Option<Bed> {
         let Bed {
             mut device,
+            cache,
             root,
             grove,
-            ..
         } = self;
         let top = device.seal(alloc, grove.top())?;
-        Bed::over(alloc, device, root.order, root.blocks, grove.level(), &top)
+        Bed::over(
+            alloc,
+            device,
+            cache,
+            (root.order, root.blocks),
+            grove.level(),
+            top.addr,
+        )
     }
 
     /// Makes ready for an update of a block.
@@ -109,9 +107,9 @@ impl Bed {
         )
     }
 
-    /// Appends a page for a data record, and answers its address.
+    /// Appends a data record, and answers its address.
     pub(crate) fn datum(&mut self) -> Option<u64> {
-        self.device.datum()
+        self.device.datum(0)
     }
 
     /// Maps a block to a data record at an address below the head.

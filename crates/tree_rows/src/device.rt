@@ -3,72 +3,76 @@ ghost use Rattle.std.specs.Prelude.{◌≤◌, length};
 ghost use Rattle.platform.specs.Mem.{image_of_now};
 
 use btree_twigs::{Child, Twig};
-use node_codec::{Entry, fits_node};
+use node_codec::{Entry, encode_block, encode_node, fits_node};
 use page_store::Buffers;
 use platform::{MemPlatform, Platform};
-use sdbt_base::{Key, ListTape, RECORD};
+use sdbt_base::{FreshKey, Key, RECORD};
+use seal_record::seal;
 use std::alloc::Global;
 
-/// A medium in memory, and keys for its pages.
+/// How many pages a medium can have.
+const PAGES: u64 = 128;
+
+/// A medium in memory, each of whose pages has the key of its address.
 #[derive(Drop)]
 pub(crate) struct Device {
     pub(crate) platform: MemPlatform,
     pub(crate) buffers: Buffers,
-    tape: ListTape,
 }
 
-/// The key that tests name data records by.
+/// The bytes of the key of the page at an address.
+fn key_bytes(addr: u64) -> [u8; 32] {
+    let mut bytes = [7; 32];
+    bytes[..8].copy_from_slice(&addr.to_be_bytes());
+    bytes
+}
+
+/// The key of the page at an address.
 pub(crate) fn key_of(addr: u64) -> Key {
-    Key::from_bytes([(addr % 256) as u8; 32])
+    Key::from_bytes(key_bytes(addr))
 }
 
 impl Device {
-    /// A blank medium that has room for so many pages.
-    pub(crate) fn new(alloc: Global, pages: u32) -> Option<Device> {
-        let mut keys = Vec::new(alloc);
-        for i in 0..pages {
-            let number = i.to_be_bytes();
-            let mut key = [7; 32];
-            for j in 0..4 {
-                key[j] = number[j];
-            }
-            keys.push(key).ok()?;
-        }
+    /// A blank medium.
+    pub(crate) fn new(alloc: Global) -> Option<Device> {
         Some(Device {
-            platform: MemPlatform::blank(alloc, pages as u64),
+            platform: MemPlatform::blank(alloc, PAGES),
             buffers: Buffers::new(alloc).ok()?,
-            tape: ListTape::new(alloc, &keys, &[]).ok()?,
         })
     }
 
-    /// Appends a page of zeros in the place of a data record, which no call of a tree reads, and answers its address.
-    pub(crate) fn datum(&mut self) -> Option<u64>
+    /// Seals a record under the key of its page, and appends that. Answers its address.
+    fn place(&mut self, record: &[u8; RECORD]) -> Option<u64>
         ensures { length (image_of_now self.old.platform).recorded ≤ length (image_of_now self.new.platform).recorded }
     {
         let addr = self.platform.head();
         if addr >= self.platform.capacity() {
             return None;
         }
-        self.platform.append(&[0; RECORD]).ok()?;
+        let mut page = [0; RECORD];
+        let _used = seal(FreshKey::from_bytes(key_bytes(addr)), record, &mut page);
+        self.platform.append(&page).ok()?;
         Some(addr)
     }
 
-    /// Appends a node, and answers the entry that names it.
-    pub(crate) fn node(&mut self, low: u64, level: u8, entries: &[Entry]) -> Option<Entry> {
-        let addr = self.platform.head();
-        if addr >= self.platform.capacity() || !fits_node(addr, level, entries) {
+    /// Appends a data record that says that it stands at an address. Answers its own.
+    pub(crate) fn datum(&mut self, addr: u64) -> Option<u64>
+        ensures { length (image_of_now self.old.platform).recorded ≤ length (image_of_now self.new.platform).recorded }
+    {
+        let mut record = [0; RECORD];
+        encode_block(addr, 0, b"x", &mut record);
+        self.place(&record)
+    }
+
+    /// Appends a node, whatever the addresses of its children are. Answers its own.
+    pub(crate) fn node(&mut self, level: u8, entries: &[Entry]) -> Option<u64> {
+        if !fits_node(u64::MAX, level, entries) {
             return None;
         }
-        self.buffers.put_node(addr, level, entries);
-        let placed = self
-            .buffers
-            .append(&mut self.platform, &mut self.tape)
-            .ok()?;
-        Some(Entry {
-            low,
-            addr: placed.addr,
-            key: placed.key,
-        })
+        let mut record = [0; RECORD];
+        encode_node(u64::MAX, level, entries, &mut record);
+        record[8..16].copy_from_slice(&self.platform.head().to_be_bytes());
+        self.place(&record)
     }
 
     /// Appends the nodes in memory that a child is made of, each behind those below it, and answers the entry that names it.
@@ -92,6 +96,11 @@ impl Device {
             let entry = self.seal(alloc, child)?;
             entries.push(entry).ok()?;
         }
-        self.node(low, twig.level, &entries)
+        let addr = self.node(twig.level, &entries)?;
+        Some(Entry {
+            low,
+            addr,
+            key: key_of(addr),
+        })
     }
 }

@@ -2,18 +2,22 @@
 #![tactic(auto)]
 
 #[cfg(test)]
-mod bed;
+mod acts;
 #[cfg(test)]
-mod builder;
+mod bed;
 #[cfg(test)]
 mod device;
 #[cfg(test)]
 mod look_ups;
 #[cfg(test)]
+mod pages;
+#[cfg(test)]
 mod pair;
+#[cfg(test)]
+mod script;
 #[cfg(test)]
 mod shape;
 #[cfg(test)]
-mod steps;
-#[cfg(test)]
 mod updates;
+#[cfg(test)]
+mod walker;

@@ -1,5 +1,6 @@
 //! A tree and an ordered map that get the same random updates.
 use crate::bed::Bed;
+use crate::pages::bed_of;
 use std::alloc::Global;
 use std::collections::BTreeMap;
 
@@ -32,7 +33,7 @@ pub(crate) struct Pair {
 impl Pair {
     /// Both without any block, over a medium that has a few pages.
     pub(crate) fn new(alloc: Global, order: u16, blocks: u64, seed: u64) -> Option<Pair> {
-        let mut bed = Bed::new(alloc, order, blocks, 128)?;
+        let mut bed = bed_of(alloc, "1:", order, blocks, 1)?;
         for _ in 0..8 {
             bed.datum()?;
         }

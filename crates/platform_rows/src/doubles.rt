@@ -1,11 +1,19 @@
-//! A test double for files: those of the system, where each call is logged and one may fail.
+//! A test double for files: those of the system, where each call is logged and one may fail, and whose reads and writes may be short.
 use platform::LockFile;
 use std::alloc::{Allocator, Global};
 use std::cell::{Cell, RefCell};
-use std::fmt;
 use std::fs::{File, Metadata, OpenFile, OpenOptions};
 use std::io::{self, ErrorKind, Read, Seek, SeekFrom, Write};
 use std::rt::Files;
+
+/// The most bytes that a short read or write takes.
+const SHORT: usize = 1000;
+
+/// A write that begins with this byte takes half of its bytes, and fails.
+pub const TEARING: u8 = 0xEE;
+
+/// A file of this length says that it has a page more than a medium may have.
+pub const ENDLESS: u64 = 13;
 
 /// The calls since it was begun, in words, and which of them fails.
 #[derive(Drop)]
@@ -13,6 +21,7 @@ pub struct CallLog {
     text: RefCell<String>,
     calls: Cell<usize>,
     failing: Cell<Option<usize>>,
+    is_short: bool,
 }
 
 impl CallLog {
@@ -22,6 +31,15 @@ impl CallLog {
             text: RefCell::new(String::new(alloc)),
             calls: Cell::new(0),
             failing: Cell::new(None),
+            is_short: false,
+        }
+    }
+
+    /// The same of files whose reads and writes are short, and now and then interrupted.
+    pub fn short(alloc: Global) -> CallLog {
+        CallLog {
+            is_short: true,
+            ..CallLog::new(alloc)
         }
     }
 
@@ -34,12 +52,24 @@ impl CallLog {
         self.failing.set(failing);
     }
 
-    /// Whether these were the calls.
+    /// Whether these were the calls, or `no call`.
     pub fn is(&self, want: &str) -> bool {
         match self.text.try_borrow() {
+            Ok(text) if text.is_empty() => want == "no call",
             Ok(text) => text.as_str() == want,
             Err(_) => false,
         }
+    }
+
+    // How many bytes a read or a write of so many takes. Every third call of short files is interrupted.
+    fn part(&self, len: usize) -> io::Result<usize> {
+        if !self.is_short {
+            return Ok(len);
+        }
+        if self.calls.get() % 3 == 0 {
+            return Err(ErrorKind::Interrupted.into());
+        }
+        Ok(len.min(SHORT))
     }
 
     // Logs a call on a file, and fails it if its turn has come.
@@ -58,15 +88,6 @@ impl CallLog {
             return Err(ErrorKind::PermissionDenied.into());
         }
         Ok(())
-    }
-}
-
-impl fmt::Display for CallLog {
-    fn fmt<W: fmt::Write>(&self, f: &mut fmt::Formatter<W>) -> fmt::Result {
-        match self.text.try_borrow() {
-            Ok(text) => write!(f, "{}", text.as_str()),
-            Err(_) => Err(fmt::Error),
-        }
     }
 }
 
@@ -96,14 +117,20 @@ pub struct LoggedFile<'a> {
 impl Read for LoggedFile<'_> {
     fn read(&mut self, buf: &mut [u8]) -> io::Result<usize> {
         self.log.call("read ", self.name)?;
-        self.inner.read(buf)
+        let most = buf.len().min(self.log.part(buf.len())?);
+        self.inner.read(&mut buf[..most])
     }
 }
 
 impl Write for LoggedFile<'_> {
     fn write(&mut self, buf: &[u8]) -> io::Result<usize> {
         self.log.call("write ", self.name)?;
-        self.inner.write(buf)
+        if buf.first() == Some(&TEARING) {
+            let _ = self.inner.write(&buf[..buf.len() / 2])?;
+            return Err(ErrorKind::StorageFull.into());
+        }
+        let most = buf.len().min(self.log.part(buf.len())?);
+        self.inner.write(&buf[..most])
     }
 
     fn flush(&mut self) -> io::Result<()> {
@@ -121,7 +148,11 @@ impl Seek for LoggedFile<'_> {
 impl OpenFile for LoggedFile<'_> {
     fn metadata(&self) -> io::Result<Metadata> {
         self.log.call("measure ", self.name)?;
-        self.inner.metadata()
+        let metadata = self.inner.metadata()?;
+        if metadata.len() == ENDLESS {
+            return Ok(Metadata::of_file((1 << 32) * 4128 + 1));
+        }
+        Ok(metadata)
     }
 
     fn set_len(&self, size: u64) -> io::Result<()> {
@@ -147,7 +178,7 @@ impl LockFile for LoggedFile<'_> {
     }
 }
 
-/// The files of the system, with one log of all calls.
+/// The files of the system, with one log of all calls. A path that begins with a star finds no memory.
 #[derive(Clone, Drop)]
 pub struct LoggedFiles<'a> {
     pub inner: HostRuntime,
@@ -168,6 +199,9 @@ impl<'a> Files for LoggedFiles<'a> {
     type Dir = File;
 
     fn open_file(&self, how: &OpenOptions, path: &str) -> io::Result<LoggedFile<'a>> {
+        if path.starts_with('*') {
+            return Err(ErrorKind::OutOfMemory.into());
+        }
         let name = name_of(path);
         let what = if how.asks_create_new() {
             "make "
