@@ -1,9 +1,7 @@
-//! Worked rows of certificates: their lists, their lines in a ledger, and ledgers that break a rule.
+//! Worked rows of certificates: their lists, and their lines in a ledger.
 #![tactic(auto)]
 
 #[cfg(test)]
 mod entry_lines;
-#[cfg(test)]
-mod judged_ledgers;
 #[cfg(test)]
 mod ordered_lists;

@@ -1,11 +1,9 @@
-//! Worked rows of devices and sessions, and of what an adversary opens.
+//! Worked rows of devices and sessions.
 #![tactic(auto)]
 
 #[cfg(test)]
 mod bench;
 #[cfg(test)]
 mod made_devices;
-#[cfg(test)]
-mod seized_pages;
 #[cfg(test)]
 mod sessions;

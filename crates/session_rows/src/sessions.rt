@@ -95,3 +95,15 @@ fn full_is_told_before_a_page_is_handed_over(rt: HostRuntime) -> Result<(), Fail
     assert!(rt; bench.entries().is_empty());
     Ok(())
 }
+
+#[test]
+fn page_reads(rt: HostRuntime) -> Result<(), Fail> {
+    // The first read goes through the root node and a leaf; the last one through another leaf. With no node kept each does so.
+    for (nodes, counts) in [(256, [3, 1, 2]), (0, [3, 3, 3])] {
+        let bench = written(rt.alloc(), 13, &[1, 2, 3, 4, 5]).ok_or("not written")?;
+        let (bench, _) = bench.commit().ok_or("a fault")?;
+        let reads = bench.page_reads(rt.alloc(), nodes, [1, 1, 3]);
+        assert_eq!(rt; reads, Some(counts), "{nodes} nodes");
+    }
+    Ok(())
+}
