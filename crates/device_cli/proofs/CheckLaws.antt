@@ -16,13 +16,6 @@ use Rattle.cert_checker.specs.Chain.{chain_of}
 use Rattle.cert_checker.specs.First.{First}
 use Rattle.cert_checker.proofs.FirstLaws.{none_first}
 use Rattle.ledger_check.specs.Judging.{IsWhole}
-use Rattle.sdbt_base.specs.Arrays.{Device, closed}
-use Rattle.page_store.specs.Stands.{Stands}
-use Rattle.page_store.proofs.StandsLaws.{stands_during}
-use Rattle.device_terms.proofs.MomentLaws.{one_look}
-use Rattle.device_course.specs.Marks.{last_mark}
-use Rattle.device_course.specs.Course.{Made}
-use Rattle.device_course.proofs.MadeLaws.{made_none, shut}
 use Rattle.device_terms.specs.Served.{IsServedCell, IsServedImage}
 use Rattle.device_cli.specs.Run.{Counts, NoneRose, HasCause}
 use Rattle.device_cli.specs.Replied.{damage_line}
@@ -114,12 +107,3 @@ complete_check tells image before now left left_now written written_now ending c
 
 pub image_stays : (old new : History) → Steps old new → new.present ≡ old.present → During old new (λ image. image ≡ old.present)
 image_stays old new steps same = During-step old new (λ image. image ≡ old.present) steps refl same
-
--- no device is made
-pub made_look : (old new : History) (device : Option Device) → Stands old.present device → IsServedImage old.present → Steps old new → new.present ≡ old.present
-    → (marks : List (Option Device)) × Made old new None (closed device) marks (closed (last_mark device marks))
-made_look old new device stands served steps same = (
-  [],
-  made_none old new None (closed device) (closed device) stands (stands_during old new device stands (one_look old new steps same)) refl
-      (shut new.present device (subst (λ (i : Image). Stands i device) (sym same) stands) (subst IsServedImage (sym same) served)),
-)

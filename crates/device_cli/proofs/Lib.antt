@@ -19,7 +19,6 @@ pub mod SeizingLaws
 pub mod GivenLaws
 pub mod SeizeWordLaws
 pub mod MappedLaws
-pub mod ReachingLaws
 pub mod CheckLaws
 pub mod WorkLaws
 pub mod WordLaws

@@ -17,7 +17,7 @@ use Rattle.seizure.proofs.AscendLaws.{mapped_len}
 use Rattle.seizure.proofs.CountLaws.{counted}
 use Rattle.seizure.proofs.MappedLaws.{mapped_counted}
 use Rattle.device_cli.specs.Represents.{StandsFor}
-use Rattle.device_cli.specs.Reaching.{DisclosesTree}
+use Rattle.device_course.specs.Reaching.{DisclosesTree}
 use Rattle.device_cli.specs.Seen.{IsCounted, mapped_of, SeizesMaps}
 
 same_some : {A : Type 0} (x y : A) → Some x ≡ Some y → x ≡ y

@@ -1,21 +1,18 @@
 -- What the program promises, by the words that it is given.
-use Rattle.std.specs.Prelude.{◌≡◌, ◌≤◌, ◌↔◌, ◌⊎◌, ℕ, List, Option}
+use Rattle.std.specs.Prelude.{◌≡◌, ◌↔◌, ◌⊎◌, ℕ, List, Option}
 use Rattle.sdbt_base.specs.Arrays.{Device, closed}
 use Rattle.sdbt_base.specs.Told.{Gave}
-use Rattle.platform.specs.History.{History, During}
+use Rattle.platform.specs.History.{History}
 use Rattle.device_terms.specs.Served.{IsServedImage}
-use Rattle.device_course.specs.Certified.{Certified}
-use Rattle.device_course.specs.Fitting.{LeavesFitting}
 use Rattle.device_cli.specs.Given.{HasBadRecord}
 use Rattle.device_cli.specs.Handed.{Handed}
 use Rattle.device_cli.specs.Ran.{AnswersScript, IsAmple, IsComplete}
-use Rattle.device_cli.specs.Reaching.{DisclosesTree}
+use Rattle.device_course.specs.Reaching.{DisclosesTree}
 use Rattle.device_cli.specs.Represents.{StandsFor}
 use Rattle.device_cli.specs.Run.{IsStatus, IsBlamedAt, NoneRose, Took}
 use Rattle.device_cli.specs.Seen.{SeizesMaps}
 use Rattle.device_cli.specs.Unserved.{IsUnserved}
 use Rattle.device_cli.specs.Words.{AreWords, AreServingWords, AreSeizeWords, AreSomeWorkWords, records_of}
-use Rattle.device_cli.specs.World.{World}
 
 -- the exit status is one that there is, and 2 exactly where the words are none of the forms; one that names a fault comes only where the count of that object rose, and no
 -- count fell; and what was taken of the input is as the status says: 0 and 3 before its limit, and 12 at it. The words `seize` and `work` say that nothing is
@@ -48,15 +45,3 @@ pub record ServesScript {S R I O L : Type 0} (tells : Type 0) (status : ℕ) (ol
 pub record Forgets (tells : Type 0) (drawn drawn_now : Option (List (List ℕ))) (old new : History) : Type 0 where
   pub discloses : DisclosesTree tells drawn drawn_now old new
   pub seizes : SeizesMaps tells drawn drawn_now old new
-
--- the ledger got the entry of a certificate for each root record that came into the cell, in their order, and behind them at most a part of one more: none where all is done. With
--- them each ledger that the checker accepted for the image at the start is one that it accepts for what is left at the end
-pub record KeepsLedger (tells : Type 0) (entries entries_now : Option (List ℕ)) (old new : History) (Done : Type 0) : Type 0 where
-  pub certified : Certified tells entries entries_now old new Done
-  pub fits : tells → (there : Option Device) → StandsFor old.present there → IsServedImage old.present → LeavesFitting entries entries_now old.present new.present
-
--- a cell that can be served is one at each moment, and pages are only added
-pub record Stays (tells : Type 0) (old new : World) : Type 0 where
-  pub served : tells → IsServedImage old.history.present → During old.history new.history IsServedImage
-  pub head : old.head ≤ new.head
-  pub capacity : new.capacity ≡ old.capacity

@@ -3,11 +3,12 @@
 //! [`run_main`] takes the words of a command line and the objects of the outside, and answers an exit status.
 #![tactic(auto)]
 
-ghost use Rattle.std.specs.Prelude.{◌≡◌, ℕ, None, map, string_bytes};
+ghost use Rattle.std.specs.Prelude.{◌≡◌, ℕ, map, string_bytes};
 ghost use Rattle.device_cli.specs.Words.{AreRunWords, AreCheckWords, AreSeizeWords, AreWorkWords, records_of};
 ghost use Rattle.device_cli.specs.Handed.{handed};
-ghost use Rattle.device_cli.specs.World.{world_of};
-ghost use Rattle.device_cli.specs.Program.{Exits, Refuses, ServesScript, Forgets, KeepsLedger, Stays};
+ghost use Rattle.device_course.specs.States.{around};
+ghost use Rattle.device_course.specs.Programs.{KeepsLedger, Stays};
+ghost use Rattle.device_cli.specs.Program.{Exits, Refuses, ServesScript, Forgets};
 ghost use Rattle.device_cli.specs.Checks.{Checked};
 ghost use Rattle.device_cli.specs.Seizing.{Seizing};
 ghost use Rattle.device_cli.specs.Working.{Working};
@@ -78,7 +79,8 @@ pub fn run_main<P: Platform, T: Tape, I: Source, O: Sink, L: Sink>(
     ensures ledger { KeepsLedger P.tells (L.written ledger.old) (L.written ledger.new) (P.history platform.old) (P.history platform.new) (result ≡ 0) }
 
     // A cell that can be served is one at each moment, and pages are only added.
-    ensures stays { Stays P.tells (world_of P.Platform None platform.old) (world_of P.Platform None platform.new) }
+    ensures stays { Stays P.tells (around P.Platform T.Tape L.Sink platform.old tape.old ledger.old)
+        (around P.Platform T.Tape L.Sink platform.new tape.new ledger.new) }
 
     // With the word `check`, 0 exactly where the cell holds a root record and the chain of the whole input is accepted for it; the live addresses are those
     // that its trace reaches, and none that it says is deleted. 10 exactly where the cell is empty or a rule is broken, this one first.

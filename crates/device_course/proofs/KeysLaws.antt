@@ -1,10 +1,11 @@
 -- How parts of a run compose that keep the keys of an image, and which calls do.
-use Rattle.std.proofs.Common.{◌≡◌, ℕ, List, ◌++◌, Option, None, Some, length, refl, sym, ◌∙◌, subst, ap}
+use Rattle.std.proofs.Common.{◌≡◌, ℕ, ◌+◌, List, ◌++◌, Option, None, Some, Result, length, refl, sym, ◌∙◌, subst, ap}
+use Rattle.std.specs.Prelude.{IsOk}
 use Rattle.std.proofs.lemmas.List.Elements.{Contains-append_left}
 use Rattle.sdbt_base.specs.Arrays.{Device, State}
 use Rattle.root_codec.specs.RootRecord.{root_bytes}
 use Rattle.platform.specs.Image.{Image}
-use Rattle.platform.specs.History.{History, Extends, During, Turns}
+use Rattle.platform.specs.History.{History, Extends, During, Turns, CellStays}
 use Rattle.platform.proofs.Moments.{During-start, During-now, During-then}
 use Rattle.page_store.specs.Stands.{Stands, IsSound}
 use Rattle.page_store.specs.Kept.{Kept}
@@ -16,16 +17,19 @@ use Rattle.page_store.proofs.FloorLaws.{deleted_start, deleted_call, deleted_the
 use Rattle.btree_update.specs.declared.groves.Grove.{Grove}
 use Rattle.btree_update.specs.Groves.{grown_in}
 use Rattle.device_session.specs.Keys.{HoldsListed}
-use Rattle.device_session.specs.Open.{needed_by}
+use Rattle.device_session.specs.Certifying.{IsOfCommit}
+use Rattle.device_session.specs.Open.{IsOpen, needed_by}
 use Rattle.device_session.specs.Sessions.{Session}
+use Rattle.device_terms.specs.Certifying.{Certifies}
+use Rattle.device_terms.specs.Effects.{Discloses}
 use Rattle.device_terms.specs.Served.{IsServedImage}
 use Rattle.device_terms.proofs.ServedLaws.{serves_still}
 use Rattle.device_course.specs.Fitting.{KeepsFitting}
 use Rattle.device_course.specs.States.{IsListed, IsAt}
 use Rattle.device_course.specs.Certified.{Certified}
 use Rattle.device_course.specs.Keys.{KeepsOn}
-use Rattle.device_course.proofs.CertifiedLaws.{certified_start, certified_stays, certified_going, certified_then}
-use Rattle.device_course.proofs.FitsLaws.{fitting_start, fitting_same, fitting_erased, fitting_then}
+use Rattle.device_course.proofs.CertifiedLaws.{certified_commit, certified_start, certified_stays, certified_going, certified_then}
+use Rattle.device_course.proofs.FitsLaws.{fitting_committed, fitting_start, fitting_same, fitting_erased, fitting_then, fitting_while}
 
 pub sound_of : (session : Option Session) (image : Image) (keys : List (List ℕ)) → IsListed session image keys → IsSound image
 sound_of None image keys sound = sound
@@ -101,6 +105,34 @@ listed_some held session image keys is h = subst (λ (s : Option Session). IsLis
 
 pub listed_none : (held now : Option Session) (image : Image) (keys : List (List ℕ)) → now ≡ None → IsListed held image keys → IsListed now image keys
 listed_none held now image keys none h = subst (λ (s : Option Session). IsListed s image keys) (sym none) (sound_of held image keys h)
+
+-- a call that leaves the cell and may draw, whatever its answer
+pub on_update : (tells : Type 0) (drawn drawn_now : Option (List (List ℕ))) (written : Option (List ℕ)) (held : Option Session) (session : Session) (old new : History) (Going : Type 0) (Then Done : List (List ℕ) → Type 0) → held ≡ Some session
+    → KeepsKeys tells drawn drawn_now old new (HoldsListed session old.present) Then → (tells → CellStays old new) → ((keys : List (List ℕ)) → Then keys → Done keys)
+    → KeepsOn tells drawn drawn_now written written held old new Going Done
+on_update tells drawn drawn_now written held session old new Going Then Done is keys time done =
+    on_call tells drawn drawn_now written written held old new Going (HoldsListed session old.present) Then Done keys
+    (λ told keys h. listed_some held session old.present keys is h)
+    (λ told keys h. forgets_still old new (sound_of held old.present keys h) (time told))
+    (λ told keys more h then'. done (keys ++ more) then')
+    (λ told served. serves_still old new (time told) served)
+    (certified_stays tells written old new Going time)
+    (λ told entry at. fitting_while written old new (time told))
+
+-- a commit of a session on the root record in the cell, whatever its answer
+pub on_commit : {X Y : Type 0} (tells : Type 0) (drawn drawn_now : Option (List (List ℕ))) (written written_now : Option (List ℕ)) (held : Option Session) (session : Session) (pages : ℕ) (old new : History) (result : Result X Y) (Going : Type 0) (Then Done : List (List ℕ) → Type 0) → held ≡ Some session
+    → IsOpen session pages → (tells → old.present.cell ≡ Some (root_bytes session.root)) → Discloses tells drawn drawn_now old new (HoldsListed session old.present) Then
+    → Certifies tells written written_now old new session.root.head (session.root.commit + 1) (IsOfCommit session old.present new.present) (IsOk result)
+    → (Going → IsOk result) → ((keys : List (List ℕ)) → Then keys → Done keys) → KeepsOn tells drawn drawn_now written written_now held old new Going Done
+on_commit tells drawn drawn_now written written_now held session pages old new result Going Then Done is there_open cell discloses certifies going done =
+    on_call tells drawn drawn_now written written_now held old new Going (HoldsListed session old.present) Then Done discloses.keys
+    (λ told keys h. listed_some held session old.present keys is h)
+    (λ told keys h. discloses.forgets told keys (listed_some held session old.present keys is h))
+    (λ told keys more h then'. done (keys ++ more) then')
+    discloses.serves
+    (certified_going tells written written_now old new (IsOk result) Going going
+    (certified_commit tells written written_now old new session (IsOfCommit session old.present new.present) result there_open.served.in_range there_open.served.key.0 discloses.turns cell certifies))
+    (fitting_committed tells written written_now old new held session (IsOk result) is discloses.forgets certifies)
 
 -- without a session a mount finds the device
 pub mount_listed : (held : Option Session) (image : Image) (keys bytes : List (List ℕ)) (X : Type 0) (cell : List ℕ) → held ≡ None → image.cell ≡ Some cell → IsListed held image keys → ((device : Device) → Stands image (Some device) → X) → X

@@ -6,3 +6,5 @@ pub mod CourseLaws
 pub mod CallCourses
 pub mod KeysLaws
 pub mod FitsLaws
+pub mod ReachingLaws
+pub mod ProgramLaws

@@ -3,13 +3,14 @@ use Rattle.std.proofs.Common.{◌≡◌, ◌+◌, List, [], ◌∷◌, ◌++◌,
 use Rattle.std.specs.Prelude.{◌⊎◌}
 use Rattle.sdbt_base.specs.Arrays.{Device, State, closed}
 use Rattle.platform.specs.Image.{Image, LeavesOnly}
-use Rattle.platform.specs.History.{History, During, Turns}
+use Rattle.platform.specs.History.{History, Steps, During, Turns}
 use Rattle.platform.specs.Runs.{Passes}
 use Rattle.platform.proofs.Moments.{During-now, During-turns, LeavesOnly-now, Turns-not}
 use Rattle.platform.proofs.RunLaws.{Passes-start, Passes-during, Passes-turns, Passes-then, Turns-cases}
 use Rattle.page_store.specs.Stands.{Stands}
-use Rattle.page_store.proofs.StandsLaws.{one_device, stands_leaves}
+use Rattle.page_store.proofs.StandsLaws.{one_device, stands_during, stands_leaves}
 use Rattle.device_terms.specs.Served.{IsServedImage}
+use Rattle.device_terms.proofs.MomentLaws.{one_look}
 use Rattle.device_session.specs.Sessions.{Session}
 use Rattle.device_course.specs.Marks.{Leaves, HasMark, mark_at, last_mark}
 use Rattle.device_course.specs.States.{IsAt}
@@ -38,6 +39,15 @@ made_none old new after entry exit stands during same there =
       exits = there;
     }
 
+-- a look at the platform makes no device
+pub made_look : (old new : History) (device : Option Device) → Stands old.present device → IsServedImage old.present → Steps old new → new.present ≡ old.present
+    → (marks : List (Option Device)) × Made old new None (closed device) marks (closed (last_mark device marks))
+made_look old new device stands served steps same = (
+  [],
+  made_none old new None (closed device) (closed device) stands (stands_during old new device stands (one_look old new steps same)) refl
+      (shut new.present device (subst (λ (i : Image). Stands i device) (sym same) stands) (subst IsServedImage (sym same) served)),
+)
+
 -- it may have come to be another one, and at the end the image stands for this one
 made : (old new : History) (d next here : Option Device) → Turns old new (Leaves d) (Leaves next) → Stands new.present here → Turns old new (Leaves d) (Leaves here)
 made old new d next here turns stands = elim (Turns-cases old new (Leaves d) (Leaves next) turns) as (λ e. Turns old new (Leaves d) (Leaves here)) [
@@ -57,6 +67,12 @@ made_one old new after entry exit next stands turns there =
       last = refl;
       exits = there;
     }
+
+-- the device stayed, and a mark tells of it again
+pub made_same : (old new : History) (after : Option Session) (entry exit : State) → Stands old.present entry.device → During old new (Leaves entry.device)
+    → IsAt new.present after exit → Made old new after entry (exit.device ∷ []) exit
+made_same old new after entry exit stands during there =
+    made_one old new after entry exit entry.device stands (Turns-not old new (Leaves entry.device) (Leaves entry.device) during) there
 
 -- at the end of which the image stands for the device that there was
 pub stayed : (old new : History) (d next : Option Device) → Turns old new (Leaves d) (Leaves next) → Stands new.present d → During old new (Leaves d)
@@ -105,3 +121,8 @@ made_stands old new after entry exit marks m = record {
   extends = m.passes.extends;
   each = λ i from to. (mark_at entry.device marks (m.passes.mark i), m.passes.each i from to);
 }
+
+-- and at the end the image stands for the last of them
+pub made_marks : (old new : History) (after : Option Session) (entry exit : State) (marks : List (Option Device)) → Made old new after entry marks exit
+    → Stands new.present (last_mark entry.device marks)
+made_marks old new after entry exit marks m = subst (λ (d : Option Device). Stands new.present d) m.last m.exits.there.device

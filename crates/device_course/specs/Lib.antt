@@ -4,3 +4,5 @@ pub mod Certified
 pub mod Keys
 pub mod Course
 pub mod Fitting
+pub mod Reaching
+pub mod Programs

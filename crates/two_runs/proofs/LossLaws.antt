@@ -20,7 +20,7 @@ use Rattle.script_lang.specs.Replies.{Reply}
 use Rattle.device_cli.specs.World.{World}
 use Rattle.device_cli.specs.Represents.{StandsFor}
 use Rattle.device_cli.specs.Ran.{AnswersScript}
-use Rattle.device_cli.specs.Reaching.{DisclosesTree}
+use Rattle.device_course.specs.Reaching.{DisclosesTree}
 use Rattle.two_runs.specs.TwoRuns.{Tore, GoesOnFrom, GoesOn, GoesOnAnywhere, DisclosesTwice}
 
 -- one loss of power after another

@@ -5,6 +5,7 @@ use Rattle.sdbt_base.specs.Told.{Got}
 use Rattle.sdbt_base.proofs.ToldLaws.{Gave-nothing}
 use Rattle.device_terms.specs.Served.{IsServedCell}
 use Rattle.device_course.specs.States.{IsLater, around}
+use Rattle.device_course.proofs.ProgramLaws.{keeps_ledger, ended_not, ended_look}
 use Rattle.device_cli.specs.Given.{HasBadRecord}
 use Rattle.device_cli.specs.Handed.{handed}
 use Rattle.device_cli.specs.Replied.{Ending, damage_line}
@@ -18,7 +19,7 @@ use Rattle.device_cli.specs.declared.stop.DeviceStop.TheVariants as device
 use Rattle.device_cli.specs.declared.stop.Stop.{Stop}
 use Rattle.device_cli.specs.declared.stop.Stop.TheVariants as stops
 use Rattle.device_cli.proofs.CheckLaws.{so_bad, bad_line, image_stays}
-use Rattle.device_cli.proofs.EndLaws.{forgets, keeps_ledger, ended_not, ended_look, ended_run, serves_at, checked_at, seizing_at}
+use Rattle.device_cli.proofs.EndLaws.{forgets, ended_run, serves_at, checked_at, seizing_at}
 use Rattle.device_cli.proofs.GivenLaws.{few_records}
 use Rattle.device_cli.proofs.RunLaws.{ArePart, cause_wide}
 use Rattle.device_cli.proofs.SeizeWordLaws.{only_word, at_eight}

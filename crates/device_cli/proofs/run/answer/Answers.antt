@@ -9,7 +9,7 @@ use Rattle.device_cli.proofs.RepliedLaws.{IsLater-refl, Handled-line, Handled-st
 use Rattle.device_cli.proofs.CellLaws.{served_at}
 use Rattle.device_cli.proofs.LookLaws.{looks_bad, looks_line}
 use Rattle.device_course.proofs.KeysLaws.{on_start, on_done}
-use Rattle.device_cli.proofs.ReachingLaws.{on_ok}
+use Rattle.device_cli.proofs.Choices.{on_ok}
 use Rattle.device_cli.proofs.run.answer.Goals as goal
 
 pub returns-in_default-clause-handled : goal.returns-in_default-clause-handled

@@ -6,9 +6,7 @@ use Rattle.device_cli.specs.World.{World, world_of}
 use Rattle.script_lang.specs.Commands.{Commit}
 use Rattle.device_cli.proofs.ServedLaws.{halts_still, gives_unmounted_commit}
 use Rattle.device_cli.proofs.ServingLaws.{serves_unmounted, serves_committed, serves_commit_full, halts_commit, keeps_same}
-use Rattle.device_course.proofs.CertifiedLaws.{certified_going, certified_commit}
-use Rattle.device_course.proofs.FitsLaws.{fitting_committed}
-use Rattle.device_course.proofs.KeysLaws.{on_start, on_call, listed_some}
+use Rattle.device_course.proofs.KeysLaws.{on_start, on_commit}
 use Rattle.root_codec.specs.RootRecord.{root_bytes}
 use Rattle.device_session.specs.Open.{IsOpen, needed_by}
 use Rattle.device_session.specs.declared.refusals.CommitReply.{CommitReply}
@@ -100,33 +98,33 @@ returns-in_default-clause-keeps g c = on_start _ _ _ c.args.self.now.session _ _
 
 pub returns-in-Committed-clause-keeps : goal.returns-in-Committed-clause-keeps
 returns-in-Committed-clause-keeps g c =
-    let taken : c.args.self.now.session ≡ Some c.in-Some.session = c.in-Some.is in
-    on_call _ _ _ _ _ c.args.self.now.session _ _ _ _ _ _ c.in-Ok.ensures.commits.discloses.keys (λ told keys h. listed_some _ c.in-Some.session _ keys taken h) (λ told keys h. c.commit.ensures.commits.discloses.forgets told keys (listed_some _ c.in-Some.session _ keys taken h)) (λ told keys more h done. done) c.commit.ensures.commits.discloses.serves (certified_commit {X = CommitReply} {Y = CommitFault} _ _ _ _ _ c.in-Some.session _ (Ok c.in-Ok.reply) (is_open g (goal.at.returns-in-Committed-clause-keeps g c).In-Some).served.in_range (is_open g (goal.at.returns-in-Committed-clause-keeps g c).In-Some).served.key.0 c.commit.ensures.commits.discloses.turns (cell g (goal.at.returns-in-Committed-clause-keeps g c).In-Some) c.in-Ok.ensures.commits.certifies) (fitting_committed _ _ _ _ _ c.args.self.now.session c.in-Some.session _ taken (λ told keys h. c.commit.ensures.commits.discloses.forgets told keys h) c.commit.ensures.commits.certifies)
+    on_commit {X = CommitReply} {Y = CommitFault} _ _ _ _ _ c.args.self.now.session c.in-Some.session _ _ _ (Ok c.in-Ok.reply) _ _ _ c.in-Some.is (is_open g (goal.at.returns-in-Committed-clause-keeps g c).In-Some) (cell g (goal.at.returns-in-Committed-clause-keeps g c).In-Some) c.in-Ok.ensures.commits.discloses c.in-Ok.ensures.commits.certifies
+    (λ going. going) (λ keys done. done)
 
 pub returns-in-Full-clause-keeps : goal.returns-in-Full-clause-keeps
 returns-in-Full-clause-keeps g c =
-    let taken : c.args.self.now.session ≡ Some c.in-Some.session = c.in-Some.is in
-    on_call _ _ _ _ _ c.args.self.now.session _ _ _ _ _ _ c.in-Ok.ensures.commits.discloses.keys (λ told keys h. listed_some _ c.in-Some.session _ keys taken h) (λ told keys h. c.commit.ensures.commits.discloses.forgets told keys (listed_some _ c.in-Some.session _ keys taken h)) (λ told keys more h done. done) c.commit.ensures.commits.discloses.serves (certified_commit {X = CommitReply} {Y = CommitFault} _ _ _ _ _ c.in-Some.session _ (Ok c.in-Ok.reply) (is_open g (goal.at.returns-in-Full-clause-keeps g c).In-Some).served.in_range (is_open g (goal.at.returns-in-Full-clause-keeps g c).In-Some).served.key.0 c.commit.ensures.commits.discloses.turns (cell g (goal.at.returns-in-Full-clause-keeps g c).In-Some) c.in-Ok.ensures.commits.certifies) (fitting_committed _ _ _ _ _ c.args.self.now.session c.in-Some.session _ taken (λ told keys h. c.commit.ensures.commits.discloses.forgets told keys h) c.commit.ensures.commits.certifies)
+    on_commit {X = CommitReply} {Y = CommitFault} _ _ _ _ _ c.args.self.now.session c.in-Some.session _ _ _ (Ok c.in-Ok.reply) _ _ _ c.in-Some.is (is_open g (goal.at.returns-in-Full-clause-keeps g c).In-Some) (cell g (goal.at.returns-in-Full-clause-keeps g c).In-Some) c.in-Ok.ensures.commits.discloses c.in-Ok.ensures.commits.certifies
+    (λ going. going) (λ keys done. done)
 
 pub returns-in-Err-Memory-clause-keeps : goal.returns-in-Err-Memory-clause-keeps
 returns-in-Err-Memory-clause-keeps g c =
-    let taken : c.args.self.now.session ≡ Some c.in-Some.session = c.in-Some.is in
-    on_call _ _ _ _ _ c.args.self.now.session _ _ _ _ _ _ c.commit.ensures.commits.discloses.keys (λ told keys h. listed_some _ c.in-Some.session _ keys taken h) (λ told keys h. c.commit.ensures.commits.discloses.forgets told keys (listed_some _ c.in-Some.session _ keys taken h)) (λ told keys more h done. tt) c.commit.ensures.commits.discloses.serves (certified_going _ _ _ _ _ _ _ (λ never. absurd cc) (certified_commit _ _ _ _ _ c.in-Some.session _ c.commit.result (is_open g (goal.at.returns-in-Err-Memory-clause-keeps g c).In-Some).served.in_range (is_open g (goal.at.returns-in-Err-Memory-clause-keeps g c).In-Some).served.key.0 c.commit.ensures.commits.discloses.turns (cell g (goal.at.returns-in-Err-Memory-clause-keeps g c).In-Some) c.commit.ensures.commits.certifies)) (fitting_committed _ _ _ _ _ c.args.self.now.session c.in-Some.session _ taken (λ told keys h. c.commit.ensures.commits.discloses.forgets told keys h) c.commit.ensures.commits.certifies)
+    on_commit _ _ _ _ _ c.args.self.now.session c.in-Some.session _ _ _ c.commit.result _ _ _ c.in-Some.is (is_open g (goal.at.returns-in-Err-Memory-clause-keeps g c).In-Some) (cell g (goal.at.returns-in-Err-Memory-clause-keeps g c).In-Some) c.commit.ensures.commits.discloses c.commit.ensures.commits.certifies
+    (λ never. absurd cc) (λ keys done. tt)
 
 pub returns-in-Err-TapeFault-clause-keeps : goal.returns-in-Err-TapeFault-clause-keeps
 returns-in-Err-TapeFault-clause-keeps g c =
-    let taken : c.args.self.now.session ≡ Some c.in-Some.session = c.in-Some.is in
-    on_call _ _ _ _ _ c.args.self.now.session _ _ _ _ _ _ c.commit.ensures.commits.discloses.keys (λ told keys h. listed_some _ c.in-Some.session _ keys taken h) (λ told keys h. c.commit.ensures.commits.discloses.forgets told keys (listed_some _ c.in-Some.session _ keys taken h)) (λ told keys more h done. tt) c.commit.ensures.commits.discloses.serves (certified_going _ _ _ _ _ _ _ (λ never. absurd cc) (certified_commit _ _ _ _ _ c.in-Some.session _ c.commit.result (is_open g (goal.at.returns-in-Err-TapeFault-clause-keeps g c).In-Some).served.in_range (is_open g (goal.at.returns-in-Err-TapeFault-clause-keeps g c).In-Some).served.key.0 c.commit.ensures.commits.discloses.turns (cell g (goal.at.returns-in-Err-TapeFault-clause-keeps g c).In-Some) c.commit.ensures.commits.certifies)) (fitting_committed _ _ _ _ _ c.args.self.now.session c.in-Some.session _ taken (λ told keys h. c.commit.ensures.commits.discloses.forgets told keys h) c.commit.ensures.commits.certifies)
+    on_commit _ _ _ _ _ c.args.self.now.session c.in-Some.session _ _ _ c.commit.result _ _ _ c.in-Some.is (is_open g (goal.at.returns-in-Err-TapeFault-clause-keeps g c).In-Some) (cell g (goal.at.returns-in-Err-TapeFault-clause-keeps g c).In-Some) c.commit.ensures.commits.discloses c.commit.ensures.commits.certifies
+    (λ never. absurd cc) (λ keys done. tt)
 
 pub returns-in-Err-LedgerFault-clause-keeps : goal.returns-in-Err-LedgerFault-clause-keeps
 returns-in-Err-LedgerFault-clause-keeps g c =
-    let taken : c.args.self.now.session ≡ Some c.in-Some.session = c.in-Some.is in
-    on_call _ _ _ _ _ c.args.self.now.session _ _ _ _ _ _ c.commit.ensures.commits.discloses.keys (λ told keys h. listed_some _ c.in-Some.session _ keys taken h) (λ told keys h. c.commit.ensures.commits.discloses.forgets told keys (listed_some _ c.in-Some.session _ keys taken h)) (λ told keys more h done. tt) c.commit.ensures.commits.discloses.serves (certified_going _ _ _ _ _ _ _ (λ never. absurd cc) (certified_commit _ _ _ _ _ c.in-Some.session _ c.commit.result (is_open g (goal.at.returns-in-Err-LedgerFault-clause-keeps g c).In-Some).served.in_range (is_open g (goal.at.returns-in-Err-LedgerFault-clause-keeps g c).In-Some).served.key.0 c.commit.ensures.commits.discloses.turns (cell g (goal.at.returns-in-Err-LedgerFault-clause-keeps g c).In-Some) c.commit.ensures.commits.certifies)) (fitting_committed _ _ _ _ _ c.args.self.now.session c.in-Some.session _ taken (λ told keys h. c.commit.ensures.commits.discloses.forgets told keys h) c.commit.ensures.commits.certifies)
+    on_commit _ _ _ _ _ c.args.self.now.session c.in-Some.session _ _ _ c.commit.result _ _ _ c.in-Some.is (is_open g (goal.at.returns-in-Err-LedgerFault-clause-keeps g c).In-Some) (cell g (goal.at.returns-in-Err-LedgerFault-clause-keeps g c).In-Some) c.commit.ensures.commits.discloses c.commit.ensures.commits.certifies
+    (λ never. absurd cc) (λ keys done. tt)
 
 pub returns-in-Err-PlatformFault-clause-keeps : goal.returns-in-Err-PlatformFault-clause-keeps
 returns-in-Err-PlatformFault-clause-keeps g c =
-    let taken : c.args.self.now.session ≡ Some c.in-Some.session = c.in-Some.is in
-    on_call _ _ _ _ _ c.args.self.now.session _ _ _ _ _ _ c.commit.ensures.commits.discloses.keys (λ told keys h. listed_some _ c.in-Some.session _ keys taken h) (λ told keys h. c.commit.ensures.commits.discloses.forgets told keys (listed_some _ c.in-Some.session _ keys taken h)) (λ told keys more h done. tt) c.commit.ensures.commits.discloses.serves (certified_going _ _ _ _ _ _ _ (λ never. absurd cc) (certified_commit _ _ _ _ _ c.in-Some.session _ c.commit.result (is_open g (goal.at.returns-in-Err-PlatformFault-clause-keeps g c).In-Some).served.in_range (is_open g (goal.at.returns-in-Err-PlatformFault-clause-keeps g c).In-Some).served.key.0 c.commit.ensures.commits.discloses.turns (cell g (goal.at.returns-in-Err-PlatformFault-clause-keeps g c).In-Some) c.commit.ensures.commits.certifies)) (fitting_committed _ _ _ _ _ c.args.self.now.session c.in-Some.session _ taken (λ told keys h. c.commit.ensures.commits.discloses.forgets told keys h) c.commit.ensures.commits.certifies)
+    on_commit _ _ _ _ _ c.args.self.now.session c.in-Some.session _ _ _ c.commit.result _ _ _ c.in-Some.is (is_open g (goal.at.returns-in-Err-PlatformFault-clause-keeps g c).In-Some) (cell g (goal.at.returns-in-Err-PlatformFault-clause-keeps g c).In-Some) c.commit.ensures.commits.discloses c.commit.ensures.commits.certifies
+    (λ never. absurd cc) (λ keys done. tt)
 
 -- a commit that raised the number, or had nothing to do, added as many pages as it needed, and the next one needs none
 pub returns-in-Committed-clause-pages : goal.returns-in-Committed-clause-pages

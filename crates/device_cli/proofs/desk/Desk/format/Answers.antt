@@ -24,7 +24,7 @@ use Rattle.device_course.proofs.CertifiedLaws.{certified_going, certified_unput,
 use Rattle.device_course.proofs.FitsLaws.{fitting_formatted}
 use Rattle.device_course.proofs.KeysLaws.{on_look, on_call, sound_of, listed_image, listed_keys, format_listed}
 use Rattle.device_cli.proofs.CellLaws.{ready_later}
-use Rattle.device_cli.proofs.ReachingLaws.{on_ok}
+use Rattle.device_cli.proofs.Choices.{on_ok}
 use Rattle.device_cli.specs.World.{needed_of}
 use Rattle.device_cli.proofs.EnoughLaws.{enough_refused, pages_refused}
 use Rattle.device_cli.proofs.desk.Desk.format.Goals as goal

@@ -8,7 +8,7 @@ use Rattle.script_lang.specs.declared.commands.Command.{Command as Parsed}
 use Rattle.device_cli.proofs.SeizingLaws.{saw_of}
 use Rattle.script_lang.specs.Commands as commands
 use Rattle.device_course.proofs.KeysLaws.{on_start, on_done, listed_none}
-use Rattle.device_cli.proofs.ReachingLaws.{on_ok}
+use Rattle.device_cli.proofs.Choices.{on_ok}
 use Rattle.device_cli.proofs.desk.Desk.serve.Goals as goal
 
 pub returns-in-Write-clause-answered : goal.returns-in-Write-clause-answered

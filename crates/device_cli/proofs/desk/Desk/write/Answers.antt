@@ -9,12 +9,8 @@ use Rattle.sdbt_base.specs.Arrays.{written}
 use Rattle.script_lang.specs.Commands.{Write}
 use Rattle.device_cli.proofs.ServedLaws.{at, with_session, has_session, serves_still, halts_still, serves_range, serves_damaged, is_full_true, is_full_false, gives_unmounted_write, gives_written, gives_write_range, gives_write_full}
 use Rattle.device_cli.proofs.ServingLaws.{serves_unmounted}
-use Rattle.device_terms.proofs.ServedLaws.{serves_still as serves_while_cell}
 use Rattle.device_cli.proofs.CellLaws.{mounted_still, wrong_page}
-use Rattle.page_store.proofs.FloorLaws.{forgets_still}
-use Rattle.device_course.proofs.CertifiedLaws.{certified_stays}
-use Rattle.device_course.proofs.FitsLaws.{fitting_while}
-use Rattle.device_course.proofs.KeysLaws.{on_start, on_call, sound_of, listed_some}
+use Rattle.device_course.proofs.KeysLaws.{on_start, on_update}
 use Rattle.device_cli.proofs.EnoughLaws.{enough_kept, enough_more}
 use Rattle.device_session.specs.declared.refusals.WriteRefusal.TheVariants as refusals
 use Rattle.device_cli.proofs.desk.Desk.write.Goals as goal
@@ -94,25 +90,25 @@ pub returns-in_default-clause-keeps : goal.returns-in_default-clause-keeps
 returns-in_default-clause-keeps g c = λ ledger. on_start _ _ ledger c.args.self.now.session _ _
 
 pub returns-in-Ok-clause-keeps : goal.returns-in-Ok-clause-keeps
-returns-in-Ok-clause-keeps g c = λ ledger. on_call _ _ _ ledger ledger c.args.self.now.session _ _ _ _ _ _ c.write.ensures.keeps (λ told keys h. listed_some _ c.in-Some.session _ keys c.in-Some.is h) (λ told keys h. forgets_still _ _ (sound_of _ _ keys h) (c.write.ensures.grows.time told)) (λ told keys more h done. done) (λ told served. serves_while_cell _ _ (c.write.ensures.grows.time told) served) (certified_stays _ ledger _ _ _ c.write.ensures.grows.time) (λ told entry at. fitting_while ledger _ _ (c.write.ensures.grows.time told))
+returns-in-Ok-clause-keeps g c = λ ledger. on_update _ _ _ ledger c.args.self.now.session c.in-Some.session _ _ _ _ _ c.in-Some.is c.write.ensures.keeps c.write.ensures.grows.time (λ keys done. done)
 
 pub returns-in-Err-Range-clause-keeps : goal.returns-in-Err-Range-clause-keeps
-returns-in-Err-Range-clause-keeps g c = λ ledger. on_call _ _ _ ledger ledger c.args.self.now.session _ _ _ _ _ _ c.write.ensures.keeps (λ told keys h. listed_some _ c.in-Some.session _ keys c.in-Some.is h) (λ told keys h. forgets_still _ _ (sound_of _ _ keys h) (c.write.ensures.grows.time told)) (λ told keys more h done. done) (λ told served. serves_while_cell _ _ (c.write.ensures.grows.time told) served) (certified_stays _ ledger _ _ _ c.write.ensures.grows.time) (λ told entry at. fitting_while ledger _ _ (c.write.ensures.grows.time told))
+returns-in-Err-Range-clause-keeps g c = λ ledger. on_update _ _ _ ledger c.args.self.now.session c.in-Some.session _ _ _ _ _ c.in-Some.is c.write.ensures.keeps c.write.ensures.grows.time (λ keys done. done)
 
 pub returns-in-Err-Full-clause-keeps : goal.returns-in-Err-Full-clause-keeps
-returns-in-Err-Full-clause-keeps g c = λ ledger. on_call _ _ _ ledger ledger c.args.self.now.session _ _ _ _ _ _ c.write.ensures.keeps (λ told keys h. listed_some _ c.in-Some.session _ keys c.in-Some.is h) (λ told keys h. forgets_still _ _ (sound_of _ _ keys h) (c.write.ensures.grows.time told)) (λ told keys more h done. done) (λ told served. serves_while_cell _ _ (c.write.ensures.grows.time told) served) (certified_stays _ ledger _ _ _ c.write.ensures.grows.time) (λ told entry at. fitting_while ledger _ _ (c.write.ensures.grows.time told))
+returns-in-Err-Full-clause-keeps g c = λ ledger. on_update _ _ _ ledger c.args.self.now.session c.in-Some.session _ _ _ _ _ c.in-Some.is c.write.ensures.keeps c.write.ensures.grows.time (λ keys done. done)
 
 pub returns-in-Err-Memory-clause-keeps : goal.returns-in-Err-Memory-clause-keeps
-returns-in-Err-Memory-clause-keeps g c = λ ledger. on_call _ _ _ ledger ledger c.args.self.now.session _ _ _ _ _ _ c.write.ensures.keeps (λ told keys h. listed_some _ c.in-Some.session _ keys c.in-Some.is h) (λ told keys h. forgets_still _ _ (sound_of _ _ keys h) (c.write.ensures.grows.time told)) (λ told keys more h done. tt) (λ told served. serves_while_cell _ _ (c.write.ensures.grows.time told) served) (certified_stays _ ledger _ _ _ c.write.ensures.grows.time) (λ told entry at. fitting_while ledger _ _ (c.write.ensures.grows.time told))
+returns-in-Err-Memory-clause-keeps g c = λ ledger. on_update _ _ _ ledger c.args.self.now.session c.in-Some.session _ _ _ _ _ c.in-Some.is c.write.ensures.keeps c.write.ensures.grows.time (λ keys done. tt)
 
 pub returns-in-Err-BadRecord-clause-keeps : goal.returns-in-Err-BadRecord-clause-keeps
-returns-in-Err-BadRecord-clause-keeps g c = λ ledger. on_call _ _ _ ledger ledger c.args.self.now.session _ _ _ _ _ _ c.write.ensures.keeps (λ told keys h. listed_some _ c.in-Some.session _ keys c.in-Some.is h) (λ told keys h. forgets_still _ _ (sound_of _ _ keys h) (c.write.ensures.grows.time told)) (λ told keys more h done. tt) (λ told served. serves_while_cell _ _ (c.write.ensures.grows.time told) served) (certified_stays _ ledger _ _ _ c.write.ensures.grows.time) (λ told entry at. fitting_while ledger _ _ (c.write.ensures.grows.time told))
+returns-in-Err-BadRecord-clause-keeps g c = λ ledger. on_update _ _ _ ledger c.args.self.now.session c.in-Some.session _ _ _ _ _ c.in-Some.is c.write.ensures.keeps c.write.ensures.grows.time (λ keys done. tt)
 
 pub returns-in-Err-TapeFault-clause-keeps : goal.returns-in-Err-TapeFault-clause-keeps
-returns-in-Err-TapeFault-clause-keeps g c = λ ledger. on_call _ _ _ ledger ledger c.args.self.now.session _ _ _ _ _ _ c.write.ensures.keeps (λ told keys h. listed_some _ c.in-Some.session _ keys c.in-Some.is h) (λ told keys h. forgets_still _ _ (sound_of _ _ keys h) (c.write.ensures.grows.time told)) (λ told keys more h done. tt) (λ told served. serves_while_cell _ _ (c.write.ensures.grows.time told) served) (certified_stays _ ledger _ _ _ c.write.ensures.grows.time) (λ told entry at. fitting_while ledger _ _ (c.write.ensures.grows.time told))
+returns-in-Err-TapeFault-clause-keeps g c = λ ledger. on_update _ _ _ ledger c.args.self.now.session c.in-Some.session _ _ _ _ _ c.in-Some.is c.write.ensures.keeps c.write.ensures.grows.time (λ keys done. tt)
 
 pub returns-in-Err-PlatformFault-clause-keeps : goal.returns-in-Err-PlatformFault-clause-keeps
-returns-in-Err-PlatformFault-clause-keeps g c = λ ledger. on_call _ _ _ ledger ledger c.args.self.now.session _ _ _ _ _ _ c.write.ensures.keeps (λ told keys h. listed_some _ c.in-Some.session _ keys c.in-Some.is h) (λ told keys h. forgets_still _ _ (sound_of _ _ keys h) (c.write.ensures.grows.time told)) (λ told keys more h done. tt) (λ told served. serves_while_cell _ _ (c.write.ensures.grows.time told) served) (certified_stays _ ledger _ _ _ c.write.ensures.grows.time) (λ told entry at. fitting_while ledger _ _ (c.write.ensures.grows.time told))
+returns-in-Err-PlatformFault-clause-keeps g c = λ ledger. on_update _ _ _ ledger c.args.self.now.session c.in-Some.session _ _ _ _ _ c.in-Some.is c.write.ensures.keeps c.write.ensures.grows.time (λ keys done. tt)
 
 pub returns-in-Ok-clause-after : goal.returns-in-Ok-clause-after
 returns-in-Ok-clause-after g c = record {

@@ -1,5 +1,5 @@
--- What follows of the keys of a whole run.
-use Rattle.std.proofs.Common.{ℕ, List, [], ◌∷◌, Option, None, Result, Ok, Err, map, sym, subst}
+-- What follows of the keys of a whole run, and of its ledger.
+use Rattle.std.proofs.Common.{ℕ, List, [], ◌∷◌, Option, None, map, sym, subst}
 use Rattle.std.proofs.lemmas.List.Elements.{All-contains}
 use Rattle.platform.specs.History.{History, image_at}
 use Rattle.key_graph.specs.Chains.{Reached}
@@ -8,7 +8,6 @@ use Rattle.key_graph.proofs.LaterLaws.{by_one}
 use Rattle.page_store.specs.Kept.{Kept}
 use Rattle.page_store.specs.Floors.{ReachesStill}
 use Rattle.page_store.specs.Disclosing.{DisclosesBy}
-use Rattle.std.specs.Prelude.{OnOk}
 use Rattle.sdbt_base.specs.Arrays.{Device, closed}
 use Rattle.page_store.specs.Stands.{Stands}
 use Rattle.device_terms.specs.Served.{IsServedImage}
@@ -19,7 +18,7 @@ use Rattle.device_course.specs.Keys.{KeepsOn}
 use Rattle.device_course.specs.Course.{Made}
 use Rattle.device_course.proofs.CourseLaws.{course_ended, course_discloses}
 use Rattle.device_course.proofs.FitsLaws.{leaves_fitting}
-use Rattle.device_cli.specs.Reaching.{Taken, WasTaken, ReachesUnion, DisclosesTree}
+use Rattle.device_course.specs.Reaching.{Taken, WasTaken, ReachesUnion, DisclosesTree}
 
 -- what the root record of each moment reaches, those of several do together
 reaches_union : (old new : History) → ReachesStill old new → ReachesUnion old new
@@ -74,7 +73,3 @@ fits tells old new Going Done on made told device stands served =
     let m = made told device stands served in
     leaves_fitting old.written new.written old.history.present new.history.present (last_mark device m.0) m.1.exits.there.device
     (on.fits told (closed device) (record { there = record { device = stands; session = tt }; served = served }))
-
-pub on_ok : {T E : Type 0} (r : Result T E) (X : Type 0) → X → OnOk r X
-on_ok (Ok t) X x = x
-on_ok (Err e) X x = tt

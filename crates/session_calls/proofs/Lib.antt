@@ -1,0 +1,4 @@
+pub mod StateLaws
+pub mod CellLaws
+pub mod WriteLaws
+pub mod AlongLaws

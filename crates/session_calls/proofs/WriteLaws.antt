@@ -1,0 +1,115 @@
+-- What a written block says, by what the session's write says.
+use Rattle.std.proofs.Common.{◌≡◌, ◌+◌, ◌<◌, ◌≤◌, ℕ, List, Some, Result, Ok, Err, refl, sym, ◌∙◌, subst, ap, arith}
+use Rattle.std.specs.Prelude.{◌≢◌}
+use Rattle.sdbt_base.specs.Arrays.{Device, Session as OpenSession, State, written}
+use Rattle.sdbt_base.specs.Faults.{Rose}
+use Rattle.sdbt_base.specs.declared.tapes.Tape.{Ghosts as TapeGhosts}
+use Rattle.platform.specs.declared.platforms.Platform.{Ghosts as PlatformGhosts}
+use Rattle.platform.specs.Image.{Image}
+use Rattle.root_codec.specs.declared.root.Root.{Root}
+use Rattle.page_store.specs.Keeping.{KeepsKeys}
+use Rattle.btree_twigs.specs.Stubs.{Stub}
+use Rattle.device_terms.specs.Served.{IsServedImage}
+use Rattle.device_course.specs.States.{IsAt, mounted}
+use Rattle.device_course.proofs.KeysLaws.{on_update}
+use Rattle.device_session.specs.Causes.{IsWriteCause}
+use Rattle.device_session.specs.Changes.{WriteAdds, WriteGrows, WritesArray}
+use Rattle.device_session.specs.Going.{GoesOn}
+use Rattle.device_session.specs.Keys.{HoldsListed}
+use Rattle.device_session.specs.Open.{is_touched, needed_by}
+use Rattle.device_session.specs.Sessions.{Session}
+use Rattle.device_session.specs.declared.refusals.WriteRefusal.{WriteRefusal}
+use Rattle.device_session.specs.declared.refusals.WriteRefusal.TheVariants as write
+use Rattle.session_calls.specs.Along.{Along}
+use Rattle.session_calls.specs.Blame.{Counts, HasCause, counts}
+use Rattle.session_calls.specs.Goes.{AddsBlock, IsWriteStop, WritesBlock}
+use Rattle.session_calls.specs.declared.stops.DeviceStop.{DeviceStop}
+use Rattle.session_calls.specs.declared.stops.DeviceStop.TheVariants as stops
+use Rattle.session_calls.proofs.CellLaws.{mounted_still}
+use Rattle.session_calls.proofs.StateLaws.{at_array, with_array}
+
+-- where the device has the block and a page is free, it is refused for another reason
+pub other_refusal : (refusal : WriteRefusal) (block blocks head capacity : ℕ) (Failed Undrawn : Type 0) → IsWriteCause block blocks head capacity Failed Undrawn (Err refusal) → block < blocks → head ≢ capacity
+    → (refusal ≢ write.Range) × (refusal ≢ write.Full)
+other_refusal write.Range block blocks head capacity Failed Undrawn cause within free = absurd (omega (arith, cause, within))
+other_refusal write.Full block blocks head capacity Failed Undrawn cause within free = absurd (free cause.1)
+other_refusal write.Memory block blocks head capacity Failed Undrawn cause within free = (λ e. cc, λ e. cc)
+other_refusal (write.BadRecord addr) block blocks head capacity Failed Undrawn cause within free = (λ e. cc, λ e. cc)
+other_refusal write.PlatformFault block blocks head capacity Failed Undrawn cause within free = (λ e. cc, λ e. cc)
+other_refusal write.TapeFault block blocks head capacity Failed Undrawn cause within free = (λ e. cc, λ e. cc)
+
+-- whose count rose
+pub write_blamed : (refusal : WriteRefusal) (stop : DeviceStop) (block blocks head capacity : ℕ) (before now : Counts) → IsWriteStop refusal stop
+    → IsWriteCause block blocks head capacity (Rose before.platform now.platform) (Rose before.tape now.tape) (Err refusal) → HasCause before now stop
+write_blamed write.Range stop block blocks head capacity before now is cause = absurd is
+write_blamed write.Full stop block blocks head capacity before now is cause = absurd is
+write_blamed write.Memory stop block blocks head capacity before now is cause = subst (λ (s : DeviceStop). HasCause before now s) (sym is) tt
+write_blamed (write.BadRecord addr) stop block blocks head capacity before now is cause = subst (λ (s : DeviceStop). HasCause before now s) (sym is) tt
+write_blamed write.PlatformFault stop block blocks head capacity before now is cause = subst (λ (s : DeviceStop). HasCause before now s) (sym is) cause.2
+write_blamed write.TapeFault stop block blocks head capacity before now is cause = subst (λ (s : DeviceStop). HasCause before now s) (sym is) cause.2
+
+-- how many pages it added
+pub write_added : {S R : Type 0} (P : PlatformGhosts S) (T : TapeGhosts R) (platform platform_now : S) (tape tape_now : R) (places : List Stub) (block : ℕ) (refusal : WriteRefusal) (stop : DeviceStop) → IsWriteStop refusal stop
+    → WriteAdds P T platform platform_now tape tape_now places block (Err refusal) → AddsBlock P T platform platform_now tape tape_now (Err stop)
+write_added P T platform platform_now tape tape_now places block write.Range stop is adds = absurd is
+write_added P T platform platform_now tape tape_now places block write.Full stop is adds = absurd is
+write_added P T platform platform_now tape tape_now places block write.Memory stop is adds = subst (λ (s : DeviceStop). AddsBlock P T platform platform_now tape tape_now (Err s)) (sym is) adds
+write_added P T platform platform_now tape tape_now places block (write.BadRecord addr) stop is adds = subst (λ (s : DeviceStop). AddsBlock P T platform platform_now tape tape_now (Err s)) (sym is) adds
+write_added P T platform platform_now tape tape_now places block write.PlatformFault stop is adds = subst (λ (s : DeviceStop). AddsBlock P T platform platform_now tape tape_now (Err s)) (sym is) tt
+write_added P T platform platform_now tape tape_now places block write.TapeFault stop is adds = subst (λ (s : DeviceStop). AddsBlock P T platform platform_now tape tape_now (Err s)) (sym is) adds
+
+-- the array is as it was
+pub write_refused : (image : Image) (now : Session) (device : Device) (array : OpenSession) (block : ℕ) (bytes content : List ℕ) (refusal : WriteRefusal) (stop : DeviceStop) → IsWriteStop refusal stop
+    → WritesArray now image device array.contents block content (Err refusal) → is_touched now ≡ array.touched → IsServedImage image → WritesBlock image now device array block bytes (Err stop)
+write_refused image now device array block bytes content write.Range stop is holds touched served = absurd is
+write_refused image now device array block bytes content write.Full stop is holds touched served = absurd is
+write_refused image now device array block bytes content (write.BadRecord addr) stop is holds touched served = absurd holds
+write_refused image now device array block bytes content write.Memory stop is holds touched served =
+    subst (λ (s : DeviceStop). WritesBlock image now device array block bytes (Err s)) (sym is) (at_array image now device array holds touched served)
+write_refused image now device array block bytes content write.PlatformFault stop is holds touched served =
+    subst (λ (s : DeviceStop). WritesBlock image now device array block bytes (Err s)) (sym is) (at_array image now device array holds touched served)
+write_refused image now device array block bytes content write.TapeFault stop is holds touched served =
+    subst (λ (s : DeviceStop). WritesBlock image now device array block bytes (Err s)) (sym is) (at_array image now device array holds touched served)
+
+-- the record that is named
+pub write_named : (refusal : WriteRefusal) (stop : DeviceStop) (addr : ℕ) → IsWriteStop refusal stop → stop ≡ stops.BadRecord addr → refusal ≡ write.BadRecord addr
+write_named write.Range stop addr is named = absurd is
+write_named write.Full stop addr is named = absurd is
+write_named write.Memory stop addr is named = absurd (let no : stops.Memory ≡ stops.BadRecord addr = sym is ∙ named in cc)
+write_named (write.BadRecord there) stop addr is named = let same : stops.BadRecord there ≡ stops.BadRecord addr = sym is ∙ named in cc
+write_named write.PlatformFault stop addr is named = absurd (let no : stops.Platform ≡ stops.BadRecord addr = sym is ∙ named in cc)
+write_named write.TapeFault stop addr is named = absurd (let no : stops.Tape ≡ stops.BadRecord addr = sym is ∙ named in cc)
+
+-- the state that a write leads to
+pub write_leads : (image : Image) (now : Session) (device : Device) (array : OpenSession) (block : ℕ) (bytes : List ℕ) (result : Result (Unit {0}) DeviceStop) → WritesBlock image now device array block bytes result
+    → (next : State) × IsAt image (Some now) next
+write_leads image now device array block bytes (Ok done) led = (mounted device (written array block bytes), led)
+write_leads image now device array block bytes (Err stops.Memory) led = (mounted device array, led)
+write_leads image now device array block bytes (Err stops.Platform) led = (mounted device array, led)
+write_leads image now device array block bytes (Err stops.Tape) led = (mounted device array, led)
+write_leads image now device array block bytes (Err stops.Ledger) led = absurd led
+write_leads image now device array block bytes (Err stops.BadRoot) led = absurd led
+write_leads image now device array block bytes (Err (stops.BadRecord addr)) led = absurd led
+
+-- a write goes on, whatever its answer
+pub write_along : {S R : Type 0} (P : PlatformGhosts S) (T : TapeGhosts R) (platform platform_now : S) (tape tape_now : R) (session now : Session) (block : ℕ) (bytes : List ℕ) (result : Result (Unit {0}) DeviceStop)
+    → GoesOn P.tells (P.history platform).present (P.history platform_now).present (P.head platform_now) session now → needed_by now ≤ needed_by session + 41
+    → KeepsKeys P.tells (T.drawn tape) (T.drawn tape_now) (P.history platform) (P.history platform_now) (HoldsListed session (P.history platform).present) (HoldsListed now (P.history platform_now).present)
+    → WriteGrows P T platform platform_now tape tape_now
+    → (P.tells → (device : Device) (array : OpenSession) → IsAt (P.history platform).present (Some session) (mounted device array) → WritesBlock (P.history platform_now).present now device array block bytes result)
+    → Along P T 1 platform platform_now tape tape_now session now
+write_along P T platform platform_now tape tape_now session now block bytes result goes_on needs keeps grows leads = record {
+  is_open = goes_on.is_open;
+  mounted = λ told mounted. mounted_still (Some session) session now (P.history platform) (P.history platform_now) refl mounted goes_on.root (grows.time told) (goes_on.follows told);
+  blocks = ap (λ (r : Root). r.blocks) goes_on.root;
+  room = goes_on.capacity;
+  cell = grows.time;
+  capacity = grows.by_one.capacity;
+  rises = grows.by_one.rises;
+  adds = grows.by_one.by_one;
+  needs = omega (arith, needs);
+  keeps = λ entries. on_update P.tells (T.drawn tape) (T.drawn tape_now) entries (Some session) session (P.history platform) (P.history platform_now) (Unit {0}) _ _ refl keeps grows.time (λ keys done. done);
+  through = λ told entry at. with_array (P.history platform).present session entry at (λ state. (next : State) × IsAt (P.history platform_now).present (Some now) next)
+      (λ device array there. write_leads (P.history platform_now).present now device array block bytes result (leads told device array there));
+  fell = record { platform = grows.by_one.faults; tape = grows.tape_faults; input = omega arith; output = omega arith; ledger = omega arith };
+}

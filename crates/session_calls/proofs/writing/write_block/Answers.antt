@@ -1,0 +1,51 @@
+use Rattle.std.proofs.Common.{◌≡◌, Some, Ok, Err, refl, ap, sym, ◌∙◌}
+use Rattle.sdbt_base.specs.Arrays.{padded, written}
+use Rattle.btree_update.specs.Groves.{places_of}
+use Rattle.device_session.specs.declared.refusals.WriteRefusal.TheVariants as refusals
+use Rattle.session_calls.specs.Blame.{counts}
+use Rattle.session_calls.proofs.CellLaws.{wrong_page}
+use Rattle.session_calls.proofs.StateLaws.{at_array, served_still}
+use Rattle.session_calls.proofs.WriteLaws.{other_refusal, write_added, write_along, write_blamed, write_named, write_refused}
+use Rattle.session_calls.proofs.writing.write_block.Goals as goal
+
+pub stop_of_write-requires : goal.stop_of_write-requires
+stop_of_write-requires g c = other_refusal c.in-Err.refusal _ _ _ _ _ _ c.in-Err.ensures.cause c.requires.within c.requires.free
+
+pub returns-in-Ok-clause-leads : goal.returns-in-Ok-clause-leads
+returns-in-Ok-clause-leads g c told device array at =
+    at_array _ _ device (written array c.args.block c.args.content.now) (c.in-Ok.ensures.array told device array.contents at.there.session.0).array c.in-Ok.ensures.touched (served_still _ _ (c.write.ensures.grows.time told) at.served)
+
+pub returns-in-Err-clause-leads : goal.returns-in-Err-clause-leads
+returns-in-Err-clause-leads g c told device array at =
+    write_refused _ _ device array c.args.block c.args.content.now (padded c.args.content.now) c.in-Err.refusal _ c.stop_of_write.ensures (c.in-Err.ensures.array told device array.contents at.there.session.0).array
+    (c.in-Err.ensures.updates.touched_still ∙ at.there.session.1) (served_still _ _ (c.write.ensures.grows.time told) at.served)
+
+pub returns-in-Ok-clause-goes : goal.returns-in-Ok-clause-goes
+returns-in-Ok-clause-goes g c = record {
+  along = write_along g.P.Platform g.T.Tape _ _ _ _ _ _ c.args.block c.args.content.now (Ok tt) c.in-Ok.ensures.goes_on c.in-Ok.ensures.updates.needs c.in-Ok.ensures.keeps c.in-Ok.ensures.grows
+      (λ told device array at. at_array _ _ device (written array c.args.block c.args.content.now) (c.in-Ok.ensures.array told device array.contents at.there.session.0).array c.in-Ok.ensures.touched (served_still _ _ (c.write.ensures.grows.time told) at.served));
+  needs_still = tt;
+  cause = tt;
+}
+
+pub returns-in-Err-clause-goes : goal.returns-in-Err-clause-goes
+returns-in-Err-clause-goes g c = record {
+  along = write_along g.P.Platform g.T.Tape _ _ _ _ _ _ c.args.block c.args.content.now (Err c.stop_of_write.result) c.in-Err.ensures.goes_on c.in-Err.ensures.updates.needs c.in-Err.ensures.keeps c.in-Err.ensures.grows
+      (λ told device array at. write_refused _ _ device array c.args.block c.args.content.now (padded c.args.content.now) c.in-Err.refusal _ c.stop_of_write.ensures (c.in-Err.ensures.array told device array.contents at.there.session.0).array (c.in-Err.ensures.updates.touched_still ∙ at.there.session.1) (served_still _ _ (c.write.ensures.grows.time told) at.served));
+  needs_still = c.in-Err.ensures.updates.needs_still;
+  cause = write_blamed c.in-Err.refusal _ _ _ _ _ (counts (g.P.Platform.faults c.args.platform.now) (g.T.Tape.faults c.args.tape.now) 0 0 0)
+      (counts (g.P.Platform.faults c.write.new.platform) (g.T.Tape.faults c.write.new.tape) 0 0 0) c.stop_of_write.ensures c.in-Err.ensures.cause;
+}
+
+pub returns-in-Ok-clause-adds : goal.returns-in-Ok-clause-adds
+returns-in-Ok-clause-adds g c = c.in-Ok.ensures.adds.0
+
+pub returns-in-Err-clause-adds : goal.returns-in-Err-clause-adds
+returns-in-Err-clause-adds g c = write_added g.P.Platform g.T.Tape _ _ _ _ (places_of c.write.new.self.grove) c.args.block c.in-Err.refusal _ c.stop_of_write.ensures c.in-Err.ensures.adds
+
+-- what is named is a wrong page below the root record in the cell
+pub returns-in-Err-clause-damage : goal.returns-in-Err-clause-damage
+returns-in-Err-clause-damage g c told mounted addr is =
+    let named : c.in-Err.refusal ≡ refusals.BadRecord addr = write_named c.in-Err.refusal c.stop_of_write.result addr c.stop_of_write.ensures cc in
+    wrong_page (Some c.args.session.now) c.args.session.now _ addr _ _ refl c.requires.open mounted (c.write.ensures.grows.time told)
+    (λ follows. ((c.in-Err.ensures.damaged told addr (ap Err named)).damage follows).1)

@@ -1,0 +1,62 @@
+-- What one call of a session says, by its answer.
+use Rattle.std.specs.Prelude.{◌≡◌, ◌+◌, ◌⊎◌, ℕ, List, [], ◌∷◌, Some, Result, Ok, Err, IfErr, OnErr}
+use Rattle.sdbt_base.specs.Arrays.{Device, Session as OpenSession, written}
+use Rattle.sdbt_base.specs.declared.tapes.Tape.{Ghosts as TapeGhosts}
+use Rattle.platform.specs.declared.platforms.Platform.{Ghosts as PlatformGhosts}
+use Rattle.platform.specs.Image.{Image}
+use Rattle.device_course.specs.States.{IsAt, mounted}
+use Rattle.device_session.specs.Open.{needed_by}
+use Rattle.device_session.specs.Sessions.{Session}
+use Rattle.device_session.specs.declared.refusals.WriteRefusal.{WriteRefusal}
+use Rattle.device_session.specs.declared.refusals.WriteRefusal.TheVariants as write
+use Rattle.device_terms.specs.Effects.{AddsNothing}
+use Rattle.session_calls.specs.Along.{Along}
+use Rattle.session_calls.specs.Blame.{HasCause, counts}
+use Rattle.session_calls.specs.declared.stops.DeviceStop.{DeviceStop}
+use Rattle.session_calls.specs.declared.stops.DeviceStop.TheVariants as stops
+
+-- the session goes on, whatever the answer: a refused call leaves what a commit needs, and a stop at a fault came where the count of that object rose
+pub record Goes {S R X : Type 0} (P : PlatformGhosts S) (T : TapeGhosts R) (updates : ℕ) (platform platform_now : S) (tape tape_now : R) (session now : Session) (result : Result X DeviceStop) : Type 0 where
+  pub along : Along P T updates platform platform_now tape tape_now session now
+  pub needs_still : OnErr result (needed_by now ≡ needed_by session)
+  pub cause : IfErr result (HasCause (counts (P.faults platform) (T.faults tape) 0 0 0) (counts (P.faults platform_now) (T.faults tape_now) 0 0 0))
+
+-- which stop a refused write comes to, where the device has the block and a page is free
+abbrev pub IsWriteStop : WriteRefusal → DeviceStop → Type 0
+IsWriteStop write.Range stop = ⊥
+IsWriteStop write.Full stop = ⊥
+IsWriteStop write.Memory stop = stop ≡ stops.Memory
+IsWriteStop (write.BadRecord addr) stop = stop ≡ stops.BadRecord addr
+IsWriteStop write.PlatformFault stop = stop ≡ stops.Platform
+IsWriteStop write.TapeFault stop = stop ≡ stops.Tape
+
+-- a write of a block of a session's array: it is written, or the array is as it was; a record that doesn't fit is met over none
+abbrev pub WritesBlock : Image → Session → Device → OpenSession → ℕ → List ℕ → Result (Unit {0}) DeviceStop → Type 0
+WritesBlock image now device array block content (Ok done) = IsAt image (Some now) (mounted device (written array block content))
+WritesBlock image now device array block content (Err stops.Memory) = IsAt image (Some now) (mounted device array)
+WritesBlock image now device array block content (Err stops.Platform) = IsAt image (Some now) (mounted device array)
+WritesBlock image now device array block content (Err stops.Tape) = IsAt image (Some now) (mounted device array)
+WritesBlock image now device array block content (Err stops.Ledger) = ⊥
+WritesBlock image now device array block content (Err stops.BadRoot) = ⊥
+WritesBlock image now device array block content (Err (stops.BadRecord addr)) = ⊥
+
+-- a write that was done added one page, and a refused one none, unless the platform failed
+abbrev pub AddsBlock : {S R : Type 0} → PlatformGhosts S → TapeGhosts R → S → S → R → R → Result (Unit {0}) DeviceStop → Type 0
+AddsBlock P T platform platform_now tape tape_now (Ok done) = P.head platform_now ≡ P.head platform + 1
+AddsBlock P T platform platform_now tape tape_now (Err stops.Memory) = AddsNothing P T platform platform_now tape tape_now
+AddsBlock P T platform platform_now tape tape_now (Err stops.Platform) = Unit {0}
+AddsBlock P T platform platform_now tape tape_now (Err stops.Tape) = AddsNothing P T platform platform_now tape tape_now
+AddsBlock P T platform platform_now tape tape_now (Err stops.Ledger) = ⊥
+AddsBlock P T platform platform_now tape tape_now (Err stops.BadRoot) = ⊥
+AddsBlock P T platform platform_now tape tape_now (Err (stops.BadRecord addr)) = AddsNothing P T platform platform_now tape tape_now
+
+-- how many blocks a write with this answer has written
+abbrev pub many_of : Result (Unit {0}) DeviceStop → ℕ
+many_of (Ok done) = 1
+many_of (Err stop) = 0
+
+-- so many of these blocks were written with these bytes, in their order
+abbrev pub WritesSome : OpenSession → List ℕ → List ℕ → ℕ → OpenSession → Type 0
+WritesSome array [] content count next = (count ≡ 0) × (next ≡ array)
+WritesSome array (block ∷ blocks) content count next =
+    ((fewer : ℕ) × (count ≡ fewer + 1) × WritesSome (written array block content) blocks content fewer next) ⊎ WritesSome array blocks content count next

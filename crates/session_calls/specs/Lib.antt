@@ -1,0 +1,4 @@
+pub mod Blame
+pub mod Damage
+pub mod Along
+pub mod Goes

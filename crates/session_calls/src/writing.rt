@@ -1,0 +1,87 @@
+ghost use Rattle.std.specs.Prelude.{◌≡◌, ◌<◌, ◌≤◌, ◌≢◌, ◌+◌, All, Some, length};
+ghost use Rattle.sdbt_base.specs.Arrays.{Device, Session as OpenSession};
+ghost use Rattle.device_session.specs.Open.{IsOpen, blocks_of};
+ghost use Rattle.device_course.specs.States.{IsAt, mounted};
+ghost use Rattle.session_calls.specs.Along.{Along};
+ghost use Rattle.session_calls.specs.Damage.{IsMounted, MeetsDamage};
+ghost use Rattle.session_calls.specs.Goes.{AddsBlock, Goes, IsWriteStop, WritesBlock, WritesSome, many_of};
+
+use crate::stops::DeviceStop;
+use device_session::{Session, WriteRefusal};
+use platform::Platform;
+use sdbt_base::Tape;
+
+/// Writes a block that the device has, where a page is free: at most 4,096 bytes, and zeros up to its end.
+///
+/// The session goes on after a stop, with the array that it had.
+pub fn write_block<P: Platform, T: Tape>(
+    session: &mut Session,
+    platform: &mut P,
+    tape: &mut T,
+    block: u64,
+    content: &[u8],
+) -> Result<(), DeviceStop>
+    requires size { length content.now ≤ 4096 }
+    requires open { IsOpen session.old (P.head platform.old) }
+    requires within { block < blocks_of session.old }
+    requires free { P.head platform.old ≢ P.capacity platform.old }
+    ensures goes { Goes P.Platform T.Tape 1 platform.old platform.new tape.old tape.new session.old session.new result }
+    ensures leads { P.tells → (device : Device) (array : OpenSession) → IsAt (P.history platform.old).present (Some session.old) (mounted device array)
+        → WritesBlock (P.history platform.new).present session.new device array block content.now result }
+    ensures adds { AddsBlock P.Platform T.Tape platform.old platform.new tape.old tape.new result }
+    ensures damage { P.tells → IsMounted (P.history platform.old).present session.old → MeetsDamage (P.history platform.new).present result }
+{
+    match session.write(platform, tape, block, content) {
+        Ok(()) => Ok(()),
+        Err(refusal) => Err(stop_of_write(refusal)),
+    }
+}
+
+/// The stop that a refused write comes to, where the device has the block and a page is free.
+fn stop_of_write(refusal: WriteRefusal) -> DeviceStop
+    requires { (refusal ≢ WriteRefusal.Range) × (refusal ≢ WriteRefusal.Full) }
+    ensures { IsWriteStop refusal result }
+{
+    match refusal {
+        WriteRefusal::Memory => DeviceStop::Memory,
+        WriteRefusal::BadRecord { addr } => DeviceStop::BadRecord { addr },
+        WriteRefusal::PlatformFault => DeviceStop::Platform,
+        WriteRefusal::TapeFault => DeviceStop::Tape,
+        WriteRefusal::Range | WriteRefusal::Full => unreachable!(),
+    }
+}
+
+/// Writes the same bytes into each of some blocks that the device has, in their order, where as many pages are free, and answers how
+/// many were written. After a refusal it goes on with the next block.
+pub fn write_each<P: Platform, T: Tape>(
+    session: &mut Session,
+    platform: &mut P,
+    tape: &mut T,
+    blocks: &[u64],
+    content: &[u8],
+) -> usize
+    requires size { length content.now ≤ 4096 }
+    requires open { IsOpen session.old (P.head platform.old) }
+    requires within { All (λ block. block < blocks_of session.old) blocks.now }
+    requires free { P.head platform.old + length blocks.now ≤ P.capacity platform.old }
+    ensures along { Along P.Platform T.Tape (length blocks.now) platform.old platform.new tape.old tape.new session.old session.new }
+    ensures leads { P.tells → (device : Device) (array : OpenSession) → IsAt (P.history platform.old).present (Some session.old) (mounted device array)
+        → (next : OpenSession) × WritesSome array blocks.now content.now result next
+        × IsAt (P.history platform.new).present (Some session.new) (mounted device next) }
+{
+    let mut done = 0;
+    for block in blocks {
+        done += count_of(&write_block(session, platform, tape, *block, content));
+    }
+    done
+}
+
+/// How many blocks a write with this answer has written.
+fn count_of(answer: &Result<(), DeviceStop>) -> usize
+    ensures { result ≡ many_of answer.now }
+{
+    match answer {
+        Ok(()) => 1,
+        Err(_) => 0,
+    }
+}
