@@ -6,6 +6,8 @@ mod bench;
 #[cfg(test)]
 mod made_devices;
 #[cfg(test)]
+mod maker;
+#[cfg(test)]
 mod seized_pages;
 #[cfg(test)]
 mod sessions;
