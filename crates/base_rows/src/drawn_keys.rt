@@ -1,6 +1,7 @@
 //! Keys that were worked out outside, by another ChaCha20, and a tape whose source fails and ends.
+use crate::memory_objects::draws;
 use key_tape::{SeedTape, SourceTape};
-use sdbt_base::{MemSource, Tape, TapeFault};
+use sdbt_base::{MemSource, Tape};
 use std::test::Fail;
 
 // The seed 0102030405060708, and the first two keys of its tape.
@@ -28,14 +29,6 @@ fn draws_the_bytes_of_a_source(rt: HostRuntime) -> Result<(), Fail> {
     bytes[32..].fill(2);
     let source = MemSource::new(rt.alloc(), &bytes, 7, &[8])?;
     let mut tape = SourceTape::new(source);
-    for (nth, want) in [(1, Some(1)), (2, None), (3, None), (4, None)] {
-        match tape.draw() {
-            Ok(key) => {
-                let drawn = key.spend().bytes();
-                assert_eq!(rt; want.map(|byte: u8| [byte; 32]), Some(drawn), "draw {nth}");
-            }
-            Err(TapeFault) => assert_eq!(rt; want, None, "draw {nth}"),
-        }
-    }
+    assert!(rt; draws(&mut tape) == [Some([1; 32]), None, None, None]);
     Ok(())
 }

@@ -26,6 +26,11 @@ fn level_at(cache: &mut NodeCache, addr: u64, byte: u8) -> u8 {
     }
 }
 
+/// Puts a node of a level, and answers what came of it.
+fn put(cache: &mut NodeCache, addr: u64, byte: u8, level: u8) -> Put {
+    cache.put(addr, &key(byte), &node(level))
+}
+
 /// Whether nodes are kept for these addresses, in this order.
 fn keeps(alloc: Global, cache: &NodeCache, wanted: &[u64]) -> Result<bool, Memory> {
     let kept = cache.addresses(alloc)?;
@@ -40,31 +45,42 @@ fn keeps(alloc: Global, cache: &NodeCache, wanted: &[u64]) -> Result<bool, Memor
     Ok(true)
 }
 
+/// A cache of four nodes, in which those of these addresses were put.
+fn cache_of(alloc: Global, addrs: &[u64]) -> Option<NodeCache> {
+    let mut cache = NodeCache::new(alloc, 4).ok()?;
+    for addr in addrs {
+        if put(&mut cache, *addr, 1, 1) != Put::Stored {
+            return None;
+        }
+    }
+    Some(cache)
+}
+
 #[test]
 fn cache_order(rt: HostRuntime) -> Result<(), Fail> {
-    let mut cache = NodeCache::new(rt.alloc(), 4)?;
-    for addr in [6, 7, 8] {
-        assert_eq!(rt; cache.put(addr, &key(1), &node(1)), Put::Stored);
-    }
-    assert_eq!(rt; level_at(&mut cache, 6, 1), 1);
+    let mut cache = cache_of(rt.alloc(), &[6, 7, 8]).ok_or("no cache")?;
+    assert!(rt; level_at(&mut cache, 6, 1) == 1);
     assert!(rt; keeps(rt.alloc(), &cache, &[6, 8, 7])?);
+    // Another key, and another node under a key of its own.
+    assert!(rt; level_at(&mut cache, 7, 2) == 0);
+    assert!(rt; keeps(rt.alloc(), &cache, &[6, 8, 7])?);
+    assert!(rt; put(&mut cache, 7, 2, 2) == Put::Stored);
+    assert!(rt; level_at(&mut cache, 7, 1) == 0);
+    assert!(rt; level_at(&mut cache, 7, 2) == 2);
+    assert!(rt; keeps(rt.alloc(), &cache, &[7, 6, 8])?);
+    Ok(())
+}
 
-    // Another key, another node under a key of its own, and more nodes than there is room for.
-    assert_eq!(rt; level_at(&mut cache, 7, 2), 0);
-    assert!(rt; keeps(rt.alloc(), &cache, &[6, 8, 7])?);
-    assert_eq!(rt; cache.put(7, &key(2), &node(2)), Put::Stored);
-    assert_eq!(rt; level_at(&mut cache, 7, 1), 0);
-    assert_eq!(rt; level_at(&mut cache, 7, 2), 2);
-    for addr in [9, 10] {
-        assert_eq!(rt; cache.put(addr, &key(1), &node(3)), Put::Stored);
-    }
+#[test]
+fn cache_room(rt: HostRuntime) -> Result<(), Fail> {
+    // More nodes than there is room for.
+    let mut cache = cache_of(rt.alloc(), &[8, 6, 7, 9, 10]).ok_or("no cache")?;
     assert!(rt; keeps(rt.alloc(), &cache, &[10, 9, 7, 6])?);
-
     // A place that was given up is filled before a node goes.
     cache.forget(9);
     cache.forget(8);
     assert!(rt; keeps(rt.alloc(), &cache, &[10, 7, 6])?);
-    assert_eq!(rt; cache.put(u64::MAX, &key(1), &node(4)), Put::Stored);
+    assert!(rt; put(&mut cache, u64::MAX, 1, 4) == Put::Stored);
     assert!(rt; keeps(rt.alloc(), &cache, &[u64::MAX, 10, 7, 6])?);
     Ok(())
 }
@@ -72,8 +88,8 @@ fn cache_order(rt: HostRuntime) -> Result<(), Fail> {
 #[test]
 fn no_capacity(rt: HostRuntime) -> Result<(), Fail> {
     let mut cache = NodeCache::new(rt.alloc(), 0)?;
-    assert_eq!(rt; cache.put(6, &key(1), &node(1)), Put::Off);
-    assert_eq!(rt; level_at(&mut cache, 6, 1), 0);
+    assert!(rt; put(&mut cache, 6, 1, 1) == Put::Off);
+    assert!(rt; level_at(&mut cache, 6, 1) == 0);
     assert!(rt; keeps(rt.alloc(), &cache, &[])?);
     Ok(())
 }

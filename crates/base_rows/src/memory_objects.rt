@@ -1,78 +1,110 @@
 //! What no clause says: that each call which may answer want of memory does its work where there is memory,
 //! and what the two edges do over a reader and a writer of std.
 use sdbt_base::{
-    Addrs, Line, ListTape, MemSink, MemSource, ReadSource, Sink, Source, SourceFault, Tape,
-    TapeFault, Unkept, UnkeptList, WriteSink,
+    Addrs, Line, ListTape, MemSink, MemSource, Memory, ReadSource, Sink, Source, Tape, Unkept,
+    UnkeptList, WriteSink,
 };
 use std::test::Fail;
 
-#[test]
-fn memory_objects(rt: HostRuntime) -> Result<(), Fail> {
-    let alloc = rt.alloc();
-    let mut source = MemSource::new(alloc, b"seven b", 4, &[2])?;
-    let mut sink = MemSink::new(alloc, &[(2, 1), (3, 9)])?;
-    let mut line = Line::new(alloc);
-    let mut piece = [0; 16];
-    for (nth, want) in [(1, Some(4)), (2, None), (3, Some(3)), (4, Some(0))] {
-        match source.take(&mut piece) {
-            Ok(count) => {
-                assert_eq!(rt; Some(count), want, "take {nth}");
-                line.append(&piece[..count])?;
-            }
-            Err(SourceFault) => assert_eq!(rt; want, None, "take {nth}"),
+/// How many bytes each of four takes gives, into a line, and none where it fails.
+fn takes<S: Source>(
+    source: &mut S,
+    piece: &mut [u8],
+    line: &mut Line,
+) -> Result<[Option<usize>; 4], Memory> {
+    let mut counts = [None; 4];
+    for count in counts.iter_mut() {
+        if piece.is_empty() {
+            break;
+        }
+        if let Ok(taken) = source.take(piece) {
+            let taken = taken.min(piece.len());
+            line.append(&piece[..taken])?;
+            *count = Some(taken);
         }
     }
-    assert_eq!(rt; line.bytes(), b"seven b".as_slice());
-    for (nth, is_done, want) in [(1, true, "ab"), (2, false, "aba"), (3, false, "abaab")] {
-        assert_eq!(rt; sink.put(b"ab").is_ok(), is_done, "put {nth}");
-        assert_eq!(rt; sink.bytes(), want.as_bytes(), "put {nth}");
+    Ok(counts)
+}
+
+/// Whether each of three puts is done, and how many bytes there are then.
+fn puts(sink: &mut MemSink) -> [(bool, usize); 3] {
+    [b"ab"; 3].map(|piece| {
+        let is_done = sink.put(piece).is_ok();
+        (is_done, sink.bytes().len())
+    })
+}
+
+/// What four draws give, and none where one fails.
+pub(crate) fn draws<T: Tape>(tape: &mut T) -> [Option<[u8; 32]>; 4] {
+    let mut keys = [None; 4];
+    for key in keys.iter_mut() {
+        *key = match tape.draw() {
+            Ok(drawn) => Some(drawn.spend().bytes()),
+            Err(_) => None,
+        };
     }
-    assert_eq!(rt; sink.starved(), 0);
+    keys
+}
+
+#[test]
+fn memory_source(rt: HostRuntime) -> Result<(), Fail> {
+    let mut source = MemSource::new(rt.alloc(), b"seven b", 4, &[2])?;
+    let mut line = Line::new(rt.alloc());
+    let counts = takes(&mut source, &mut [0; 16], &mut line)?;
+    assert!(rt; counts == [Some(4), None, Some(3), Some(0)]);
+    assert!(rt; line.bytes() == b"seven b".as_slice());
+    Ok(())
+}
+
+#[test]
+fn memory_sink(rt: HostRuntime) -> Result<(), Fail> {
+    let mut sink = MemSink::new(rt.alloc(), &[(2, 1), (3, 9)])?;
+    assert!(rt; puts(&mut sink) == [(true, 2), (false, 3), (false, 5)]);
+    assert!(rt; sink.bytes() == b"abaab".as_slice());
+    assert!(rt; sink.starved() == 0);
     Ok(())
 }
 
 #[test]
 fn listed_keys(rt: HostRuntime) -> Result<(), Fail> {
-    let keys = [[1; 32], [2; 32]];
-    let mut tape = ListTape::new(rt.alloc(), &keys, &[2])?;
-    for (nth, want) in [(1, Some(1)), (2, None), (3, Some(2)), (4, None)] {
-        match tape.draw() {
-            Ok(key) => {
-                let bytes = key.spend().bytes();
-                assert_eq!(rt; want.map(|byte: u8| [byte; 32]), Some(bytes), "draw {nth}");
-            }
-            Err(TapeFault) => assert_eq!(rt; want, None, "draw {nth}"),
-        }
-    }
+    let mut tape = ListTape::new(rt.alloc(), &[[1; 32], [2; 32]], &[2])?;
+    assert!(rt; draws(&mut tape) == [Some([1; 32]), None, Some([2; 32]), None]);
     Ok(())
 }
 
 #[test]
-fn edges(rt: HostRuntime) -> Result<(), Fail> {
+fn read_edge(rt: HostRuntime) -> Result<(), Fail> {
     let mut source = ReadSource::new(b"abc".as_slice());
-    let mut piece = [0; 2];
-    for (nth, want) in [(1, 2), (2, 1), (3, 0)] {
-        assert_eq!(rt; source.take(&mut piece)?, want, "take {nth}");
-    }
-    assert_eq!(rt; piece, *b"cb");
+    let mut line = Line::new(rt.alloc());
+    let counts = takes(&mut source, &mut [0; 2], &mut line)?;
+    assert!(rt; counts == [Some(2), Some(1), Some(0), Some(0)]);
+    assert!(rt; line.bytes() == b"abc".as_slice());
+    Ok(())
+}
 
+#[test]
+fn write_edge(rt: HostRuntime) {
     // A writer of three bytes: the second put finds room for one.
     let mut room = [0; 3];
     let mut sink = WriteSink::new(room.as_mut_slice());
-    sink.put(b"ab")?;
+    assert!(rt; sink.put(b"ab").is_ok());
     assert!(rt; sink.put(b"cd").is_err());
+}
+
+#[test]
+fn addresses(rt: HostRuntime) -> Result<(), Fail> {
+    let mut addrs = Addrs::new(rt.alloc());
+    assert!(rt; addrs.is_empty());
+    addrs.push(7)?;
+    assert!(rt; addrs.len() == 1 && *addrs.at(0) == 7);
     Ok(())
 }
 
 #[test]
-fn lists(rt: HostRuntime) -> Result<(), Fail> {
-    let mut addrs = Addrs::new(rt.alloc());
+fn unkept_pages(rt: HostRuntime) -> Result<(), Fail> {
     let mut pages = UnkeptList::new(rt.alloc());
-    assert!(rt; addrs.is_empty() && pages.is_empty());
-    addrs.push(7)?;
+    assert!(rt; pages.is_empty());
     pages.push(Unkept { block: 3, addr: 1 })?;
-    assert!(rt; addrs.len() == 1 && pages.len() == 1);
-    assert_eq!(rt; *addrs.at(0), 7);
-    assert_eq!(rt; *pages.at(0), Unkept { block: 3, addr: 1 });
+    assert!(rt; pages.len() == 1 && *pages.at(0) == Unkept { block: 3, addr: 1 });
     Ok(())
 }

@@ -3,7 +3,7 @@ use node_codec::{
     Body, Entry, decode, decode_block, decode_node, encode_block, encode_node, fits_node,
 };
 use sdbt_base::Key;
-use std::test::*;
+use std::test::Fail;
 
 /// The head of the data record of block 3 at address 3, and the content that it is given.
 const HEAD: [u8; 32] = [
@@ -28,64 +28,100 @@ fn entry(low: u64, addr: u64) -> Entry {
     }
 }
 
-/// A node at address 7 of two entries, with one byte replaced.
-fn decode_node_with(at: usize, byte: u8) -> Option<Body> {
-    let entries = [entry(5, 2), entry(9, 6)];
+/// The data record of block 3 at address 3.
+fn block() -> [u8; 4128] {
     let mut body = [0xff; 4128];
-    if fits_node(7, 1, &entries) {
-        encode_node(7, 1, &entries, &mut body);
+    encode_block(3, 3, &CONTENT, &mut body);
+    body
+}
+
+/// A node at address 7.
+fn node_of(level: u8, entries: &[Entry]) -> Option<[u8; 4128]> {
+    if !fits_node(7, level, entries) {
+        return None;
     }
+    let mut body = [0xff; 4128];
+    encode_node(7, level, entries, &mut body);
+    Some(body)
+}
+
+/// What a record at an address is.
+fn read(body: &[u8; 4128], addr: u64) -> Option<Body> {
+    decode(body, addr)
+}
+
+/// The block whose data record this is at an address.
+fn block_at(body: &[u8; 4128], addr: u64) -> Option<u64> {
+    decode_block(body, addr)
+}
+
+/// The level of the node that this is at an address, and its entries in the place of others.
+fn node_at(body: &[u8; 4128], addr: u64) -> (Option<u8>, ArrayVec<Entry, 64>) {
+    let mut entries = ArrayVec::new();
+    entries.push(entry(1, 1));
+    let level = decode_node(body, addr, &mut entries);
+    (level, entries)
+}
+
+fn are_zeros(bytes: &[u8]) -> bool {
+    bytes.iter().all(|byte| *byte == 0)
+}
+
+/// What a record at an address is with one byte replaced.
+fn read_with(body: [u8; 4128], addr: u64, at: usize, byte: u8) -> Option<Body> {
+    let mut body = body;
     if at < 4128 {
         body[at] = byte;
     }
-    decode(&body, 7)
+    decode(&body, addr)
+}
+
+/// A node at address 7 of two entries, with one byte replaced.
+fn decode_node_with(at: usize, byte: u8) -> Option<Body> {
+    read_with(node_of(1, &[entry(5, 2), entry(9, 6)])?, 7, at, byte)
 }
 
 /// A data record of block 3 at address 3, with one byte replaced.
 fn decode_block_with(at: usize, byte: u8) -> Option<Body> {
-    let mut body = [0xff; 4128];
-    encode_block(3, 3, &CONTENT, &mut body);
-    if at < 4128 {
-        body[at] = byte;
-    }
-    decode(&body, 3)
+    read_with(block(), 3, at, byte)
 }
 
 #[test]
 fn worked_block(rt: HostRuntime) {
-    let mut body = [0xff; 4128];
-    encode_block(3, 3, &CONTENT, &mut body);
+    let body = block();
     assert!(rt; body.starts_with(&HEAD));
     assert!(rt; body[32..34] == CONTENT[..]);
-    assert!(rt; body[34..].iter().all(|byte| *byte == 0));
-    assert!(rt; matches!(decode(&body, 3), Some(Body::Block { block: 3 })));
-    assert!(rt; decode(&body, 4).is_none());
-    assert_eq!(rt; decode_block(&body, 3), Some(3));
-    assert_eq!(rt; decode_block(&body, 4), None);
+    assert!(rt; are_zeros(&body[34..]));
+    assert!(rt; matches!(read(&body, 3), Some(Body::Block { block: 3 })));
+    assert!(rt; read(&body, 4).is_none());
+    assert!(rt; block_at(&body, 3) == Some(3));
+    assert!(rt; block_at(&body, 4) == None);
+}
+
+/// Whether these are the bytes of a node of level 20 with one entry at address 7.
+fn is_read(body: &[u8; 4128]) -> bool {
+    match read(body, 7) {
+        Some(Body::Node { node }) => {
+            node.level == 20 && node.entries.as_slice() == [entry(5, 2)].as_slice()
+        }
+        _ => false,
+    }
 }
 
 #[test]
-fn node(rt: HostRuntime) {
-    let entries = [entry(5, 2)];
-    let mut body = [0xff; 4128];
-    assert!(rt; fits_node(7, 20, &entries));
-    encode_node(7, 20, &entries, &mut body);
+fn node(rt: HostRuntime) -> Result<(), Fail> {
+    let body = node_of(20, &[entry(5, 2)]).ok_or("no node")?;
     assert!(rt; body[16..20] == [2, 20, 0, 1][..]);
     assert!(rt; body[32..80] == ENTRY[..]);
-    assert!(rt; body[80..].iter().all(|byte| *byte == 0));
-    let Some(Body::Node { node }) = decode(&body, 7) else {
-        panic!(rt; "the bytes are a node");
-    };
-    assert_eq!(rt; node.level, 20);
-    assert!(rt; node.entries.as_slice() == [entry(5, 2)].as_slice());
-    assert_eq!(rt; decode_block(&body, 7), None);
-
-    let mut read = ArrayVec::new();
-    read.push(entry(1, 1));
-    assert_eq!(rt; decode_node(&body, 7, &mut read), Some(20));
-    assert!(rt; read.as_slice() == [entry(5, 2)].as_slice());
-    assert_eq!(rt; decode_node(&body, 6, &mut read), None);
-    assert!(rt; read.is_empty());
+    assert!(rt; are_zeros(&body[80..]));
+    assert!(rt; is_read(&body));
+    assert!(rt; block_at(&body, 7) == None);
+    let (level, entries) = node_at(&body, 7);
+    assert!(rt; level == Some(20));
+    assert!(rt; entries.as_slice() == [entry(5, 2)].as_slice());
+    let (level, entries) = node_at(&body, 6);
+    assert!(rt; level == None && entries.is_empty());
+    Ok(())
 }
 
 #[test]

@@ -12,9 +12,17 @@ fn addrs(alloc: Global, items: &[u64]) -> Result<Addrs, Fail> {
     Ok(found)
 }
 
-fn node(alloc: Global, children: &[u64]) -> Result<TraceEntry, Fail> {
-    let children = addrs(alloc, children)?;
-    Ok(TraceEntry::Node { children })
+/// A trace with data records of so many blocks, at addresses from 1 on, and nodes at addresses, with their children.
+fn trace_of(alloc: Global, blocks: u64, nodes: &[(u64, &[u64])]) -> Result<Trace, Fail> {
+    let mut trace = Trace::new(alloc);
+    for block in 0..blocks {
+        trace.set(block.saturating_add(1), TraceEntry::Block { block })?;
+    }
+    for (addr, children) in nodes {
+        let children = addrs(alloc, children)?;
+        trace.set(*addr, TraceEntry::Node { children })?;
+    }
+    Ok(trace)
 }
 
 // Whether just these addresses are reached, in this order.
@@ -34,16 +42,9 @@ fn reaches(alloc: Global, trace: &Trace, root: u64, wanted: &[u64]) -> Result<bo
 #[test]
 fn trace_reach(rt: HostRuntime) -> Result<(), Fail> {
     let alloc = rt.alloc();
-    let mut trace = Trace::new(alloc);
-    for addr in 1..6 {
-        trace.set(addr, TraceEntry::Block { block: addr - 1 })?;
-    }
-    trace.set(6, node(alloc, &[1, 2])?)?;
-    trace.set(7, node(alloc, &[3, 4, 5])?)?;
-    trace.set(8, node(alloc, &[6, 7])?)?;
+    let mut trace = trace_of(alloc, 5, &[(6, &[1, 2]), (7, &[3, 4, 5]), (8, &[6, 7])])?;
     assert!(rt; reaches(alloc, &trace, 8, &[1, 2, 3, 4, 5, 6, 7, 8])?);
     assert!(rt; reaches(alloc, &trace, 9, &[9])?);
-
     trace.set(7, TraceEntry::Lost)?;
     assert!(rt; reaches(alloc, &trace, 8, &[1, 2, 6, 7, 8])?);
     Ok(())
@@ -52,10 +53,7 @@ fn trace_reach(rt: HostRuntime) -> Result<(), Fail> {
 #[test]
 fn traces_of_no_tree(rt: HostRuntime) -> Result<(), Fail> {
     let alloc = rt.alloc();
-    let mut trace = Trace::new(alloc);
-    trace.set(1, node(alloc, &[1, 9, 9])?)?;
-    trace.set(9, node(alloc, &[4, 1])?)?;
-    trace.set(4, node(alloc, &[u64::MAX])?)?;
+    let trace = trace_of(alloc, 0, &[(1, &[1, 9, 9]), (9, &[4, 1]), (4, &[u64::MAX])])?;
     assert!(rt; reaches(alloc, &trace, 1, &[1, 4, 9, u64::MAX])?);
     assert!(rt; reaches(alloc, &trace, 4, &[4, u64::MAX])?);
     Ok(())

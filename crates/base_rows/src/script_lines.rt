@@ -63,17 +63,21 @@ fn grammar_reads(rt: HostRuntime) -> Result<(), Fail> {
     Ok(())
 }
 
-#[test]
-fn grammar_reads_contents(rt: HostRuntime) -> Result<(), Fail> {
-    let mut line = Vec::from_slice(rt.alloc(), b"write 3 ")?;
-    for _ in 0..4096 {
+// A line that writes so many bytes FF to block 3.
+fn write_of(alloc: Global, count: usize) -> Result<Vec<u8>, Fail> {
+    let mut line = Vec::from_slice(alloc, b"write 3 ")?;
+    for _ in 0..count {
         line.extend_from_slice(b"fF")?;
     }
-    let whole = content_of(&line).ok_or("a whole block")?;
-    assert_eq!(rt; whole, (3, 4096, 255));
-    line.extend_from_slice(b"00")?;
-    assert_eq!(rt; content_of(&line), None);
-    assert_eq!(rt; content_of(b"write 3 00"), Some((3, 1, 0)));
+    Ok(line)
+}
+
+#[test]
+fn grammar_reads_contents(rt: HostRuntime) -> Result<(), Fail> {
+    let whole = content_of(&write_of(rt.alloc(), 4096)?);
+    assert!(rt; whole == Some((3, 4096, 255)));
+    assert!(rt; content_of(&write_of(rt.alloc(), 4097)?) == None);
+    assert!(rt; content_of(b"write 3 00") == Some((3, 1, 0)));
     Ok(())
 }
 
@@ -178,38 +182,46 @@ fn state_refusals(rt: HostRuntime) -> Result<(), Fail> {
     Ok(())
 }
 
-#[test]
-fn replies_are_read_back(rt: HostRuntime) -> Result<(), Fail> {
+// The replies, a line for each.
+const REPLIES: &str = "\
+formatted
+mounted 0
+data 6869
+data -
+ok
+committed 18446744073709551615
+dropped
+erased
+stat mapped 3 commit 12
+seized pages 5 nodes 1 blocks 1
+bad
+unmounted
+already mounted
+not empty
+no device
+range
+full";
+
+// Whether a line is read as a reply, and written as it was, with a line feed.
+fn is_read_back(alloc: Global, line: &str) -> Option<bool> {
     let mut buffer = [0; BLOCK];
-    let mut writer = ReplyWriter::new();
-    for line in [
-        "formatted",
-        "mounted 0",
-        "data 6869",
-        "data -",
-        "ok",
-        "committed 18446744073709551615",
-        "dropped",
-        "erased",
-        "stat mapped 3 commit 12",
-        "seized pages 5 nodes 1 blocks 1",
-        "bad",
-        "unmounted",
-        "already mounted",
-        "not empty",
-        "no device",
-        "range",
-        "full",
-    ] {
-        let reply = read_reply(line.as_bytes(), &mut buffer).ok_or("a reply")?;
-        let mut output = MemSink::new(rt.alloc(), &[])?;
-        writer.write(&reply, &buffer, &mut output)?;
-        let (text, feed) = output
-            .bytes()
-            .split_at(output.bytes().len().saturating_sub(1));
-        assert!(rt; text == line.as_bytes(), "{line:?}");
-        assert!(rt; feed == b"\n".as_slice(), "{line:?}");
+    let reply = read_reply(line.as_bytes(), &mut buffer)?;
+    let mut output = MemSink::new(alloc, &[]).ok()?;
+    ReplyWriter::new().write(&reply, &buffer, &mut output).ok()?;
+    let (feed, text) = output.bytes().split_last()?;
+    Some(text == line.as_bytes() && *feed == b'\n')
+}
+
+#[test]
+fn replies_are_read_back(rt: HostRuntime) {
+    for line in REPLIES.lines() {
+        assert!(rt; is_read_back(rt.alloc(), line) == Some(true), "{line:?}");
     }
+}
+
+#[test]
+fn other_lines_are_no_replies(rt: HostRuntime) {
+    let mut buffer = [0; BLOCK];
     for line in [
         "data 00",
         "data 6A",
@@ -218,10 +230,7 @@ fn replies_are_read_back(rt: HostRuntime) -> Result<(), Fail> {
         "ok ",
         "stat mapped 3 commit",
     ] {
-        assert!(rt;
-            read_reply(line.as_bytes(), &mut buffer).is_none(),
-            "{line:?}"
-        );
+        let is_none = read_reply(line.as_bytes(), &mut buffer).is_none();
+        assert!(rt; is_none, "{line:?}");
     }
-    Ok(())
 }

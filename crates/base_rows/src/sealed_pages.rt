@@ -26,35 +26,52 @@ const ZERO_END: &[u8; 8] = b"\x29\xf8\x2b\x4f\x5d\x12\xe7\x4e";
 
 const COUNTING_END: &[u8; 8] = b"\x99\x8e\xca\xcf\x67\x3c\x37\x77";
 
-#[test]
-fn seals_and_unseals_the_worked_page(rt: HostRuntime) {
+/// The worked body, sealed under a key of these bytes, which comes along.
+fn sealed(bytes: [u8; 32]) -> ([u8; RECORD], Key) {
+    let mut page = [0; RECORD];
+    let key = seal(FreshKey::from_bytes(bytes), &body(), &mut page);
+    (page, key)
+}
+
+fn body() -> [u8; RECORD] {
     let mut body = [0; RECORD];
     body[..40].copy_from_slice(BODY);
-    let mut page = [0; RECORD];
-    let mut back = [0; RECORD];
+    body
+}
 
-    let key = seal(FreshKey::from_bytes(ZEROS), &body, &mut page);
+/// What a page is under a key.
+fn unsealed(key: &Key, page: &[u8; RECORD]) -> [u8; RECORD] {
+    let mut back = [0; RECORD];
+    unseal(key, page, &mut back);
+    back
+}
+
+/// Whether a page is a record of an address under a key, at once and in two parts.
+fn opens(bytes: [u8; 32], addr: u64, page: &[u8; RECORD]) -> (bool, bool) {
+    let key = Key::from_bytes(bytes);
+    let fits = stream_front(&key) == front_wanted(addr, page);
+    (stamped(&key, addr, page), fits)
+}
+
+#[test]
+fn seals_and_unseals_the_worked_page(rt: HostRuntime) {
+    let (page, key) = sealed(ZEROS);
     assert!(rt; key == Key::from_bytes(ZEROS));
     assert!(rt; page.starts_with(PAGE));
     assert!(rt; page.ends_with(ZERO_END));
-    unseal(&key, &page, &mut back);
-    assert!(rt; back == body);
-
-    let other = Key::from_bytes(COUNTING);
-    for (key, addr, want) in [
-        (key, 3, true),
-        (key, 2, false),
-        (key, 3 << 56, false),
-        (other, 3, false),
-    ] {
-        assert_eq!(rt; stamped(&key, addr, &page), want, "at {addr}");
-        let fits = stream_front(&key) == front_wanted(addr, &page);
-        assert_eq!(rt; fits, want, "in two parts, at {addr}");
+    assert!(rt; unsealed(&key, &page) == body());
+    assert!(rt; opens(ZEROS, 3, &page) == (true, true));
+    for (bytes, addr) in [(ZEROS, 2), (ZEROS, 3 << 56), (COUNTING, 3)] {
+        assert!(rt; opens(bytes, addr, &page) == (false, false), "at {addr}");
     }
-    let used = seal(FreshKey::from_bytes(COUNTING), &body, &mut page);
-    assert!(rt; used == other);
+}
+
+#[test]
+fn seals_the_worked_page_under_another_key(rt: HostRuntime) {
+    let (page, key) = sealed(COUNTING);
+    assert!(rt; key == Key::from_bytes(COUNTING));
     assert!(rt; page.ends_with(COUNTING_END));
-    assert!(rt; stamped(&other, 3, &page));
+    assert!(rt; opens(COUNTING, 3, &page) == (true, true));
 }
 
 #[test]

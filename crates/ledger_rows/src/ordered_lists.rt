@@ -1,11 +1,12 @@
 //! A certificate of lists in no order.
+use cert_codec::line;
 use cert_maker::{Added, AddedList, Cert};
-use sdbt_base::{Addrs, Unkept};
+use sdbt_base::{Addrs, Memory, Unkept};
+use std::alloc::Global;
 use std::test::Fail;
 
-#[test]
-fn orders_its_lists(rt: HostRuntime) -> Result<(), Fail> {
-    let alloc = rt.alloc();
+/// A certificate whose added pages and gone addresses stand in no order, one of them twice.
+fn cert(alloc: Global) -> Result<Cert, Memory> {
     let mut children = Addrs::new(alloc);
     children.push(3)?;
     let mut added = AddedList::new(alloc);
@@ -19,24 +20,18 @@ fn orders_its_lists(rt: HostRuntime) -> Result<(), Fail> {
         block: Some(7),
         children: Addrs::new(alloc),
     })?;
-    let gone = [2, 0, 2];
     let never = [Unkept { block: 9, addr: 2 }, Unkept { block: 9, addr: 1 }];
+    Cert::build(alloc, 1, 2, 6, 5, added, &[2, 0, 2], &never)
+}
 
-    let cert = Cert::build(alloc, 1, 2, 6, 5, added, &gone, &never)?;
-    assert_eq!(rt; cert.commit(), 1);
-    assert_eq!(rt; cert.base(), 2);
-    assert_eq!(rt; cert.head(), 6);
-    assert_eq!(rt; cert.root(), 5);
-    let added = cert.added();
-    assert_eq!(rt; added.len(), 2);
-    assert_eq!(rt; added.at(0).block, Some(7));
-    assert_eq!(rt; added.at(1).addr, 4);
-    assert_eq!(rt; added.at(1).children.len(), 1);
-    let gone = cert.gone();
-    assert_eq!(rt; gone.len(), 2);
-    assert_eq!(rt; *gone.at(0), 0);
-    let never = cert.never();
-    assert_eq!(rt; never.len(), 2);
-    assert_eq!(rt; never.at(0).addr, 1);
+/// The line of a certificate.
+const ORDERED: &[u8] =
+    b"\n{\"added\":[[3,0,7],[4,1,3]],\"base\":2,\"commit\":1,\"gone\":[0,2],\"head\":6,\"never\":[[9,1],[9,2]],\"root\":5}\n";
+
+#[test]
+fn orders_its_lists(rt: HostRuntime) -> Result<(), Fail> {
+    let cert = cert(rt.alloc())?;
+    let text = line(rt.alloc(), &cert)?;
+    assert!(rt; text.bytes() == ORDERED);
     Ok(())
 }

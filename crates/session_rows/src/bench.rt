@@ -1,5 +1,5 @@
 //! A device in memory with an open session. Its calls say nothing, so that the proofs of tests don't carry what a session's say.
-use device_core::format;
+use crate::maker::Maker;
 use device_session::{CommitReply, ReadRefusal, Session, TrimRefusal, WriteRefusal};
 use platform::{MemPlatform, Platform};
 use sdbt_base::{BLOCK, ListTape, MemSink};
@@ -27,24 +27,14 @@ impl Model for Bench {
     ghost invariant = { λ b. IsOpen b.session (length (image_of_now b.platform).recorded) };
 }
 
-/// Keys for the pages of a small medium, each of one byte of its own.
-fn keys() -> [[u8; 32]; 16] {
-    let mut keys = [[0; 32]; 16];
-    for (number, key) in keys.iter_mut().enumerate() {
-        key[0] = number as u8;
-    }
-    keys
-}
-
 impl Bench {
     /// A device of 64 blocks of order 4 on a medium of so many pages, of which the empty leaf has the first. The ledger
     /// begins behind the entry of the format.
     pub(crate) fn new(alloc: Global, pages: u32) -> Option<Bench> {
-        let mut platform = MemPlatform::blank(alloc, u64::from(pages));
-        let mut tape = ListTape::new(alloc, &keys(), &[]).ok()?;
-        let mut first = MemSink::new(alloc, &[]).ok()?;
-        format(alloc, &mut platform, &mut tape, &mut first, 64, 4).ok()?;
+        let mut maker = Maker::new(alloc, pages)?;
+        maker.format(alloc, 64, 4)?.ok()?;
         let ledger = MemSink::new(alloc, &[]).ok()?;
+        let Maker { platform, tape, .. } = maker;
         Bench::over(alloc, platform, tape, ledger)
     }
 

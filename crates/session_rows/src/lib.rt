@@ -6,4 +6,6 @@ mod bench;
 #[cfg(test)]
 mod made_devices;
 #[cfg(test)]
+mod maker;
+#[cfg(test)]
 mod sessions;

@@ -5,14 +5,116 @@ use platform::MemPlatform;
 use std::alloc::Global;
 use std::test::Fail;
 
-/// A session over a new device on a medium of so many pages, in which these blocks are written, each with its number as its one
-/// byte, and not committed. None where anything is refused.
-fn written(alloc: Global, pages: u32, blocks: &[u8]) -> Option<Bench> {
-    let mut bench = Bench::new(alloc, pages)?;
-    for block in blocks {
-        bench.write(u64::from(*block), *block).ok()?;
+/// A write of one byte to a block: that it is done, or why it is refused.
+fn write(bench: &mut Bench, block: u64, byte: u8) -> Option<&'static str> {
+    match bench.write(block, byte) {
+        Ok(()) => Some("done"),
+        Err(WriteRefusal::Range) => Some("range"),
+        Err(WriteRefusal::Full) => Some("full"),
+        Err(_) => None,
     }
-    Some(bench)
+}
+
+/// The same of a trim.
+fn trim(bench: &mut Bench, block: u64) -> Option<&'static str> {
+    match bench.trim(block) {
+        Ok(()) => Some("done"),
+        Err(TrimRefusal::Range) => Some("range"),
+        Err(_) => None,
+    }
+}
+
+/// The first byte of a block, or why it can't be read.
+fn read(bench: &mut Bench, alloc: Global, block: u64) -> Option<String> {
+    match bench.read(block) {
+        Ok(byte) => format!(in alloc; "{byte}").ok(),
+        Err(ReadRefusal::Range) => format!(in alloc; "range").ok(),
+        Err(_) => None,
+    }
+}
+
+/// The session's commit number, how many blocks are mapped, and how many there are.
+fn numbers(bench: &Bench, alloc: Global) -> Option<String> {
+    let (number, mapped, blocks) = bench.counts();
+    format!(in alloc; "{number} {mapped} {blocks}").ok()
+}
+
+/// The entry that was put to the ledger, if there is one.
+fn entry(bench: &Bench, alloc: Global) -> Option<String> {
+    let text = std::str::from_utf8(bench.entries()).ok()?.trim();
+    format!(in alloc; "[{text}]").ok()
+}
+
+/// What comes of an act that goes on with the session.
+fn answer(bench: &mut Bench, alloc: Global, words: &str) -> Option<String> {
+    let mut numbers_of_act: [u64; 2] = [0; 2];
+    for (number, word) in numbers_of_act
+        .iter_mut()
+        .zip(words.split_whitespace().skip(1))
+    {
+        *number = word.parse().ok()?;
+    }
+    let [block, byte] = numbers_of_act;
+    match *words.as_bytes().first()? {
+        b'w' => format!(in alloc; "{}", write(bench, block, u8::try_from(byte).ok()?)?).ok(),
+        b't' => format!(in alloc; "{}", trim(bench, block)?).ok(),
+        b'r' => read(bench, alloc, block),
+        b'h' => format!(in alloc; "{}", bench.head()).ok(),
+        b'n' => numbers(bench, alloc),
+        b'e' => entry(bench, alloc),
+        _ => None,
+    }
+}
+
+/// What a commit came to.
+fn replied(alloc: Global, reply: CommitReply) -> Option<String> {
+    match reply {
+        CommitReply::Committed { number } => format!(in alloc; "committed {number}").ok(),
+        CommitReply::Full { needed, free } => format!(in alloc; "full {needed} {free}").ok(),
+    }
+}
+
+/// Commits, and answers what that came to.
+fn commit(bench: Bench, alloc: Global) -> Option<(Bench, String)> {
+    let (bench, reply) = bench.commit()?;
+    let words = replied(alloc, reply)?;
+    Some((bench, words))
+}
+
+/// What is there after an act, and what came of it.
+fn acted(bench: Bench, alloc: Global, words: &str) -> Option<(Bench, String)> {
+    match words {
+        "commit" => commit(bench, alloc),
+        "mount" => Some((bench.mounted(alloc)?, format!(in alloc; "done").ok()?)),
+        _ => {
+            let mut bench = bench;
+            let came = answer(&mut bench, alloc, words)?;
+            Some((bench, came))
+        }
+    }
+}
+
+/// What is there after a line `ACT: OUTCOME`, if that came of it.
+fn after(bench: Option<Bench>, alloc: Global, line: &str) -> Option<Bench> {
+    let (words, wanted) = line.split_once(": ")?;
+    let (bench, came) = acted(bench?, alloc, words)?;
+    if came.as_str() == wanted {
+        Some(bench)
+    } else {
+        None
+    }
+}
+
+/// The place of the first line of a script of which something else comes, over a new device on a medium of so many pages.
+fn first_unlike(alloc: Global, pages: u32, script: &str) -> Option<usize> {
+    let mut bench = Bench::new(alloc, pages);
+    for (i, line) in script.lines().enumerate() {
+        bench = after(bench, alloc, line);
+        if bench.is_none() {
+            return Some(i);
+        }
+    }
+    None
 }
 
 #[test]
@@ -22,86 +124,119 @@ fn a_blank_medium_has_no_device(rt: HostRuntime) {
     assert!(rt; absent == Some(MountRefusal::NoDevice));
 }
 
+/// Five blocks are two leaves below a root.
+const CHANGED: &str = "\
+write 1 1: done
+write 2 2: done
+write 3 3: done
+write 4 4: done
+write 5 5: done
+commit: committed 1
+head: 9
+mount: done
+numbers: 1 5 64
+read 1: 1
+read 2: 2
+read 3: 3
+read 4: 4
+read 5: 5
+read 6: 0";
+
 #[test]
-fn changes_are_the_devices_with_a_commit(rt: HostRuntime) -> Result<(), Fail> {
-    let bench = written(rt.alloc(), 13, &[1, 2, 3, 4, 5]).ok_or("not written")?;
-    // Five blocks are two leaves below a root.
-    let (bench, reply) = bench.commit().ok_or("a fault")?;
-    assert!(rt; reply == CommitReply::Committed { number: 1 });
-    assert_eq!(rt; bench.head(), 9);
-    let mut bench = bench.mounted(rt.alloc()).ok_or("not mounted")?;
-    assert_eq!(rt; bench.counts(), (1, 5, 64));
+fn changes_are_the_devices_with_a_commit(rt: HostRuntime) {
+    assert_eq!(rt; first_unlike(rt.alloc(), 13, CHANGED), None);
+}
+
+/// A trim of a block that isn't mapped is no change. Without block 5 its leaf and the root are new.
+const UNCHANGED: &str = "\
+write 1 1: done
+write 2 2: done
+write 3 3: done
+write 4 4: done
+write 5 5: done
+commit: committed 1
+trim 6: done
+commit: committed 1
+trim 5: done
+numbers: 1 4 64
+commit: committed 2
+head: 11
+read 5: 0";
+
+#[test]
+fn a_commit_without_changes_keeps_its_number(rt: HostRuntime) {
+    assert_eq!(rt; first_unlike(rt.alloc(), 13, UNCHANGED), None);
+}
+
+/// The device has 64 blocks.
+const PAST: &str = "\
+read 64: range
+trim 64: range
+write 64 97: range";
+
+#[test]
+fn blocks_past_the_device_are_refused(rt: HostRuntime) {
+    assert_eq!(rt; first_unlike(rt.alloc(), 13, PAST), None);
+}
+
+/// There is room for one data record.
+const FULL: &str = "\
+write 3 3: done
+write 4 98: full
+commit: full 1 0
+numbers: 0 1 64";
+
+#[test]
+fn a_full_medium_is_told(rt: HostRuntime) {
+    assert_eq!(rt; first_unlike(rt.alloc(), 2, FULL), None);
+}
+
+/// The data records of blocks 0 to 4 are at addresses 1 to 5; two leaves and the root above them are in memory.
+const LEAVES: &str = "\
+write 0 0: done
+write 1 1: done
+write 2 2: done
+write 3 3: done
+write 4 4: done
+commit: committed 1
+entry: [{\"added\":[[1,0,0],[2,0,1],[3,0,2],[4,0,3],[5,0,4],[6,1,1,2],[7,1,3,4,5],[8,1,6,7]],\"base\":1,\"commit\":1,\"gone\":[0],\"head\":9,\"never\":[],\"root\":8}]";
+
+#[test]
+fn leaves_come_before_the_root(rt: HostRuntime) {
+    assert_eq!(rt; first_unlike(rt.alloc(), 9, LEAVES), None);
+}
+
+/// The same, with room for two nodes.
+const TOLD: &str = "\
+write 0 0: done
+write 1 1: done
+write 2 2: done
+write 3 3: done
+write 4 4: done
+commit: full 3 2
+head: 6
+entry: []";
+
+#[test]
+fn full_is_told_before_a_page_is_handed_over(rt: HostRuntime) {
+    assert_eq!(rt; first_unlike(rt.alloc(), 8, TOLD), None);
+}
+
+/// A device on which blocks 1 to 5 were committed.
+fn five_blocks(alloc: Global) -> Option<Bench> {
+    let mut bench = Bench::new(alloc, 13)?;
     for block in [1, 2, 3, 4, 5] {
-        assert!(rt; bench.read(u64::from(block)) == Ok(block));
+        bench.write(block, 1).ok()?;
     }
-    assert!(rt; bench.read(6) == Ok(0));
-    Ok(())
+    let (bench, _) = bench.commit()?;
+    Some(bench)
 }
 
-#[test]
-fn a_commit_without_changes_keeps_its_number(rt: HostRuntime) -> Result<(), Fail> {
-    let bench = written(rt.alloc(), 13, &[1, 2, 3, 4, 5]).ok_or("not written")?;
-    let (mut bench, _) = bench.commit().ok_or("a fault")?;
-    bench.trim(6)?;
-    let (mut bench, idle) = bench.commit().ok_or("a fault")?;
-    assert!(rt; idle == CommitReply::Committed { number: 1 });
-    // Without block 5 its leaf and the root are new.
-    bench.trim(5)?;
-    assert_eq!(rt; bench.counts(), (1, 4, 64));
-    let (mut bench, reply) = bench.commit().ok_or("a fault")?;
-    assert!(rt; reply == CommitReply::Committed { number: 2 });
-    assert_eq!(rt; bench.head(), 11);
-    assert!(rt; bench.read(5) == Ok(0));
-    Ok(())
-}
-
-#[test]
-fn blocks_past_the_device_are_refused(rt: HostRuntime) -> Result<(), Fail> {
-    let mut bench = Bench::new(rt.alloc(), 13).ok_or("no device")?;
-    assert!(rt; bench.read(64) == Err(ReadRefusal::Range));
-    assert!(rt; bench.trim(64) == Err(TrimRefusal::Range));
-    assert!(rt; bench.write(64, b'a') == Err(WriteRefusal::Range));
-    Ok(())
-}
-
-#[test]
-fn a_full_medium_is_told(rt: HostRuntime) -> Result<(), Fail> {
-    let mut bench = written(rt.alloc(), 2, &[3]).ok_or("not written")?;
-    assert!(rt; bench.write(4, b'b') == Err(WriteRefusal::Full));
-    let (bench, reply) = bench.commit().ok_or("a fault")?;
-    assert!(rt; reply == CommitReply::Full { needed: 1, free: 0 });
-    assert_eq!(rt; bench.counts(), (0, 1, 64));
-    Ok(())
-}
-
-#[test]
-fn leaves_come_before_the_root(rt: HostRuntime) -> Result<(), Fail> {
-    // The data records of blocks 0 to 4 are at addresses 1 to 5; two leaves and the root above them are in memory.
-    let bench = written(rt.alloc(), 9, &[0, 1, 2, 3, 4]).ok_or("not written")?;
-    let (bench, reply) = bench.commit().ok_or("a fault")?;
-    assert!(rt; reply == CommitReply::Committed { number: 1 });
-    let entry =
-        "\n{\"added\":[[1,0,0],[2,0,1],[3,0,2],[4,0,3],[5,0,4],[6,1,1,2],[7,1,3,4,5],[8,1,6,7]],\"base\":1,\"commit\":1,\"gone\":[0],\"head\":9,\"never\":[],\"root\":8}\n";
-    assert!(rt; bench.entries() == entry.as_bytes());
-    Ok(())
-}
-
-#[test]
-fn full_is_told_before_a_page_is_handed_over(rt: HostRuntime) -> Result<(), Fail> {
-    let bench = written(rt.alloc(), 8, &[0, 1, 2, 3, 4]).ok_or("not written")?;
-    let (bench, reply) = bench.commit().ok_or("a fault")?;
-    assert!(rt; reply == CommitReply::Full { needed: 3, free: 2 });
-    assert_eq!(rt; bench.head(), 6);
-    assert!(rt; bench.entries().is_empty());
-    Ok(())
-}
-
+/// The first read goes through the root node and a leaf; the last one through another leaf. With no node kept each does so.
 #[test]
 fn page_reads(rt: HostRuntime) -> Result<(), Fail> {
-    // The first read goes through the root node and a leaf; the last one through another leaf. With no node kept each does so.
     for (nodes, counts) in [(256, [3, 1, 2]), (0, [3, 3, 3])] {
-        let bench = written(rt.alloc(), 13, &[1, 2, 3, 4, 5]).ok_or("not written")?;
-        let (bench, _) = bench.commit().ok_or("a fault")?;
+        let bench = five_blocks(rt.alloc()).ok_or("no device")?;
         let reads = bench.page_reads(rt.alloc(), nodes, [1, 1, 3]);
         assert_eq!(rt; reads, Some(counts), "{nodes} nodes");
     }
