@@ -1,5 +1,5 @@
 -- What follows of a check, by its exit status.
-use Rattle.std.proofs.Common.{◌≡◌, ℕ, ◌≤◌, List, [], ◌++◌, Option, None, Some, Result, Ok, Err, length, ◌⊎◌, inl, inr, refl, sym, ◌∙◌, subst, ap, arith, length-append}
+use Rattle.std.proofs.Common.{◌≡◌, ℕ, ◌≤◌, List, ◌++◌, Option, None, Some, Result, Ok, Err, length, ◌⊎◌, inl, inr, refl, sym, ◌∙◌, subst, ap, arith, length-append}
 use Rattle.std.specs.Prelude.{IfErr}
 use Rattle.std.proofs.lemmas.List.{append-nil}
 use Rattle.sdbt_base.specs.Told.{Gave, Got, IsAtEnd}

@@ -1,5 +1,5 @@
 -- What the end of an order gives: what is forgotten, and what the words `check` and `seize` say.
-use Rattle.std.proofs.Common.{◌≡◌, ◌≤◌, ◌⊎◌, ℕ, List, [], Option, None, Result, refl, sym, ◌∙◌, ap, subst, arith}
+use Rattle.std.proofs.Common.{◌≡◌, ◌≤◌, ◌⊎◌, ℕ, List, Option, None, Result, sym, ◌∙◌, ap, subst}
 use Rattle.std.specs.Prelude.{IfErr}
 use Rattle.sdbt_base.specs.Arrays.{Device, closed}
 use Rattle.platform.specs.History.{History, Steps}
@@ -7,7 +7,7 @@ use Rattle.page_store.specs.Stands.{Stands}
 use Rattle.device_session.specs.Sessions.{Session}
 use Rattle.device_terms.specs.Served.{IsServedImage}
 use Rattle.device_course.specs.Keys.{KeepsOn}
-use Rattle.device_course.specs.States.{Outside, IsLater}
+use Rattle.device_course.specs.States.{Outside}
 use Rattle.device_course.specs.Course.{Made}
 use Rattle.device_course.specs.Marks.{last_mark}
 use Rattle.device_course.proofs.ProgramLaws.{Ended}

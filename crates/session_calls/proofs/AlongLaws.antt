@@ -1,24 +1,22 @@
 -- How parts of a run compose in which a session goes on.
-use Rattle.std.proofs.Common.{◌≡◌, ◌<◌, ◌≤◌, ◌+◌, ◌*◌, ℕ, List, [], ◌∷◌, ◌++◌, Some, Result, Ok, Err, inl, inr, get_or, length, take, refl, sym, subst, ◌∙◌, arith}
+use Rattle.std.proofs.Common.{◌≡◌, ◌<◌, ◌≤◌, ◌+◌, ℕ, List, [], ◌∷◌, ◌++◌, Some, Result, Ok, Err, inl, inr, get_or, length, take, refl, sym, subst, ◌∙◌, arith}
 use Rattle.std.proofs.lemmas.List.{take_more}
-use Rattle.sdbt_base.specs.Arrays.{Device, Session as OpenSession, State, written}
-use Rattle.sdbt_base.specs.declared.tapes.Tape.{Ghosts as TapeGhosts}
+use Rattle.sdbt_base.specs.Arrays.{Device, Session as OpenSession, written}
 use Rattle.platform.specs.declared.platforms.Platform.{Ghosts as PlatformGhosts}
 use Rattle.platform.specs.Image.{Image}
-use Rattle.platform.specs.History.{History}
 use Rattle.device_terms.proofs.MomentLaws.{still, stays_then}
 use Rattle.device_course.specs.States.{IsAt, IsListed, mounted}
 use Rattle.device_course.proofs.KeysLaws.{on_start, on_then}
 use Rattle.device_session.specs.Open.{IsOpen}
 use Rattle.device_session.specs.Sessions.{Session}
-use Rattle.session_calls.specs.Along.{Along}
+use Rattle.session_calls.specs.Along.{Along, Drawn}
 use Rattle.session_calls.specs.Goes.{WritesBlock, WritesSome, many_of}
 use Rattle.session_calls.specs.declared.stops.DeviceStop.{DeviceStop}
 use Rattle.session_calls.specs.declared.stops.DeviceStop.TheVariants as stops
 
 -- nothing happened
-pub along_start : {S R : Type 0} (P : PlatformGhosts S) (T : TapeGhosts R) (platform : S) (tape : R) (session : Session) → IsOpen session (P.head platform) → Along P T 0 platform platform tape tape session session
-along_start P T platform tape session there_open = record {
+pub along_start : {S : Type 0} (P : PlatformGhosts S) (platform : S) (drawn : Drawn) (session : Session) → IsOpen session (P.head platform) → Along P 0 platform platform drawn drawn session session
+along_start P platform drawn session there_open = record {
   is_open = there_open;
   mounted = λ told mounted. mounted;
   blocks = refl;
@@ -28,15 +26,15 @@ along_start P T platform tape session there_open = record {
   rises = omega arith;
   adds = omega arith;
   needs = omega arith;
-  keeps = λ written. on_start P.tells (T.drawn tape) written (Some session) (P.history platform) (Unit {0});
+  keeps = λ written. on_start P.tells drawn.keys written (Some session) (P.history platform) (Unit {0});
   through = λ told entry at. (entry, at);
   fell = record { platform = omega arith; tape = omega arith; input = omega arith; output = omega arith; ledger = omega arith };
 }
 
 -- one part after another
-pub along_then : {S R : Type 0} (P : PlatformGhosts S) (T : TapeGhosts R) (some more : ℕ) (first second third : S) (tape mid tape_now : R) (session between now : Session)
-    → Along P T some first second tape mid session between → Along P T more second third mid tape_now between now → Along P T (some + more) first third tape tape_now session now
-along_then P T some more first second third tape mid tape_now session between now a b = record {
+pub along_then : {S : Type 0} (P : PlatformGhosts S) (some more : ℕ) (first second third : S) (drawn mid drawn_now : Drawn) (session between now : Session)
+    → Along P some first second drawn mid session between → Along P more second third mid drawn_now between now → Along P (some + more) first third drawn drawn_now session now
+along_then P some more first second third drawn mid drawn_now session between now a b = record {
   is_open = b.is_open;
   mounted = λ told mounted. b.mounted told (a.mounted told mounted);
   blocks = b.blocks ∙ a.blocks;
@@ -46,7 +44,7 @@ along_then P T some more first second third tape mid tape_now session between no
   rises = omega (arith, a.rises, b.rises);
   adds = omega (arith, a.adds, b.adds);
   needs = omega (arith, a.needs, b.needs);
-  keeps = λ written. on_then P.tells (T.drawn tape) (T.drawn mid) (T.drawn tape_now) written written written (Some session) (Some between) (P.history first) (P.history second) (P.history third) (Unit {0}) (Unit {0}) (IsListed (Some now) (P.history third).present) tt
+  keeps = λ written. on_then P.tells drawn.keys mid.keys drawn_now.keys written written written (Some session) (Some between) (P.history first) (P.history second) (P.history third) (Unit {0}) (Unit {0}) (IsListed (Some now) (P.history third).present) tt
       (a.keeps written) (b.keeps written) a.through;
   through = λ told entry at.
       let there = a.through told entry at in

@@ -1,4 +1,5 @@
 pub mod StateLaws
 pub mod CellLaws
 pub mod WriteLaws
+pub mod LookLaws
 pub mod AlongLaws

@@ -20,8 +20,8 @@ use Rattle.device_session.specs.Open.{is_touched, needed_by}
 use Rattle.device_session.specs.Sessions.{Session}
 use Rattle.device_session.specs.declared.refusals.WriteRefusal.{WriteRefusal}
 use Rattle.device_session.specs.declared.refusals.WriteRefusal.TheVariants as write
-use Rattle.session_calls.specs.Along.{Along}
-use Rattle.session_calls.specs.Blame.{Counts, HasCause, counts}
+use Rattle.session_calls.specs.Along.{Along, drawn_by}
+use Rattle.session_calls.specs.Blame.{Counts, HasCause}
 use Rattle.session_calls.specs.Goes.{AddsBlock, IsWriteStop, WritesBlock}
 use Rattle.session_calls.specs.declared.stops.DeviceStop.{DeviceStop}
 use Rattle.session_calls.specs.declared.stops.DeviceStop.TheVariants as stops
@@ -97,7 +97,7 @@ pub write_along : {S R : Type 0} (P : PlatformGhosts S) (T : TapeGhosts R) (plat
     → KeepsKeys P.tells (T.drawn tape) (T.drawn tape_now) (P.history platform) (P.history platform_now) (HoldsListed session (P.history platform).present) (HoldsListed now (P.history platform_now).present)
     → WriteGrows P T platform platform_now tape tape_now
     → (P.tells → (device : Device) (array : OpenSession) → IsAt (P.history platform).present (Some session) (mounted device array) → WritesBlock (P.history platform_now).present now device array block bytes result)
-    → Along P T 1 platform platform_now tape tape_now session now
+    → Along P 1 platform platform_now (drawn_by T tape) (drawn_by T tape_now) session now
 write_along P T platform platform_now tape tape_now session now block bytes result goes_on needs keeps grows leads = record {
   is_open = goes_on.is_open;
   mounted = λ told mounted. mounted_still (Some session) session now (P.history platform) (P.history platform_now) refl mounted goes_on.root (grows.time told) (goes_on.follows told);

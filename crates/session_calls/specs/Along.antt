@@ -12,10 +12,18 @@ use Rattle.device_session.specs.Sessions.{Session}
 use Rattle.session_calls.specs.Blame.{NoneFell, counts}
 use Rattle.session_calls.specs.Damage.{IsMounted}
 
+-- what a tape tells: the keys that it drew, and its count of faults
+pub record Drawn : Type 0 where
+  pub keys : Option (List (List ℕ))
+  pub faults : ℕ
+
+abbrev pub drawn_by : {R : Type 0} → TapeGhosts R → R → Drawn
+drawn_by T tape = record { keys = T.drawn tape; faults = T.faults tape }
+
 -- so many updates at most, and calls beside them that make none: the session goes on, open and on the root record in the cell; the cell stays at each moment; a page is added for each
 -- update at most, and a commit needs 41 more at most; keys are kept, and nothing is put to the ledger, whatever it has got. From each state that the session and the image stood
 -- for they come to one that they stand for now
-pub record Along {S R : Type 0} (P : PlatformGhosts S) (T : TapeGhosts R) (updates : ℕ) (platform platform_now : S) (tape tape_now : R) (session now : Session) : Type 0 where
+pub record Along {S : Type 0} (P : PlatformGhosts S) (updates : ℕ) (platform platform_now : S) (drawn drawn_now : Drawn) (session now : Session) : Type 0 where
   pub is_open : IsOpen now (P.head platform_now)
   pub mounted : P.tells → IsMounted (P.history platform).present session → IsMounted (P.history platform_now).present now
   pub blocks : blocks_of now ≡ blocks_of session
@@ -25,6 +33,6 @@ pub record Along {S R : Type 0} (P : PlatformGhosts S) (T : TapeGhosts R) (updat
   pub rises : P.head platform ≤ P.head platform_now
   pub adds : P.head platform_now ≤ P.head platform + updates
   pub needs : needed_by now ≤ needed_by session + 41 * updates
-  pub keeps : (written : Option (List ℕ)) → KeepsOn P.tells (T.drawn tape) (T.drawn tape_now) written written (Some session) (P.history platform) (P.history platform_now) (Unit {0}) (IsListed (Some now) (P.history platform_now).present)
+  pub keeps : (written : Option (List ℕ)) → KeepsOn P.tells drawn.keys drawn_now.keys written written (Some session) (P.history platform) (P.history platform_now) (Unit {0}) (IsListed (Some now) (P.history platform_now).present)
   pub through : P.tells → (entry : State) → IsAt (P.history platform).present (Some session) entry → (next : State) × IsAt (P.history platform_now).present (Some now) next
-  pub fell : NoneFell (counts (P.faults platform) (T.faults tape) 0 0 0) (counts (P.faults platform_now) (T.faults tape_now) 0 0 0)
+  pub fell : NoneFell (counts (P.faults platform) drawn.faults 0 0 0) (counts (P.faults platform_now) drawn_now.faults 0 0 0)

@@ -1,25 +1,29 @@
 -- What one call of a session says, by its answer.
 use Rattle.std.specs.Prelude.{◌≡◌, ◌+◌, ◌⊎◌, ℕ, List, [], ◌∷◌, Some, Result, Ok, Err, IfErr, OnErr}
-use Rattle.sdbt_base.specs.Arrays.{Device, Session as OpenSession, written}
+use Rattle.sdbt_base.specs.Arrays.{Device, Session as OpenSession, content_of, unmapped, written}
 use Rattle.sdbt_base.specs.declared.tapes.Tape.{Ghosts as TapeGhosts}
 use Rattle.platform.specs.declared.platforms.Platform.{Ghosts as PlatformGhosts}
 use Rattle.platform.specs.Image.{Image}
 use Rattle.device_course.specs.States.{IsAt, mounted}
 use Rattle.device_session.specs.Open.{needed_by}
 use Rattle.device_session.specs.Sessions.{Session}
+use Rattle.device_session.specs.declared.refusals.ReadRefusal.{ReadRefusal}
+use Rattle.device_session.specs.declared.refusals.ReadRefusal.TheVariants as read
+use Rattle.device_session.specs.declared.refusals.TrimRefusal.{TrimRefusal}
+use Rattle.device_session.specs.declared.refusals.TrimRefusal.TheVariants as trim
 use Rattle.device_session.specs.declared.refusals.WriteRefusal.{WriteRefusal}
 use Rattle.device_session.specs.declared.refusals.WriteRefusal.TheVariants as write
 use Rattle.device_terms.specs.Effects.{AddsNothing}
-use Rattle.session_calls.specs.Along.{Along}
+use Rattle.session_calls.specs.Along.{Along, Drawn}
 use Rattle.session_calls.specs.Blame.{HasCause, counts}
 use Rattle.session_calls.specs.declared.stops.DeviceStop.{DeviceStop}
 use Rattle.session_calls.specs.declared.stops.DeviceStop.TheVariants as stops
 
 -- the session goes on, whatever the answer: a refused call leaves what a commit needs, and a stop at a fault came where the count of that object rose
-pub record Goes {S R X : Type 0} (P : PlatformGhosts S) (T : TapeGhosts R) (updates : ℕ) (platform platform_now : S) (tape tape_now : R) (session now : Session) (result : Result X DeviceStop) : Type 0 where
-  pub along : Along P T updates platform platform_now tape tape_now session now
+pub record Goes {S X : Type 0} (P : PlatformGhosts S) (updates : ℕ) (platform platform_now : S) (drawn drawn_now : Drawn) (session now : Session) (result : Result X DeviceStop) : Type 0 where
+  pub along : Along P updates platform platform_now drawn drawn_now session now
   pub needs_still : OnErr result (needed_by now ≡ needed_by session)
-  pub cause : IfErr result (HasCause (counts (P.faults platform) (T.faults tape) 0 0 0) (counts (P.faults platform_now) (T.faults tape_now) 0 0 0))
+  pub cause : IfErr result (HasCause (counts (P.faults platform) drawn.faults 0 0 0) (counts (P.faults platform_now) drawn_now.faults 0 0 0))
 
 -- which stop a refused write comes to, where the device has the block and a page is free
 abbrev pub IsWriteStop : WriteRefusal → DeviceStop → Type 0
@@ -49,6 +53,39 @@ AddsBlock P T platform platform_now tape tape_now (Err stops.Tape) = AddsNothing
 AddsBlock P T platform platform_now tape tape_now (Err stops.Ledger) = ⊥
 AddsBlock P T platform platform_now tape tape_now (Err stops.BadRoot) = ⊥
 AddsBlock P T platform platform_now tape tape_now (Err (stops.BadRecord addr)) = AddsNothing P T platform platform_now tape tape_now
+
+-- which stop a refused trim comes to, where the device has the block
+abbrev pub IsTrimStop : TrimRefusal → DeviceStop → Type 0
+IsTrimStop trim.Range stop = ⊥
+IsTrimStop trim.Memory stop = stop ≡ stops.Memory
+IsTrimStop (trim.BadRecord addr) stop = stop ≡ stops.BadRecord addr
+IsTrimStop trim.PlatformFault stop = stop ≡ stops.Platform
+
+-- a trim of a block: it is not mapped then, or the array is as it was
+abbrev pub TrimsBlock : Image → Session → Device → OpenSession → ℕ → Result (Unit {0}) DeviceStop → Type 0
+TrimsBlock image now device array block (Ok done) = IsAt image (Some now) (mounted device (unmapped array block))
+TrimsBlock image now device array block (Err stops.Memory) = IsAt image (Some now) (mounted device array)
+TrimsBlock image now device array block (Err stops.Platform) = IsAt image (Some now) (mounted device array)
+TrimsBlock image now device array block (Err stops.Tape) = ⊥
+TrimsBlock image now device array block (Err stops.Ledger) = ⊥
+TrimsBlock image now device array block (Err stops.BadRoot) = ⊥
+TrimsBlock image now device array block (Err (stops.BadRecord addr)) = ⊥
+
+-- which stop a refused read comes to, where the device has the block
+abbrev pub IsReadStop : ReadRefusal → DeviceStop → Type 0
+IsReadStop read.Range stop = ⊥
+IsReadStop (read.BadRecord addr) stop = stop ≡ stops.BadRecord addr
+IsReadStop read.PlatformFault stop = stop ≡ stops.Platform
+
+-- a read of a block leaves the array; where it was done, these are the block's bytes
+abbrev pub ReadsBlock : Image → Session → Device → OpenSession → ℕ → List ℕ → Result (Unit {0}) DeviceStop → Type 0
+ReadsBlock image now device array block bytes (Ok done) = IsAt image (Some now) (mounted device array) × (bytes ≡ content_of array.contents block)
+ReadsBlock image now device array block bytes (Err stops.Platform) = IsAt image (Some now) (mounted device array)
+ReadsBlock image now device array block bytes (Err stops.Memory) = ⊥
+ReadsBlock image now device array block bytes (Err stops.Tape) = ⊥
+ReadsBlock image now device array block bytes (Err stops.Ledger) = ⊥
+ReadsBlock image now device array block bytes (Err stops.BadRoot) = ⊥
+ReadsBlock image now device array block bytes (Err (stops.BadRecord addr)) = ⊥
 
 -- how many blocks a write with this answer has written
 abbrev pub many_of : Result (Unit {0}) DeviceStop → ℕ

@@ -2,8 +2,12 @@
 //! from which state it leads to which.
 #![tactic(auto)]
 
+mod reading;
 mod stops;
+mod trimming;
 mod writing;
 
+pub use reading::read_block;
 pub use stops::DeviceStop;
+pub use trimming::trim_block;
 pub use writing::{write_block, write_each};

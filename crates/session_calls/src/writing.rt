@@ -2,7 +2,7 @@ ghost use Rattle.std.specs.Prelude.{◌≡◌, ◌<◌, ◌≤◌, ◌≢◌, �
 ghost use Rattle.sdbt_base.specs.Arrays.{Device, Session as OpenSession};
 ghost use Rattle.device_session.specs.Open.{IsOpen, blocks_of};
 ghost use Rattle.device_course.specs.States.{IsAt, mounted};
-ghost use Rattle.session_calls.specs.Along.{Along};
+ghost use Rattle.session_calls.specs.Along.{Along, drawn_by};
 ghost use Rattle.session_calls.specs.Damage.{IsMounted, MeetsDamage};
 ghost use Rattle.session_calls.specs.Goes.{AddsBlock, Goes, IsWriteStop, WritesBlock, WritesSome, many_of};
 
@@ -25,7 +25,7 @@ pub fn write_block<P: Platform, T: Tape>(
     requires open { IsOpen session.old (P.head platform.old) }
     requires within { block < blocks_of session.old }
     requires free { P.head platform.old ≢ P.capacity platform.old }
-    ensures goes { Goes P.Platform T.Tape 1 platform.old platform.new tape.old tape.new session.old session.new result }
+    ensures goes { Goes P.Platform 1 platform.old platform.new (drawn_by T.Tape tape.old) (drawn_by T.Tape tape.new) session.old session.new result }
     ensures leads { P.tells → (device : Device) (array : OpenSession) → IsAt (P.history platform.old).present (Some session.old) (mounted device array)
         → WritesBlock (P.history platform.new).present session.new device array block content.now result }
     ensures adds { AddsBlock P.Platform T.Tape platform.old platform.new tape.old tape.new result }
@@ -64,7 +64,7 @@ pub fn write_each<P: Platform, T: Tape>(
     requires open { IsOpen session.old (P.head platform.old) }
     requires within { All (λ block. block < blocks_of session.old) blocks.now }
     requires free { P.head platform.old + length blocks.now ≤ P.capacity platform.old }
-    ensures along { Along P.Platform T.Tape (length blocks.now) platform.old platform.new tape.old tape.new session.old session.new }
+    ensures along { Along P.Platform (length blocks.now) platform.old platform.new (drawn_by T.Tape tape.old) (drawn_by T.Tape tape.new) session.old session.new }
     ensures leads { P.tells → (device : Device) (array : OpenSession) → IsAt (P.history platform.old).present (Some session.old) (mounted device array)
         → (next : OpenSession) × WritesSome array blocks.now content.now result next
         × IsAt (P.history platform.new).present (Some session.new) (mounted device next) }

@@ -1,4 +1,4 @@
-use Rattle.std.proofs.Common.{◌≡◌, Some, Ok, Err, refl, ap, sym, ◌∙◌}
+use Rattle.std.proofs.Common.{◌≡◌, Some, Ok, Err, refl, ap, ◌∙◌}
 use Rattle.sdbt_base.specs.Arrays.{padded, written}
 use Rattle.btree_update.specs.Groves.{places_of}
 use Rattle.device_session.specs.declared.refusals.WriteRefusal.TheVariants as refusals

@@ -1,17 +1,15 @@
-use Rattle.std.proofs.Common.{◌≡◌, ◌≤◌, ◌+◌, ◌<◌, ℕ, List, Some, length, refl, sym, subst, ap, ◌∙◌, arith, take}
+use Rattle.std.proofs.Common.{◌≡◌, ◌+◌, ◌<◌, ℕ, List, length, refl, sym, subst, arith, take}
 use Rattle.std.proofs.lemmas.List.{take_all}
 use Rattle.std.proofs.lemmas.List.Elements.{All-get_or}
 use Rattle.device_session.specs.Open.{blocks_of}
-use Rattle.sdbt_base.specs.Arrays.{Device, Session as OpenSession}
-use Rattle.device_course.specs.States.{IsAt, mounted}
-use Rattle.session_calls.specs.Along.{Along}
+use Rattle.session_calls.specs.Along.{Along, drawn_by}
 use Rattle.session_calls.specs.Goes.{WritesSome}
 use Rattle.session_calls.proofs.AlongLaws.{along_start, along_then, few_of, some_step}
 use Rattle.session_calls.proofs.writing.write_each.Goals as goal
 
 pub loop-block-init : goal.loop-block-init
 loop-block-init g c = record {
-  along = along_start g.P.Platform g.T.Tape _ _ _ c.requires.open;
+  along = along_start g.P.Platform _ (drawn_by g.T.Tape c.args.tape.now) _ c.requires.open;
   leads = λ told device array at. (array, (refl, refl), at);
   few = omega arith;
 }
@@ -20,7 +18,7 @@ pub loop-block-preserved : goal.loop-block-preserved
 loop-block-preserved g c =
     let before = c.loop-block.invariant in
     record {
-      along = along_then g.P.Platform g.T.Tape c.loop-block.block-index 1 _ _ _ _ _ _ _ _ _ before.along c.write_block.ensures.goes.along;
+      along = along_then g.P.Platform c.loop-block.block-index 1 _ _ _ (drawn_by g.T.Tape c.args.tape.now) (drawn_by g.T.Tape c.loop-block.tape) (drawn_by g.T.Tape c.write_block.new.tape) _ _ _ before.along c.write_block.ensures.goes.along;
       leads = λ told device array at.
           let there = before.leads told device array at in
           let step = some_step _ _ device array there.0 c.args.blocks.now c.loop-block.block-index _ c.args.content.now c.loop-block.done c.write_block.result c.loop-block-test.true there.1 (c.write_block.ensures.leads told device there.0 there.2) in
@@ -43,7 +41,7 @@ write_block-requires-clause-free g c = λ full. absurd (omega (arith, full, c.lo
 pub returns-clause-along : goal.returns-clause-along
 returns-clause-along g c =
     let all : c.loop-block.block-index ≡ length c.args.blocks.now = omega arith in
-    subst (λ (n : ℕ). Along g.P.Platform g.T.Tape n c.args.platform.now c.loop-block.platform c.args.tape.now c.loop-block.tape c.args.session.now c.loop-block.session) all c.loop-block.invariant.along
+    subst (λ (n : ℕ). Along g.P.Platform n c.args.platform.now c.loop-block.platform (drawn_by g.T.Tape c.args.tape.now) (drawn_by g.T.Tape c.loop-block.tape) c.args.session.now c.loop-block.session) all c.loop-block.invariant.along
 
 pub returns-clause-leads : goal.returns-clause-leads
 returns-clause-leads g c told device array at =

@@ -1,0 +1,52 @@
+use Rattle.std.proofs.Common.{◌≡◌, Some, Ok, Err, inl, refl, sym, ap, subst, ◌∙◌, arith}
+use Rattle.platform.specs.Image.{Image}
+use Rattle.page_store.specs.Tree.{Wrong}
+use Rattle.device_course.proofs.KeysLaws.{needed_read}
+use Rattle.device_session.specs.declared.refusals.ReadRefusal.TheVariants as refusals
+use Rattle.session_calls.specs.Blame.{counts}
+use Rattle.session_calls.proofs.CellLaws.{wrong_page}
+use Rattle.session_calls.proofs.LookLaws.{look_along, other_read_refusal, read_blamed, read_leads, read_named, read_refused}
+use Rattle.session_calls.proofs.StateLaws.{at_array, served_still}
+use Rattle.session_calls.proofs.reading.read_block.Goals as goal
+
+pub stop_of_read-requires : goal.stop_of_read-requires
+stop_of_read-requires g c = other_read_refusal c.in-Err.refusal _ _ _ c.in-Err.ensures.cause c.requires.within
+
+pub returns-in-Ok-clause-leads : goal.returns-in-Ok-clause-leads
+returns-in-Ok-clause-leads g c told device array at =
+    let there = c.in-Ok.ensures.array told device array.contents at.there.session.0 in
+    (at_array _ _ device array there.0 (c.in-Ok.ensures.same.1 ∙ at.there.session.1) (served_still _ _ (c.read.ensures.looks.time told) at.served), there.1)
+
+pub returns-in-Err-clause-leads : goal.returns-in-Err-clause-leads
+returns-in-Err-clause-leads g c told device array at =
+    let there = c.in-Err.ensures.array told device array.contents at.there.session.0 in
+    read_refused _ _ device array c.args.block c.read.new.out c.in-Err.refusal _ c.stop_of_read.ensures there.0 there.1
+    (c.in-Err.ensures.same.1 ∙ at.there.session.1) (served_still _ _ (c.read.ensures.looks.time told) at.served)
+
+pub returns-in-Ok-clause-goes : goal.returns-in-Ok-clause-goes
+returns-in-Ok-clause-goes g c drawn = record {
+  along = look_along g.P.Platform 0 _ _ drawn _ _ c.in-Ok.ensures.goes_on (omega (arith, needed_read c.args.session.now c.read.new.self c.in-Ok.ensures.same.2)) c.in-Ok.ensures.listed c.in-Ok.ensures.looks
+      (λ told device array at. read_leads _ _ device array c.args.block c.read.new.out (Ok tt)
+      (let there = c.in-Ok.ensures.array told device array.contents at.there.session.0 in
+      (at_array _ _ device array there.0 (c.in-Ok.ensures.same.1 ∙ at.there.session.1) (served_still _ _ (c.read.ensures.looks.time told) at.served), there.1)));
+  needs_still = tt;
+  cause = tt;
+}
+
+pub returns-in-Err-clause-goes : goal.returns-in-Err-clause-goes
+returns-in-Err-clause-goes g c drawn = record {
+  along = look_along g.P.Platform 0 _ _ drawn _ _ c.in-Err.ensures.goes_on (omega (arith, needed_read c.args.session.now c.read.new.self c.in-Err.ensures.same.2)) c.in-Err.ensures.listed c.in-Err.ensures.looks
+      (λ told device array at. read_leads _ _ device array c.args.block c.read.new.out (Err c.stop_of_read.result)
+      (let there = c.in-Err.ensures.array told device array.contents at.there.session.0 in
+      read_refused _ _ device array c.args.block c.read.new.out c.in-Err.refusal c.stop_of_read.result c.stop_of_read.ensures there.0 there.1
+      (c.in-Err.ensures.same.1 ∙ at.there.session.1) (served_still _ _ (c.read.ensures.looks.time told) at.served)));
+  needs_still = needed_read c.args.session.now c.read.new.self c.in-Err.ensures.same.2;
+  cause = read_blamed c.in-Err.refusal _ _ _ (counts (g.P.Platform.faults c.args.platform.now) drawn.faults 0 0 0) (counts (g.P.Platform.faults c.read.new.platform) drawn.faults 0 0 0) c.stop_of_read.ensures c.in-Err.ensures.cause;
+}
+
+-- what is named is a wrong page below the root record in the cell
+pub returns-in-Err-clause-damage : goal.returns-in-Err-clause-damage
+returns-in-Err-clause-damage g c told mounted addr is =
+    let named : c.in-Err.refusal ≡ refusals.BadRecord addr = read_named c.in-Err.refusal c.stop_of_read.result addr c.stop_of_read.ensures cc in
+    wrong_page (Some c.args.session.now) c.args.session.now _ addr _ _ refl c.requires.open mounted (c.read.ensures.looks.time told)
+    (λ follows. inl (subst (λ (i : Image). Wrong i.readable c.args.session.now.root addr) (sym (c.read.ensures.looks.image told)) (c.in-Err.ensures.damaged told follows addr (ap Err named))))

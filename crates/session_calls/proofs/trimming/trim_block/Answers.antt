@@ -1,0 +1,46 @@
+use Rattle.std.proofs.Common.{◌≡◌, Some, Ok, Err, refl, ap, ◌∙◌, arith}
+use Rattle.device_session.specs.Open.{is_touched}
+use Rattle.device_session.specs.declared.refusals.TrimRefusal.TheVariants as refusals
+use Rattle.session_calls.specs.Blame.{counts}
+use Rattle.session_calls.proofs.CellLaws.{wrong_page}
+use Rattle.session_calls.proofs.LookLaws.{look_along, other_trim_refusal, trim_blamed, trim_done, trim_leads, trim_named, trim_refused}
+use Rattle.session_calls.proofs.StateLaws.{served_still}
+use Rattle.session_calls.proofs.trimming.trim_block.Goals as goal
+
+pub stop_of_trim-requires : goal.stop_of_trim-requires
+stop_of_trim-requires g c = other_trim_refusal c.in-Err.refusal _ _ _ c.in-Err.ensures.cause c.requires.within
+
+pub returns-in-Ok-clause-leads : goal.returns-in-Ok-clause-leads
+returns-in-Ok-clause-leads g c told device array at =
+    trim_done _ _ device array c.args.block (is_touched c.args.session.now) at.there.session.1 (c.in-Ok.ensures.array told device array.contents at.there.session.0).array (served_still _ _ (c.trim.ensures.looks.time told) at.served)
+
+pub returns-in-Err-clause-leads : goal.returns-in-Err-clause-leads
+returns-in-Err-clause-leads g c told device array at =
+    trim_refused _ _ device array c.args.block (is_touched c.args.session.now) c.in-Err.refusal _ c.stop_of_trim.ensures (c.in-Err.ensures.array told device array.contents at.there.session.0).array
+    (c.in-Err.ensures.updates.touched_still ∙ at.there.session.1) (served_still _ _ (c.trim.ensures.looks.time told) at.served)
+
+pub returns-in-Ok-clause-goes : goal.returns-in-Ok-clause-goes
+returns-in-Ok-clause-goes g c drawn = record {
+  along = look_along g.P.Platform 1 _ _ drawn _ _ c.in-Ok.ensures.goes_on (omega (arith, c.in-Ok.ensures.updates.needs)) c.in-Ok.ensures.listed c.in-Ok.ensures.looks
+      (λ told device array at. trim_leads _ _ device array c.args.block (Ok tt)
+      (trim_done _ _ device array c.args.block (is_touched c.args.session.now) at.there.session.1 (c.in-Ok.ensures.array told device array.contents at.there.session.0).array (served_still _ _ (c.trim.ensures.looks.time told) at.served)));
+  needs_still = tt;
+  cause = tt;
+}
+
+pub returns-in-Err-clause-goes : goal.returns-in-Err-clause-goes
+returns-in-Err-clause-goes g c drawn = record {
+  along = look_along g.P.Platform 1 _ _ drawn _ _ c.in-Err.ensures.goes_on (omega (arith, c.in-Err.ensures.updates.needs)) c.in-Err.ensures.listed c.in-Err.ensures.looks
+      (λ told device array at. trim_leads _ _ device array c.args.block (Err c.stop_of_trim.result)
+      (trim_refused _ _ device array c.args.block (is_touched c.args.session.now) c.in-Err.refusal c.stop_of_trim.result c.stop_of_trim.ensures (c.in-Err.ensures.array told device array.contents at.there.session.0).array
+      (c.in-Err.ensures.updates.touched_still ∙ at.there.session.1) (served_still _ _ (c.trim.ensures.looks.time told) at.served)));
+  needs_still = c.in-Err.ensures.updates.needs_still;
+  cause = trim_blamed c.in-Err.refusal _ _ _ (counts (g.P.Platform.faults c.args.platform.now) drawn.faults 0 0 0) (counts (g.P.Platform.faults c.trim.new.platform) drawn.faults 0 0 0) c.stop_of_trim.ensures c.in-Err.ensures.cause;
+}
+
+-- what is named is a wrong page below the root record in the cell
+pub returns-in-Err-clause-damage : goal.returns-in-Err-clause-damage
+returns-in-Err-clause-damage g c told mounted addr is =
+    let named : c.in-Err.refusal ≡ refusals.BadRecord addr = trim_named c.in-Err.refusal c.stop_of_trim.result addr c.stop_of_trim.ensures cc in
+    wrong_page (Some c.args.session.now) c.args.session.now _ addr _ _ refl c.requires.open mounted (c.trim.ensures.looks.time told)
+    (λ follows. ((c.in-Err.ensures.damaged told addr (ap Err named)).damage follows).1)

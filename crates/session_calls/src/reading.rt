@@ -1,0 +1,46 @@
+ghost use Rattle.std.specs.Prelude.{◌≡◌, ◌<◌, ◌≢◌, Some, length};
+ghost use Rattle.sdbt_base.specs.Arrays.{Device, Session as OpenSession};
+ghost use Rattle.device_session.specs.Open.{IsOpen, blocks_of};
+ghost use Rattle.device_course.specs.States.{IsAt, mounted};
+ghost use Rattle.session_calls.specs.Along.{Drawn};
+ghost use Rattle.session_calls.specs.Damage.{IsMounted, MeetsDamage};
+ghost use Rattle.session_calls.specs.Goes.{Goes, IsReadStop, ReadsBlock};
+
+use crate::stops::DeviceStop;
+use device_session::{ReadRefusal, Session};
+use platform::Platform;
+
+/// Puts the content of a block that the device has into the 4,096 bytes of `out`: zeros where it is not mapped.
+///
+/// The session goes on after a stop, with the array that it had.
+pub fn read_block<P: Platform>(
+    session: &mut Session,
+    platform: &mut P,
+    block: u64,
+    out: &mut [u8],
+) -> Result<(), DeviceStop>
+    requires size { length out.old ≡ 4096 }
+    requires open { IsOpen session.old (P.head platform.old) }
+    requires within { block < blocks_of session.old }
+    ensures goes { (drawn : Drawn) → Goes P.Platform 0 platform.old platform.new drawn drawn session.old session.new result }
+    ensures leads { P.tells → (device : Device) (array : OpenSession) → IsAt (P.history platform.old).present (Some session.old) (mounted device array)
+        → ReadsBlock (P.history platform.new).present session.new device array block out.new result }
+    ensures damage { P.tells → IsMounted (P.history platform.old).present session.old → MeetsDamage (P.history platform.new).present result }
+{
+    match session.read(platform, block, out) {
+        Ok(()) => Ok(()),
+        Err(refusal) => Err(stop_of_read(refusal)),
+    }
+}
+
+/// The stop that a refused read comes to, where the device has the block.
+fn stop_of_read(refusal: ReadRefusal) -> DeviceStop
+    requires { refusal ≢ ReadRefusal.Range }
+    ensures { IsReadStop refusal result }
+{
+    match refusal {
+        ReadRefusal::BadRecord { addr } => DeviceStop::BadRecord { addr },
+        ReadRefusal::PlatformFault => DeviceStop::Platform,
+        ReadRefusal::Range => unreachable!(),
+    }
+}
