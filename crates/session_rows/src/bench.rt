@@ -102,28 +102,28 @@ impl Bench {
         Some((bench, reply))
     }
 
-    /// How many pages the reads of three blocks read, in a session that is opened anew and keeps so many nodes.
-    pub(crate) fn page_reads(
-        self,
-        alloc: Global,
-        nodes: usize,
-        [first, second, third]: [u64; 3],
-    ) -> Option<[u64; 3]> {
-        let Bench { mut platform, .. } = self;
-        let mut session = Session::mount(alloc, &mut platform, nodes.min(4_096)).ok()?;
-        let mut content = [0; BLOCK];
-        let begin = platform.reads();
-        session.read(&mut platform, first, &mut content).ok()?;
-        let after_first = platform.reads();
-        session.read(&mut platform, second, &mut content).ok()?;
-        let after_second = platform.reads();
-        session.read(&mut platform, third, &mut content).ok()?;
-        let end = platform.reads();
-        Some([
-            after_first.saturating_sub(begin),
-            after_second.saturating_sub(after_first),
-            end.saturating_sub(after_second),
-        ])
+    /// Goes on with a session that is opened anew and keeps so many nodes.
+    pub(crate) fn keeping(self, alloc: Global, nodes: usize) -> Option<Bench> {
+        let Bench {
+            mut platform,
+            tape,
+            ledger,
+            ..
+        } = self;
+        let session = Session::mount(alloc, &mut platform, nodes.min(4_096)).ok()?;
+        Some(Bench {
+            platform,
+            tape,
+            ledger,
+            session,
+        })
+    }
+
+    /// How many pages a read of a block reads.
+    pub(crate) fn reads_of(&mut self, block: u64) -> Option<u64> {
+        let before = self.platform.reads();
+        self.read(block).ok()?;
+        Some(self.platform.reads().saturating_sub(before))
     }
 
     /// The number of pages on the medium.
