@@ -35,18 +35,19 @@ impl Bench {
         maker.format(alloc, 64, 4)?.ok()?;
         let ledger = MemSink::new(alloc, &[]).ok()?;
         let Maker { platform, tape, .. } = maker;
-        Bench::over(alloc, platform, tape, ledger)
+        Bench::over(alloc, platform, tape, ledger, 4)
     }
 
-    /// The device that is there, with a session that keeps four nodes.
+    /// The device that is there, with a session that keeps so many nodes.
     fn over(
         alloc: Global,
         platform: MemPlatform,
         tape: ListTape,
         ledger: MemSink,
+        nodes: usize,
     ) -> Option<Bench> {
         let mut platform = platform;
-        let session = Session::mount(alloc, &mut platform, 4).ok()?;
+        let session = Session::mount(alloc, &mut platform, nodes.min(4_096)).ok()?;
         Some(Bench {
             platform,
             tape,
@@ -57,13 +58,18 @@ impl Bench {
 
     /// Goes on with a session that is opened anew.
     pub(crate) fn mounted(self, alloc: Global) -> Option<Bench> {
+        self.keeping(alloc, 4)
+    }
+
+    /// Goes on with a session that is opened anew and keeps so many nodes.
+    pub(crate) fn keeping(self, alloc: Global, nodes: usize) -> Option<Bench> {
         let Bench {
             platform,
             tape,
             ledger,
             ..
         } = self;
-        Bench::over(alloc, platform, tape, ledger)
+        Bench::over(alloc, platform, tape, ledger, nodes)
     }
 
     /// Writes one byte to a block.
@@ -100,23 +106,6 @@ impl Bench {
             session,
         };
         Some((bench, reply))
-    }
-
-    /// Goes on with a session that is opened anew and keeps so many nodes.
-    pub(crate) fn keeping(self, alloc: Global, nodes: usize) -> Option<Bench> {
-        let Bench {
-            mut platform,
-            tape,
-            ledger,
-            ..
-        } = self;
-        let session = Session::mount(alloc, &mut platform, nodes.min(4_096)).ok()?;
-        Some(Bench {
-            platform,
-            tape,
-            ledger,
-            session,
-        })
     }
 
     /// How many pages a read of a block reads.
