@@ -1,5 +1,6 @@
-# The certificates of a ledger that count for the device as it is: from its last format on, and of those with the same
-# number the last. Lines that are no certificate, such as one that a fault tore, are skipped.
+# The certificates of a ledger that count for the device as it is: from its last format on, and of
+# those with the same number the last. Lines that are no certificate, such as one that a fault tore,
+# are skipped.
 def certificates: [inputs | fromjson? | objects];
 def chain:
   certificates

@@ -1,6 +1,6 @@
 # shellcheck shell=sh
-# What the tests of the built program share; they read this file in at the top of the repository. A test's name is what it
-# was called by. The proved program is built first where it isn't there yet.
+# What the tests of the built program share; they read this file in at the top of the repository. A
+# test's name is what it was called by. The proved program is built first where it isn't there yet.
 name=$(basename "$0")
 failed=0
 work=$(mktemp -d) || exit 1
