@@ -24,7 +24,8 @@ fn draws_the_keys_of_a_seed(rt: HostRuntime) -> Result<(), Fail> {
 
 #[test]
 fn draws_the_bytes_of_a_source(rt: HostRuntime) -> Result<(), Fail> {
-    // 70 bytes, seven at a time: the first key takes 5 takes. The eighth take fails, in the second key.
+    // 70 bytes, seven at a time: the first key takes 5 takes. The eighth take fails, in the second
+    // key.
     let mut bytes = [1; 70];
     bytes[32..].fill(2);
     let source = MemSource::new(rt.alloc(), &bytes, 7, &[8])?;

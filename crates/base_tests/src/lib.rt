@@ -1,4 +1,5 @@
-//! Tests of the crates that stand below a device: objects in memory, keys, records, pages, traces, and the lines of a script.
+//! Tests of the crates that stand below a device: objects in memory, keys, records, pages, traces,
+//! and the lines of a script.
 #![tactic(auto)]
 
 #[cfg(test)]

@@ -1,5 +1,5 @@
-//! What no clause says: that each call which may answer want of memory does its work where there is memory,
-//! and what the two edges do over a reader and a writer of std.
+//! What no clause says: that each call which may answer want of memory does its work where there is
+//! memory, and what the two edges do over a reader and a writer of std.
 use sdbt_base::{
     Addrs, Line, ListTape, MemSink, MemSource, Memory, ReadSource, Sink, Source, Tape, Unkept,
     UnkeptList, WriteSink,

@@ -12,7 +12,8 @@ fn addrs(alloc: Global, items: &[u64]) -> Result<Addrs, Fail> {
     Ok(found)
 }
 
-/// A trace with data records of so many blocks, at addresses from 1 on, and nodes at addresses, with their children.
+/// A trace with data records of so many blocks, at addresses from 1 on, and nodes at addresses,
+/// with their children.
 fn trace_of(alloc: Global, blocks: u64, nodes: &[(u64, &[u64])]) -> Result<Trace, Fail> {
     let mut trace = Trace::new(alloc);
     for block in 0..blocks {

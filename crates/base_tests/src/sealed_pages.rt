@@ -9,7 +9,8 @@ const COUNTING: [u8; 32] = [
     26, 27, 28, 29, 30, 31,
 ];
 
-// The data record of block 3 at address 3 with content 6869: its first 40 bytes. All others are zeros.
+// The data record of block 3 at address 3 with content 6869: its first 40 bytes. All others are
+// zeros.
 const BODY: &[u8; 40] =
     b"SDBTREC1\0\0\0\0\0\0\0\x03\x01\0\0\0\0\0\0\0\0\0\0\0\0\0\0\x03hi\0\0\0\0\0\0";
 

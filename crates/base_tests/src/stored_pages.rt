@@ -11,8 +11,8 @@ use sdbt_base::{Key, ListTape, Memory, ROOT};
 use std::alloc::Global;
 use std::test::Fail;
 
-/// A medium of eight pages, and two keys for them. Its calls say nothing, so that the proofs of tests don't carry what those of a
-/// store say.
+/// A medium of eight pages, and two keys for them. Its calls say nothing, so that the proofs of
+/// tests don't carry what those of a store say.
 #[derive(Drop)]
 struct Fixture {
     platform: MemPlatform,
@@ -162,7 +162,8 @@ fn filled(alloc: Global) -> Option<Fixture> {
     }
 }
 
-/// A node as it may be wanted: its address and level, its bounds, and its least and greatest number of entries.
+/// A node as it may be wanted: its address and level, its bounds, and its least and greatest number
+/// of entries.
 fn want_of(addr: u64, level: u8, bounds: (u64, u64), counts: (u16, u16)) -> Want {
     Want {
         addr,

@@ -1,4 +1,5 @@
-//! Texts that spell a certificate, and texts that don't: the worked lines, and lines that were damaged or made up.
+//! Texts that spell a certificate, and texts that don't: the worked lines, and lines that were
+//! damaged or made up.
 use cert_codec::{line, read_line};
 use std::alloc::Global;
 use std::test::Fail;
@@ -45,7 +46,8 @@ fn still_certs(alloc: Global, text: &[u8], change: Change) -> Result<usize, Fail
     Ok(count)
 }
 
-// How many lines with one byte flipped in its last bit, replaced by a space, doubled or left out are certificates.
+// How many lines with one byte flipped in its last bit, replaced by a space, doubled or left out
+// are certificates.
 fn near(alloc: Global, text: &[u8]) -> Result<String, Fail> {
     let flipped = still_certs(alloc, text, Change::Flipped)?;
     let spaced = still_certs(alloc, text, Change::Spaced)?;
@@ -63,7 +65,8 @@ fn is_written_back(alloc: Global, text: &str) -> Result<bool, Fail> {
     Ok(line(alloc, &cert)?.bytes() == entry.as_bytes())
 }
 
-// The worked lines, each behind the counts of those near it, which are those of another reader of JSON.
+// The worked lines, each behind the counts of those near it, which are those of another reader of
+// JSON.
 const WORKED: &str = "\
 5 0 1 0: {\"added\":[[0,1]],\"base\":0,\"commit\":0,\"gone\":[],\"head\":1,\"never\":[],\"root\":0}\n\
 11 1 8 2: {\"added\":[[1,0,3],[2,1,1]],\"base\":1,\"commit\":1,\"gone\":[0],\"head\":3,\"never\":[],\"root\":2}\n\

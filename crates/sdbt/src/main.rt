@@ -1,7 +1,8 @@
 //! The program: makes the objects of the outside, and hands them to the top call.
 //!
-//! `sdbt FOLDER` serves the script on standard input over a device in a folder, `sdbt --root CELL FOLDER` over one whose root
-//! record is in a folder of its own, and `sdbt -` over one in memory.
+//! `sdbt FOLDER` serves the script on standard input over a device in a folder,
+//! `sdbt --root CELL FOLDER` over one whose root record is in a folder of its own, and `sdbt -`
+//! over one in memory.
 #![tactic(auto)]
 
 mod ledger;
@@ -45,7 +46,8 @@ fn main(rt: HostRuntime) -> ExitCode {
     ExitCode::from(status)
 }
 
-/// Does what the command line asks for, with standard error at a terminal or not. The answer is the exit status.
+/// Does what the command line asks for, with standard error at a terminal or not. The answer is the
+/// exit status.
 fn serve<R>(rt: &R, at_terminal: bool) -> u8
 where
     R: Env + Files + Alloc<A = Global> + Input + Print + Eprint + Clone + Drop,
@@ -100,7 +102,8 @@ fn serve_memory(rt: &(impl Alloc<A = Global> + Input + Print), words: &[String])
         return NO_MEMORY;
     };
     let mut platform = MemPlatform::blank(alloc, PAGES);
-    // The keys of a known seed are no secret: they are for a device that is gone when the program ends.
+    // The keys of a known seed are no secret: they are for a device that is gone when the program
+    // ends.
     let mut tape = SeedTape::new(0);
     let mut input = ReadSource::new(rt.reader());
     let mut output = WriteSink::new(io::writer(rt));
@@ -115,8 +118,8 @@ fn serve_memory(rt: &(impl Alloc<A = Global> + Input + Print), words: &[String])
     )
 }
 
-/// Serves the script on standard input over a device whose root record is in the folder `cell`, and its medium in
-/// `folder`. What is not ready is said on standard error.
+/// Serves the script on standard input over a device whose root record is in the folder `cell`, and
+/// its medium in `folder`. What is not ready is said on standard error.
 fn serve_folders<R>(rt: &R, at_terminal: bool, cell: &str, folder: &str, words: &[String]) -> u8
 where
     R: Files + Alloc<A = Global> + Input + Print + Eprint + Clone + Drop,
@@ -132,8 +135,9 @@ where
     }
 }
 
-/// Serves the script over folders. It is refused before the words are looked at where a folder, a file in it or the
-/// random source can't be made ready. The platform has its locks from before anything is changed until the run has ended.
+/// Serves the script over folders. It is refused before the words are looked at where a folder, a
+/// file in it or the random source can't be made ready. The platform has its locks from before
+/// anything is changed until the run has ended.
 fn run_in_folders<R>(
     rt: &R,
     at_terminal: bool,
