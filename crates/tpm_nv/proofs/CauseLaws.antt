@@ -1,8 +1,8 @@
 -- Why a reply is none of those that were waited for.
-use Rattle.std.proofs.Common.{◌≡◌, ℕ, ◌<◌, ◌^◌, ◌⊎◌, inl, inr, List, [], ◌++◌, Option, None, Some, length, lit<, refl, sym, ap, ◌∙◌, arith, subst}
+use Rattle.std.proofs.Common.{◌≡◌, ℕ, ◌<◌, ◌^◌, ◌⊎◌, inl, inr, List, ◌++◌, Option, None, Some, length, lit<, refl, ap, ◌∙◌, arith, subst}
 use Rattle.std.specs.Int.{w32, to_be_bytes}
 use Rattle.tpm_nv.specs.Fields.{sized}
-use Rattle.tpm_nv.specs.Messages.{IsReply, IsRefusal, IsData, session, with_session}
+use Rattle.tpm_nv.specs.Messages.{IsReply, IsRefusal, session, with_session}
 use Rattle.tpm_nv.specs.Replies.{IsCause, IsDone, IsContent, SaysContent}
 use Rattle.tpm_nv.specs.declared.heads.Failure.{Failure}
 use Rattle.tpm_nv.specs.declared.heads.Failure.TheVariants.{Code, Malformed}

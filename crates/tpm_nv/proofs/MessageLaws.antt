@@ -2,8 +2,8 @@
 use Rattle.std.proofs.Common.{◌≡◌, ℕ, ◌+◌, ◌<◌, ◌≤◌, ◌^◌, List, [], ◌∷◌, ◌++◌, length, take, drop, refl, sym, ap, ◌∙◌, arith, length-append}
 use Rattle.std.specs.Int.{w16, w32, to_be_bytes}
 use Rattle.std.proofs.lemmas.List.{take_at, drop_at}
-use Rattle.record_fields.specs.Fields.{append_same, pieces_same, number_same_2}
-use Rattle.tpm_nv.specs.Messages.{head_bytes, message, IsReply}
+use Rattle.record_fields.specs.Fields.{pieces_same, number_same_2}
+use Rattle.tpm_nv.specs.Messages.{head_bytes, IsReply}
 use Rattle.tpm_nv.specs.Replies.{FitsHead}
 use Rattle.tpm_nv.specs.declared.heads.Head.{Head}
 use Rattle.tpm_nv.proofs.FieldLaws.{number_same_4}

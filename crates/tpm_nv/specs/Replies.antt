@@ -1,5 +1,5 @@
 -- What replies say.
-use Rattle.std.specs.Prelude.{◌≡◌, ℕ, ◌^◌, ◌<◌, ◌≤◌, List, Option, None, Some}
+use Rattle.std.specs.Prelude.{ℕ, ◌^◌, ◌<◌, ◌≤◌, List, Option, None, Some}
 use Rattle.tpm_nv.specs.Messages.{head_bytes, IsReply, IsRefusal, IsData}
 use Rattle.tpm_nv.specs.declared.heads.Head.{Head}
 use Rattle.tpm_nv.specs.declared.heads.Failure.{Failure}

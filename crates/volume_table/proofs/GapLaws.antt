@@ -1,10 +1,10 @@
 -- Looking for a gap from the first volume on.
-use Rattle.std.proofs.Common.{◌≡◌, ℕ, ◌+◌, ◌-◌, ◌<◌, ◌≤◌, ◌⊎◌, inl, inr, List, length, get_or, take, drop, refl, sym, ap, ◌∙◌, subst, arith}
+use Rattle.std.proofs.Common.{◌≡◌, ℕ, ◌+◌, ◌-◌, ◌<◌, ◌≤◌, inl, inr, List, length, get_or, take, drop, sym, ap, ◌∙◌, subst, arith}
 use Rattle.std.specs.List.{All}
 use Rattle.std.proofs.lemmas.Bool.{cases_lt}
 use Rattle.std.proofs.lemmas.List.{get_or_read, get_or-drop, length-drop}
 use Rattle.std.proofs.lemmas.List.Elements.{All-more, All-weaker}
-use Rattle.volume_table.specs.Tables.{IsTable, EndsBefore, FitsAt, IsLeastStart, IsGap}
+use Rattle.volume_table.specs.Tables.{IsTable, FitsAt, IsGap}
 use Rattle.volume_table.specs.declared.volume.Volume.{Volume}
 use Rattle.volume_table.proofs.TableLaws.{at_front, at_back}
 

@@ -1,5 +1,5 @@
 -- The bytes of a name.
-use Rattle.std.proofs.Common.{◌≡◌, ℕ, ◌+◌, ◌-◌, ◌≤◌, List, [], ◌∷◌, Option, None, Some, IfSome, IfNone, subst, ◌++◌, length, get_or, replicate, take, drop, refl, sym, ap, ◌∙◌, arith, length-append}
+use Rattle.std.proofs.Common.{◌≡◌, ℕ, ◌-◌, ◌≤◌, List, [], ◌∷◌, Option, None, Some, IfSome, IfNone, subst, ◌++◌, length, get_or, replicate, take, drop, refl, sym, ap, ◌∙◌, arith, length-append}
 use Rattle.std.proofs.lemmas.List.{length-replicate, length-take, length-drop, drop-replicate, take_at, drop_at, take-append-drop}
 use Rattle.record_fields.specs.Fields.{append_same}
 use Rattle.volume_table.specs.Names.{IsName, name_bytes, unpadded}

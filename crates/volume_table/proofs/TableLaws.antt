@@ -1,7 +1,7 @@
 -- Tables: with a volume more, with one less, and what follows of their bytes.
-use Rattle.std.proofs.Common.{◌≡◌, ◌≢◌, ℕ, zero, suc, ◌+◌, ◌-◌, ◌*◌, ◌^◌, ◌<◌, ◌≤◌, ◌⊎◌, inl, inr, List, [], ◌∷◌, ◌++◌, Some, length, get_or, replicate, take, drop, refl, sym, ap, ◌∙◌, subst, append_assoc, append-nil, arith, length-append}
-use Rattle.std.specs.List.{All, AllPairs, flat_map, insert, remove, slice_get}
-use Rattle.std.proofs.lemmas.List.Elements.{All-append, All-cons, All-head, All-take, All-drop, All-push, All-weaker, All-same}
+use Rattle.std.proofs.Common.{◌≡◌, ◌≢◌, ℕ, suc, ◌+◌, ◌-◌, ◌*◌, ◌^◌, ◌<◌, ◌≤◌, inl, inr, List, [], ◌∷◌, ◌++◌, length, get_or, replicate, take, drop, refl, sym, ap, ◌∙◌, subst, append_assoc, append-nil, arith, length-append}
+use Rattle.std.specs.List.{All, AllPairs, flat_map, insert, remove}
+use Rattle.std.proofs.lemmas.List.Elements.{All-append, All-cons, All-take, All-drop, All-push}
 use Rattle.std.proofs.lemmas.List.Quantifiers.{all_pairs_push, all_pairs_remove}
 use Rattle.std.proofs.lemmas.List.Edits.{length-insert, length-remove, get_or-insert_below, get_or-insert_at, get_or-insert_above}
 use Rattle.std.proofs.lemmas.List.{take_at, drop_at, drop-drop, take-append-drop, length-take, length-drop, get_or-take, get_or-drop, get_or_append_left}
@@ -10,7 +10,7 @@ use Rattle.std.proofs.lemmas.Bool.{cases_lt}
 use Rattle.std.proofs.lemmas.Option.{get_or_from_slice_get, slice_get_within}
 use Rattle.std.proofs.Math.Seq.{get_or-append_seam}
 use Rattle.volume_table.specs.Names.{IsName}
-use Rattle.volume_table.specs.Tables.{IsTable, IsInside, EndsBefore, Leads, Follows, FitsEntry, Lacks, FitsAt, IsLeastStart, IsGap, Has, table_bytes, volume_bytes}
+use Rattle.volume_table.specs.Tables.{IsTable, IsInside, EndsBefore, Leads, Follows, FitsEntry, Lacks, IsGap, Has, table_bytes, volume_bytes}
 use Rattle.volume_table.specs.declared.volume.Volume.{Volume}
 use Rattle.volume_table.proofs.EntryLaws.{first_byte, zeros_first, length-volume_bytes, entries_same}
 

@@ -50,9 +50,9 @@ impl Table {
     }
 
     /// The place of the volume of this name in the table, and the volume.
-    pub fn find(&self, name: Name) -> Option<(usize, Volume)>
-        ensures found { IfSome result (λ it. (slice_get self.now it.0 ≡ Some it.1) × (it.1.name ≡ name)) }
-        ensures none { IfNone result (Lacks self.now name) }
+    pub fn find(&self, name: &Name) -> Option<(usize, Volume)>
+        ensures found { IfSome result (λ it. (slice_get self.now it.0 ≡ Some it.1) × (it.1.name ≡ name.now)) }
+        ensures none { IfNone result (Lacks self.now name.now) }
     {
         let volumes = self.volumes();
         let at = place_of(volumes, name)?;
@@ -90,12 +90,11 @@ impl Table {
         self.volumes.insert(at, volume);
     }
 
-    /// Takes a volume out of the table.
-    pub fn remove(&mut self, index: usize, blocks: u64)
-        requires table { IsTable blocks self.old }
-        requires index { index < length self.old }
+    /// Takes the volume at this place out of the table.
+    pub fn remove(&mut self, index: usize)
+        requires { index < length self.old }
         ensures removed { self.new ≡ remove self.old index }
-        ensures table { IsTable blocks self.new }
+        ensures table { (blocks : ℕ) → IsTable blocks self.old → IsTable blocks self.new }
     {
         let _ = self.volumes.remove(index);
     }
@@ -118,12 +117,12 @@ impl Table {
 }
 
 /// The place of the volume of this name.
-fn place_of(volumes: &[Volume], name: Name) -> Option<usize>
-    ensures found { IfSome result (λ at. IsSomeAnd (slice_get volumes.now at) (λ v. v.name ≡ name)) }
-    ensures none { IfNone result (Lacks volumes.now name) }
+fn place_of(volumes: &[Volume], name: &Name) -> Option<usize>
+    ensures found { IfSome result (λ at. IsSomeAnd (slice_get volumes.now at) (λ v. v.name ≡ name.now)) }
+    ensures none { IfNone result (Lacks volumes.now name.now) }
 {
     for (at, volume) in volumes.iter().enumerate() {
-        if volume.name.is_same(&name) {
+        if volume.name.is_same(name) {
             return Some(at);
         }
     }

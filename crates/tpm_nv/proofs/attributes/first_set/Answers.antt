@@ -1,4 +1,4 @@
-use Rattle.std.proofs.Common.{arith, take, get_or, length, take_all, subst, sym}
+use Rattle.std.proofs.Common.{arith, take, take_all, sym}
 use Rattle.std.proofs.lemmas.List.Elements.{All-more, All-same}
 use Rattle.tpm_nv.specs.Attributes.{IsClear}
 use Rattle.tpm_nv.proofs.attributes.first_set.Goals as goal

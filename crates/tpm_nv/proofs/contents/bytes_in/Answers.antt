@@ -1,4 +1,4 @@
-use Rattle.std.proofs.Common.{◌≡◌, ℕ, ◌++◌, [], length, refl, arith, rules}
+use Rattle.std.proofs.Common.{◌≡◌, ◌++◌, length, refl, arith, rules}
 use Rattle.tpm_nv.specs.Fields.{sized}
 use Rattle.tpm_nv.specs.Messages.{session}
 use Rattle.tpm_nv.proofs.FieldLaws.{length-sized}

@@ -1,4 +1,4 @@
-use Rattle.std.proofs.Common.{refl, sym, ◌∙◌, arith, [], lit<}
+use Rattle.std.proofs.Common.{arith, [], lit<}
 use Rattle.tpm_nv.proofs.heads.body_of.Goals as goal
 use Rattle.tpm_nv.proofs.heads.body_of.Goals.{else-head-via-then-head+else-is_empty, else-head-via-else-head}
 

@@ -1,4 +1,4 @@
-use Rattle.std.proofs.Common.{refl, sym, ◌∙◌, arith}
+use Rattle.std.proofs.Common.{sym, ◌∙◌, arith}
 use Rattle.tpm_nv.proofs.MessageLaws.{head_same, length-reply, head_in, fits_in, reply_parts}
 use Rattle.tpm_nv.proofs.heads.parts_of.Goals as goal
 

@@ -1,4 +1,4 @@
-use Rattle.std.proofs.Common.{[], ◌++◌, length, arith, sym, ◌∙◌}
+use Rattle.std.proofs.Common.{[], ◌++◌, arith}
 use Rattle.tpm_nv.specs.Fields.{sized}
 use Rattle.tpm_nv.specs.Areas.{area_bytes}
 use Rattle.tpm_nv.proofs.AreaLaws.{length-area_bytes}

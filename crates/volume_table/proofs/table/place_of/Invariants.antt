@@ -1,5 +1,4 @@
-use Rattle.std.proofs.Common.{◌≢◌, take}
-use Rattle.std.specs.List.{All}
+use Rattle.std.proofs.Common.{take}
 use Rattle.volume_table.specs.Tables.{Lacks}
 use Rattle.volume_table.proofs.table.place_of.Given as goal
 

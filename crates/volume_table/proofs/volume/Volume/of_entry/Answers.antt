@@ -1,4 +1,4 @@
-use Rattle.std.proofs.Common.{◌≡◌, ℕ, Some, refl, sym, ap, ◌∙◌, arith, rules}
+use Rattle.std.proofs.Common.{◌≡◌, ℕ, Some, ap, arith, rules}
 use Rattle.std.proofs.lemmas.List.{length-take}
 use Rattle.volume_table.proofs.EntryLaws.{entry_spelled, entry_parts, volume_is}
 use Rattle.volume_table.proofs.volume.Volume.of_entry.Goals as goal
