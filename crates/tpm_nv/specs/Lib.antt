@@ -1,0 +1,5 @@
+pub mod Fields
+pub mod Messages
+pub mod Replies
+pub mod Attributes
+pub mod Areas

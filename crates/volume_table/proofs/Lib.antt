@@ -1,0 +1,4 @@
+pub mod NameLaws
+pub mod EntryLaws
+pub mod TableLaws
+pub mod GapLaws
