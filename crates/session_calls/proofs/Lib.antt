@@ -3,3 +3,4 @@ pub mod CellLaws
 pub mod WriteLaws
 pub mod LookLaws
 pub mod AlongLaws
+pub mod CommitLaws

@@ -2,3 +2,4 @@ pub mod Blame
 pub mod Damage
 pub mod Along
 pub mod Goes
+pub mod Commits

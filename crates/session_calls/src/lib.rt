@@ -2,11 +2,13 @@
 //! from which state it leads to which.
 #![tactic(auto)]
 
+mod committing;
 mod reading;
 mod stops;
 mod trimming;
 mod writing;
 
+pub use committing::{Committed, commit_session};
 pub use reading::read_block;
 pub use stops::DeviceStop;
 pub use trimming::trim_block;
