@@ -4,3 +4,4 @@ pub mod WriteLaws
 pub mod LookLaws
 pub mod AlongLaws
 pub mod CommitLaws
+pub mod MountLaws

@@ -3,3 +3,5 @@ pub mod Damage
 pub mod Along
 pub mod Goes
 pub mod Commits
+pub mod Cells
+pub mod Mounts
