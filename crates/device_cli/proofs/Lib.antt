@@ -1,4 +1,5 @@
 pub mod CellLaws
+pub mod CallLaws
 pub mod Choices
 pub mod RunLaws
 pub mod PageLaws

@@ -18,8 +18,8 @@ use Rattle.device_cli.specs.Replied.{Ending, IsBehind, IsDamageAt, IsAhead, IsSo
 use Rattle.device_cli.specs.Ran.{Ran}
 use Rattle.device_cli.specs.declared.stop.Stop.{Stop}
 use Rattle.device_cli.specs.declared.stop.Stop.TheVariants as stops
-use Rattle.device_cli.specs.declared.stop.DeviceStop.{DeviceStop}
-use Rattle.device_cli.specs.declared.stop.DeviceStop.TheVariants as device
+use Rattle.session_calls.specs.declared.stops.DeviceStop.{DeviceStop}
+use Rattle.session_calls.specs.declared.stops.DeviceStop.TheVariants as device
 use Rattle.device_cli.proofs.RunLaws.{TookUntil-line}
 
 -- the same after the platform stood still

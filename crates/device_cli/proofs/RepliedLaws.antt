@@ -9,13 +9,10 @@ use Rattle.platform.proofs.Moments.{LeavesOnly-now, During-now, During-start, Tu
 use Rattle.page_store.proofs.StandsLaws.{one_device, stands_leaves}
 use Rattle.sdbt_base.proofs.ToldLaws.{Got-nothing, Got-then}
 use Rattle.script_lang.specs.Grammar.{Spells, IsBad}
-use Rattle.script_lang.specs.Replies.{line_of}
-use Rattle.script_lang.specs.Commands.{Command}
-use Rattle.script_lang.specs.Commands.{Format, Write, Commit}
+use Rattle.script_lang.specs.Replies.{line_of, Reply, Full, Bad}
+use Rattle.script_lang.specs.Commands.{Command, Format, Write, Commit}
 use Rattle.sdbt_base.specs.Arrays.{State, Device, Session as OpenSession, closed}
 use Rattle.script_lang.specs.Answers.{Turn, answer, none_counted}
-use Rattle.script_lang.specs.Replies.{Reply}
-use Rattle.script_lang.specs.Replies.{Full, Bad}
 use Rattle.device_terms.specs.Served.{IsServedImage}
 use Rattle.device_session.specs.Open.{IsOpen}
 use Rattle.device_session.specs.Sessions.{Session}
@@ -34,13 +31,14 @@ use Rattle.device_course.proofs.MadeLaws.{shut, made_none, made_one, made_stoppe
 use Rattle.device_cli.specs.Represents.{Stood, StandsFor}
 use Rattle.device_cli.specs.Added.{left_by, HasAdded, IsNear}
 use Rattle.device_cli.specs.Pages.{needed_for, updates_after, updates_of, TurnOn, AnswersOn, IsShort, AreShort, IfNext}
-use Rattle.device_cli.specs.Replied.{no_line, Ending, AreMany, IsBehind, IsDamageAt, IsAhead, AreMarks, EndsIn, Answered, Replied, Handled, AsksForBlock, IsSound, IsOfBlock, IsWrongPage, Halts, Serves, HasPut}
+use Rattle.device_cli.specs.Replied.{no_line, Ending, AreMany, IsBehind, IsDamageAt, IsAhead, AreMarks, EndsIn, Answered, Replied, Handled, AsksForBlock, IsSound, IsOfBlock, Halts, Serves, HasPut}
+use Rattle.session_calls.specs.Damage.{IsWrongPage}
 use Rattle.device_cli.specs.Seen.{Saw, SeenOn}
 use Rattle.device_cli.proofs.SeenLaws.{saw_plain, SeenOn-append, SeenOn-longer}
 use Rattle.device_cli.specs.declared.stop.Stop.{Stop}
 use Rattle.device_cli.specs.declared.stop.Stop.TheVariants as stops
-use Rattle.device_cli.specs.declared.stop.DeviceStop.{DeviceStop}
-use Rattle.device_cli.specs.declared.stop.DeviceStop.TheVariants as device
+use Rattle.session_calls.specs.declared.stops.DeviceStop.{DeviceStop}
+use Rattle.session_calls.specs.declared.stops.DeviceStop.TheVariants as device
 use Rattle.device_cli.proofs.PageLaws.{turn_of, near_turn, answers_of, AnswersOn-append, AnswersOn-longer, updates_of-append, AreShort-later, AreShort-append, AreShort-longer}
 use Rattle.device_cli.proofs.PassLaws.{AreMarks-none, AreMarks-one, AreMarks-then, AreMarks-longer}
 

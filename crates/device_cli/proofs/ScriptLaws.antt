@@ -4,28 +4,26 @@ use Rattle.platform.specs.Image.{Image}
 use Rattle.sdbt_base.specs.Told.{Got, IsAtEnd}
 use Rattle.sdbt_base.proofs.ToldLaws.{Gave-nothing, Got-nothing}
 use Rattle.text_lines.specs.Lines.{whole_lines_of, lines_of}
-use Rattle.script_lang.specs.Replies.{line_of}
+use Rattle.script_lang.specs.Replies.{line_of, Reply}
 use Rattle.sdbt_base.specs.Arrays.{State, Device, closed}
-use Rattle.script_lang.specs.Replies.{Reply}
-use Rattle.script_lang.specs.Commands.{Command}
-use Rattle.script_lang.specs.Commands.{Commit}
+use Rattle.script_lang.specs.Commands.{Command, Commit}
 use Rattle.device_terms.specs.Served.{IsServedImage}
 use Rattle.device_session.specs.Sessions.{Session}
 use Rattle.platform.specs.History.{History}
-use Rattle.device_cli.specs.World.{World, world}
+use Rattle.device_cli.specs.World.{World, world, AreEnough}
 use Rattle.device_cli.specs.Looks.{IsWarmFor}
 use Rattle.device_course.specs.States.{IsSessionOf}
 use Rattle.device_cli.specs.Represents.{StandsFor, Represents}
 use Rattle.platform.specs.Runs.{Passes}
-use Rattle.device_cli.specs.Replied.{HasMark, Ending, IsBehind, AreMany, IsDamageAt, AsksForBlock, IsWrongPage, IsFirstPart, IsAhead, EndsIn, Answered, damage_line, exit_of}
+use Rattle.device_cli.specs.Replied.{HasMark, Ending, IsBehind, AreMany, IsDamageAt, AsksForBlock, IsFirstPart, IsAhead, EndsIn, Answered, damage_line, exit_of}
+use Rattle.session_calls.specs.Damage.{IsWrongPage}
 use Rattle.device_cli.specs.Added.{left_by, HasAdded, IsNear}
 use Rattle.device_cli.specs.Pages.{needed_for, updates_of, accepted, AnswersOn, IfNext}
-use Rattle.device_cli.specs.World.{AreEnough}
 use Rattle.device_cli.proofs.TurnLaws.{answers_bound, needed_most}
 use Rattle.device_cli.specs.Ran.{Ran, AreLines, HaveCome, AnswersFrom, AnswersScript}
 use Rattle.device_cli.specs.declared.stop.Stop.TheVariants as stops
-use Rattle.device_cli.specs.declared.stop.DeviceStop.{DeviceStop}
-use Rattle.device_cli.specs.declared.stop.DeviceStop.TheVariants as device
+use Rattle.session_calls.specs.declared.stops.DeviceStop.{DeviceStop}
+use Rattle.session_calls.specs.declared.stops.DeviceStop.TheVariants as device
 use Rattle.device_cli.proofs.PassLaws.{AreMarks-none, passes_of, exits_of}
 use Rattle.device_course.specs.Course.{Made}
 use Rattle.device_course.specs.Marks.{last_mark}

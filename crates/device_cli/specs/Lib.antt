@@ -11,7 +11,6 @@ pub mod Represents
 pub mod World
 pub mod Pages
 pub mod Seen
-pub mod Unserved
 pub mod Added
 pub mod Parts
 pub mod Working

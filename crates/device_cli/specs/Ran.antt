@@ -4,11 +4,9 @@ use Rattle.platform.specs.Runs.{Passes}
 use Rattle.device_terms.specs.Served.{IsServedImage}
 use Rattle.sdbt_base.specs.Told.{Gave, Got, IsAtEnd}
 use Rattle.text_lines.specs.Lines.{whole_lines_of, lines_of}
-use Rattle.script_lang.specs.Replies.{line_of}
+use Rattle.script_lang.specs.Replies.{line_of, Reply, Full}
 use Rattle.sdbt_base.specs.Arrays.{State, Device, closed}
 use Rattle.script_lang.specs.Answers.{Answers}
-use Rattle.script_lang.specs.Replies.{Reply}
-use Rattle.script_lang.specs.Replies.{Full}
 use Rattle.device_cli.specs.Looks.{AreLooks}
 use Rattle.device_cli.specs.World.{World}
 use Rattle.device_cli.specs.Represents.{StandsFor}
@@ -17,9 +15,10 @@ use Rattle.device_cli.specs.Added.{left_by, HasAdded}
 use Rattle.device_cli.specs.Seen.{SeenOn}
 use Rattle.platform.specs.History.{moment}
 use Rattle.device_cli.specs.Run.{TookUntil}
-use Rattle.device_cli.specs.Replied.{Ending, Handled, IsFirstPart, AsksForBlock, IsWrongPage, HasMark, ExitsAt, damage_line}
-use Rattle.device_cli.specs.declared.stop.DeviceStop.{DeviceStop}
-use Rattle.device_cli.specs.declared.stop.DeviceStop.TheVariants as device
+use Rattle.device_cli.specs.Replied.{Ending, Handled, IsFirstPart, AsksForBlock, HasMark, ExitsAt, damage_line}
+use Rattle.session_calls.specs.Damage.{IsWrongPage}
+use Rattle.session_calls.specs.declared.stops.DeviceStop.{DeviceStop}
+use Rattle.session_calls.specs.declared.stops.DeviceStop.TheVariants as device
 use Rattle.device_cli.specs.declared.stop.Stop.TheVariants as stops
 
 -- the lines that have come: those with their line feeds, and at the end of the input also a last one without

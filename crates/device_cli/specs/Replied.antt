@@ -1,11 +1,8 @@
 -- What a run that handled some lines put, and which replies belong to them.
-use Rattle.std.specs.Prelude.{◌≡◌, ℕ, ◌≤◌, ◌⊎◌, List, [], ◌∷◌, ◌++◌, Option, None, Some, Result, Ok, Err, OnOk, IsOk, take, length, codes, flat_map}
+use Rattle.std.specs.Prelude.{◌≡◌, ℕ, ◌≤◌, ◌⊎◌, List, [], ◌∷◌, ◌++◌, Option, None, Result, Ok, Err, OnOk, IsOk, take, length, codes, flat_map}
 use Rattle.std.specs.Fmt.{decimal}
 use Rattle.platform.specs.Image.{Image}
 use Rattle.platform.specs.History.{During, Turns, moment}
-use Rattle.root_codec.specs.declared.root.Root.{Root}
-use Rattle.root_codec.specs.RootRecord.{FitsRoot, root_bytes}
-use Rattle.device_session.specs.Damage.{IsDamaged}
 use Rattle.sdbt_base.specs.Told.{Got, GotPart}
 use Rattle.script_lang.specs.Grammar.{Spells}
 use Rattle.script_lang.specs.Replies.{line_of, said}
@@ -15,6 +12,7 @@ use Rattle.script_lang.specs.Answers.{IsMark, IsAnswer, answer, none_counted}
 use Rattle.script_lang.specs.Commands.{Command}
 use Rattle.script_lang.specs.Commands as commands
 use Rattle.script_lang.specs.Replies.{Reply}
+use Rattle.session_calls.specs.Damage.{IsWrongPage}
 use Rattle.device_cli.specs.Looks.{LooksOn}
 use Rattle.device_cli.specs.World.{World, is_full, AreEnough, IsLater}
 use Rattle.device_course.specs.Marks.{Leaves, mark_at, last_mark}
@@ -26,8 +24,8 @@ use Rattle.device_cli.specs.Added.{IsNear}
 use Rattle.device_cli.specs.Run.{status_of}
 use Rattle.device_cli.specs.declared.stop.Stop.{Stop}
 use Rattle.device_cli.specs.declared.stop.Stop.TheVariants as stops
-use Rattle.device_cli.specs.declared.stop.DeviceStop.{DeviceStop}
-use Rattle.device_cli.specs.declared.stop.DeviceStop.TheVariants as device
+use Rattle.session_calls.specs.declared.stops.DeviceStop.{DeviceStop}
+use Rattle.session_calls.specs.declared.stops.DeviceStop.TheVariants as device
 
 -- how a run, or a part of one, ends
 abbrev pub Ending : Type 0
@@ -82,14 +80,6 @@ IsOfBlock _ = ⊥
 -- the line is such a command's
 abbrev pub AsksForBlock : List ℕ → Type 0
 AsksForBlock line = (command : Command) × Spells line command × IsOfBlock command
-
--- below the root record in the cell a place at this address doesn't fit, or it is the root node's, of which the root record
--- counts other blocks than it has
-pub record IsWrongPage (image : Image) (addr : ℕ) : Type 0 where
-  pub root : Root
-  pub in_range : FitsRoot root
-  pub cell : image.cell ≡ Some (root_bytes root)
-  pub damaged : IsDamaged image.readable root addr
 
 -- a record that doesn't fit is met only at such a line, and is one
 abbrev pub IsDamageAt : Type 0 → Image → List Reply → List (List ℕ) → Ending → Type 0

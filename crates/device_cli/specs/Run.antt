@@ -2,56 +2,20 @@
 use Rattle.std.specs.Prelude.{◌≡◌, ℕ, ◌^◌, ◌<◌, ◌≤◌, ◌⊎◌, List, [], Option, Result, OnOk, IfErr, IsErrOf, length}
 use Rattle.sdbt_base.specs.Faults.{Rose}
 use Rattle.sdbt_base.specs.Told.{IsAtEnd}
+use Rattle.session_calls.specs.Blame.{Counts, NoneFell}
+use Rattle.session_calls.specs.Blame as blame
 use Rattle.device_cli.specs.declared.stop.Stop.{Stop}
 use Rattle.device_cli.specs.declared.stop.Stop.TheVariants as stops
-use Rattle.device_cli.specs.declared.stop.DeviceStop.{DeviceStop}
-use Rattle.device_cli.specs.declared.stop.DeviceStop.TheVariants as device
-
--- the counts of faults of what a run is handed
-pub record Counts : Type 0 where
-  pub platform : ℕ
-  pub tape : ℕ
-  pub input : ℕ
-  pub output : ℕ
-  pub ledger : ℕ
-
-abbrev pub counts : ℕ → ℕ → ℕ → ℕ → ℕ → Counts
-counts platform tape input output ledger = record { platform = platform; tape = tape; input = input; output = output; ledger = ledger }
-
--- no count fell
-pub record NoneFell (before now : Counts) : Type 0 where
-  pub platform : before.platform ≤ now.platform
-  pub tape : before.tape ≤ now.tape
-  pub input : before.input ≤ now.input
-  pub output : before.output ≤ now.output
-  pub ledger : before.ledger ≤ now.ledger
-
--- no count rose
-pub record NoneRose (before now : Counts) : Type 0 where
-  pub platform : Rose before.platform now.platform → ⊥
-  pub tape : Rose before.tape now.tape → ⊥
-  pub input : Rose before.input now.input → ⊥
-  pub output : Rose before.output now.output → ⊥
-  pub ledger : Rose before.ledger now.ledger → ⊥
+use Rattle.session_calls.specs.declared.stops.DeviceStop.TheVariants as device
 
 -- a stop that names a fault comes only where the count of that object rose
 abbrev pub HasCause : Counts → Counts → Stop → Type 0
 HasCause before now stops.Source = Rose before.input now.input
 HasCause before now stops.Sink = Rose before.output now.output
-HasCause before now (stops.Device device.Platform) = Rose before.platform now.platform
-HasCause before now (stops.Device device.Tape) = Rose before.tape now.tape
-HasCause before now (stops.Device device.Ledger) = Rose before.ledger now.ledger
-HasCause before now (stops.Device device.BadRoot) = Unit {0}
-HasCause before now (stops.Device (device.BadRecord addr)) = Unit {0}
-HasCause before now (stops.Device device.Memory) = Unit {0}
+HasCause before now (stops.Device stop) = blame.HasCause before now stop
 HasCause before now stops.Limit = Unit {0}
 
--- no count fell, and a command that stopped at a fault did so where the count of that object rose
-pub record IsBlamed {T : Type 0} (before now : Counts) (result : Result T DeviceStop) : Type 0 where
-  pub fell : NoneFell before now
-  pub cause : IfErr result (λ stop. HasCause before now (stops.Device stop))
-
--- the same of a run, or a part of one
+-- no count fell, and a run, or a part of one, that stopped at a fault did so where the count of that object rose
 pub record IsBlamedOn {T : Type 0} (before now : Counts) (result : Result T Stop) : Type 0 where
   pub fell : NoneFell before now
   pub cause : IfErr result (HasCause before now)

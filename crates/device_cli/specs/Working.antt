@@ -11,9 +11,9 @@ use Rattle.device_cli.specs.Ran.{Ran, AnswersScript, IsComplete}
 use Rattle.device_cli.specs.Replied.{Ending, HasPut, damage_line, exit_of}
 use Rattle.device_cli.specs.Represents.{StandsFor}
 use Rattle.device_cli.specs.Handed.{Handed}
-use Rattle.device_cli.specs.Run.{NoneRose}
+use Rattle.session_calls.specs.Blame.{NoneRose}
 use Rattle.device_cli.specs.World.{World}
-use Rattle.device_cli.specs.declared.stop.DeviceStop.TheVariants as device
+use Rattle.session_calls.specs.declared.stops.DeviceStop.TheVariants as device
 use Rattle.device_cli.specs.declared.stop.Stop.TheVariants as stops
 
 -- the script of a seed, with so many generated lines

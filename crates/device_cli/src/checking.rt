@@ -3,17 +3,18 @@ ghost use Rattle.std.specs.Prelude.{◌≡◌, ◌≤◌, IfErr, IfOk, OnOk};
 ghost use Rattle.sdbt_base.specs.Faults.{Rose};
 ghost use Rattle.sdbt_base.specs.Told.{Got, GotPart};
 ghost use Rattle.platform.specs.History.{Steps};
-ghost use Rattle.device_cli.specs.Run.{counts, IsBlamedOn};
+ghost use Rattle.device_cli.specs.Run.{IsBlamedOn};
+ghost use Rattle.session_calls.specs.Blame.{counts};
 ghost use Rattle.device_cli.specs.Checks.{Checks, IsJudged, Looked, finding_line, status_of_finding};
 
-use crate::entry::check_cell;
-use crate::stop::{DeviceStop, Stop};
+use crate::stop::Stop;
 use crate::texts::push_text;
 use arrayvec::ArrayVec;
 use ledger_check::{JudgeRefusal, judge};
 use platform::Platform;
 use root_codec::Root;
 use sdbt_base::{Sink, Source};
+use session_calls::{DeviceStop, check_cell};
 use std::alloc::Global;
 
 /// What a check found.

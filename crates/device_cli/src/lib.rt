@@ -15,7 +15,6 @@ ghost use Rattle.device_cli.specs.Working.{Working};
 
 mod checking;
 mod desk;
-mod entry;
 mod given;
 mod pending;
 mod run;

@@ -10,23 +10,24 @@ ghost use Rattle.device_terms.specs.Served.{IsServedImage};
 ghost use Rattle.device_session.specs.Sessions.{Session};
 ghost use Rattle.device_cli.specs.Desk.{Before, AfterLine};
 ghost use Rattle.device_cli.specs.World.{world_of};
-ghost use Rattle.device_cli.specs.Run.{counts, IsBlamedOn, IsRefusal, status_of};
+ghost use Rattle.device_cli.specs.Run.{IsBlamedOn, IsRefusal, status_of};
+ghost use Rattle.session_calls.specs.Blame.{counts};
 ghost use Rattle.device_cli.specs.Kept.{IsKept, IsPending};
 ghost use Rattle.device_cli.specs.Replied.{Handled, HasPut, IsSound, no_line, damage_line};
 ghost use Rattle.device_cli.specs.Ran.{Ran};
 ghost use Rattle.device_course.specs.Keys.{KeepsOn};
-ghost use Rattle.device_cli.specs.Unserved.{IsUnserved};
+ghost use Rattle.session_calls.specs.Cells.{IsUnserved};
 ghost use Rattle.device_cli.specs.Parts.{Blames, Keeps};
 
 use crate::desk::Desk;
-use crate::entry::check_cell;
 use crate::pending::Pending;
-use crate::stop::{DeviceStop, Stop};
+use crate::stop::Stop;
 use crate::texts::push_text;
 use arrayvec::ArrayVec;
 use platform::Platform;
 use script_lang::{Command, Reply, ReplyWriter, parse};
 use sdbt_base::{BLOCK, MAX_INPUT, Sink, Source, Tape};
+use session_calls::{DeviceStop, check_cell};
 use std::alloc::Global;
 use text_lines::split_line;
 
@@ -46,7 +47,7 @@ pub(crate) fn run<P: Platform, T: Tape, I: Source, O: Sink, L: Sink>(
     ensures refused { P.tells → (IsServedImage (P.history platform.old).present → ⊥) → IfErr result (λ stop. IsRefusal stop)
         × (IsOk result → ⊥) }
     ensures unserved { P.tells → IfErr result (λ stop. status_of stop ≡ 8
-        → IsUnserved tape.old tape.new input.old input.new ledger.old ledger.new (P.head platform.old) (P.head platform.new)
+        → IsUnserved (damage_line DeviceStop.BadRoot) tape.old tape.new input.old input.new ledger.old ledger.new (P.head platform.old) (P.head platform.new)
         (O.written output.old) (O.written output.new) (P.history platform.old) (P.history platform.new)) }
     ensures keeps { KeepsOn P.tells (T.drawn tape.old) (T.drawn tape.new) (L.written ledger.old) (L.written ledger.new) None
         (P.history platform.old) (P.history platform.new) (IsOk result) (λ keys. ⊤) }

@@ -1,21 +1,6 @@
 //! Why a run stops before the end of its input.
 
-/// Why the device could not serve a line.
-#[derive(Clone, Copy, Debug, PartialEq, Eq)]
-pub(crate) enum DeviceStop {
-    /// The medium or the root cell failed.
-    Platform,
-    /// The tape gave no key.
-    Tape,
-    /// The ledger failed.
-    Ledger,
-    /// The cell is full, and not with a root record that is served.
-    BadRoot,
-    /// The page at this address holds no record that fits its place.
-    BadRecord { addr: u64 },
-    /// No memory was given.
-    Memory,
-}
+use session_calls::DeviceStop;
 
 /// Why a run stops.
 #[derive(Clone, Copy, Debug, PartialEq, Eq)]

@@ -102,7 +102,7 @@ reply_answers P T platform platform_now tape tape_now ledger ledger_now session 
       | inl e ↦ elim (cases_lt (P.capacity platform - P.head platform) (needed_by session)) [
         | inl few ↦
             let f = full e few in
-            subst Goal (sym f.4) record { is_needed = refl; is_free = refl; short = few; same = (f.0, f.1, f.2, f.3) }
+            subst Goal (sym f.4) record { touched = e; is_needed = refl; is_free = refl; short = few; same = (f.0, f.1, f.2, f.3) }
         | inr many ↦
             let r = raised e many in
             subst Goal (sym r.replied) (raised_number P T platform platform_now tape tape_now ledger ledger_now session now reply now_open e many r)

@@ -61,8 +61,9 @@ pub record HasNumber {S R W : Type 0} (P : PlatformGhosts S) (platform platform_
   pub idle : is_touched session ≡ false → AreSame platform platform_now tape tape_now ledger ledger_now session now
   pub next : is_touched session ≡ true → number_of now ≡ number_of session + 1
 
--- fewer pages are free than a commit needs: all is as it was
+-- something was changed, and fewer pages are free than a commit needs: all is as it was
 pub record IsShort {S R W : Type 0} (P : PlatformGhosts S) (platform platform_now : S) (tape tape_now : R) (ledger ledger_now : W) (session now : Session) (needed free : ℕ) : Type 0 where
+  pub touched : is_touched session ≡ true
   pub is_needed : needed ≡ needed_by session
   pub is_free : free ≡ P.capacity platform - P.head platform
   pub short : free < needed

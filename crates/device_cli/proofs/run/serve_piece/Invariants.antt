@@ -1,7 +1,8 @@
 use Rattle.std.proofs.Common.{ℕ, List, ◌++◌, length}
 use Rattle.std.specs.Prelude.{IfSome}
-use Rattle.device_cli.specs.Desk.{IsReady, IsMounted}
-use Rattle.device_cli.specs.Run.{counts, NoneFell}
+use Rattle.device_cli.specs.Desk.{IsReady}
+use Rattle.session_calls.specs.Damage.{IsMounted}
+use Rattle.session_calls.specs.Blame.{counts, NoneFell}
 use Rattle.device_cli.specs.Kept.{IsPending}
 use Rattle.device_cli.specs.World.{world_of}
 use Rattle.sdbt_base.specs.Arrays.{State}
