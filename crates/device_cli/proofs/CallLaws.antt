@@ -30,7 +30,8 @@ use Rattle.session_calls.specs.declared.stops.DeviceStop.TheVariants as stops
 use Rattle.session_calls.proofs.StateLaws.{at_array}
 use Rattle.device_cli.specs.Added.{left_by}
 use Rattle.device_cli.specs.Desk.{After}
-use Rattle.device_cli.specs.Replied.{Halts, IsSound, Serves}
+use Rattle.device_cli.specs.Replied.{Halts, Serves}
+use Rattle.line_run.specs.Stops.{IsSound}
 use Rattle.device_cli.specs.Represents.{Represents}
 use Rattle.device_cli.specs.World.{World, is_full, needed_of, world_of}
 use Rattle.device_cli.specs.declared.desk.Desk.{Desk}

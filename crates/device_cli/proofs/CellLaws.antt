@@ -11,8 +11,9 @@ use Rattle.device_session.proofs.InsertLaws.{open_later}
 use Rattle.sdbt_base.specs.Arrays.{State}
 use Rattle.platform.specs.Image.{Image}
 use Rattle.device_course.specs.States.{IsAt}
-use Rattle.device_cli.specs.Kept.{IsKept}
-use Rattle.device_cli.specs.Replied.{Handled, no_line}
+use Rattle.line_run.specs.Pending.{IsPending}
+use Rattle.device_cli.specs.Replied.{Handled}
+use Rattle.line_run.specs.Puts.{no_line}
 use Rattle.device_cli.specs.Represents.{Stood}
 use Rattle.device_cli.specs.World.{World, needed_of}
 use Rattle.session_calls.specs.declared.stops.DeviceStop.{DeviceStop}
@@ -44,15 +45,15 @@ handled_through tells old new last lines written written_now h told entry at =
     let a = h.replied.answered told entry (needed_of old.session) at (omega arith) in
     (a.now, a.ends.0)
 
-kept_text : (kept : Option (List ℕ)) → (text : List ℕ) × IsKept kept text
-kept_text None = (replicate 8301 zero, omega (arith, length-replicate {A = ℕ} 8301 zero))
-kept_text (Some bytes) = (bytes, refl)
+pending_text : (pending : Option (List ℕ)) → (text : List ℕ) × IsPending pending text
+pending_text None = (replicate 8301 zero, omega (arith, length-replicate {A = ℕ} 8301 zero))
+pending_text (Some bytes) = (bytes, refl)
 
--- and after one line, whatever is kept of it
-pub answered_through : (tells : Type 0) (old new : World) (kept written written_now : Option (List ℕ)) → ((text : List ℕ) → IsKept kept text → Handled tells old new no_line (Ok tt) (text ∷ []) written written_now)
+-- and after one line, whatever is pending of it
+pub answered_through : (tells : Type 0) (old new : World) (pending written written_now : Option (List ℕ)) → ((text : List ℕ) → IsPending pending text → Handled tells old new no_line (Ok tt) (text ∷ []) written written_now)
     → tells → (entry : State) → Stood old entry → (now : State) × Stood new now
-answered_through tells old new kept written written_now handled told entry at =
-    let text = kept_text kept in
+answered_through tells old new pending written written_now handled told entry at =
+    let text = pending_text pending in
     handled_through tells old new no_line (text.0 ∷ []) written written_now (handled text.0 text.1) told entry at
 
 -- a session that is open stays so as pages are added

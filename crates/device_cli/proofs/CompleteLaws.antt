@@ -17,10 +17,10 @@ use Rattle.device_terms.specs.Served.{IsServedImage}
 use Rattle.device_cli.specs.World.{World}
 use Rattle.device_cli.specs.Represents.{StandsFor}
 use Rattle.device_cli.specs.Pages.{updates_after, TurnOn, AnswersOn}
-use Rattle.device_cli.specs.Run.{HasCause, IsStatus, Took, TookUntil}
+use Rattle.device_cli.specs.Run.{IsStatus, Took}
+use Rattle.line_run.specs.Stops.{HasCause, TookUntil, Ending, exit_of}
 use Rattle.session_calls.specs.Blame.{Counts, NoneRose}
-use Rattle.device_cli.specs.Replied.{Ending, exit_of}
-use Rattle.device_cli.specs.declared.stop.Stop.TheVariants as stops
+use Rattle.line_run.specs.declared.stop.Stop.TheVariants as stops
 use Rattle.session_calls.specs.declared.stops.DeviceStop.TheVariants as device
 use Rattle.device_cli.proofs.RanLaws.{Took-of}
 use Rattle.device_cli.specs.Ran.{AnswersScript, AnswersFrom, IsAmple, IsComplete}

@@ -7,22 +7,20 @@ use Rattle.platform.specs.Image.{Image}
 use Rattle.platform.specs.History.{During}
 use Rattle.platform.proofs.Moments.{Turns-not}
 use Rattle.page_store.proofs.StandsLaws.{stands_during}
-use Rattle.sdbt_base.specs.Arrays.{Blocks, content_of, closed}
+use Rattle.sdbt_base.specs.Arrays.{Blocks, content_of, closed, Device, Session as OpenSession, State, new_device, session_on, committed, written, unmapped}
 use Rattle.device_session.specs.Open.{is_touched}
 use Rattle.device_session.specs.Holds.{Holds}
 use Rattle.device_session.specs.Sessions.{Session}
-use Rattle.script_lang.specs.Commands.{Command}
-use Rattle.script_lang.specs.Commands.{Format, Mount, Read, Write, Trim, Commit, Drop, Erase, Seize}
+use Rattle.script_lang.specs.Commands.{Command, Format, Mount, Read, Write, Trim, Commit, Drop, Erase, Seize}
 use Rattle.script_lang.specs.Commands as commands
-use Rattle.script_lang.specs.Replies.{Reply}
-use Rattle.script_lang.specs.Replies.{Formatted, Mounted, Content, Done, Committed, Dropped, Erased, Unmounted, AlreadyMounted, NotEmpty, NoDevice, Range, Full}
+use Rattle.script_lang.specs.Replies.{Reply, Formatted, Mounted, Content, Done, Committed, Dropped, Erased, Unmounted, AlreadyMounted, NotEmpty, NoDevice, Range, Full}
 use Rattle.script_lang.specs.Replies as replies
-use Rattle.sdbt_base.specs.Arrays.{Device, Session as OpenSession, State, new_device, session_on, committed, written, unmapped}
 use Rattle.script_lang.specs.Arrays.{content_reply, in_limits}
 use Rattle.script_lang.specs.Answers.{answer, none_counted}
 use Rattle.device_cli.specs.World.{World, is_full, needed_of}
 use Rattle.device_cli.specs.Pages.{needed_for}
-use Rattle.device_cli.specs.Replied.{Serves, Halts, IsSound}
+use Rattle.device_cli.specs.Replied.{Serves, Halts}
+use Rattle.line_run.specs.Stops.{IsSound}
 use Rattle.device_course.specs.States.{IsSessionOf}
 use Rattle.device_course.specs.Marks.{Leaves}
 use Rattle.device_cli.specs.Represents.{StandsFor, Represents}

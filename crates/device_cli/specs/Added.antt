@@ -5,8 +5,8 @@ use Rattle.script_lang.specs.Commands.{Command}
 use Rattle.script_lang.specs.Commands.{Commit}
 use Rattle.script_lang.specs.Replies.{Reply}
 use Rattle.device_cli.specs.Pages.{needed_for, IfNext}
-use Rattle.device_cli.specs.declared.stop.Stop.{Stop}
-use Rattle.device_cli.specs.declared.stop.Stop.TheVariants as stops
+use Rattle.line_run.specs.declared.stop.Stop.{Stop}
+use Rattle.line_run.specs.declared.stop.Stop.TheVariants as stops
 use Rattle.session_calls.specs.declared.stops.DeviceStop.{DeviceStop}
 use Rattle.session_calls.specs.declared.stops.DeviceStop.TheVariants as device
 

@@ -12,16 +12,16 @@ use Rattle.cert_checker.specs.First.{First}
 use Rattle.cert_checker.specs.Sound.{IsVerdict}
 use Rattle.ledger_check.specs.Judging.{FromInput, IsWhole}
 use Rattle.device_terms.specs.Served.{IsServedImage}
-use Rattle.device_cli.specs.Replied.{damage_line}
+use Rattle.line_run.specs.Puts.{damage_line}
 use Rattle.device_cli.specs.Handed.{Handed}
 use Rattle.session_calls.specs.Cells.{IsInCell}
-use Rattle.device_cli.specs.Run.{status_of}
+use Rattle.line_run.specs.Stops.{status_of}
 use Rattle.session_calls.specs.Blame.{NoneRose}
 use Rattle.device_cli.specs.declared.checking.Finding.{Finding}
 use Rattle.device_cli.specs.declared.checking.Finding.TheVariants as findings
 use Rattle.session_calls.specs.declared.stops.DeviceStop.TheVariants as device
-use Rattle.device_cli.specs.declared.stop.Stop.{Stop}
-use Rattle.device_cli.specs.declared.stop.Stop.TheVariants as stops
+use Rattle.line_run.specs.declared.stop.Stop.{Stop}
+use Rattle.line_run.specs.declared.stop.Stop.TheVariants as stops
 
 -- the line that says what was found
 unfoldable pub finding_line : Finding → List ℕ

@@ -9,9 +9,9 @@ use Rattle.script_lang.specs.Commands.{Command}
 use Rattle.device_cli.specs.Added.{left_by}
 use Rattle.device_cli.specs.Pages.{needed_for}
 use Rattle.device_cli.specs.World.{needed_of}
-use Rattle.device_cli.specs.Run.{IsOfLine}
-use Rattle.device_cli.specs.declared.stop.Stop.{Stop}
-use Rattle.device_cli.specs.declared.stop.Stop.TheVariants as lines
+use Rattle.line_run.specs.Stops.{IsOfLine}
+use Rattle.line_run.specs.declared.stop.Stop.{Stop}
+use Rattle.line_run.specs.declared.stop.Stop.TheVariants as lines
 use Rattle.session_calls.specs.declared.stops.DeviceStop.{DeviceStop}
 use Rattle.session_calls.specs.declared.stops.DeviceStop.TheVariants as stops
 use Rattle.device_session.specs.Open.{IsOpen}

@@ -3,7 +3,6 @@ pub mod Words
 pub mod Checks
 pub mod Seizing
 pub mod Desk
-pub mod Kept
 pub mod Run
 pub mod Replied
 pub mod Ran

@@ -14,12 +14,12 @@ use Rattle.device_cli.specs.Looks.{IsLook, IsWarmFor, block_read, most_reads}
 use Rattle.device_cli.specs.Pages.{updates_after}
 use Rattle.device_cli.specs.Replied.{Serves, outcome}
 use Rattle.device_cli.specs.Represents.{Represents}
-use Rattle.device_cli.specs.Run.{IsBlamedOn}
+use Rattle.line_run.specs.Stops.{IsBlamedOn}
 use Rattle.session_calls.specs.Blame.{counts}
 use Rattle.device_cli.specs.Seen.{Saw}
 use Rattle.device_cli.specs.World.{World, world_of, needed_of, AreEnough}
 use Rattle.device_cli.specs.declared.desk.Desk.{Desk}
-use Rattle.device_cli.specs.declared.stop.Stop.{Stop}
+use Rattle.line_run.specs.declared.stop.Stop.{Stop}
 use Rattle.session_calls.specs.declared.stops.DeviceStop.{DeviceStop}
 
 -- each moment keeps the keys that the image kept before, with those that were drawn, what was deleted stays so, and the cell can be served; and the

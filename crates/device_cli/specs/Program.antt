@@ -8,7 +8,7 @@ use Rattle.device_cli.specs.Given.{HasBadRecord}
 use Rattle.device_cli.specs.Handed.{Handed}
 use Rattle.device_cli.specs.Ran.{AnswersScript, IsAmple, IsComplete}
 use Rattle.device_course.specs.Reaching.{DisclosesTree}
-use Rattle.device_cli.specs.Replied.{damage_line}
+use Rattle.line_run.specs.Puts.{damage_line}
 use Rattle.device_cli.specs.Represents.{StandsFor}
 use Rattle.device_cli.specs.Run.{IsStatus, IsBlamedAt, Took}
 use Rattle.session_calls.specs.Blame.{NoneRose}

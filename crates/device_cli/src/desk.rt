@@ -20,7 +20,7 @@ use session_calls::{
 };
 use std::alloc::Global;
 
-/// How many nodes a session keeps in memory.
+/// How many nodes the cache of a session has room for.
 const CACHED_NODES: usize = 256;
 
 /// What a run keeps between lines: the session, if there is one, and the buffers that each line uses again.

@@ -16,11 +16,8 @@ ghost use Rattle.device_cli.specs.Working.{Working};
 mod checking;
 mod desk;
 mod given;
-mod pending;
 mod run;
 mod seizing;
-mod stop;
-mod texts;
 mod words;
 mod working;
 

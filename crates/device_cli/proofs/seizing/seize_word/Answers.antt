@@ -4,7 +4,7 @@ use Rattle.std.specs.Prelude.{map, string_bytes}
 use Rattle.device_cli.specs.Seizing.{IsRefused, Seizes}
 use Rattle.session_calls.specs.declared.stops.DeviceStop.{DeviceStop}
 use Rattle.session_calls.specs.declared.stops.DeviceStop.TheVariants as device
-use Rattle.device_cli.specs.declared.stop.Stop.{Stop}
+use Rattle.line_run.specs.declared.stop.Stop.{Stop}
 use Rattle.device_cli.proofs.SeizeWordLaws.{stopped_whole, stopped_part}
 use Rattle.device_cli.proofs.seizing.seize_word.Goals as goal
 

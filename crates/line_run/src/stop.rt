@@ -2,9 +2,9 @@
 
 use session_calls::DeviceStop;
 
-/// Why a run stops.
+/// Why a run stops before its input ends.
 #[derive(Clone, Copy, Debug, PartialEq, Eq)]
-pub(crate) enum Stop {
+pub enum Stop {
     /// The input failed.
     Source,
     /// The output failed.
@@ -17,10 +17,10 @@ pub(crate) enum Stop {
 
 impl Stop {
     ghost use Rattle.std.specs.Prelude.{◌≡◌};
-    ghost use Rattle.device_cli.specs.Run.{status_of};
+    ghost use Rattle.line_run.specs.Stops.{status_of};
 
     /// The exit status.
-    pub(crate) fn status(self) -> u8
+    pub fn status(self) -> u8
         ensures { result ≡ status_of self }
     {
         match self {
