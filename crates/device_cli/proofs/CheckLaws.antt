@@ -17,14 +17,16 @@ use Rattle.cert_checker.specs.First.{First}
 use Rattle.cert_checker.proofs.FirstLaws.{none_first}
 use Rattle.ledger_check.specs.Judging.{IsWhole}
 use Rattle.device_terms.specs.Served.{IsServedCell, IsServedImage}
-use Rattle.device_cli.specs.Run.{Counts, NoneRose, HasCause}
-use Rattle.device_cli.specs.Replied.{damage_line}
-use Rattle.device_cli.specs.Checks.{Checks, IsAcceptable, IsInCell, IsSaid, IsSo, finding_line, status_at, status_of_finding}
+use Rattle.line_run.specs.Stops.{HasCause}
+use Rattle.session_calls.specs.Blame.{Counts, NoneRose}
+use Rattle.line_run.specs.Puts.{damage_line}
+use Rattle.device_cli.specs.Checks.{Checks, IsAcceptable, IsSaid, IsSo, finding_line, status_at, status_of_finding}
+use Rattle.session_calls.specs.Cells.{IsInCell}
 use Rattle.device_cli.specs.declared.checking.Finding.{Finding}
 use Rattle.device_cli.specs.declared.checking.Finding.TheVariants as findings
-use Rattle.device_cli.specs.declared.stop.DeviceStop.TheVariants as device
-use Rattle.device_cli.specs.declared.stop.Stop.{Stop}
-use Rattle.device_cli.specs.declared.stop.Stop.TheVariants as stops
+use Rattle.session_calls.specs.declared.stops.DeviceStop.TheVariants as device
+use Rattle.line_run.specs.declared.stop.Stop.{Stop}
+use Rattle.line_run.specs.declared.stop.Stop.TheVariants as stops
 
 -- ---- the cell
 

@@ -1,32 +1,27 @@
 -- A run with room for 42 pages a line, a short input and no fault answers each line, and none that too few pages were free.
-use Rattle.std.proofs.Common.{◌≡◌, ◌≢◌, ℕ, ◌+◌, ◌-◌, ◌*◌, ◌≤◌, Bool, true, false, List, [], ◌∷◌, ◌++◌, Option, None, Some, length, ◌⊎◌, inl, inr, refl, sym, ◌∙◌, subst, ap, arith, length-append}
-use Rattle.std.specs.Prelude.{All, ◌&&◌, nat_lt, flat_map}
+use Rattle.std.proofs.Common.{◌≡◌, ◌≢◌, ℕ, ◌+◌, ◌-◌, ◌*◌, ◌≤◌, Bool, true, false, List, [], ◌∷◌, ◌++◌, Option, None, Some, length, ◌⊎◌, inl, inr, refl, sym, ◌∙◌, subst, ap, arith, length-append, Ok, Err}
+use Rattle.std.specs.Prelude.{All, ◌&&◌, nat_lt, flat_map, IfErr}
 use Rattle.std.proofs.lemmas.Bool.{cases_Bool}
 use Rattle.std.proofs.lemmas.Grind.{common_steps}
 use Rattle.std.proofs.lemmas.List.{append-nil}
 use Rattle.std.proofs.lemmas.List.Elements.{All-nil, All-cons}
 use Rattle.sdbt_base.specs.Told.{Gave, Got, IsAtEnd}
 use Rattle.text_lines.specs.Lines.{lines_of}
-use Rattle.script_lang.specs.Replies.{line_of}
+use Rattle.script_lang.specs.Replies.{line_of, Reply, Full}
 use Rattle.script_lang.specs.Arrays.{Counted, in_limits, needs_room, step}
-use Rattle.sdbt_base.specs.Arrays.{State, closed}
+use Rattle.sdbt_base.specs.Arrays.{State, closed, Device, Session as OpenSession}
 use Rattle.script_lang.specs.Answers.{Answers, answer}
-use Rattle.script_lang.specs.Commands.{Command}
-use Rattle.script_lang.specs.Commands.{Format, Mount, Read, Write, Trim, Commit, Drop, Erase, Seize}
+use Rattle.script_lang.specs.Commands.{Command, Format, Mount, Read, Write, Trim, Commit, Drop, Erase, Seize}
 use Rattle.script_lang.specs.Commands as commands
-use Rattle.sdbt_base.specs.Arrays.{Device, Session as OpenSession}
-use Rattle.script_lang.specs.Replies.{Reply}
-use Rattle.script_lang.specs.Replies.{Full}
 use Rattle.device_terms.specs.Served.{IsServedImage}
 use Rattle.device_cli.specs.World.{World}
 use Rattle.device_cli.specs.Represents.{StandsFor}
 use Rattle.device_cli.specs.Pages.{updates_after, TurnOn, AnswersOn}
-use Rattle.std.proofs.Common.{Ok, Err}
-use Rattle.std.specs.Prelude.{IfErr}
-use Rattle.device_cli.specs.Run.{Counts, NoneRose, HasCause, IsStatus, Took, TookUntil}
-use Rattle.device_cli.specs.Replied.{Ending, exit_of}
-use Rattle.device_cli.specs.declared.stop.Stop.TheVariants as stops
-use Rattle.device_cli.specs.declared.stop.DeviceStop.TheVariants as device
+use Rattle.device_cli.specs.Run.{IsStatus, Took}
+use Rattle.line_run.specs.Stops.{HasCause, TookUntil, Ending, exit_of}
+use Rattle.session_calls.specs.Blame.{Counts, NoneRose}
+use Rattle.line_run.specs.declared.stop.Stop.TheVariants as stops
+use Rattle.session_calls.specs.declared.stops.DeviceStop.TheVariants as device
 use Rattle.device_cli.proofs.RanLaws.{Took-of}
 use Rattle.device_cli.specs.Ran.{AnswersScript, AnswersFrom, IsAmple, IsComplete}
 use Rattle.device_cli.proofs.PageLaws.{answers_of}

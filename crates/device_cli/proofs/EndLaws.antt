@@ -16,12 +16,12 @@ use Rattle.device_cli.specs.Checks.{Checked, Checks, status_at}
 use Rattle.device_cli.specs.Handed.{Handed}
 use Rattle.device_cli.specs.Program.{ServesScript, Forgets}
 use Rattle.device_cli.specs.Ran.{Ran, AnswersScript, IsComplete}
-use Rattle.device_cli.specs.Replied.{Ending, damage_line, exit_of}
-use Rattle.device_cli.specs.Run.{HasCause}
+use Rattle.line_run.specs.Stops.{Ending, exit_of, HasCause}
+use Rattle.line_run.specs.Puts.{damage_line}
 use Rattle.device_cli.specs.Seizing.{Seizing, Seizes}
 use Rattle.device_cli.specs.World.{World, world}
 use Rattle.device_cli.specs.declared.checking.Finding.{Finding}
-use Rattle.device_cli.specs.declared.stop.Stop.{Stop}
+use Rattle.line_run.specs.declared.stop.Stop.{Stop}
 use Rattle.device_cli.proofs.CheckLaws.{complete_check, image_stays}
 use Rattle.device_cli.proofs.CompleteLaws.{complete_ending}
 use Rattle.device_cli.proofs.MappedLaws.{seizes_maps}

@@ -11,11 +11,11 @@ use Rattle.device_cli.specs.Pages.{updates_after}
 use Rattle.device_cli.specs.Parts.{added_by}
 use Rattle.device_cli.specs.Replied.{outcome}
 use Rattle.device_cli.specs.World.{needed_of, AreEnough}
-use Rattle.device_cli.specs.declared.stop.DeviceStop.{DeviceStop}
+use Rattle.session_calls.specs.declared.stops.DeviceStop.{DeviceStop}
 
 -- a session that needs as many pages as before, or 41 more after an update
-pub enough_kept : (held : Option Session) (session now : Session) (updates : ℕ) → held ≡ Some session → needed_by now ≡ needed_by session → AreEnough held updates → AreEnough (Some now) updates
-enough_kept held session now updates is same enough = omega (arith, same, enough, ap (λ (s : Option Session). needed_of s) is)
+pub enough_less : (held : Option Session) (session now : Session) (updates : ℕ) → held ≡ Some session → needed_by now ≤ needed_by session → AreEnough held updates → AreEnough (Some now) updates
+enough_less held session now updates is less enough = omega (arith, less, enough, ap (λ (s : Option Session). needed_of s) is)
 
 pub enough_more : (held : Option Session) (session now : Session) (updates : ℕ) → held ≡ Some session → needed_by now ≤ needed_by session + 41 → AreEnough held updates → AreEnough (Some now) (updates + 1)
 enough_more held session now updates is more enough = omega (arith, more, enough, ap (λ (s : Option Session). needed_of s) is)

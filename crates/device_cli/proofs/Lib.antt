@@ -1,6 +1,6 @@
 pub mod CellLaws
+pub mod CallLaws
 pub mod Choices
-pub mod RunLaws
 pub mod PageLaws
 pub mod TurnLaws
 pub mod EnoughLaws

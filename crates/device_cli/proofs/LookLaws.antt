@@ -1,12 +1,11 @@
 -- How the page reads of lines that only look add up.
-use Rattle.std.proofs.Common.{◌≡◌, ℕ, ◌+◌, ◌<◌, ◌≤◌, ◌==◌, List, [], ◌∷◌, ◌++◌, Option, None, Some, Result, Ok, true, false, inl, inr, refl, sym, subst, arith, eqb-true}
-use Rattle.std.specs.Prelude.{nat_lt}
+use Rattle.std.proofs.Common.{◌≡◌, ℕ, ◌+◌, ◌<◌, ◌≤◌, ◌==◌, List, [], ◌∷◌, ◌++◌, Option, None, Some, Result, Ok, inl, inr, refl, sym, subst, arith, eqb-true}
 use Rattle.std.proofs.lemmas.Bool.{cases_Bool}
-use Rattle.std.proofs.lemmas.Grind.{common_steps}
 use Rattle.platform.specs.declared.platforms.Platform.{Ghosts}
 use Rattle.device_session.specs.Open.{blocks_of}
-use Rattle.device_session.specs.Reading.{ReadsFew, KeepsWayTo, room_of}
-use Rattle.device_session.specs.declared.refusals.ReadRefusal.{ReadRefusal}
+use Rattle.device_session.specs.Reading.{KeepsWayTo, room_of}
+use Rattle.session_calls.specs.Goes.{ReadsPages}
+use Rattle.session_calls.specs.declared.stops.DeviceStop.{DeviceStop}
 use Rattle.script_lang.specs.Commands.{Command}
 use Rattle.script_lang.specs.Grammar.{Spells, IsBad}
 use Rattle.script_lang.proofs.CommandLaws.{one_command}
@@ -96,31 +95,22 @@ has_room session (Some block) warm = warm.0
 pub warm_mounted : (session : Session) → room_of session ≡ 256 → IsWarmFor (Some session) None
 warm_mounted session is = omega (arith, is)
 
-is_less : (a b : ℕ) → nat_lt a b ≡ true → a < b
-is_less a b h = grind (arith, common_steps, h)
-
-is_most : (a b : ℕ) → nat_lt a b ≡ false → b ≤ a
-is_most a b h = grind (arith, common_steps, h)
-
 -- what a read costs behind another one
-pub read_cost : {S : Type 0} (P : Ghosts S) (block : ℕ) (platform after : S) (session now : Session) (result : Result (Unit {0}) ReadRefusal) (before : Option ℕ) → P.tells → session.grove.level ≤ 20
-    → IsWarmFor (Some session) before → ReadsFew P block platform after session now result → P.reads after ≤ P.reads platform + most_for before block
-read_cost P block platform after session now result None tells low warm few = omega (arith, few.most tells, low)
-read_cost P block platform after session now result (Some other) tells low warm few =
+pub read_cost : {S : Type 0} (P : Ghosts S) (block : ℕ) (platform after : S) (session now : Session) (result : Result (Unit {0}) DeviceStop) (before : Option ℕ) → P.tells → session.grove.level ≤ 20
+    → block < blocks_of session → IsWarmFor (Some session) before → ReadsPages P block platform after session now result → P.reads after ≤ P.reads platform + most_for before block
+read_cost P block platform after session now result None tells low within warm few = omega (arith, few.most tells, low)
+read_cost P block platform after session now result (Some other) tells low within warm few =
     elim (cases_Bool (other == block)) [
       | inl same ↦ rw same (again (eqb-true other block same))
       | inr apart ↦ rw apart (omega (arith, few.most tells, low))
     ]
   where
     again : other ≡ block → P.reads after ≤ P.reads platform + 1
-    again is = elim (cases_Bool (nat_lt block (blocks_of session))) [
-      | inl within ↦ few.warm tells (subst (λ (b : ℕ). KeepsWayTo session b) is (warm.1 (omega (arith, is, is_less block (blocks_of session) within))))
-      | inr beyond ↦ omega (arith, few.none tells (is_most block (blocks_of session) beyond))
-    ]
+    again is = few.warm tells (subst (λ (b : ℕ). KeepsWayTo session b) is (warm.1 (omega (arith, is, within))))
 
 -- and what it leaves
 pub warm_after : {S : Type 0} (P : Ghosts S) (block : ℕ) (platform after : S) (session now : Session) (before : Option ℕ) → P.tells → now.grove.level ≤ 20
-    → IsWarmFor (Some session) before → room_of now ≡ room_of session → ReadsFew P block platform after session now (Ok tt) → IsWarmFor (Some now) (Some block)
+    → IsWarmFor (Some session) before → room_of now ≡ room_of session → ReadsPages P block platform after session now (Ok tt) → IsWarmFor (Some now) (Some block)
 warm_after P block platform after session now before tells low warm same few =
     let room : 20 ≤ room_of now = omega (arith, same, has_room session before warm) in
     (room, λ within. few.fills tells (omega (arith, room, low)))

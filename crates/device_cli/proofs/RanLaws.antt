@@ -12,15 +12,17 @@ use Rattle.device_course.specs.Marks.{Leaves}
 use Rattle.device_cli.specs.Represents.{Stood}
 use Rattle.device_cli.proofs.RepliedLaws.{made_idle, Replied-idle, Handled-then, count-then}
 use Rattle.device_cli.proofs.PassLaws.{AreMarks-none}
-use Rattle.script_lang.specs.Replies.{Reply}
-use Rattle.device_cli.specs.Run.{TookUntil, Took}
-use Rattle.device_cli.specs.Replied.{Ending, IsBehind, IsDamageAt, IsAhead, IsSound, Answered, no_line, damage_line, exit_of}
+use Rattle.script_lang.specs.Replies.{line_of, Reply}
+use Rattle.device_cli.specs.Run.{Took}
+use Rattle.line_run.specs.Stops.{TookUntil, Ending, IsSound, exit_of}
+use Rattle.device_cli.specs.Replied.{IsDamageAt, IsAhead, Answered}
+use Rattle.line_run.specs.Puts.{IsBehind, no_line, damage_line}
 use Rattle.device_cli.specs.Ran.{Ran}
-use Rattle.device_cli.specs.declared.stop.Stop.{Stop}
-use Rattle.device_cli.specs.declared.stop.Stop.TheVariants as stops
-use Rattle.device_cli.specs.declared.stop.DeviceStop.{DeviceStop}
-use Rattle.device_cli.specs.declared.stop.DeviceStop.TheVariants as device
-use Rattle.device_cli.proofs.RunLaws.{TookUntil-line}
+use Rattle.line_run.specs.declared.stop.Stop.{Stop}
+use Rattle.line_run.specs.declared.stop.Stop.TheVariants as stops
+use Rattle.session_calls.specs.declared.stops.DeviceStop.{DeviceStop}
+use Rattle.session_calls.specs.declared.stops.DeviceStop.TheVariants as device
+use Rattle.line_run.proofs.StopLaws.{TookUntil-line}
 
 -- the same after the platform stood still
 pub Ran-after : (tells : Type 0) (old mid new : World) (last : DeviceStop → List ℕ) (ending : Ending) (left left_now a b : Option (List ℕ))
@@ -42,7 +44,7 @@ Ran-after tells old mid new last ending left left_now a b later same unread held
 }
 
 -- a run that ends otherwise than by a stop of the device has no last line
-IsBehind-other : (ending : Ending) (part : List ℕ) → ((stop : DeviceStop) → ending ≡ Err (stops.Device stop) → ⊥) → IsBehind no_line part ending → IsBehind damage_line part ending
+IsBehind-other : (ending : Ending) (part : List ℕ) → ((stop : DeviceStop) → ending ≡ Err (stops.Device stop) → ⊥) → IsBehind line_of no_line part ending → IsBehind line_of damage_line part ending
 IsBehind-other (Ok done) part other h = h
 IsBehind-other (Err stops.Source) part other h = h
 IsBehind-other (Err stops.Limit) part other h = h

@@ -6,49 +6,50 @@ use Rattle.sdbt_base.proofs.ToldLaws.{Gave-nothing, Gave-then}
 use Rattle.text_lines.specs.Lines.{whole_lines_of, rest_of, lines_of, last_line as line_at_end}
 use Rattle.device_cli.specs.World.{World}
 use Rattle.text_lines.proofs.LineLaws.{whole_lines_of-append, rest_of-append, lines_of-whole}
-use Rattle.device_cli.specs.Run.{IsOfLine, TookUntil}
-use Rattle.device_cli.specs.Kept.{IsKept, IsPending}
-use Rattle.device_cli.specs.Replied.{Ending, Handled, no_line}
-use Rattle.device_cli.specs.Ran.{Ran, AreLines, HaveCome, IsPrompt}
-use Rattle.device_cli.specs.declared.stop.Stop.{Stop}
-use Rattle.device_cli.specs.declared.stop.Stop.TheVariants as stops
-use Rattle.device_cli.proofs.RunLaws.{TookUntil-line}
+use Rattle.line_run.specs.Stops.{IsOfLine, TookUntil, Ending}
+use Rattle.line_run.specs.Pending.{IsPending, IsUnfinished}
+use Rattle.device_cli.specs.Replied.{Handled}
+use Rattle.line_run.specs.Puts.{no_line, AreLines, HaveCome, IsPrompt}
+use Rattle.device_cli.specs.Ran.{Ran}
+use Rattle.line_run.specs.declared.stop.Stop.{Stop}
+use Rattle.line_run.specs.declared.stop.Stop.TheVariants as stops
+use Rattle.line_run.proofs.StopLaws.{TookUntil-line}
 use Rattle.std.proofs.lemmas.List.{append-nil}
 use Rattle.device_cli.proofs.RepliedLaws.{Handled-nothing, Handled-then, Handled-cut, Handled-lines, count-lines, count-then, count-cut}
 
--- so much was taken that with the room that is left it is the limit; the whole lines in it are handled, and this is kept of the rest
-pub record IsReading (tells : Type 0) (old new : World) (left left_now written written_now : Option (List ℕ)) (kept : Option (List ℕ)) (room : ℕ) : Type 0 where
+-- so much was taken that with the room that is left it is the limit; the whole lines in it are handled, and this is pending of the rest
+pub record IsReading (tells : Type 0) (old new : World) (left left_now written written_now : Option (List ℕ)) (pending : Option (List ℕ)) (room : ℕ) : Type 0 where
   pub taken : List ℕ
   pub gave : Gave left taken left_now
   pub most : length taken + room ≡ 2 ^ 32
-  pub pending : IsPending kept (rest_of taken)
+  pub unfinished : IsUnfinished pending (rest_of taken)
   pub handled : Handled tells old new no_line (Ok tt) (whole_lines_of taken) written written_now
 
-pub IsReading-start : (tells : Type 0) (w : World) (left written kept : Option (List ℕ)) (room : ℕ) → w.head ≤ w.capacity → IsKept kept [] → room ≡ 2 ^ 32
-    → IsReading tells w w left left written written kept room
+pub IsReading-start : (tells : Type 0) (w : World) (left written pending : Option (List ℕ)) (room : ℕ) → w.head ≤ w.capacity → IsPending pending [] → room ≡ 2 ^ 32
+    → IsReading tells w w left left written written pending room
 unfolding whole_lines_of rest_of
-IsReading-start tells w left written kept room fits clear all = record {
+IsReading-start tells w left written pending room fits clear all = record {
   taken = [];
   gave = Gave-nothing left;
   most = omega (arith, all);
-  pending = record { is_kept = clear; feedless = tt };
+  unfinished = record { is_pending = clear; feedless = tt };
   handled = Handled-nothing tells w no_line written fits;
 }
 
 -- the lines of one piece more
-IsReading-lines : (tells : Type 0) (old mid new : World) (ending : Ending) (left left_now a b c kept : Option (List ℕ)) (room : ℕ) (piece : List ℕ)
-    → (r : IsReading tells old mid left left_now a b kept room) → Handled tells mid new no_line ending (whole_lines_of (rest_of r.taken ++ piece)) b c
+IsReading-lines : (tells : Type 0) (old mid new : World) (ending : Ending) (left left_now a b c pending : Option (List ℕ)) (room : ℕ) (piece : List ℕ)
+    → (r : IsReading tells old mid left left_now a b pending room) → Handled tells mid new no_line ending (whole_lines_of (rest_of r.taken ++ piece)) b c
     → Handled tells old new no_line ending (whole_lines_of (r.taken ++ piece)) a c
-IsReading-lines tells old mid new ending left left_now a b c kept room piece r handled =
+IsReading-lines tells old mid new ending left left_now a b c pending room piece r handled =
     Handled-lines tells old new no_line ending (whole_lines_of r.taken ++ whole_lines_of (rest_of r.taken ++ piece)) (whole_lines_of (r.taken ++ piece)) a c (sym (whole_lines_of-append r.taken piece))
     (Handled-then tells old mid new no_line ending (whole_lines_of r.taken) (whole_lines_of (rest_of r.taken ++ piece)) a b c r.handled handled)
 
 -- the lines from before the piece have their replies
-prompt_lines : (tells : Type 0) (old mid new : World) (ending : Ending) (left left_now a b c kept : Option (List ℕ)) (room : ℕ) (piece : List ℕ)
-    → (r : IsReading tells old mid left left_now a b kept room) (handled : Handled tells mid new no_line ending (whole_lines_of (rest_of r.taken ++ piece)) b c)
-    → length (whole_lines_of r.taken) ≤ length (IsReading-lines tells old mid new ending left left_now a b c kept room piece r handled).replied.replies
+prompt_lines : (tells : Type 0) (old mid new : World) (ending : Ending) (left left_now a b c pending : Option (List ℕ)) (room : ℕ) (piece : List ℕ)
+    → (r : IsReading tells old mid left left_now a b pending room) (handled : Handled tells mid new no_line ending (whole_lines_of (rest_of r.taken ++ piece)) b c)
+    → length (whole_lines_of r.taken) ≤ length (IsReading-lines tells old mid new ending left left_now a b c pending room piece r handled).replied.replies
 unfolding IsReading-lines
-prompt_lines tells old mid new ending left left_now a b c kept room piece r handled =
+prompt_lines tells old mid new ending left left_now a b c pending room piece r handled =
     let all = whole_lines_of r.taken ++ whole_lines_of (rest_of r.taken ++ piece) in
     let both = Handled-then tells old mid new no_line ending (whole_lines_of r.taken) (whole_lines_of (rest_of r.taken ++ piece)) a b c r.handled handled in
     let one = count-then tells old mid new no_line ending (whole_lines_of r.taken) (whole_lines_of (rest_of r.taken ++ piece)) a b c r.handled handled in
@@ -61,16 +62,16 @@ pub prompt_all : (taken : List ℕ) (replies : ℕ) → length (whole_lines_of t
 prompt_all taken replies all = record { before = taken; last = []; parts = sym (append-nil taken); piece = omega arith; served = all }
 
 -- one piece more
-pub IsReading-more : (tells : Type 0) (old mid new : World) (left half left_now a b c kept kept_now : Option (List ℕ)) (room room_now : ℕ) (piece : List ℕ)
-    → (r : IsReading tells old mid left half a b kept room) → Gave half piece left_now → room ≡ length piece + room_now
-    → IsPending kept_now (rest_of (rest_of r.taken ++ piece)) → Handled tells mid new no_line (Ok tt) (whole_lines_of (rest_of r.taken ++ piece)) b c
-    → IsReading tells old new left left_now a c kept_now room_now
-IsReading-more tells old mid new left half left_now a b c kept kept_now room room_now piece r gave less pending handled = record {
+pub IsReading-more : (tells : Type 0) (old mid new : World) (left half left_now a b c pending pending_now : Option (List ℕ)) (room room_now : ℕ) (piece : List ℕ)
+    → (r : IsReading tells old mid left half a b pending room) → Gave half piece left_now → room ≡ length piece + room_now
+    → IsUnfinished pending_now (rest_of (rest_of r.taken ++ piece)) → Handled tells mid new no_line (Ok tt) (whole_lines_of (rest_of r.taken ++ piece)) b c
+    → IsReading tells old new left left_now a c pending_now room_now
+IsReading-more tells old mid new left half left_now a b c pending pending_now room room_now piece r gave less unfinished handled = record {
   taken = r.taken ++ piece;
   gave = Gave-then left r.taken half piece left_now r.gave gave;
   most = omega (arith, r.most, less, length-append r.taken piece);
-  pending = subst (λ (rest : List ℕ). IsPending kept_now rest) (sym (rest_of-append r.taken piece)) pending;
-  handled = IsReading-lines tells old mid new (Ok tt) left half a b c kept room piece r handled;
+  unfinished = subst (λ (rest : List ℕ). IsUnfinished pending_now rest) (sym (rest_of-append r.taken piece)) unfinished;
+  handled = IsReading-lines tells old mid new (Ok tt) left half a b c pending room piece r handled;
 }
 
 AreLines-line : (stop : Stop) (taken : List ℕ) (left : Option (List ℕ)) (lines : List (List ℕ)) → IsOfLine stop → HaveCome taken left lines → AreLines (Err stop) taken left lines
@@ -80,24 +81,24 @@ AreLines-line stops.Sink taken left lines line come = come
 AreLines-line (stops.Device stop) taken left lines line come = come
 
 -- a stop at a line of one piece more
-pub IsReading-stop : (tells : Type 0) (old mid new : World) (left half left_now a b c kept : Option (List ℕ)) (room : ℕ) (piece : List ℕ) (stop : Stop)
-    → (r : IsReading tells old mid left half a b kept room) → Gave half piece left_now → length piece ≤ room → length piece ≤ 4096 → IsOfLine stop
+pub IsReading-stop : (tells : Type 0) (old mid new : World) (left half left_now a b c pending : Option (List ℕ)) (room : ℕ) (piece : List ℕ) (stop : Stop)
+    → (r : IsReading tells old mid left half a b pending room) → Gave half piece left_now → length piece ≤ room → length piece ≤ 4096 → IsOfLine stop
     → Handled tells mid new no_line (Err stop) (whole_lines_of (rest_of r.taken ++ piece)) b c → Ran tells old new no_line (Err stop) left left_now a c
-IsReading-stop tells old mid new left half left_now a b c kept room piece stop r gave less few line handled = record {
+IsReading-stop tells old mid new left half left_now a b c pending room piece stop r gave less few line handled = record {
   taken = r.taken ++ piece;
   lines = whole_lines_of (r.taken ++ piece);
   gave = Gave-then left r.taken half piece left_now r.gave gave;
   took = TookUntil-line stop (r.taken ++ piece) left_now line (omega (arith, r.most, less, length-append r.taken piece));
   come = AreLines-line stop (r.taken ++ piece) left_now (whole_lines_of (r.taken ++ piece)) line (inl refl);
-  handled = IsReading-lines tells old mid new (Err stop) left half a b c kept room piece r handled;
-  prompt = record { before = r.taken; last = piece; parts = refl; piece = few; served = prompt_lines tells old mid new (Err stop) left half a b c kept room piece r handled };
+  handled = IsReading-lines tells old mid new (Err stop) left half a b c pending room piece r handled;
+  prompt = record { before = r.taken; last = piece; parts = refl; piece = few; served = prompt_lines tells old mid new (Err stop) left half a b c pending room piece r handled };
 }
 
 -- the end of the input
-pub IsReading-end : (tells : Type 0) (old mid new : World) (ending : Ending) (left left_now a b c kept : Option (List ℕ)) (room : ℕ)
-    → (r : IsReading tells old mid left left_now a b kept room) → 0 < room → IsAtEnd left_now → IfErr ending IsOfLine
+pub IsReading-end : (tells : Type 0) (old mid new : World) (ending : Ending) (left left_now a b c pending : Option (List ℕ)) (room : ℕ)
+    → (r : IsReading tells old mid left left_now a b pending room) → 0 < room → IsAtEnd left_now → IfErr ending IsOfLine
     → Handled tells mid new no_line ending (line_at_end (rest_of r.taken)) b c → Ran tells old new no_line ending left left_now a c
-IsReading-end tells old mid new ending left left_now a b c kept room r some end ends handled = record {
+IsReading-end tells old mid new ending left left_now a b c pending room r some end ends handled = record {
   taken = r.taken;
   lines = lines_of r.taken;
   gave = r.gave;
@@ -122,9 +123,9 @@ IsReading-end tells old mid new ending left left_now a b c kept room r some end 
     come (Err stop) t l h e = AreLines-line stop t l (lines_of t) h (inr (e, refl))
 
 -- the input failed
-pub IsReading-failed : (tells : Type 0) (old new : World) (left left_now a b kept : Option (List ℕ)) (room : ℕ)
-    → (r : IsReading tells old new left left_now a b kept room) → 0 < room → Ran tells old new no_line (Err stops.Source) left left_now a b
-IsReading-failed tells old new left left_now a b kept room r some = record {
+pub IsReading-failed : (tells : Type 0) (old new : World) (left left_now a b pending : Option (List ℕ)) (room : ℕ)
+    → (r : IsReading tells old new left left_now a b pending room) → 0 < room → Ran tells old new no_line (Err stops.Source) left left_now a b
+IsReading-failed tells old new left left_now a b pending room r some = record {
   taken = r.taken;
   lines = whole_lines_of r.taken;
   gave = r.gave;
@@ -138,9 +139,9 @@ IsReading-failed tells old new left left_now a b kept room r some = record {
 }
 
 -- the limit is reached
-pub IsReading-limit : (tells : Type 0) (old new : World) (left left_now a b kept : Option (List ℕ)) (room : ℕ)
-    → (r : IsReading tells old new left left_now a b kept room) → room ≡ 0 → Ran tells old new no_line (Err stops.Limit) left left_now a b
-IsReading-limit tells old new left left_now a b kept room r none = record {
+pub IsReading-limit : (tells : Type 0) (old new : World) (left left_now a b pending : Option (List ℕ)) (room : ℕ)
+    → (r : IsReading tells old new left left_now a b pending room) → room ≡ 0 → Ran tells old new no_line (Err stops.Limit) left left_now a b
+IsReading-limit tells old new left left_now a b pending room r none = record {
   taken = r.taken;
   lines = whole_lines_of r.taken;
   gave = r.gave;

@@ -9,13 +9,10 @@ use Rattle.platform.proofs.Moments.{LeavesOnly-now, During-now, During-start, Tu
 use Rattle.page_store.proofs.StandsLaws.{one_device, stands_leaves}
 use Rattle.sdbt_base.proofs.ToldLaws.{Got-nothing, Got-then}
 use Rattle.script_lang.specs.Grammar.{Spells, IsBad}
-use Rattle.script_lang.specs.Replies.{line_of}
-use Rattle.script_lang.specs.Commands.{Command}
-use Rattle.script_lang.specs.Commands.{Format, Write, Commit}
+use Rattle.script_lang.specs.Replies.{line_of, Reply, Full, Bad}
+use Rattle.script_lang.specs.Commands.{Command, Format, Write, Commit}
 use Rattle.sdbt_base.specs.Arrays.{State, Device, Session as OpenSession, closed}
 use Rattle.script_lang.specs.Answers.{Turn, answer, none_counted}
-use Rattle.script_lang.specs.Replies.{Reply}
-use Rattle.script_lang.specs.Replies.{Full, Bad}
 use Rattle.device_terms.specs.Served.{IsServedImage}
 use Rattle.device_session.specs.Open.{IsOpen}
 use Rattle.device_session.specs.Sessions.{Session}
@@ -24,7 +21,7 @@ use Rattle.device_course.specs.States.{IsSessionOf}
 use Rattle.device_cli.specs.Parts.{added_by}
 use Rattle.device_cli.proofs.TurnLaws.{parts, turning}
 use Rattle.script_lang.specs.Arrays.{needs_room}
-use Rattle.device_cli.specs.Run.{IsOfLine}
+use Rattle.line_run.specs.Stops.{IsOfLine, Ending, IsSound}
 use Rattle.device_cli.specs.Looks.{LooksOn}
 use Rattle.device_cli.proofs.LookLaws.{looks_idle, looks_then, looks_longer, looks_weaker}
 use Rattle.device_cli.specs.World.{World, is_full, needed_of, AreEnough, IsLater}
@@ -34,13 +31,15 @@ use Rattle.device_course.proofs.MadeLaws.{shut, made_none, made_one, made_stoppe
 use Rattle.device_cli.specs.Represents.{Stood, StandsFor}
 use Rattle.device_cli.specs.Added.{left_by, HasAdded, IsNear}
 use Rattle.device_cli.specs.Pages.{needed_for, updates_after, updates_of, TurnOn, AnswersOn, IsShort, AreShort, IfNext}
-use Rattle.device_cli.specs.Replied.{no_line, Ending, AreMany, IsBehind, IsDamageAt, IsAhead, AreMarks, EndsIn, Answered, Replied, Handled, AsksForBlock, IsSound, IsOfBlock, IsWrongPage, Halts, Serves, HasPut}
+use Rattle.device_cli.specs.Replied.{AreMany, IsDamageAt, IsAhead, AreMarks, EndsIn, Answered, Replied, Handled, AsksForBlock, IsOfBlock, Halts, Serves}
+use Rattle.line_run.specs.Puts.{no_line, IsBehind, HasPut}
+use Rattle.session_calls.specs.Damage.{IsWrongPage}
 use Rattle.device_cli.specs.Seen.{Saw, SeenOn}
 use Rattle.device_cli.proofs.SeenLaws.{saw_plain, SeenOn-append, SeenOn-longer}
-use Rattle.device_cli.specs.declared.stop.Stop.{Stop}
-use Rattle.device_cli.specs.declared.stop.Stop.TheVariants as stops
-use Rattle.device_cli.specs.declared.stop.DeviceStop.{DeviceStop}
-use Rattle.device_cli.specs.declared.stop.DeviceStop.TheVariants as device
+use Rattle.line_run.specs.declared.stop.Stop.{Stop}
+use Rattle.line_run.specs.declared.stop.Stop.TheVariants as stops
+use Rattle.session_calls.specs.declared.stops.DeviceStop.{DeviceStop}
+use Rattle.session_calls.specs.declared.stops.DeviceStop.TheVariants as device
 use Rattle.device_cli.proofs.PageLaws.{turn_of, near_turn, answers_of, AnswersOn-append, AnswersOn-longer, updates_of-append, AreShort-later, AreShort-append, AreShort-longer}
 use Rattle.device_cli.proofs.PassLaws.{AreMarks-none, AreMarks-one, AreMarks-then, AreMarks-longer}
 
@@ -506,7 +505,7 @@ Handled-longer tells old new last stop lines more a b line p =
 
 -- lines that have their replies, and then a stop
 stopped : (tells : Type 0) (old new : World) (last : DeviceStop → List ℕ) (stop : Stop) (lines : List (List ℕ)) (put : List ℕ) (p : Replied tells old new last (Ok tt) lines put)
-    → IsBehind last p.part (Err stop) → AreMany (length p.replies) (length lines) (Err stop) → IsDamageAt tells new.history.present p.replies lines (Err stop)
+    → IsBehind line_of last p.part (Err stop) → AreMany (length p.replies) (length lines) (Err stop) → IsDamageAt tells new.history.present p.replies lines (Err stop)
     → ((entry : State) (updates : ℕ) → Answered old new (Ok tt) entry updates lines p.replies p.part → Answered old new (Err stop) entry updates lines p.replies p.part)
     → Replied tells old new last (Err stop) lines put
 stopped tells old new last stop lines put p behind many damage answered = record {

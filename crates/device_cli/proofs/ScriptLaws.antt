@@ -4,28 +4,28 @@ use Rattle.platform.specs.Image.{Image}
 use Rattle.sdbt_base.specs.Told.{Got, IsAtEnd}
 use Rattle.sdbt_base.proofs.ToldLaws.{Gave-nothing, Got-nothing}
 use Rattle.text_lines.specs.Lines.{whole_lines_of, lines_of}
-use Rattle.script_lang.specs.Replies.{line_of}
+use Rattle.script_lang.specs.Replies.{line_of, Reply}
 use Rattle.sdbt_base.specs.Arrays.{State, Device, closed}
-use Rattle.script_lang.specs.Replies.{Reply}
-use Rattle.script_lang.specs.Commands.{Command}
-use Rattle.script_lang.specs.Commands.{Commit}
+use Rattle.script_lang.specs.Commands.{Command, Commit}
 use Rattle.device_terms.specs.Served.{IsServedImage}
 use Rattle.device_session.specs.Sessions.{Session}
 use Rattle.platform.specs.History.{History}
-use Rattle.device_cli.specs.World.{World, world}
+use Rattle.device_cli.specs.World.{World, world, AreEnough}
 use Rattle.device_cli.specs.Looks.{IsWarmFor}
 use Rattle.device_course.specs.States.{IsSessionOf}
 use Rattle.device_cli.specs.Represents.{StandsFor, Represents}
 use Rattle.platform.specs.Runs.{Passes}
-use Rattle.device_cli.specs.Replied.{HasMark, Ending, IsBehind, AreMany, IsDamageAt, AsksForBlock, IsWrongPage, IsFirstPart, IsAhead, EndsIn, Answered, damage_line, exit_of}
+use Rattle.device_cli.specs.Replied.{HasMark, AreMany, IsDamageAt, AsksForBlock, IsAhead, EndsIn, Answered}
+use Rattle.line_run.specs.Stops.{Ending, exit_of}
+use Rattle.line_run.specs.Puts.{IsBehind, IsFirstPart, damage_line, AreLines, HaveCome}
+use Rattle.session_calls.specs.Damage.{IsWrongPage}
 use Rattle.device_cli.specs.Added.{left_by, HasAdded, IsNear}
 use Rattle.device_cli.specs.Pages.{needed_for, updates_of, accepted, AnswersOn, IfNext}
-use Rattle.device_cli.specs.World.{AreEnough}
 use Rattle.device_cli.proofs.TurnLaws.{answers_bound, needed_most}
-use Rattle.device_cli.specs.Ran.{Ran, AreLines, HaveCome, AnswersFrom, AnswersScript}
-use Rattle.device_cli.specs.declared.stop.Stop.TheVariants as stops
-use Rattle.device_cli.specs.declared.stop.DeviceStop.{DeviceStop}
-use Rattle.device_cli.specs.declared.stop.DeviceStop.TheVariants as device
+use Rattle.device_cli.specs.Ran.{Ran, AnswersFrom, AnswersScript}
+use Rattle.line_run.specs.declared.stop.Stop.TheVariants as stops
+use Rattle.session_calls.specs.declared.stops.DeviceStop.{DeviceStop}
+use Rattle.session_calls.specs.declared.stops.DeviceStop.TheVariants as device
 use Rattle.device_cli.proofs.PassLaws.{AreMarks-none, passes_of, exits_of}
 use Rattle.device_course.specs.Course.{Made}
 use Rattle.device_course.specs.Marks.{last_mark}
@@ -83,7 +83,7 @@ whole (Err (stops.Device device.Ledger)) a b taken left lines h k e = absurd (no
 whole (Err (stops.Device device.BadRoot)) a b taken left lines h k e = absurd (not_whole 8 (λ p. omega (arith, p)) (λ p. omega (arith, p)) e)
 whole (Err (stops.Device (device.BadRecord addr))) a b taken left lines h k e = absurd (not_whole 9 (λ p. omega (arith, p)) (λ p. omega (arith, p)) e)
 
-no_part : (ending : Ending) (part : List ℕ) → IsBehind damage_line part ending → exit_of ending ≢ 4 → exit_of ending ≢ 8 → exit_of ending ≢ 9 → part ≡ []
+no_part : (ending : Ending) (part : List ℕ) → IsBehind line_of damage_line part ending → exit_of ending ≢ 4 → exit_of ending ≢ 8 → exit_of ending ≢ 9 → part ≡ []
 unfolding damage_line
 no_part (Ok done) part h p q r = h
 no_part (Err stops.Source) part h p q r = h
@@ -96,7 +96,7 @@ no_part (Err (stops.Device device.Ledger)) part h p q r = h
 no_part (Err (stops.Device device.BadRoot)) part h p q r = absurd (q refl)
 no_part (Err (stops.Device (device.BadRecord addr))) part h p q r = absurd (r refl)
 
-bad_root : (ending : Ending) (part : List ℕ) → IsBehind damage_line part ending → exit_of ending ≡ 8 → part ≡ damage_line device.BadRoot
+bad_root : (ending : Ending) (part : List ℕ) → IsBehind line_of damage_line part ending → exit_of ending ≡ 8 → part ≡ damage_line device.BadRoot
 bad_root (Ok done) part h e = absurd (omega (arith, e))
 bad_root (Err stops.Source) part h e = absurd (omega (arith, e))
 bad_root (Err stops.Limit) part h e = absurd (omega (arith, e))
@@ -108,7 +108,7 @@ bad_root (Err (stops.Device device.Ledger)) part h e = absurd (omega (arith, e))
 bad_root (Err (stops.Device device.BadRoot)) part h e = h
 bad_root (Err (stops.Device (device.BadRecord addr))) part h e = absurd (omega (arith, e))
 
-bad_record : (tells : Type 0) (image : Image) (ending : Ending) (part : List ℕ) (replies : List Reply) (lines : List (List ℕ)) → IsBehind damage_line part ending → IsDamageAt tells image replies lines ending
+bad_record : (tells : Type 0) (image : Image) (ending : Ending) (part : List ℕ) (replies : List Reply) (lines : List (List ℕ)) → IsBehind line_of damage_line part ending → IsDamageAt tells image replies lines ending
     → exit_of ending ≡ 9 → (addr : ℕ) × (part ≡ damage_line (device.BadRecord addr)) × IfNext replies lines AsksForBlock × (tells → IsWrongPage image addr)
 bad_record tells image (Ok done) part replies lines h d e = absurd (omega (arith, e))
 bad_record tells image (Err stops.Source) part replies lines h d e = absurd (omega (arith, e))
@@ -121,7 +121,7 @@ bad_record tells image (Err (stops.Device device.Ledger)) part replies lines h d
 bad_record tells image (Err (stops.Device device.BadRoot)) part replies lines h d e = absurd (omega (arith, e))
 bad_record tells image (Err (stops.Device (device.BadRecord addr))) part replies lines h d e = (addr, h, d.0, d.1)
 
-cut : (ending : Ending) (part : List ℕ) → IsBehind damage_line part ending → exit_of ending ≡ 4
+cut : (ending : Ending) (part : List ℕ) → IsBehind line_of damage_line part ending → exit_of ending ≡ 4
     → ((reply : Reply) × IsFirstPart (line_of reply) part) ⊎ ((stop : DeviceStop) × IsFirstPart (damage_line stop) part)
 cut (Ok done) part h e = absurd (omega (arith, e))
 cut (Err stops.Source) part h e = absurd (omega (arith, e))

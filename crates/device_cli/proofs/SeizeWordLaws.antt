@@ -8,14 +8,15 @@ use Rattle.page_store.specs.Roots.{IsBadCell}
 use Rattle.seizure.specs.Report.{Begins, Seized}
 use Rattle.device_terms.specs.Served.{IsServedCell}
 use Rattle.seizure.specs.declared.opened.Opened.{Opened}
-use Rattle.device_cli.specs.Replied.{Ending, HasPut, IsSound, damage_line, exit_of}
-use Rattle.device_cli.specs.Run.{Counts, NoneRose, HasCause}
+use Rattle.line_run.specs.Stops.{Ending, IsSound, exit_of, HasCause}
+use Rattle.line_run.specs.Puts.{HasPut, damage_line}
+use Rattle.session_calls.specs.Blame.{Counts, NoneRose}
 use Rattle.device_cli.specs.Given.{HasBadRecord}
 use Rattle.device_cli.specs.Seizing.{IsReportOf, IsRefused, Seizes, opened_line}
-use Rattle.device_cli.specs.declared.stop.DeviceStop.{DeviceStop}
-use Rattle.device_cli.specs.declared.stop.DeviceStop.TheVariants as device
-use Rattle.device_cli.specs.declared.stop.Stop.TheVariants as stops
-use Rattle.device_cli.specs.declared.stop.Stop.{Stop}
+use Rattle.session_calls.specs.declared.stops.DeviceStop.{DeviceStop}
+use Rattle.session_calls.specs.declared.stops.DeviceStop.TheVariants as device
+use Rattle.line_run.specs.declared.stop.Stop.TheVariants as stops
+use Rattle.line_run.specs.declared.stop.Stop.{Stop}
 use Rattle.device_cli.proofs.GivenLaws.{given_not_bad}
 
 -- ---- the cell

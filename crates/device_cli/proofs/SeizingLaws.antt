@@ -17,7 +17,7 @@ use Rattle.device_cli.specs.World.{World, is_full}
 use Rattle.device_cli.specs.Replied.{Serves}
 use Rattle.device_cli.specs.Represents.{Represents}
 use Rattle.device_cli.specs.Seen.{IsCounted, IsSeized, Saw}
-use Rattle.device_cli.specs.declared.stop.DeviceStop.{DeviceStop}
+use Rattle.session_calls.specs.declared.stops.DeviceStop.{DeviceStop}
 use Rattle.device_cli.proofs.SeenLaws.{saw_plain}
 
 -- a state of these parts

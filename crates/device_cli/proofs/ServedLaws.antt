@@ -1,5 +1,5 @@
 -- What serving a command makes of the state, by the array machine.
-use Rattle.std.proofs.Common.{◌≡◌, ℕ, ◌+◌, ◌-◌, ◌<◌, ◌≤◌, Bool, true, false, List, Option, None, Some, Ok, Err, refl, sym, subst, ap, ◌∙◌, arith}
+use Rattle.std.proofs.Common.{◌≡◌, ℕ, ◌+◌, ◌-◌, ◌<◌, ◌≤◌, Bool, true, false, List, Option, None, Some, Ok, refl, sym, subst, ap, arith}
 use Rattle.std.specs.Prelude.{nat_lt}
 use Rattle.std.specs.FinMap as map
 use Rattle.std.proofs.lemmas.Grind.{common_steps}
@@ -7,27 +7,25 @@ use Rattle.platform.specs.Image.{Image}
 use Rattle.platform.specs.History.{During}
 use Rattle.platform.proofs.Moments.{Turns-not}
 use Rattle.page_store.proofs.StandsLaws.{stands_during}
-use Rattle.sdbt_base.specs.Arrays.{Blocks, content_of, closed}
+use Rattle.sdbt_base.specs.Arrays.{Blocks, content_of, closed, Device, Session as OpenSession, State, new_device, session_on, committed, written, unmapped}
 use Rattle.device_session.specs.Open.{is_touched}
 use Rattle.device_session.specs.Holds.{Holds}
 use Rattle.device_session.specs.Sessions.{Session}
-use Rattle.script_lang.specs.Commands.{Command}
-use Rattle.script_lang.specs.Commands.{Format, Mount, Read, Write, Trim, Commit, Drop, Erase, Seize}
+use Rattle.script_lang.specs.Commands.{Command, Format, Mount, Read, Write, Trim, Commit, Drop, Erase, Seize}
 use Rattle.script_lang.specs.Commands as commands
-use Rattle.script_lang.specs.Replies.{Reply}
-use Rattle.script_lang.specs.Replies.{Formatted, Mounted, Content, Done, Committed, Dropped, Erased, Unmounted, AlreadyMounted, NotEmpty, NoDevice, Range, Full}
+use Rattle.script_lang.specs.Replies.{Reply, Formatted, Mounted, Content, Done, Committed, Dropped, Erased, Unmounted, AlreadyMounted, NotEmpty, NoDevice, Range, Full}
 use Rattle.script_lang.specs.Replies as replies
-use Rattle.sdbt_base.specs.Arrays.{Device, Session as OpenSession, State, new_device, session_on, committed, written, unmapped}
 use Rattle.script_lang.specs.Arrays.{content_reply, in_limits}
 use Rattle.script_lang.specs.Answers.{answer, none_counted}
 use Rattle.device_cli.specs.World.{World, is_full, needed_of}
 use Rattle.device_cli.specs.Pages.{needed_for}
-use Rattle.device_cli.specs.Replied.{Serves, Halts, IsSound}
+use Rattle.device_cli.specs.Replied.{Serves, Halts}
+use Rattle.line_run.specs.Stops.{IsSound}
 use Rattle.device_course.specs.States.{IsSessionOf}
 use Rattle.device_course.specs.Marks.{Leaves}
 use Rattle.device_cli.specs.Represents.{StandsFor, Represents}
-use Rattle.device_cli.specs.declared.stop.DeviceStop.{DeviceStop}
-use Rattle.device_cli.specs.declared.stop.DeviceStop.TheVariants as device
+use Rattle.session_calls.specs.declared.stops.DeviceStop.{DeviceStop}
+use Rattle.session_calls.specs.declared.stops.DeviceStop.TheVariants as device
 
 -- a state with a session
 abbrev pub at : Device → OpenSession → State
@@ -105,24 +103,6 @@ halts_still old new entry command device.Ledger sound rep during = leaves_still 
 halts_still old new entry command device.Memory sound rep during = leaves_still old new entry rep during
 halts_still old new entry command device.BadRoot sound rep during = absurd sound
 halts_still old new entry command (device.BadRecord addr) sound rep during = absurd sound
-
--- a block past the device's, at a call that left the array and the cell
-pub serves_range : (old new : World) (session now : Session) (entry : State) (command : Command) (block : ℕ) → old.session ≡ Some session → new.session ≡ Some now → Represents old entry
-    → ((d : Device) (t : OpenSession) → Holds session old.history.present d t.contents → Holds now new.history.present d t.contents) → is_touched now ≡ is_touched session → session.root.blocks ≤ block
-    → ((d : Device) (t : OpenSession) → d.blocks ≤ block → (Range, at d t) ≡ answer (is_full old command) none_counted (at d t) command)
-    → During old.history new.history (λ image. image.cell ≡ old.history.present.cell) → Serves old new entry command (Ok Range)
-serves_range old new session now entry command block taken going rep kept same past gives during =
-    with_session old session entry taken rep (λ state. Serves old new state command (Ok Range))
-    (λ d t holds touched.
-    let after = has_session new now d t going (kept d t holds) (same ∙ touched) in
-    serves_still old new (at d t) (at d t) command Range (has_session old session d t taken holds touched)
-    (gives d t (subst (λ (n : ℕ). n ≤ block) holds.stands.blocks past)) after during)
-
--- a record that doesn't fit is met over no array
-pub serves_damaged : (old new : World) (session : Session) (entry : State) (command : Command) (addr : ℕ) → old.session ≡ Some session → Represents old entry
-    → ((d : Device) (t : OpenSession) → Holds session old.history.present d t.contents → ⊥) → Serves old new entry command (Err (device.BadRecord addr))
-serves_damaged old new session entry command addr taken rep never =
-    with_session old session entry taken rep (λ state. Serves old new state command (Err (device.BadRecord addr))) (λ d t holds touched. absurd (never d t holds))
 
 below : (block blocks : ℕ) → block < blocks → nat_lt block blocks ≡ true
 below block blocks h = grind (arith, common_steps)

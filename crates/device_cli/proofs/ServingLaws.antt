@@ -1,25 +1,22 @@
 -- What each call of a desk makes of the state that its world stands for.
-use Rattle.std.proofs.Common.{◌≡◌, ◌≢◌, ℕ, ◌+◌, ◌-◌, ◌<◌, ◌≤◌, Bool, true, false, Option, None, Some, Ok, inl, inr, refl, sym, ◌∙◌, subst, ap, arith}
+use Rattle.std.proofs.Common.{◌≡◌, ◌≢◌, ℕ, ◌-◌, ◌<◌, ◌≤◌, Bool, true, false, Option, None, Some, Ok, inl, inr, refl, sym, ◌∙◌, subst, ap}
 use Rattle.std.specs.Prelude.{◌⊎◌}
 use Rattle.std.specs.FinMap as map
-use Rattle.std.proofs.lemmas.Bool.{cases_Bool, cases_lt}
+use Rattle.std.proofs.lemmas.Bool.{cases_lt}
 use Rattle.platform.specs.Image.{Image}
 use Rattle.platform.specs.History.{History, During, Turns}
 use Rattle.platform.proofs.Moments.{During-start, Turns-not}
 use Rattle.page_store.proofs.StandsLaws.{stands_leaves}
-use Rattle.device_session.specs.Open.{is_touched, number_of, needed_by}
+use Rattle.device_session.specs.Open.{is_touched, needed_by}
 use Rattle.device_session.specs.Holds.{Holds}
-use Rattle.device_session.specs.Replies.{device_after}
 use Rattle.device_session.specs.Sessions.{Session}
-use Rattle.device_session.specs.declared.refusals.CommitReply.{CommitReply}
-use Rattle.device_session.specs.declared.refusals.CommitReply.TheVariants as commits
 use Rattle.script_lang.specs.Commands.{Command}
 use Rattle.script_lang.specs.Commands.{Format, Mount, Read, Write, Trim, Commit, Drop, Erase, Seize}
 use Rattle.script_lang.specs.Commands as commands
 use Rattle.script_lang.specs.Replies.{Reply}
 use Rattle.script_lang.specs.Replies.{Formatted, Mounted, Done, Committed, Dropped, Erased, Unmounted, AlreadyMounted, NotEmpty, NoDevice, Range, Full, Seized}
 use Rattle.script_lang.specs.Replies as replies
-use Rattle.sdbt_base.specs.Arrays.{Device, Session as OpenSession, State, new_device, session_on, committed, closed}
+use Rattle.sdbt_base.specs.Arrays.{Device, Session as OpenSession, State, new_device, session_on, closed}
 use Rattle.script_lang.specs.Arrays.{in_limits}
 use Rattle.script_lang.specs.Answers.{answer, none_counted}
 use Rattle.device_cli.specs.World.{World, is_full, needed_of, world}
@@ -27,8 +24,8 @@ use Rattle.device_cli.specs.Replied.{Serves, Halts}
 use Rattle.device_course.specs.States.{IsSessionOf}
 use Rattle.device_course.specs.Marks.{Leaves}
 use Rattle.device_cli.specs.Represents.{StandsFor, Represents}
-use Rattle.device_cli.specs.declared.stop.DeviceStop.TheVariants as device
-use Rattle.device_cli.proofs.ServedLaws.{at, on, leaves_still, with_session, without_session, holds_stands, has_session, has_none, serves_still, halts_still, is_full_true, is_full_false, gives_raised, gives_idle, gives_commit_full, gives_stat, gives_formatted, gives_format_full}
+use Rattle.session_calls.specs.declared.stops.DeviceStop.TheVariants as device
+use Rattle.device_cli.proofs.ServedLaws.{at, on, leaves_still, with_session, without_session, holds_stands, has_session, has_none, serves_still, halts_still, is_full_true, is_full_false, gives_stat, gives_formatted, gives_format_full}
 
 -- the cell stays at each moment
 abbrev pub KeepsCell : World → World → Type 0
@@ -244,83 +241,3 @@ halts_format old new entry blocks order within keeps turns rep = cases entry.dev
 -- what a commit of the session needs
 pub needed_some : (w : World) (session : Session) → w.session ≡ Some session → needed_of w.session ≡ needed_by session
 needed_some w session some = ap (λ (held : Option Session). needed_of held) some
-
--- a commit
-pub serves_committed : (old new : World) (entry : State) (session now : Session) (number : ℕ) (reply : CommitReply) → old.session ≡ Some session → new.session ≡ Some now
-    → reply ≡ commits.Committed number
-    → (is_touched session ≡ false → (reply ≡ commits.Committed (number_of session)) × (now ≡ session) × (new.history.present ≡ old.history.present) × KeepsCell old new)
-    → (is_touched session ≡ true → old.capacity - old.head < needed_by session → reply ≡ commits.Full (needed_by session) (old.capacity - old.head))
-    → (is_touched session ≡ true → needed_by session ≤ old.capacity - old.head → (reply ≡ commits.Committed (number_of session + 1)) × (is_touched now ≡ false))
-    → ((d : Device) (t : OpenSession) → Holds session old.history.present d t.contents
-    → Holds now new.history.present (device_after reply d t.contents) t.contents
-    × Turns old.history new.history (Leaves (Some d)) (Leaves (Some (committed d t))))
-    → Represents old entry → Serves old new entry Commit (Ok (Committed number))
-serves_committed old new entry session now number reply some some_now is idle full raised after rep =
-    with_session old session entry some rep (λ state. Serves old new state Commit (Ok (Committed number)))
-    (λ d t holds touched. cases d t holds (is_touched session) refl touched)
-  where
-    cases : (d : Device) (t : OpenSession) → Holds session old.history.present d t.contents → (b : Bool) → is_touched session ≡ b → is_touched session ≡ t.touched
-        → Serves old new (at d t) Commit (Ok (Committed number))
-    cases d t holds false b same =
-        let i = idle b in
-        let e : number ≡ d.number = (let a : commits.Committed number ≡ commits.Committed (number_of session) = sym is ∙ i.0 in let n : number ≡ number_of session = cc in n) ∙ holds.stands.number in
-        subst (λ (n : ℕ). Serves old new (at d t) Commit (Ok (Committed n))) (sym e)
-        (serves_still old new (at d t) (at d t) Commit (Committed d.number) (has_session old session d t some holds same) (gives_idle (is_full old Commit) d t (sym same ∙ b))
-        (has_session new now d t some_now
-        (subst (λ (s : Session). Holds s new.history.present d t.contents) (sym i.1) (subst (λ (image : Image). Holds session image d t.contents) (sym i.2) holds))
-        (subst (λ (s : Session). is_touched s ≡ t.touched) (sym i.1) same)) i.3)
-    cases d t holds true b same = elim (cases_lt (old.capacity - old.head) (needed_by session)) [
-      | inl few ↦ absurd (let f = full b few in cc)
-      | inr many ↦
-          let room = is_full_false old Commit (omega (arith, many, needed_some old session some)) in
-          let both = raised b many in
-          let a = after d t holds in
-          let e : number ≡ d.number + 1 = (let x : commits.Committed number ≡ commits.Committed (number_of session + 1) = sym is ∙ both.0 in let n : number ≡ number_of session + 1 = cc in n)
-          ∙ ap (λ (k : ℕ). k + 1) holds.stands.number in
-          let has = subst (λ (r : CommitReply). Holds now new.history.present (device_after r d t.contents) t.contents) is a.0 in
-          let has_now = subst (λ (k : ℕ). Holds now new.history.present (record d { number = k; contents = t.contents }) t.contents) e has in
-          subst (λ (n : ℕ). Serves old new (at d t) Commit (Ok (Committed n))) (sym e) (
-            at (committed d t) (session_on (committed d t)),
-            (none_counted, gives_raised (is_full old Commit) d t room (sym same ∙ b)),
-            has_session new now (committed d t) (session_on (committed d t)) some_now has_now both.1,
-            a.1,
-          )
-    ]
-
-pub serves_commit_full : (old new : World) (entry : State) (session now : Session) (needed free : ℕ) (reply : CommitReply) → old.session ≡ Some session → new.session ≡ Some now
-    → reply ≡ commits.Full needed free
-    → (is_touched session ≡ false → reply ≡ commits.Committed (number_of session))
-    → (is_touched session ≡ true → old.capacity - old.head < needed_by session → (now ≡ session) × (new.history.present ≡ old.history.present) × KeepsCell old new)
-    → (is_touched session ≡ true → needed_by session ≤ old.capacity - old.head → reply ≡ commits.Committed (number_of session + 1))
-    → Represents old entry → Serves old new entry Commit (Ok Full)
-serves_commit_full old new entry session now needed free reply some some_now is idle full raised rep =
-    with_session old session entry some rep (λ state. Serves old new state Commit (Ok Full))
-    (λ d t holds touched. cases d t holds (is_touched session) refl touched)
-  where
-    cases : (d : Device) (t : OpenSession) → Holds session old.history.present d t.contents → (b : Bool) → is_touched session ≡ b → is_touched session ≡ t.touched
-        → Serves old new (at d t) Commit (Ok Full)
-    cases d t holds false b same = absurd (let i = idle b in cc)
-    cases d t holds true b same = elim (cases_lt (old.capacity - old.head) (needed_by session)) [
-      | inl few ↦
-          let f = full b few in
-          serves_still old new (at d t) (at d t) Commit Full (has_session old session d t some holds same) (gives_commit_full (is_full old Commit) d t (is_full_true old Commit (omega (arith, few, needed_some old session some))) (sym same ∙ b))
-          (has_session new now d t some_now
-          (subst (λ (s : Session). Holds s new.history.present d t.contents) (sym f.0) (subst (λ (image : Image). Holds session image d t.contents) (sym f.1) holds))
-          (subst (λ (s : Session). is_touched s ≡ t.touched) (sym f.0) same)) f.2
-      | inr many ↦ absurd (let r = raised b many in cc)
-    ]
-
--- a commit at which the platform failed
-pub halts_commit : (old new : World) (entry : State) (session : Session) → old.session ≡ Some session → (is_touched session ≡ false → ⊥)
-    → (is_touched session ≡ true → needed_by session ≤ old.capacity - old.head)
-    → ((d : Device) (t : OpenSession) → Holds session old.history.present d t.contents → Turns old.history new.history (Leaves (Some d)) (Leaves (Some (committed d t))))
-    → Represents old entry → Halts old new entry Commit device.Platform
-halts_commit old new entry session some busy room turns rep =
-    with_session old session entry some rep (λ state. Halts old new state Commit device.Platform)
-    (λ d t holds same. elim (cases_Bool (is_touched session)) [
-      | inr idle ↦ absurd (busy idle)
-      | inl touched ↦
-          let made : (answer (is_full old Commit) none_counted (at d t) Commit).1.device ≡ Some (committed d t) =
-          sym (ap (λ (p : Reply × State). p.1.device) (gives_raised (is_full old Commit) d t (is_full_false old Commit (omega (arith, room touched, needed_some old session some))) (sym same ∙ touched))) in
-          subst (λ (there : Option Device). Turns old.history new.history (Leaves (Some d)) (Leaves there)) (sym made) (turns d t holds)
-    ])

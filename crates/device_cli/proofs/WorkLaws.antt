@@ -13,13 +13,14 @@ use Rattle.device_terms.specs.Served.{IsServedImage}
 use Rattle.device_cli.specs.World.{World, IsLater, world}
 use Rattle.device_cli.specs.Represents.{StandsFor}
 use Rattle.device_cli.specs.Ran.{Ran, AnswersScript, IsAmple, IsComplete}
-use Rattle.device_cli.specs.Replied.{Ending, damage_line, exit_of}
+use Rattle.line_run.specs.Stops.{Ending, exit_of, HasCause, status_of}
+use Rattle.line_run.specs.Puts.{damage_line}
 use Rattle.device_cli.specs.Handed.{Handed}
-use Rattle.device_cli.specs.Run.{Counts, NoneRose, HasCause, status_of}
+use Rattle.session_calls.specs.Blame.{Counts, NoneRose}
 use Rattle.device_cli.specs.Working.{Says, Worked, Working, script_of}
-use Rattle.device_cli.specs.declared.stop.DeviceStop.{DeviceStop}
-use Rattle.device_cli.specs.declared.stop.DeviceStop.TheVariants as device
-use Rattle.device_cli.specs.declared.stop.Stop.TheVariants as stops
+use Rattle.session_calls.specs.declared.stops.DeviceStop.{DeviceStop}
+use Rattle.session_calls.specs.declared.stops.DeviceStop.TheVariants as device
+use Rattle.line_run.specs.declared.stop.Stop.TheVariants as stops
 use Rattle.device_cli.proofs.CompleteLaws.{complete_at}
 use Rattle.device_cli.proofs.RanLaws.{Ran-refused, Ran-last}
 use Rattle.device_cli.proofs.ScriptLaws.{answers_with}

@@ -5,23 +5,23 @@ use Rattle.sdbt_base.specs.Told.{Got, GotPart}
 use Rattle.platform.specs.Image.{Image}
 use Rattle.platform.specs.History.{During}
 use Rattle.root_codec.specs.declared.root.Root.{Root}
-use Rattle.root_codec.specs.RootRecord.{root_bytes}
 use Rattle.cert_maker.specs.Cert.{Cert}
 use Rattle.cert_codec.specs.Ledger.{IsLedger}
 use Rattle.cert_checker.specs.Chain.{Accepted, chain_of}
 use Rattle.cert_checker.specs.First.{First}
 use Rattle.cert_checker.specs.Sound.{IsVerdict}
 use Rattle.ledger_check.specs.Judging.{FromInput, IsWhole}
-use Rattle.page_store.specs.Roots.{IsRootWithin}
 use Rattle.device_terms.specs.Served.{IsServedImage}
-use Rattle.device_cli.specs.Replied.{damage_line}
+use Rattle.line_run.specs.Puts.{damage_line}
 use Rattle.device_cli.specs.Handed.{Handed}
-use Rattle.device_cli.specs.Run.{NoneRose, status_of}
+use Rattle.session_calls.specs.Cells.{IsInCell}
+use Rattle.line_run.specs.Stops.{status_of}
+use Rattle.session_calls.specs.Blame.{NoneRose}
 use Rattle.device_cli.specs.declared.checking.Finding.{Finding}
 use Rattle.device_cli.specs.declared.checking.Finding.TheVariants as findings
-use Rattle.device_cli.specs.declared.stop.DeviceStop.TheVariants as device
-use Rattle.device_cli.specs.declared.stop.Stop.{Stop}
-use Rattle.device_cli.specs.declared.stop.Stop.TheVariants as stops
+use Rattle.session_calls.specs.declared.stops.DeviceStop.TheVariants as device
+use Rattle.line_run.specs.declared.stop.Stop.{Stop}
+use Rattle.line_run.specs.declared.stop.Stop.TheVariants as stops
 
 -- the line that says what was found
 unfoldable pub finding_line : Finding → List ℕ
@@ -37,11 +37,6 @@ status_of_finding findings.NoDevice = 10
 status_of_finding findings.BadRoot = 8
 status_of_finding (findings.Broken number value) = 10
 status_of_finding (findings.Accepted commit live deleted) = 0
-
--- the cell is empty, or holds this root record, which can be served
-abbrev pub IsInCell : Image → Option Root → Type 0
-IsInCell image None = image.cell ≡ None
-IsInCell image (Some root) = IsRootWithin (length image.recorded) root × (image.cell ≡ Some (root_bytes root))
 
 -- the ledger that was taken whole breaks this rule first; or it is accepted, with so many live addresses and so many deleted ones
 abbrev pub IsJudgedAs : Root → List ℕ → Option (List ℕ) → Finding → Type 0

@@ -1,6 +1,5 @@
 -- What a run may rely on between lines.
-use Rattle.std.specs.Prelude.{◌≡◌, ◌<◌, ◌≤◌, ◌+◌, ◌-◌, ℕ, Some, Result, IfSome, IfOk, IfErr, OnOk, IsErrOf}
-use Rattle.platform.specs.Image.{Image}
+use Rattle.std.specs.Prelude.{◌≡◌, ◌<◌, ◌≤◌, ◌+◌, ◌-◌, ℕ, Result, IfSome, IfOk, IfErr, OnOk, IsErrOf}
 use Rattle.platform.specs.declared.platforms.Platform.{Ghosts}
 use Rattle.device_terms.specs.Served.{IsServedImage}
 use Rattle.script_lang.specs.Replies.{CanWrite, FitsBlock, said}
@@ -10,25 +9,18 @@ use Rattle.script_lang.specs.Commands.{Command}
 use Rattle.device_cli.specs.Added.{left_by}
 use Rattle.device_cli.specs.Pages.{needed_for}
 use Rattle.device_cli.specs.World.{needed_of}
-use Rattle.device_cli.specs.Run.{IsOfLine}
-use Rattle.device_cli.specs.declared.stop.Stop.{Stop}
-use Rattle.device_cli.specs.declared.stop.Stop.TheVariants as lines
-use Rattle.device_cli.specs.declared.stop.DeviceStop.{DeviceStop}
-use Rattle.device_cli.specs.declared.stop.DeviceStop.TheVariants as stops
-use Rattle.root_codec.specs.RootRecord.{root_bytes}
-use Rattle.device_session.specs.Open.{IsOpen, root_of}
-use Rattle.device_session.specs.Damage.{Follows}
-use Rattle.device_session.specs.Sessions.{Session}
+use Rattle.line_run.specs.Stops.{IsOfLine}
+use Rattle.line_run.specs.declared.stop.Stop.{Stop}
+use Rattle.line_run.specs.declared.stop.Stop.TheVariants as lines
+use Rattle.session_calls.specs.declared.stops.DeviceStop.{DeviceStop}
+use Rattle.session_calls.specs.declared.stops.DeviceStop.TheVariants as stops
+use Rattle.device_session.specs.Open.{IsOpen}
+use Rattle.session_calls.specs.Damage.{IsMounted}
 use Rattle.device_cli.specs.declared.desk.Desk.{Desk}
 
 -- the session, if there is one, is open
 abbrev pub IsReady : Desk → ℕ → Type 0
 IsReady desk head = IfSome desk.session (λ session. IsOpen session head)
-
--- the session is on the root record that is in the cell, and what it read of the pages fits, forged ones too
-pub record IsMounted (image : Image) (session : Session) : Type 0 where
-  pub cell : image.cell ≡ Some (root_bytes (root_of session))
-  pub follows : Follows session image
 
 -- what each command may rely on: the session is open and on the root record in the cell, which can be served
 pub record Before {S : Type 0} (P : Ghosts S) (desk : Desk) (platform : S) : Type 0 where

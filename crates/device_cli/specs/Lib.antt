@@ -3,7 +3,6 @@ pub mod Words
 pub mod Checks
 pub mod Seizing
 pub mod Desk
-pub mod Kept
 pub mod Run
 pub mod Replied
 pub mod Ran
@@ -11,7 +10,6 @@ pub mod Represents
 pub mod World
 pub mod Pages
 pub mod Seen
-pub mod Unserved
 pub mod Added
 pub mod Parts
 pub mod Working

@@ -1,29 +1,26 @@
 -- What a part of a run gives, whether it serves a command, a line, or a piece of the input.
-use Rattle.std.specs.Prelude.{◌≡◌, ℕ, ◌+◌, ◌≤◌, List, Option, Result, IsOk, IfOk, OnOk, IsErrOf}
+use Rattle.std.specs.Prelude.{◌≡◌, ℕ, ◌+◌, ◌≤◌, List, Option, Result, IsOk, IfOk, OnOk}
 use Rattle.sdbt_base.specs.Arrays.{State}
 use Rattle.sdbt_base.specs.declared.sinks.Sink.{Ghosts as SinkGhosts}
 use Rattle.sdbt_base.specs.declared.tapes.Tape.{Ghosts as TapeGhosts}
-use Rattle.platform.specs.Image.{Image}
 use Rattle.platform.specs.History.{moment}
 use Rattle.platform.specs.declared.platforms.Platform.{Ghosts as PlatformGhosts}
-use Rattle.script_lang.specs.Commands.{Command}
-use Rattle.script_lang.specs.Commands.{Format, Write, Commit}
-use Rattle.script_lang.specs.Replies.{Reply}
-use Rattle.script_lang.specs.Replies.{Formatted, Done, Committed}
+use Rattle.script_lang.specs.Commands.{Command, Format, Write, Commit}
+use Rattle.script_lang.specs.Replies.{Reply, Formatted, Done, Committed}
 use Rattle.script_lang.specs.declared.replies.Reply.{Reply as Given}
 use Rattle.device_course.specs.Keys.{KeepsOn}
 use Rattle.device_course.specs.States.{IsListed}
 use Rattle.device_cli.specs.Looks.{IsLook, IsWarmFor, block_read, most_reads}
 use Rattle.device_cli.specs.Pages.{updates_after}
-use Rattle.device_cli.specs.Replied.{IsWrongPage, Serves, outcome}
+use Rattle.device_cli.specs.Replied.{Serves, outcome}
 use Rattle.device_cli.specs.Represents.{Represents}
-use Rattle.device_cli.specs.Run.{IsBlamedOn, counts}
+use Rattle.line_run.specs.Stops.{IsBlamedOn}
+use Rattle.session_calls.specs.Blame.{counts}
 use Rattle.device_cli.specs.Seen.{Saw}
 use Rattle.device_cli.specs.World.{World, world_of, needed_of, AreEnough}
 use Rattle.device_cli.specs.declared.desk.Desk.{Desk}
-use Rattle.device_cli.specs.declared.stop.Stop.{Stop}
-use Rattle.device_cli.specs.declared.stop.DeviceStop.{DeviceStop}
-use Rattle.device_cli.specs.declared.stop.DeviceStop.TheVariants as device
+use Rattle.line_run.specs.declared.stop.Stop.{Stop}
+use Rattle.session_calls.specs.declared.stops.DeviceStop.{DeviceStop}
 
 -- each moment keeps the keys that the image kept before, with those that were drawn, what was deleted stays so, and the cell can be served; and the
 -- ledger got what belongs to the root records that came into the cell
@@ -78,10 +75,6 @@ StaysEnough desk now result = (updates : ℕ) → AreEnough desk.session updates
 abbrev pub SeesAny : {S : Type 0} → PlatformGhosts S → Desk → Desk → S → S → Result Given DeviceStop → Type 0
 SeesAny P desk now platform platform_now result = (entry : State) → Represents (world_at P desk platform) entry
     → IfOk (outcome result now.buffer) (Saw (P.history platform_now) (moment (P.history platform)) entry.device (P.head platform))
-
--- a record that doesn't fit is one
-abbrev pub MeetsDamage : {X : Type 0} → Image → Result X DeviceStop → Type 0
-MeetsDamage image result = (addr : ℕ) → IsErrOf result (device.BadRecord addr) → IsWrongPage image addr
 
 -- where a command only looks, no more pages are read than these; and where it is done, the cache is ready for the next one
 abbrev pub LooksFew : {S X E : Type 0} → PlatformGhosts S → Desk → Desk → S → S → Command → Result X E → Type 0

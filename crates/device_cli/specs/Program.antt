@@ -8,10 +8,13 @@ use Rattle.device_cli.specs.Given.{HasBadRecord}
 use Rattle.device_cli.specs.Handed.{Handed}
 use Rattle.device_cli.specs.Ran.{AnswersScript, IsAmple, IsComplete}
 use Rattle.device_course.specs.Reaching.{DisclosesTree}
+use Rattle.line_run.specs.Puts.{damage_line}
 use Rattle.device_cli.specs.Represents.{StandsFor}
-use Rattle.device_cli.specs.Run.{IsStatus, IsBlamedAt, NoneRose, Took}
+use Rattle.device_cli.specs.Run.{IsStatus, IsBlamedAt, Took}
+use Rattle.session_calls.specs.Blame.{NoneRose}
 use Rattle.device_cli.specs.Seen.{SeizesMaps}
-use Rattle.device_cli.specs.Unserved.{IsUnserved}
+use Rattle.session_calls.specs.Cells.{IsUnserved}
+use Rattle.session_calls.specs.declared.stops.DeviceStop.TheVariants as device
 use Rattle.device_cli.specs.Words.{AreWords, AreServingWords, AreSeizeWords, AreSomeWorkWords, records_of}
 
 -- the exit status is one that there is, and 2 exactly where the words are none of the forms; one that names a fault comes only where the count of that object rose, and no
@@ -28,7 +31,7 @@ pub record Refuses {S R I O L : Type 0} (tells : Type 0) (words : List (List ℕ
   pub bad_root_only : tells → status ≡ 8 → IsServedImage old.world.history.present → HasBadRecord old.world.head (records_of words)
   pub bad_root : tells → (IsServedImage old.world.history.present → ⊥) → AreServingWords words → (status ≡ 8) ⊎ (status ≡ 4) ⊎ (status ≡ 5)
   pub unserved : tells → status ≡ 8
-      → IsUnserved old.tape new.tape old.input new.input old.ledger new.ledger old.world.head new.world.head old.written new.written old.world.history new.world.history
+      → IsUnserved (damage_line device.BadRoot) old.tape new.tape old.input new.input old.ledger new.ledger old.world.head new.world.head old.written new.written old.world.history new.world.history
   pub other_words : status ≡ 2 → (new.platform ≡ old.platform) × (new.tape ≡ old.tape) × (new.input ≡ old.input) × (new.output ≡ old.output) × (new.ledger ≡ old.ledger)
 
 -- a run: the bytes put are the lines of replies, one for each line in turn, and perhaps a part behind them; on a device that stands they are the replies of an array of

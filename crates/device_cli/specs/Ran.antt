@@ -1,14 +1,12 @@
 -- A run from its input to its output.
-use Rattle.std.specs.Prelude.{◌≡◌, ◌≢◌, ℕ, ◌+◌, ◌*◌, ◌<◌, ◌≤◌, ◌^◌, ◌⊎◌, List, [], ◌∷◌, ◌++◌, All, Option, None, Some, Ok, Err, length, flat_map}
+use Rattle.std.specs.Prelude.{◌≡◌, ◌≢◌, ℕ, ◌+◌, ◌*◌, ◌<◌, ◌≤◌, ◌^◌, ◌⊎◌, List, [], ◌∷◌, ◌++◌, All, Option, None, Some, length, flat_map}
 use Rattle.platform.specs.Runs.{Passes}
 use Rattle.device_terms.specs.Served.{IsServedImage}
 use Rattle.sdbt_base.specs.Told.{Gave, Got, IsAtEnd}
 use Rattle.text_lines.specs.Lines.{whole_lines_of, lines_of}
-use Rattle.script_lang.specs.Replies.{line_of}
+use Rattle.script_lang.specs.Replies.{line_of, Reply, Full}
 use Rattle.sdbt_base.specs.Arrays.{State, Device, closed}
 use Rattle.script_lang.specs.Answers.{Answers}
-use Rattle.script_lang.specs.Replies.{Reply}
-use Rattle.script_lang.specs.Replies.{Full}
 use Rattle.device_cli.specs.Looks.{AreLooks}
 use Rattle.device_cli.specs.World.{World}
 use Rattle.device_cli.specs.Represents.{StandsFor}
@@ -16,32 +14,13 @@ use Rattle.device_cli.specs.Pages.{needed_for, updates_of, accepted, AnswersOn, 
 use Rattle.device_cli.specs.Added.{left_by, HasAdded}
 use Rattle.device_cli.specs.Seen.{SeenOn}
 use Rattle.platform.specs.History.{moment}
-use Rattle.device_cli.specs.Run.{TookUntil}
-use Rattle.device_cli.specs.Replied.{Ending, Handled, IsFirstPart, AsksForBlock, IsWrongPage, HasMark, ExitsAt, damage_line}
-use Rattle.device_cli.specs.declared.stop.DeviceStop.{DeviceStop}
-use Rattle.device_cli.specs.declared.stop.DeviceStop.TheVariants as device
-use Rattle.device_cli.specs.declared.stop.Stop.TheVariants as stops
-
--- the lines that have come: those with their line feeds, and at the end of the input also a last one without
-abbrev pub HaveCome : List ℕ → Option (List ℕ) → List (List ℕ) → Type 0
-HaveCome taken left lines = (lines ≡ whole_lines_of taken) ⊎ (IsAtEnd left × (lines ≡ lines_of taken))
-
--- the lines that a run handles which ends so: at the end of the input all, where the input failed or reached its
--- limit the whole ones, and else those that have come
-abbrev pub AreLines : Ending → List ℕ → Option (List ℕ) → List (List ℕ) → Type 0
-AreLines (Ok done) taken left lines = IsAtEnd left × (lines ≡ lines_of taken)
-AreLines (Err stops.Source) taken left lines = lines ≡ whole_lines_of taken
-AreLines (Err stops.Limit) taken left lines = lines ≡ whole_lines_of taken
-AreLines (Err stops.Sink) taken left lines = HaveCome taken left lines
-AreLines (Err (stops.Device stop)) taken left lines = HaveCome taken left lines
-
--- what was taken, but for a last piece of 4,096 bytes at most, ended no more lines than have replies: a run serves what it took before it takes more
-pub record IsPrompt (taken : List ℕ) (replies : ℕ) : Type 0 where
-  pub before : List ℕ
-  pub last : List ℕ
-  pub parts : taken ≡ before ++ last
-  pub piece : length last ≤ 4096
-  pub served : length (whole_lines_of before) ≤ replies
+use Rattle.line_run.specs.Stops.{TookUntil, Ending}
+use Rattle.device_cli.specs.Replied.{Handled, AsksForBlock, HasMark, ExitsAt}
+use Rattle.line_run.specs.Puts.{IsFirstPart, damage_line}
+use Rattle.session_calls.specs.Damage.{IsWrongPage}
+use Rattle.line_run.specs.Puts.{AreLines, HaveCome, IsPrompt}
+use Rattle.session_calls.specs.declared.stops.DeviceStop.{DeviceStop}
+use Rattle.session_calls.specs.declared.stops.DeviceStop.TheVariants as device
 
 -- a run that took its lines from an input and put its replies to an output
 pub record Ran (tells : Type 0) (old new : World) (last : DeviceStop → List ℕ) (ending : Ending) (left left_now written written_now : Option (List ℕ)) : Type 0 where

@@ -1,20 +1,18 @@
 -- What a run that handled some lines put, and which replies belong to them.
-use Rattle.std.specs.Prelude.{◌≡◌, ℕ, ◌≤◌, ◌⊎◌, List, [], ◌∷◌, ◌++◌, Option, None, Some, Result, Ok, Err, OnOk, IsOk, take, length, codes, flat_map}
-use Rattle.std.specs.Fmt.{decimal}
+use Rattle.std.specs.Prelude.{◌≡◌, ℕ, ◌≤◌, List, [], ◌∷◌, ◌++◌, Option, None, Result, Ok, Err, OnOk, IsOk, length, flat_map}
 use Rattle.platform.specs.Image.{Image}
 use Rattle.platform.specs.History.{During, Turns, moment}
-use Rattle.root_codec.specs.declared.root.Root.{Root}
-use Rattle.root_codec.specs.RootRecord.{FitsRoot, root_bytes}
-use Rattle.device_session.specs.Damage.{IsDamaged}
-use Rattle.sdbt_base.specs.Told.{Got, GotPart}
+use Rattle.sdbt_base.specs.Told.{Got}
 use Rattle.script_lang.specs.Grammar.{Spells}
-use Rattle.script_lang.specs.Replies.{line_of, said}
+use Rattle.script_lang.specs.Replies.{line_of, said, Reply}
 use Rattle.script_lang.specs.declared.replies.Reply.{Reply as Given}
 use Rattle.sdbt_base.specs.Arrays.{State, Device, closed}
 use Rattle.script_lang.specs.Answers.{IsMark, IsAnswer, answer, none_counted}
 use Rattle.script_lang.specs.Commands.{Command}
 use Rattle.script_lang.specs.Commands as commands
-use Rattle.script_lang.specs.Replies.{Reply}
+use Rattle.session_calls.specs.Damage.{IsWrongPage}
+use Rattle.line_run.specs.Puts.{IsBehind, IsFirstPart}
+use Rattle.line_run.specs.Stops.{Ending, IsSound}
 use Rattle.device_cli.specs.Looks.{LooksOn}
 use Rattle.device_cli.specs.World.{World, is_full, AreEnough, IsLater}
 use Rattle.device_course.specs.Marks.{Leaves, mark_at, last_mark}
@@ -23,46 +21,9 @@ use Rattle.device_cli.specs.Represents.{Represents, Stood, StandsFor}
 use Rattle.device_cli.specs.Pages.{updates_of, AnswersOn, AreShort, IfNext}
 use Rattle.device_cli.specs.Seen.{SeenOn}
 use Rattle.device_cli.specs.Added.{IsNear}
-use Rattle.device_cli.specs.Run.{status_of}
-use Rattle.device_cli.specs.declared.stop.Stop.{Stop}
-use Rattle.device_cli.specs.declared.stop.Stop.TheVariants as stops
-use Rattle.device_cli.specs.declared.stop.DeviceStop.{DeviceStop}
-use Rattle.device_cli.specs.declared.stop.DeviceStop.TheVariants as device
-
--- how a run, or a part of one, ends
-abbrev pub Ending : Type 0
-Ending = Result (Unit {0}) Stop
-
--- its exit status
-abbrev pub exit_of : Ending → ℕ
-exit_of (Ok done) = 0
-exit_of (Err stop) = status_of stop
-
--- the last line of a run that met damage; nothing at other stops
-unfoldable pub damage_line : DeviceStop → List ℕ
-damage_line device.BadRoot = codes "bad root" ++ 10 ∷ []
-damage_line (device.BadRecord addr) = codes "bad record " ++ (decimal addr ++ 10 ∷ [])
-damage_line device.Platform = []
-damage_line device.Tape = []
-damage_line device.Ledger = []
-damage_line device.Memory = []
-
--- no last line, as long as the lines themselves are handled
-abbrev pub no_line : DeviceStop → List ℕ
-no_line stop = []
-
--- the part is a first part of the text: perhaps nothing of it, perhaps all
-abbrev pub IsFirstPart : List ℕ → List ℕ → Type 0
-IsFirstPart text part = (n : ℕ) × (part ≡ take n text)
-
--- what stands behind the replies, where a stop of the device has this last line: nothing; that line, whole;
--- or, where the output failed, a first part of one more reply's line, or of a last line
-abbrev pub IsBehind : (DeviceStop → List ℕ) → List ℕ → Ending → Type 0
-IsBehind last part (Ok done) = part ≡ []
-IsBehind last part (Err stops.Source) = part ≡ []
-IsBehind last part (Err stops.Limit) = part ≡ []
-IsBehind last part (Err (stops.Device stop)) = part ≡ last stop
-IsBehind last part (Err stops.Sink) = ((reply : Reply) × IsFirstPart (line_of reply) part) ⊎ ((stop : DeviceStop) × IsFirstPart (last stop) part)
+use Rattle.line_run.specs.declared.stop.Stop.TheVariants as stops
+use Rattle.session_calls.specs.declared.stops.DeviceStop.{DeviceStop}
+use Rattle.session_calls.specs.declared.stops.DeviceStop.TheVariants as device
 
 -- how many replies there are: one for each line, but where the device or the output stopped the run
 abbrev pub AreMany : ℕ → ℕ → Ending → Type 0
@@ -83,27 +44,10 @@ IsOfBlock _ = ⊥
 abbrev pub AsksForBlock : List ℕ → Type 0
 AsksForBlock line = (command : Command) × Spells line command × IsOfBlock command
 
--- below the root record in the cell a place at this address doesn't fit, or it is the root node's, of which the root record
--- counts other blocks than it has
-pub record IsWrongPage (image : Image) (addr : ℕ) : Type 0 where
-  pub root : Root
-  pub in_range : FitsRoot root
-  pub cell : image.cell ≡ Some (root_bytes root)
-  pub damaged : IsDamaged image.readable root addr
-
 -- a record that doesn't fit is met only at such a line, and is one
 abbrev pub IsDamageAt : Type 0 → Image → List Reply → List (List ℕ) → Ending → Type 0
 IsDamageAt tells image replies lines (Err (stops.Device (device.BadRecord addr))) = IfNext replies lines AsksForBlock × (tells → IsWrongPage image addr)
 IsDamageAt tells image replies lines _ = Unit {0}
-
--- the device was not damaged
-abbrev pub IsSound : DeviceStop → Type 0
-IsSound device.BadRoot = ⊥
-IsSound (device.BadRecord addr) = ⊥
-IsSound device.Platform = Unit {0}
-IsSound device.Tape = Unit {0}
-IsSound device.Ledger = Unit {0}
-IsSound device.Memory = Unit {0}
 
 -- how a run over a device that stands ends, after the replies that led to the state `now`: in that state, with so many
 -- pages; by a fault alone; or, where the output failed, with a first part of one more reply's line, for the device after it
@@ -167,7 +111,7 @@ pub record Replied (tells : Type 0) (old new : World) (last : DeviceStop → Lis
   pub replies : List Reply
   pub part : List ℕ
   pub put_is : put ≡ flat_map line_of replies ++ part
-  pub behind : IsBehind last part ending
+  pub behind : IsBehind line_of last part ending
   pub many : AreMany (length replies) (length lines) ending
   pub damage : IsDamageAt tells new.history.present replies lines ending
   pub later : IsLater old new
@@ -205,11 +149,3 @@ Serves old new entry command (Ok reply) =
     (now : State) × IsAnswer (is_full old command) entry command reply now × Represents new now
     × Turns old.history new.history (Leaves entry.device) (Leaves now.device)
 Serves old new entry command (Err stop) = Halts old new entry command stop
-
--- what the putting of a line did: all of it was got, or, where the output failed, a first part
-abbrev pub HasPut : List ℕ → Ending → Option (List ℕ) → Option (List ℕ) → Type 0
-HasPut line (Ok done) written written_now = Got written line written_now
-HasPut line (Err stops.Sink) written written_now = GotPart written line written_now
-HasPut line (Err stops.Source) written written_now = ⊥
-HasPut line (Err stops.Limit) written written_now = ⊥
-HasPut line (Err (stops.Device stop)) written written_now = ⊥

@@ -1,62 +1,13 @@
 -- How a run ends, what it took from its input, and what its stops are due to.
-use Rattle.std.specs.Prelude.{◌≡◌, ℕ, ◌^◌, ◌<◌, ◌≤◌, ◌⊎◌, List, [], Option, Result, OnOk, IfErr, IsErrOf, length}
+use Rattle.std.specs.Prelude.{◌≡◌, ℕ, ◌^◌, ◌<◌, ◌≤◌, ◌⊎◌, List, [], Option, length}
 use Rattle.sdbt_base.specs.Faults.{Rose}
 use Rattle.sdbt_base.specs.Told.{IsAtEnd}
-use Rattle.device_cli.specs.declared.stop.Stop.{Stop}
-use Rattle.device_cli.specs.declared.stop.Stop.TheVariants as stops
-use Rattle.device_cli.specs.declared.stop.DeviceStop.{DeviceStop}
-use Rattle.device_cli.specs.declared.stop.DeviceStop.TheVariants as device
+use Rattle.session_calls.specs.Blame.{Counts, NoneFell}
+use Rattle.line_run.specs.declared.stop.Stop.{Stop}
+use Rattle.line_run.specs.declared.stop.Stop.TheVariants as stops
+use Rattle.session_calls.specs.declared.stops.DeviceStop.TheVariants as device
 
--- the counts of faults of what a run is handed
-pub record Counts : Type 0 where
-  pub platform : ℕ
-  pub tape : ℕ
-  pub input : ℕ
-  pub output : ℕ
-  pub ledger : ℕ
-
-abbrev pub counts : ℕ → ℕ → ℕ → ℕ → ℕ → Counts
-counts platform tape input output ledger = record { platform = platform; tape = tape; input = input; output = output; ledger = ledger }
-
--- no count fell
-pub record NoneFell (before now : Counts) : Type 0 where
-  pub platform : before.platform ≤ now.platform
-  pub tape : before.tape ≤ now.tape
-  pub input : before.input ≤ now.input
-  pub output : before.output ≤ now.output
-  pub ledger : before.ledger ≤ now.ledger
-
--- no count rose
-pub record NoneRose (before now : Counts) : Type 0 where
-  pub platform : Rose before.platform now.platform → ⊥
-  pub tape : Rose before.tape now.tape → ⊥
-  pub input : Rose before.input now.input → ⊥
-  pub output : Rose before.output now.output → ⊥
-  pub ledger : Rose before.ledger now.ledger → ⊥
-
--- a stop that names a fault comes only where the count of that object rose
-abbrev pub HasCause : Counts → Counts → Stop → Type 0
-HasCause before now stops.Source = Rose before.input now.input
-HasCause before now stops.Sink = Rose before.output now.output
-HasCause before now (stops.Device device.Platform) = Rose before.platform now.platform
-HasCause before now (stops.Device device.Tape) = Rose before.tape now.tape
-HasCause before now (stops.Device device.Ledger) = Rose before.ledger now.ledger
-HasCause before now (stops.Device device.BadRoot) = Unit {0}
-HasCause before now (stops.Device (device.BadRecord addr)) = Unit {0}
-HasCause before now (stops.Device device.Memory) = Unit {0}
-HasCause before now stops.Limit = Unit {0}
-
--- no count fell, and a command that stopped at a fault did so where the count of that object rose
-pub record IsBlamed {T : Type 0} (before now : Counts) (result : Result T DeviceStop) : Type 0 where
-  pub fell : NoneFell before now
-  pub cause : IfErr result (λ stop. HasCause before now (stops.Device stop))
-
--- the same of a run, or a part of one
-pub record IsBlamedOn {T : Type 0} (before now : Counts) (result : Result T Stop) : Type 0 where
-  pub fell : NoneFell before now
-  pub cause : IfErr result (HasCause before now)
-
--- the same by the exit status: one that names a fault comes only where the count of that object rose
+-- no count fell; and an exit status that names a fault comes only where the count of that object rose
 pub record IsBlamedAt (status : ℕ) (before now : Counts) : Type 0 where
   pub none_fell : NoneFell before now
   pub input : status ≡ 3 → Rose before.input now.input
@@ -65,27 +16,7 @@ pub record IsBlamedAt (status : ℕ) (before now : Counts) : Type 0 where
   pub tape : status ≡ 6 → Rose before.tape now.tape
   pub ledger : status ≡ 7 → Rose before.ledger now.ledger
 
--- the exit status of each stop
-abbrev pub status_of : Stop → ℕ
-status_of stops.Source = 3
-status_of stops.Sink = 4
-status_of (stops.Device device.Platform) = 5
-status_of (stops.Device device.Tape) = 6
-status_of (stops.Device device.Ledger) = 7
-status_of (stops.Device device.BadRoot) = 8
-status_of (stops.Device (device.BadRecord addr)) = 9
-status_of (stops.Device device.Memory) = 11
-status_of stops.Limit = 12
-
--- what was taken when the serving of an input ended so, and what was left
-pub record TookUntil {T : Type 0} (result : Result T Stop) (taken : List ℕ) (left : Option (List ℕ)) : Type 0 where
-  pub most : length taken ≤ 2 ^ 32
-  -- the end was seen, or a take failed, before the limit
-  pub whole : OnOk result ((length taken < 2 ^ 32) × IsAtEnd left)
-  pub failed : IsErrOf result stops.Source → length taken < 2 ^ 32
-  pub limit : IsErrOf result stops.Limit → length taken ≡ 2 ^ 32
-
--- the same by the exit status
+-- what was taken when a run ended with this exit status, and what was left
 pub record Took (status : ℕ) (taken : List ℕ) (left : Option (List ℕ)) : Type 0 where
   pub most : length taken ≤ 2 ^ 32
   pub whole : status ≡ 0 → (length taken < 2 ^ 32) × IsAtEnd left
@@ -98,13 +29,6 @@ pub record Took (status : ℕ) (taken : List ℕ) (left : Option (List ℕ)) : T
 abbrev pub IsStatus : ℕ → Type 0
 IsStatus status =
     (status ≡ 0) ⊎ (status ≡ 2) ⊎ (status ≡ 3) ⊎ (status ≡ 4) ⊎ (status ≡ 5) ⊎ (status ≡ 6) ⊎ (status ≡ 7) ⊎ (status ≡ 8) ⊎ (status ≡ 9) ⊎ (status ≡ 10) ⊎ (status ≡ 11) ⊎ (status ≡ 12)
-
--- a stop that a line may lead to: neither the input nor the start
-abbrev pub IsOfLine : Stop → Type 0
-IsOfLine stops.Source = ⊥
-IsOfLine stops.Limit = ⊥
-IsOfLine stops.Sink = Unit {0}
-IsOfLine (stops.Device stop) = Unit {0}
 
 -- a stop before the first line: the cell can't be served, or that could not be told or not be said
 abbrev pub IsRefusal : Stop → Type 0

@@ -9,11 +9,12 @@ use Rattle.seizure.specs.declared.opened.Opened.{Opened}
 use Rattle.seizure.specs.Opened.{count_of_kind}
 use Rattle.seizure.specs.Report.{Seized, IsSeizure, Begins}
 use Rattle.device_cli.specs.Given.{AreGiven, HasBadRecord}
-use Rattle.device_cli.specs.Replied.{Ending, damage_line, exit_of}
+use Rattle.line_run.specs.Stops.{Ending, exit_of}
+use Rattle.line_run.specs.Puts.{damage_line}
 use Rattle.device_cli.specs.Handed.{Handed}
-use Rattle.device_cli.specs.Run.{NoneRose}
-use Rattle.device_cli.specs.declared.stop.DeviceStop.TheVariants as device
-use Rattle.device_cli.specs.declared.stop.Stop.TheVariants as stops
+use Rattle.session_calls.specs.Blame.{NoneRose}
+use Rattle.session_calls.specs.declared.stops.DeviceStop.TheVariants as device
+use Rattle.line_run.specs.declared.stop.Stop.TheVariants as stops
 
 -- what a line says of a body: a data record has its block, a node nothing more, and any other its kind
 abbrev pub what : Opened → List ℕ

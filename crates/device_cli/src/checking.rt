@@ -3,17 +3,17 @@ ghost use Rattle.std.specs.Prelude.{◌≡◌, ◌≤◌, IfErr, IfOk, OnOk};
 ghost use Rattle.sdbt_base.specs.Faults.{Rose};
 ghost use Rattle.sdbt_base.specs.Told.{Got, GotPart};
 ghost use Rattle.platform.specs.History.{Steps};
-ghost use Rattle.device_cli.specs.Run.{counts, IsBlamedOn};
+ghost use Rattle.line_run.specs.Stops.{IsBlamedOn};
+ghost use Rattle.session_calls.specs.Blame.{counts};
 ghost use Rattle.device_cli.specs.Checks.{Checks, IsJudged, Looked, finding_line, status_of_finding};
 
-use crate::entry::check_cell;
-use crate::stop::{DeviceStop, Stop};
-use crate::texts::push_text;
 use arrayvec::ArrayVec;
 use ledger_check::{JudgeRefusal, judge};
+use line_run::{Stop, push_text};
 use platform::Platform;
 use root_codec::Root;
 use sdbt_base::{Sink, Source};
+use session_calls::{DeviceStop, check_cell};
 use std::alloc::Global;
 
 /// What a check found.
@@ -126,7 +126,7 @@ fn put_finding<O: Sink>(finding: Finding, output: &mut O) -> Result<(), Stop>
 }
 
 /// The line that says what was found. The longest one has 83 bytes.
-#[tactic(auto, unfolding(crate::specs::Checks::finding_line, crate::specs::Replied::damage_line))]
+#[tactic(auto, unfolding(crate::specs::Checks::finding_line, line_run::specs::Puts::damage_line))]
 fn finding_text(finding: Finding) -> ArrayVec<u8, 96>
     ensures { result.items ≡ finding_line finding }
 {

@@ -4,24 +4,24 @@ ghost use Rattle.sdbt_base.specs.Faults.{Rose};
 ghost use Rattle.script_lang.specs.Commands as commands;
 ghost use Rattle.script_lang.specs.Commands.{FitsBlock as FitsCommand, asked};
 ghost use Rattle.script_lang.specs.Replies.{CanWrite, FitsBlock, said};
-ghost use Rattle.device_cli.specs.Run.{counts, IsBlamed};
+ghost use Rattle.session_calls.specs.Blame.{counts, IsBlamed};
 ghost use Rattle.platform.specs.History.{During};
 ghost use Rattle.seizure.specs.Opened.{count_of_kind};
 ghost use Rattle.device_cli.specs.Replied.{IsOfBlock};
 
-use crate::stop::DeviceStop;
 use device_core::{EraseRefusal, FormatRefusal};
-use device_session::{
-    CommitFault, CommitReply, MountRefusal, ReadRefusal, Session, TrimRefusal, WriteRefusal,
-};
+use device_session::{CommitReply, Session};
 use platform::Platform;
 use script_lang::{Command, Reply, ReplyWriter, is_in_limits, reply_with_content};
 use sdbt_base::{BLOCK, ROOT, Sink, Tape};
 use seizure::{Report, SeizeRefusal};
+use session_calls::{
+    DeviceStop, commit_session, mount_session, read_block, trim_block, write_block,
+};
 use std::alloc::Global;
 
-/// How many nodes a session keeps in memory.
-const KEPT_NODES: usize = 256;
+/// How many nodes the cache of a session has room for.
+const CACHED_NODES: usize = 256;
 
 /// What a run keeps between lines: the session, if there is one, and the buffers that each line uses again.
 #[derive(Drop)]
@@ -35,7 +35,8 @@ pub(crate) struct Desk {
 
 impl Desk {
     ghost use Rattle.device_cli.specs.Desk.{IsReady, Before, After};
-    ghost use Rattle.device_cli.specs.Parts.{AddsPages, Keeps, KeepsFrom, KeepsStill, LooksFew, MeetsDamage, SeesAny, ServesAny, StaysEnough};
+    ghost use Rattle.device_cli.specs.Parts.{AddsPages, Keeps, KeepsFrom, KeepsStill, LooksFew, SeesAny, ServesAny, StaysEnough};
+    ghost use Rattle.session_calls.specs.Damage.{MeetsDamage};
 
     /// No session.
     pub(crate) fn new(alloc: Global) -> Desk
@@ -135,17 +136,12 @@ impl Desk {
         if self.session.is_some() {
             return Ok(Reply::AlreadyMounted);
         }
-        match Session::mount(self.alloc, platform, KEPT_NODES) {
-            Ok(session) => {
-                let number = session.number();
-                self.session = Some(session);
-                Ok(Reply::Mounted { number })
-            }
-            Err(MountRefusal::NoDevice) => Ok(Reply::NoDevice),
-            Err(MountRefusal::BadRoot) => Err(DeviceStop::BadRoot),
-            Err(MountRefusal::PlatformFault) => Err(DeviceStop::Platform),
-            Err(MountRefusal::Memory) => Err(DeviceStop::Memory),
-        }
+        let Some(session) = mount_session(self.alloc, platform, CACHED_NODES)? else {
+            return Ok(Reply::NoDevice);
+        };
+        let number = session.number();
+        self.session = Some(session);
+        Ok(Reply::Mounted { number })
     }
 
     fn read<P: Platform>(&mut self, platform: &mut P, block: u64) -> Result<Reply, DeviceStop>
@@ -162,12 +158,11 @@ impl Desk {
         let Some(session) = &mut self.session else {
             return Ok(Reply::Unmounted);
         };
-        match session.read(platform, block, &mut self.buffer) {
-            Ok(()) => Ok(reply_with_content(&self.buffer)),
-            Err(ReadRefusal::Range) => Ok(Reply::Range),
-            Err(ReadRefusal::BadRecord { addr }) => Err(DeviceStop::BadRecord { addr }),
-            Err(ReadRefusal::PlatformFault) => Err(DeviceStop::Platform),
+        if block >= session.blocks() {
+            return Ok(Reply::Range);
         }
+        read_block(session, platform, block, &mut self.buffer)?;
+        Ok(reply_with_content(&self.buffer))
     }
 
     fn write<P: Platform, T: Tape>(
@@ -192,15 +187,14 @@ impl Desk {
         let Some(session) = &mut self.session else {
             return Ok(Reply::Unmounted);
         };
-        match session.write(platform, tape, block, &self.buffer[..count]) {
-            Ok(()) => Ok(Reply::Done),
-            Err(WriteRefusal::Range) => Ok(Reply::Range),
-            Err(WriteRefusal::Full) => Ok(Reply::Full),
-            Err(WriteRefusal::Memory) => Err(DeviceStop::Memory),
-            Err(WriteRefusal::BadRecord { addr }) => Err(DeviceStop::BadRecord { addr }),
-            Err(WriteRefusal::TapeFault) => Err(DeviceStop::Tape),
-            Err(WriteRefusal::PlatformFault) => Err(DeviceStop::Platform),
+        if block >= session.blocks() {
+            return Ok(Reply::Range);
         }
+        if platform.head() == platform.capacity() {
+            return Ok(Reply::Full);
+        }
+        write_block(session, platform, tape, block, &self.buffer[..count])?;
+        Ok(Reply::Done)
     }
 
     fn trim<P: Platform>(&mut self, platform: &mut P, block: u64) -> Result<Reply, DeviceStop>
@@ -216,13 +210,11 @@ impl Desk {
         let Some(session) = &mut self.session else {
             return Ok(Reply::Unmounted);
         };
-        match session.trim(platform, block) {
-            Ok(()) => Ok(Reply::Done),
-            Err(TrimRefusal::Range) => Ok(Reply::Range),
-            Err(TrimRefusal::Memory) => Err(DeviceStop::Memory),
-            Err(TrimRefusal::BadRecord { addr }) => Err(DeviceStop::BadRecord { addr }),
-            Err(TrimRefusal::PlatformFault) => Err(DeviceStop::Platform),
+        if block >= session.blocks() {
+            return Ok(Reply::Range);
         }
+        trim_block(session, platform, block)?;
+        Ok(Reply::Done)
     }
 
     fn commit<P: Platform, T: Tape, L: Sink>(
@@ -241,17 +233,12 @@ impl Desk {
         ensures keeps { Keeps P.Platform T.Tape L.Sink self.old self.new platform.old platform.new tape.old tape.new ledger.old ledger.new result }
         ensures answered { P.tells → ServesAny P.Platform self.old self.new platform.old platform.new commands.Commit result }
     {
-        let Some(session) = &mut self.session else {
+        let Some(session) = self.session.take() else {
             return Ok(Reply::Unmounted);
         };
-        let reply = match session.commit(platform, tape, ledger) {
-            Ok(reply) => reply,
-            Err(CommitFault::Memory) => return Err(DeviceStop::Memory),
-            Err(CommitFault::TapeFault) => return Err(DeviceStop::Tape),
-            Err(CommitFault::LedgerFault) => return Err(DeviceStop::Ledger),
-            Err(CommitFault::PlatformFault) => return Err(DeviceStop::Platform),
-        };
-        match reply {
+        let done = commit_session(session, platform, tape, ledger)?;
+        self.session = Some(done.session);
+        match done.reply {
             CommitReply::Committed { number } => Ok(Reply::Committed { number }),
             CommitReply::Full { .. } => Ok(Reply::Full),
         }

@@ -15,13 +15,9 @@ ghost use Rattle.device_cli.specs.Working.{Working};
 
 mod checking;
 mod desk;
-mod entry;
 mod given;
-mod pending;
 mod run;
 mod seizing;
-mod stop;
-mod texts;
 mod words;
 mod working;
 

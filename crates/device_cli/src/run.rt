@@ -10,23 +10,23 @@ ghost use Rattle.device_terms.specs.Served.{IsServedImage};
 ghost use Rattle.device_session.specs.Sessions.{Session};
 ghost use Rattle.device_cli.specs.Desk.{Before, AfterLine};
 ghost use Rattle.device_cli.specs.World.{world_of};
-ghost use Rattle.device_cli.specs.Run.{counts, IsBlamedOn, IsRefusal, status_of};
-ghost use Rattle.device_cli.specs.Kept.{IsKept, IsPending};
-ghost use Rattle.device_cli.specs.Replied.{Handled, HasPut, IsSound, no_line, damage_line};
+ghost use Rattle.device_cli.specs.Run.{IsRefusal};
+ghost use Rattle.line_run.specs.Stops.{IsBlamedOn, status_of, IsSound};
+ghost use Rattle.session_calls.specs.Blame.{counts};
+ghost use Rattle.line_run.specs.Pending.{IsPending, IsUnfinished};
+ghost use Rattle.device_cli.specs.Replied.{Handled};
+ghost use Rattle.line_run.specs.Puts.{HasPut, no_line, damage_line};
 ghost use Rattle.device_cli.specs.Ran.{Ran};
 ghost use Rattle.device_course.specs.Keys.{KeepsOn};
-ghost use Rattle.device_cli.specs.Unserved.{IsUnserved};
+ghost use Rattle.session_calls.specs.Cells.{IsUnserved};
 ghost use Rattle.device_cli.specs.Parts.{Blames, Keeps};
 
 use crate::desk::Desk;
-use crate::entry::check_cell;
-use crate::pending::Pending;
-use crate::stop::{DeviceStop, Stop};
-use crate::texts::push_text;
-use arrayvec::ArrayVec;
+use line_run::{Pending, Stop, last_line};
 use platform::Platform;
 use script_lang::{Command, Reply, ReplyWriter, parse};
 use sdbt_base::{BLOCK, MAX_INPUT, Sink, Source, Tape};
+use session_calls::{DeviceStop, check_cell};
 use std::alloc::Global;
 use text_lines::split_line;
 
@@ -46,7 +46,7 @@ pub(crate) fn run<P: Platform, T: Tape, I: Source, O: Sink, L: Sink>(
     ensures refused { P.tells → (IsServedImage (P.history platform.old).present → ⊥) → IfErr result (λ stop. IsRefusal stop)
         × (IsOk result → ⊥) }
     ensures unserved { P.tells → IfErr result (λ stop. status_of stop ≡ 8
-        → IsUnserved tape.old tape.new input.old input.new ledger.old ledger.new (P.head platform.old) (P.head platform.new)
+        → IsUnserved (damage_line DeviceStop.BadRoot) tape.old tape.new input.old input.new ledger.old ledger.new (P.head platform.old) (P.head platform.new)
         (O.written output.old) (O.written output.new) (P.history platform.old) (P.history platform.new)) }
     ensures keeps { KeepsOn P.tells (T.drawn tape.old) (T.drawn tape.new) (L.written ledger.old) (L.written ledger.new) None
         (P.history platform.old) (P.history platform.new) (IsOk result) (λ keys. ⊤) }
@@ -131,8 +131,8 @@ fn serve_piece<P: Platform, T: Tape, O: Sink, L: Sink>(
     ensures after { AfterLine P.Platform desk.new platform.new result }
     ensures keeps { Keeps P.Platform T.Tape L.Sink desk.old desk.new platform.old platform.new tape.old tape.new ledger.old ledger.new result }
     ensures blame { Blames P.Platform T.Tape O.Sink L.Sink platform.old platform.new tape.old tape.new output.old output.new ledger.old ledger.new result }
-    ensures pending { (rest : List ℕ) → IsPending pending.old rest → OnOk result (IsPending pending.new (rest_of (rest ++ piece.now))) }
-    ensures handled { (rest : List ℕ) → IsPending pending.old rest → Handled P.tells (world_of P.Platform desk.old.session platform.old)
+    ensures pending { (rest : List ℕ) → IsUnfinished pending.old rest → OnOk result (IsUnfinished pending.new (rest_of (rest ++ piece.now))) }
+    ensures handled { (rest : List ℕ) → IsUnfinished pending.old rest → Handled P.tells (world_of P.Platform desk.old.session platform.old)
         (world_of P.Platform desk.new.session platform.new)
         no_line result (whole_lines_of (rest ++ piece.now)) (O.written output.old) (O.written output.new) }
 {
@@ -162,7 +162,7 @@ fn serve_end<P: Platform, T: Tape, O: Sink, L: Sink>(
     ensures after { AfterLine P.Platform desk.new platform.new result }
     ensures keeps { Keeps P.Platform T.Tape L.Sink desk.old desk.new platform.old platform.new tape.old tape.new ledger.old ledger.new result }
     ensures blame { Blames P.Platform T.Tape O.Sink L.Sink platform.old platform.new tape.old tape.new output.old output.new ledger.old ledger.new result }
-    ensures handled { (rest : List ℕ) → IsPending pending.now rest → Handled P.tells (world_of P.Platform desk.old.session platform.old)
+    ensures handled { (rest : List ℕ) → IsUnfinished pending.now rest → Handled P.tells (world_of P.Platform desk.old.session platform.old)
         (world_of P.Platform desk.new.session platform.new)
         no_line result (line_at_end rest) (O.written output.old) (O.written output.new) }
 {
@@ -185,7 +185,7 @@ fn answer<P: Platform, T: Tape, O: Sink, L: Sink>(
     ensures after { AfterLine P.Platform desk.new platform.new result }
     ensures keeps { Keeps P.Platform T.Tape L.Sink desk.old desk.new platform.old platform.new tape.old tape.new ledger.old ledger.new result }
     ensures blame { Blames P.Platform T.Tape O.Sink L.Sink platform.old platform.new tape.old tape.new output.old output.new ledger.old ledger.new result }
-    ensures handled { (text : List ℕ) → IsKept (option_copied line.entry) text → Handled P.tells (world_of P.Platform desk.old.session platform.old)
+    ensures handled { (text : List ℕ) → IsPending (option_copied line.entry) text → Handled P.tells (world_of P.Platform desk.old.session platform.old)
         (world_of P.Platform desk.new.session platform.new)
         no_line result (text ∷ []) (O.written output.old) (O.written output.new) }
 {
@@ -200,9 +200,9 @@ fn answer<P: Platform, T: Tape, O: Sink, L: Sink>(
 
 /// The command that a line spells, whose bytes come to the buffer. None is a line that is too long for the grammar.
 fn read_line(line: Option<&[u8]>, buffer: &mut [u8; BLOCK]) -> Option<Command>
-    ensures found { IfSome result (λ command. (text : List ℕ) → IsKept (option_copied line.entry) text → Spells text (asked command buffer.new)) }
+    ensures found { IfSome result (λ command. (text : List ℕ) → IsPending (option_copied line.entry) text → Spells text (asked command buffer.new)) }
     ensures fits { IfSome result FitsCommand }
-    ensures none { IfNone result ((text : List ℕ) → IsKept (option_copied line.entry) text → IsBad text) }
+    ensures none { IfNone result ((text : List ℕ) → IsPending (option_copied line.entry) text → IsBad text) }
 {
     match line {
         Some(line) => parse(line, buffer),
@@ -227,39 +227,4 @@ fn put_reply<O: Sink>(
         Ok(()) => Ok(()),
         Err(_) => Err(Stop::Sink),
     }
-}
-
-/// Puts the last line of a run that met a record or a root record which does not fit.
-pub(crate) fn last_line<O: Sink>(stop: DeviceStop, output: &mut O) -> Stop
-    ensures stop { ((result ≡ Stop.Device stop) × Got (O.written output.old) (damage_line stop) (O.written output.new))
-        ⊎ ((result ≡ Stop.Sink) × Rose (O.faults output.old) (O.faults output.new)
-        × GotPart (O.written output.old) (damage_line stop) (O.written output.new) × (IsSound stop → ⊥)) }
-    ensures count { O.faults output.old ≤ O.faults output.new }
-{
-    let line = damage_text(stop);
-    if line.is_empty() {
-        return Stop::Device(stop);
-    }
-    match output.put(line.as_slice()) {
-        Ok(()) => Stop::Device(stop),
-        Err(_) => Stop::Sink,
-    }
-}
-
-/// What a run says last that met damage, and nothing for other stops. The longest such line has 32 bytes.
-#[tactic(auto, unfolding(crate::specs::Replied::damage_line))]
-fn damage_text(stop: DeviceStop) -> ArrayVec<u8, 40>
-    ensures { result.items ≡ damage_line stop }
-{
-    let mut line = ArrayVec::new();
-    match stop {
-        DeviceStop::BadRoot => push_text(&mut line, b"bad root\n"),
-        DeviceStop::BadRecord { addr } => {
-            push_text(&mut line, b"bad record ");
-            push_text(&mut line, itoa::Buffer::new().format(addr).as_bytes());
-            push_text(&mut line, b"\n");
-        }
-        DeviceStop::Platform | DeviceStop::Tape | DeviceStop::Ledger | DeviceStop::Memory => {}
-    }
-    line
 }

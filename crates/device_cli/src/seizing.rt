@@ -4,20 +4,20 @@ ghost use Rattle.sdbt_base.specs.Faults.{Rose};
 ghost use Rattle.platform.specs.History.{Steps};
 ghost use Rattle.page_store.specs.Roots.{IsBadCell};
 ghost use Rattle.seizure.specs.Looks.{Looks};
-ghost use Rattle.device_cli.specs.Run.{counts, IsBlamedOn};
-ghost use Rattle.device_cli.specs.Replied.{HasPut};
+ghost use Rattle.line_run.specs.Stops.{IsBlamedOn};
+ghost use Rattle.session_calls.specs.Blame.{counts};
+ghost use Rattle.line_run.specs.Puts.{HasPut};
 ghost use Rattle.device_cli.specs.Seizing.{IsReport, IsReportOf, IsRefused, Seizes, opened_line, counts_line, report_text};
 
 use crate::given::keys_given;
-use crate::run::last_line;
-use crate::stop::{DeviceStop, Stop};
-use crate::texts::{push_text, put_line};
 use arrayvec::ArrayVec;
 use key_graph::KeyList;
+use line_run::{Stop, last_line, push_text, put_line};
 use page_store::{CurrentRefusal, current};
 use platform::Platform;
 use sdbt_base::{Key, Memory, Sink};
 use seizure::{Opened, Report, SeizeRefusal, seize_all};
+use session_calls::DeviceStop;
 use std::alloc::Global;
 
 /// The kind byte of a data record.

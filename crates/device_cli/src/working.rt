@@ -6,18 +6,19 @@ ghost use Rattle.workload.specs.Summaries.{heading, summary};
 ghost use Rattle.device_terms.specs.Served.{IsServedImage};
 ghost use Rattle.device_session.specs.Sessions.{Session};
 ghost use Rattle.device_course.specs.Keys.{KeepsOn};
-ghost use Rattle.device_cli.specs.Replied.{HasPut, exit_of};
-ghost use Rattle.device_cli.specs.Run.{counts, IsBlamedOn, status_of};
-ghost use Rattle.device_cli.specs.Unserved.{IsUnserved};
+ghost use Rattle.line_run.specs.Puts.{HasPut, damage_line};
+ghost use Rattle.line_run.specs.Stops.{exit_of, IsBlamedOn, status_of};
+ghost use Rattle.session_calls.specs.Blame.{counts};
+ghost use Rattle.session_calls.specs.Cells.{IsUnserved};
 ghost use Rattle.device_cli.specs.Working.{Worked};
 ghost use Rattle.device_cli.specs.World.{world_of};
 
-use crate::run::{last_line, run};
-use crate::stop::{DeviceStop, Stop};
-use crate::texts::{push_text, put_line};
+use crate::run::run;
 use arrayvec::ArrayVec;
+use line_run::{Stop, last_line, push_text, put_line};
 use platform::Platform;
 use sdbt_base::{Line, MemSink, Sink, Source, SourceFault, Tape, copy_front};
+use session_calls::DeviceStop;
 use std::alloc::Global;
 use std::marker::Model;
 use workload::{Tally, lines_behind, script};
@@ -84,7 +85,7 @@ pub(crate) fn work<P: Platform, T: Tape, O: Sink, L: Sink>(
     ensures refused { P.tells → (IsServedImage (P.history platform.old).present → ⊥)
         → (exit_of result ≡ 8) ⊎ (exit_of result ≡ 4) ⊎ (exit_of result ≡ 5) ⊎ (exit_of result ≡ 11) }
     ensures unserved { P.tells → IfErr result (λ stop. status_of stop ≡ 8
-        → IsUnserved tape.old tape.new (tt {0}) (tt {0}) ledger.old ledger.new (P.head platform.old) (P.head platform.new)
+        → IsUnserved (damage_line DeviceStop.BadRoot) tape.old tape.new (tt {0}) (tt {0}) ledger.old ledger.new (P.head platform.old) (P.head platform.new)
         (O.written output.old) (O.written output.new) (P.history platform.old) (P.history platform.new)) }
     ensures keeps { KeepsOn P.tells (T.drawn tape.old) (T.drawn tape.new) (L.written ledger.old) (L.written ledger.new) None
         (P.history platform.old) (P.history platform.new) (IsOk result) (λ keys. ⊤) }

@@ -3,7 +3,6 @@ pub mod CertifiedLaws
 pub mod MarkLaws
 pub mod MadeLaws
 pub mod CourseLaws
-pub mod CallCourses
 pub mod KeysLaws
 pub mod FitsLaws
 pub mod ReachingLaws

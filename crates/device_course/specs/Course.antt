@@ -1,5 +1,5 @@
 -- What is promised of every part of a run over a device, whoever it serves.
-use Rattle.std.specs.Prelude.{◌≡◌, ℕ, List, ◌⊎◌, [], ◌∷◌, Option, length}
+use Rattle.std.specs.Prelude.{◌≡◌, ℕ, List, Option, length}
 use Rattle.platform.specs.History.{History, During}
 use Rattle.platform.specs.Runs.{Passes}
 use Rattle.sdbt_base.specs.Arrays.{Device, State}
@@ -36,11 +36,6 @@ Course = Part (Unit {0})
 -- a part after which the run may have stopped
 abbrev pub Ended : Outside → Outside → Option Session → Option Session → State → List (Option Device) → State → Type 0
 Ended = Part ⊥
-
--- a call that stopped: nothing of it came to be, or the device that it was to make
-abbrev pub Stopped : Outside → Outside → Option Session → Option Session → State → Option Device → State → State → Type 0
-Stopped old new before after entry mark without with =
-    Ended old new before after entry [] without ⊎ Ended old new before after entry (mark ∷ []) with
 
 -- what is promised of a whole run that began on a device and made these others, whoever it served: at each moment a loss of power leaves
 -- one of them, in their order, and at the end the last; chains of opening reach exactly the tree of each moment, and never what was deleted; and the ledger

@@ -24,7 +24,7 @@ use Rattle.device_session.specs.declared.refusals.ReadRefusal.TheVariants as rea
 use Rattle.device_session.specs.declared.refusals.TrimRefusal.{TrimRefusal}
 use Rattle.device_session.specs.declared.refusals.TrimRefusal.TheVariants as trim
 use Rattle.session_calls.specs.Along.{Along, Drawn}
-use Rattle.session_calls.specs.Blame.{Counts, HasCause}
+use Rattle.session_calls.specs.Blame.{Counts, HasCause, IsOfCall}
 use Rattle.session_calls.specs.Goes.{IsReadStop, IsTrimStop, ReadsBlock, TrimsBlock}
 use Rattle.session_calls.specs.declared.stops.DeviceStop.{DeviceStop}
 use Rattle.session_calls.specs.declared.stops.DeviceStop.TheVariants as stops
@@ -67,6 +67,12 @@ trim_blamed trim.Memory stop block blocks before now is cause = subst (λ (s : D
 trim_blamed (trim.BadRecord addr) stop block blocks before now is cause = subst (λ (s : DeviceStop). HasCause before now s) (sym is) tt
 trim_blamed trim.PlatformFault stop block blocks before now is cause = subst (λ (s : DeviceStop). HasCause before now s) (sym is) cause.1
 
+pub trim_of_call : (refusal : TrimRefusal) (stop : DeviceStop) → IsTrimStop refusal stop → IsOfCall stop
+trim_of_call trim.Range stop is = absurd is
+trim_of_call trim.Memory stop is = subst IsOfCall (sym is) tt
+trim_of_call (trim.BadRecord addr) stop is = subst IsOfCall (sym is) tt
+trim_of_call trim.PlatformFault stop is = subst IsOfCall (sym is) tt
+
 pub trim_done : (image : Image) (now : Session) (device : Device) (array : OpenSession) (block : ℕ) (touched : Bool) → touched ≡ array.touched → TrimsArray now image device array.contents block touched (Ok tt) → IsServedImage image
     → TrimsBlock image now device array block (Ok tt)
 trim_done image now device array block touched same trims served =
@@ -107,6 +113,11 @@ pub read_blamed : (refusal : ReadRefusal) (stop : DeviceStop) (block blocks : �
 read_blamed read.Range stop block blocks before now is cause = absurd is
 read_blamed (read.BadRecord addr) stop block blocks before now is cause = subst (λ (s : DeviceStop). HasCause before now s) (sym is) tt
 read_blamed read.PlatformFault stop block blocks before now is cause = subst (λ (s : DeviceStop). HasCause before now s) (sym is) cause.1
+
+pub read_of_call : (refusal : ReadRefusal) (stop : DeviceStop) → IsReadStop refusal stop → IsOfCall stop
+read_of_call read.Range stop is = absurd is
+read_of_call (read.BadRecord addr) stop is = subst IsOfCall (sym is) tt
+read_of_call read.PlatformFault stop is = subst IsOfCall (sym is) tt
 
 -- no record that doesn't fit is met over an array
 pub read_refused : (image : Image) (now : Session) (device : Device) (array : OpenSession) (block : ℕ) (bytes : List ℕ) (refusal : ReadRefusal) (stop : DeviceStop) → IsReadStop refusal stop

@@ -21,7 +21,7 @@ use Rattle.device_session.specs.Sessions.{Session}
 use Rattle.device_session.specs.declared.refusals.WriteRefusal.{WriteRefusal}
 use Rattle.device_session.specs.declared.refusals.WriteRefusal.TheVariants as write
 use Rattle.session_calls.specs.Along.{Along, drawn_by}
-use Rattle.session_calls.specs.Blame.{Counts, HasCause}
+use Rattle.session_calls.specs.Blame.{Counts, HasCause, IsOfCall}
 use Rattle.session_calls.specs.Goes.{AddsBlock, IsWriteStop, WritesBlock}
 use Rattle.session_calls.specs.declared.stops.DeviceStop.{DeviceStop}
 use Rattle.session_calls.specs.declared.stops.DeviceStop.TheVariants as stops
@@ -47,6 +47,14 @@ write_blamed write.Memory stop block blocks head capacity before now is cause = 
 write_blamed (write.BadRecord addr) stop block blocks head capacity before now is cause = subst (λ (s : DeviceStop). HasCause before now s) (sym is) tt
 write_blamed write.PlatformFault stop block blocks head capacity before now is cause = subst (λ (s : DeviceStop). HasCause before now s) (sym is) cause.2
 write_blamed write.TapeFault stop block blocks head capacity before now is cause = subst (λ (s : DeviceStop). HasCause before now s) (sym is) cause.2
+
+pub write_of_call : (refusal : WriteRefusal) (stop : DeviceStop) → IsWriteStop refusal stop → IsOfCall stop
+write_of_call write.Range stop is = absurd is
+write_of_call write.Full stop is = absurd is
+write_of_call write.Memory stop is = subst IsOfCall (sym is) tt
+write_of_call (write.BadRecord addr) stop is = subst IsOfCall (sym is) tt
+write_of_call write.PlatformFault stop is = subst IsOfCall (sym is) tt
+write_of_call write.TapeFault stop is = subst IsOfCall (sym is) tt
 
 -- how many pages it added
 pub write_added : {S R : Type 0} (P : PlatformGhosts S) (T : TapeGhosts R) (platform platform_now : S) (tape tape_now : R) (places : List Stub) (block : ℕ) (refusal : WriteRefusal) (stop : DeviceStop) → IsWriteStop refusal stop

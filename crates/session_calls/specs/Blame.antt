@@ -40,6 +40,15 @@ HasCause before now stops.BadRoot = Unit {0}
 HasCause before now (stops.BadRecord addr) = Unit {0}
 HasCause before now stops.Memory = Unit {0}
 
+-- a stop that a call for a block comes to: neither the ledger's nor a root record's
+abbrev pub IsOfCall : DeviceStop → Type 0
+IsOfCall stops.Platform = Unit {0}
+IsOfCall stops.Tape = Unit {0}
+IsOfCall stops.Memory = Unit {0}
+IsOfCall (stops.BadRecord addr) = Unit {0}
+IsOfCall stops.Ledger = ⊥
+IsOfCall stops.BadRoot = ⊥
+
 -- no count fell, and a call that stopped at a fault did so where the count of that object rose
 pub record IsBlamed {T : Type 0} (before now : Counts) (result : Result T DeviceStop) : Type 0 where
   pub fell : NoneFell before now

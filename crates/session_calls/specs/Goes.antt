@@ -1,11 +1,12 @@
 -- What one call of a session says, by its answer.
-use Rattle.std.specs.Prelude.{◌≡◌, ◌+◌, ◌⊎◌, ℕ, List, [], ◌∷◌, Some, Result, Ok, Err, IfErr, OnErr}
+use Rattle.std.specs.Prelude.{◌≡◌, ◌≤◌, ◌+◌, ◌⊎◌, ℕ, List, [], ◌∷◌, Some, Result, Ok, Err, IfErr, OnErr, OnOk}
 use Rattle.sdbt_base.specs.Arrays.{Device, Session as OpenSession, content_of, unmapped, written}
 use Rattle.sdbt_base.specs.declared.tapes.Tape.{Ghosts as TapeGhosts}
 use Rattle.platform.specs.declared.platforms.Platform.{Ghosts as PlatformGhosts}
 use Rattle.platform.specs.Image.{Image}
 use Rattle.device_course.specs.States.{IsAt, mounted}
 use Rattle.device_session.specs.Open.{needed_by}
+use Rattle.device_session.specs.Reading.{KeepsWayTo, room_of}
 use Rattle.device_session.specs.Sessions.{Session}
 use Rattle.device_session.specs.declared.refusals.ReadRefusal.{ReadRefusal}
 use Rattle.device_session.specs.declared.refusals.ReadRefusal.TheVariants as read
@@ -15,7 +16,7 @@ use Rattle.device_session.specs.declared.refusals.WriteRefusal.{WriteRefusal}
 use Rattle.device_session.specs.declared.refusals.WriteRefusal.TheVariants as write
 use Rattle.device_terms.specs.Effects.{AddsNothing}
 use Rattle.session_calls.specs.Along.{Along, Drawn}
-use Rattle.session_calls.specs.Blame.{HasCause, counts}
+use Rattle.session_calls.specs.Blame.{HasCause, IsOfCall, counts}
 use Rattle.session_calls.specs.declared.stops.DeviceStop.{DeviceStop}
 use Rattle.session_calls.specs.declared.stops.DeviceStop.TheVariants as stops
 
@@ -23,6 +24,7 @@ use Rattle.session_calls.specs.declared.stops.DeviceStop.TheVariants as stops
 pub record Goes {S X : Type 0} (P : PlatformGhosts S) (updates : ℕ) (platform platform_now : S) (drawn drawn_now : Drawn) (session now : Session) (result : Result X DeviceStop) : Type 0 where
   pub along : Along P updates platform platform_now drawn drawn_now session now
   pub needs_still : OnErr result (needed_by now ≡ needed_by session)
+  pub stops : IfErr result IsOfCall
   pub cause : IfErr result (HasCause (counts (P.faults platform) drawn.faults 0 0 0) (counts (P.faults platform_now) drawn_now.faults 0 0 0))
 
 -- which stop a refused write comes to, where the device has the block and a page is free
@@ -86,6 +88,13 @@ ReadsBlock image now device array block bytes (Err stops.Tape) = ⊥
 ReadsBlock image now device array block bytes (Err stops.Ledger) = ⊥
 ReadsBlock image now device array block bytes (Err stops.BadRoot) = ⊥
 ReadsBlock image now device array block bytes (Err (stops.BadRecord addr)) = ⊥
+
+-- what a read of a block costs: one page for each level of the tree and one for the block at most; one alone where the cache keeps the way to the block, as it does after a read that
+-- was done, where it has room for a node of each level
+pub record ReadsPages {S : Type 0} (P : PlatformGhosts S) (block : ℕ) (platform platform_now : S) (session now : Session) (result : Result (Unit {0}) DeviceStop) : Type 0 where
+  pub most : P.tells → P.reads platform_now ≤ P.reads platform + (session.grove.level + 1)
+  pub warm : P.tells → KeepsWayTo session block → P.reads platform_now ≤ P.reads platform + 1
+  pub fills : P.tells → OnOk result (now.grove.level ≤ room_of now → KeepsWayTo now block)
 
 -- how many blocks a write with this answer has written
 abbrev pub many_of : Result (Unit {0}) DeviceStop → ℕ

@@ -2,11 +2,17 @@
 //! from which state it leads to which.
 #![tactic(auto)]
 
+mod committing;
+mod entry;
+mod mounting;
 mod reading;
 mod stops;
 mod trimming;
 mod writing;
 
+pub use committing::{Committed, commit_session};
+pub use entry::check_cell;
+pub use mounting::mount_session;
 pub use reading::read_block;
 pub use stops::DeviceStop;
 pub use trimming::trim_block;

@@ -4,7 +4,7 @@ ghost use Rattle.device_session.specs.Open.{IsOpen, blocks_of};
 ghost use Rattle.device_course.specs.States.{IsAt, mounted};
 ghost use Rattle.session_calls.specs.Along.{Drawn};
 ghost use Rattle.session_calls.specs.Damage.{IsMounted, MeetsDamage};
-ghost use Rattle.session_calls.specs.Goes.{Goes, IsReadStop, ReadsBlock};
+ghost use Rattle.session_calls.specs.Goes.{Goes, IsReadStop, ReadsBlock, ReadsPages};
 
 use crate::stops::DeviceStop;
 use device_session::{ReadRefusal, Session};
@@ -25,6 +25,7 @@ pub fn read_block<P: Platform>(
     ensures goes { (drawn : Drawn) → Goes P.Platform 0 platform.old platform.new drawn drawn session.old session.new result }
     ensures leads { P.tells → (device : Device) (array : OpenSession) → IsAt (P.history platform.old).present (Some session.old) (mounted device array)
         → ReadsBlock (P.history platform.new).present session.new device array block out.new result }
+    ensures reads { ReadsPages P.Platform block platform.old platform.new session.old session.new result }
     ensures damage { P.tells → IsMounted (P.history platform.old).present session.old → MeetsDamage (P.history platform.new).present result }
 {
     match session.read(platform, block, out) {

@@ -7,7 +7,7 @@ ghost use Rattle.device_terms.specs.Served.{IsServedImage};
 ghost use Rattle.device_course.specs.Fitting.{LeavesFitting};
 ghost use Rattle.device_cli.specs.Represents.{StandsFor};
 ghost use Rattle.platform.specs.Mem.{mem_history, image_of_now, capacity_of, reads_of, faults_of};
-ghost use Rattle.device_cli.specs.Run.{counts};
+ghost use Rattle.session_calls.specs.Blame.{counts};
 ghost use Rattle.device_cli.specs.World.{world};
 ghost use Rattle.two_runs.specs.TwoRuns.{Tore, TwoRuns, HaveCauses};
 

@@ -8,20 +8,20 @@ use Rattle.device_course.specs.States.{IsLater, around}
 use Rattle.device_course.proofs.ProgramLaws.{keeps_ledger, ended_not, ended_look}
 use Rattle.device_cli.specs.Given.{HasBadRecord}
 use Rattle.device_cli.specs.Handed.{handed}
-use Rattle.device_cli.specs.Replied.{Ending, damage_line}
-use Rattle.device_cli.specs.Run.{status_of}
+use Rattle.line_run.specs.Stops.{Ending, status_of}
+use Rattle.line_run.specs.Puts.{damage_line}
 use Rattle.device_cli.specs.Seizing.{IsRefused, Seizes}
 use Rattle.device_cli.specs.Words.{AreSeizeWords, AreWorkWords, records_of}
 use Rattle.device_cli.specs.Working.{Working}
 use Rattle.device_cli.specs.World.{World, world_of}
 use Rattle.device_cli.specs.declared.checking.Finding.{Finding}
-use Rattle.device_cli.specs.declared.stop.DeviceStop.TheVariants as device
-use Rattle.device_cli.specs.declared.stop.Stop.{Stop}
-use Rattle.device_cli.specs.declared.stop.Stop.TheVariants as stops
+use Rattle.session_calls.specs.declared.stops.DeviceStop.TheVariants as device
+use Rattle.line_run.specs.declared.stop.Stop.{Stop}
+use Rattle.line_run.specs.declared.stop.Stop.TheVariants as stops
 use Rattle.device_cli.proofs.CheckLaws.{so_bad, bad_line, image_stays}
 use Rattle.device_cli.proofs.EndLaws.{forgets, ended_run, serves_at, checked_at, seizing_at}
 use Rattle.device_cli.proofs.GivenLaws.{few_records}
-use Rattle.device_cli.proofs.RunLaws.{ArePart, cause_wide}
+use Rattle.line_run.proofs.StopLaws.{ArePart, cause_wide}
 use Rattle.device_cli.proofs.SeizeWordLaws.{only_word, at_eight}
 use Rattle.device_cli.proofs.WordLaws.{one_script, not_run, at_most}
 use Rattle.device_cli.proofs.WorkLaws.{working_of}
@@ -190,7 +190,7 @@ returns-in-Ok-check-clause-refuses g c =
         untaken = c.in-Ok-check.ensures.untaken (bad e).0;
         unput = refl;
         pages = c.check.ensures.head;
-        line = bad_line (g.O.Sink.written c.args.output.now) (g.O.Sink.written c.check.new.output) c.in-Ok-check.finding (bad e).0 checks.is.1;
+        told = bad_line (g.O.Sink.written c.args.output.now) (g.O.Sink.written c.check.new.output) c.in-Ok-check.finding (bad e).0 checks.is.1;
         image = image_stays _ _ (c.check.ensures.time told) (c.check.ensures.image told);
       };
       other_words = search rules;
@@ -276,7 +276,7 @@ returns-in-Err-seize_word-clause-refuses g c =
         untaken = refl;
         unput = refl;
         pages = c.seize_word.ensures.head;
-        line = (refused e).1;
+        told = (refused e).1;
         image = image_stays _ _ (c.seize_word.ensures.time told) (c.seize_word.ensures.image told);
       };
       other_words = search rules;

@@ -4,7 +4,7 @@ use Rattle.script_lang.specs.Replies.{Bad, Full, said}
 use Rattle.script_lang.specs.declared.replies.Reply.{Reply as Given}
 use Rattle.script_lang.specs.declared.replies.Reply.TheVariants as given
 use Rattle.device_cli.specs.World.{World, IsLater, world_of}
-use Rattle.device_cli.specs.Replied.{no_line}
+use Rattle.line_run.specs.Puts.{no_line}
 use Rattle.device_cli.proofs.RepliedLaws.{IsLater-refl, Handled-line, Handled-stop, turned_bad, turned_command, tells_short}
 use Rattle.device_cli.proofs.CellLaws.{served_at}
 use Rattle.device_cli.proofs.LookLaws.{looks_bad, looks_line}

@@ -1,10 +1,10 @@
 use Rattle.std.proofs.Common.{◌≡◌, ◌⊎◌, inl, inr, None, Ok, Err, refl, sym, subst, arith}
 use Rattle.sdbt_base.specs.Faults.{Rose}
-use Rattle.device_cli.specs.Replied.{no_line}
+use Rattle.line_run.specs.Puts.{no_line}
 use Rattle.device_cli.specs.World.{World, IsLater, world_of}
-use Rattle.device_cli.specs.declared.stop.DeviceStop.{DeviceStop}
-use Rattle.device_cli.specs.declared.stop.DeviceStop.TheVariants as device
-use Rattle.device_cli.specs.declared.stop.Stop.TheVariants as stops
+use Rattle.session_calls.specs.declared.stops.DeviceStop.{DeviceStop}
+use Rattle.session_calls.specs.declared.stops.DeviceStop.TheVariants as device
+use Rattle.line_run.specs.declared.stop.Stop.TheVariants as stops
 use Rattle.device_cli.proofs.RanLaws.{Ran-refused, Ran-ended, Ran-other, Ran-after, IsEarly, sound_of}
 use Rattle.device_cli.proofs.StillLaws.{still_after}
 use Rattle.device_course.specs.States.{IsListed}

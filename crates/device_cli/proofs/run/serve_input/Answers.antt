@@ -80,7 +80,7 @@ returns-then-count-eq0-clause-ran g c =
     let end = subst (λ (l : Option (List ℕ)). IsAtEnd l) same (nothing_left (left c.loop-left.input) c.in-Ok.count c.if-count-eq0.true c.in-Ok.ensures.end) in
     IsReading-end P.tells old mid new c.serve_end.result (left c.args.input.now) (left c.take.new.self) (written c.args.output.now) (written c.loop-left.output) (written c.serve_end.new.output)
     c.loop-left.pending c.loop-left.left reading c.loop-left-test.true end c.serve_end.ensures.after.stops
-    (c.serve_end.ensures.handled (rest_of reading.taken) reading.pending)
+    (c.serve_end.ensures.handled (rest_of reading.taken) reading.unfinished)
 
 pub returns-in-Err-clause-ran : goal.returns-in-Err-clause-ran
 returns-in-Err-clause-ran g c =
@@ -95,7 +95,7 @@ returns-in-Err-clause-ran g c =
     (omega (arith, c.in-Ok.ensures.bound, c.take.auto.into)) (grind (arith, common_steps, c.take.auto.into, c.min-room.ensures)) (grind (arith, common_steps, c.take.auto.into, c.min-room.ensures)) c.in-Ok.ensures.taken in
     IsReading-stop P.tells old mid new (left c.args.input.now) (left c.loop-left.input) (left c.take.new.self) (written c.args.output.now) (written c.loop-left.output) (written c.serve_piece.new.output)
     c.loop-left.pending c.loop-left.left _ c.in-Err.stop reading took.gave took.short took.few c.in-Err.ensures.after.stops
-    (c.in-Err.ensures.handled (rest_of reading.taken) reading.pending)
+    (c.in-Err.ensures.handled (rest_of reading.taken) reading.unfinished)
 
 pub loop-left-preserved : goal.loop-left-preserved
 loop-left-preserved g c =
@@ -117,7 +117,7 @@ loop-left-preserved g c =
       counts = grind (arith, c.loop-left.invariant.counts, c.serve_piece.ensures.blame.fell, c.take.ensures.count);
       reading = IsReading-more P.tells old mid new (left c.args.input.now) (left c.loop-left.input) (left c.take.new.self) (written c.args.output.now) (written c.loop-left.output) (written c.serve_piece.new.output)
           c.loop-left.pending c.serve_piece.new.pending c.loop-left.left (c.loop-left.left - c.in-Ok.count) _ reading took.gave took.less
-          (c.in-Ok-serve_piece.ensures.pending (rest_of reading.taken) reading.pending) (c.in-Ok-serve_piece.ensures.handled (rest_of reading.taken) reading.pending);
+          (c.in-Ok-serve_piece.ensures.pending (rest_of reading.taken) reading.unfinished) (c.in-Ok-serve_piece.ensures.handled (rest_of reading.taken) reading.unfinished);
     }
 
 pub returns-clause-ran : goal.returns-clause-ran

@@ -1,6 +1,7 @@
 use Rattle.std.specs.Prelude.{IfSome}
-use Rattle.device_cli.specs.Desk.{IsReady, IsMounted}
-use Rattle.device_cli.specs.Run.{counts, NoneFell}
+use Rattle.device_cli.specs.Desk.{IsReady}
+use Rattle.session_calls.specs.Damage.{IsMounted}
+use Rattle.session_calls.specs.Blame.{counts, NoneFell}
 use Rattle.device_cli.specs.World.{world_of}
 use Rattle.device_course.specs.States.{IsListed}
 use Rattle.device_course.specs.Keys.{KeepsOn}

@@ -2,7 +2,8 @@ use Rattle.std.proofs.Common.{ℕ, List, ◌++◌, refl}
 use Rattle.std.proofs.lemmas.Grind.{common_steps}
 use Rattle.std.proofs.Common.{arith}
 use Rattle.device_cli.specs.World.{World, world_of}
-use Rattle.device_cli.proofs.Serving.{IsServing-start, IsServing-line, IsServing-stop, IsServing-end}
+use Rattle.device_cli.proofs.Serving.{HandledBy, handling}
+use Rattle.line_run.proofs.LineLaws.{IsServing-start, IsServing-line, IsServing-stop, IsServing-end}
 use Rattle.device_cli.proofs.CellLaws.{served_at, answered_through}
 use Rattle.device_course.proofs.KeysLaws.{on_start, on_done, on_then}
 use Rattle.device_cli.proofs.run.serve_piece.Goals as goal
@@ -16,7 +17,7 @@ loop-front-init g c =
       keeps = on_start _ _ _ c.args.desk.now.session _ _;
       stands = λ told entry at. (entry, at);
       counts = grind (arith, common_steps);
-      serving = λ rest pending. IsServing-start P.tells (world_of P c.args.desk.now.session c.args.platform.now)
+      serving = λ rest pending. IsServing-start _ (HandledBy P.tells) (handling P.tells) (world_of P c.args.desk.now.session c.args.platform.now)
           (g.O.Sink.written c.args.output.now) c.args.pending.now rest c.args.piece.now (g.met.P.Platform.has_room c.args.platform.now) pending;
     }
 
@@ -40,8 +41,8 @@ loop-front-preserved g c =
       serving = λ rest pending.
           let so_far = c.loop-front.invariant.serving rest pending in
           let line : List ℕ = so_far.line ++ c.in-Some.front.now in
-          let kept = c.complete-line.ensures so_far.line so_far.pending.is_kept in
-          IsServing-line P.tells old mid new (written c.args.output.now) (written c.loop-front.output) (written c.answer.new.output) (rest ++ c.args.piece.now)
+          let kept = c.complete-line.ensures so_far.line so_far.unfinished.is_pending in
+          IsServing-line _ (HandledBy P.tells) (handling P.tells) old mid new (written c.args.output.now) (written c.loop-front.output) (written c.answer.new.output) (rest ++ c.args.piece.now)
           c.loop-front.pending c.clear.new.self c.loop-front.rest.now c.in-Some.front.now c.in-Some.behind.now
           so_far c.in-Some.ensures.found.0 c.in-Some.ensures.found.1 c.clear.ensures (c.in_default-answer.ensures.handled line kept);
     }
@@ -55,8 +56,8 @@ returns-in-Err-clause-handled g c rest pending =
     let new : World = world_of P c.answer.new.desk.session c.answer.new.platform in
     let so_far = c.loop-front.invariant.serving rest pending in
     let line : List ℕ = so_far.line ++ c.in-Some.front.now in
-    let kept = c.complete-line.ensures so_far.line so_far.pending.is_kept in
-    IsServing-stop P.tells old mid new (written c.args.output.now) (written c.loop-front.output) (written c.answer.new.output) (rest ++ c.args.piece.now)
+    let kept = c.complete-line.ensures so_far.line so_far.unfinished.is_pending in
+    IsServing-stop _ (HandledBy P.tells) (handling P.tells) old mid new (written c.args.output.now) (written c.loop-front.output) (written c.answer.new.output) (rest ++ c.args.piece.now)
     c.loop-front.pending c.loop-front.rest.now c.in-Some.front.now c.in-Some.behind.now c.in-Err.stop
     so_far c.in-Some.ensures.found.0 c.in-Some.ensures.found.1 c.in-Err.ensures.after.stops (c.in-Err.ensures.handled line kept)
 
@@ -64,16 +65,16 @@ pub returns-clause-pending : goal.returns-clause-pending
 returns-clause-pending g c rest pending =
     let P = g.P.Platform in
     let so_far = c.loop-front.invariant.serving rest pending in
-    let end = IsServing-end P.tells (world_of P c.args.desk.now.session c.args.platform.now) (world_of P c.loop-front.desk.session c.loop-front.platform)
+    let end = IsServing-end (HandledBy P.tells) (world_of P c.args.desk.now.session c.args.platform.now) (world_of P c.loop-front.desk.session c.loop-front.platform)
     (g.O.Sink.written c.args.output.now) (g.O.Sink.written c.loop-front.output) (rest ++ c.args.piece.now) c.loop-front.pending c.loop-front.rest.now
     so_far c.in_default.ensures.none in
-    rw end.1 (record { is_kept = c.push.ensures so_far.line so_far.pending.is_kept; feedless = end.2 })
+    rw end.1 (record { is_pending = c.push.ensures so_far.line so_far.unfinished.is_pending; feedless = end.2 })
 
 pub returns-clause-handled : goal.returns-clause-handled
 returns-clause-handled g c rest pending =
     let P = g.P.Platform in
     let so_far = c.loop-front.invariant.serving rest pending in
-    (IsServing-end P.tells (world_of P c.args.desk.now.session c.args.platform.now) (world_of P c.loop-front.desk.session c.loop-front.platform)
+    (IsServing-end (HandledBy P.tells) (world_of P c.args.desk.now.session c.args.platform.now) (world_of P c.loop-front.desk.session c.loop-front.platform)
     (g.O.Sink.written c.args.output.now) (g.O.Sink.written c.loop-front.output) (rest ++ c.args.piece.now) c.loop-front.pending c.loop-front.rest.now
     so_far c.in_default.ensures.none).0
 

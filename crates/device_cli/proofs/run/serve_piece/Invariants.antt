@@ -1,13 +1,15 @@
 use Rattle.std.proofs.Common.{ℕ, List, ◌++◌, length}
 use Rattle.std.specs.Prelude.{IfSome}
-use Rattle.device_cli.specs.Desk.{IsReady, IsMounted}
-use Rattle.device_cli.specs.Run.{counts, NoneFell}
-use Rattle.device_cli.specs.Kept.{IsPending}
+use Rattle.device_cli.specs.Desk.{IsReady}
+use Rattle.session_calls.specs.Damage.{IsMounted}
+use Rattle.session_calls.specs.Blame.{counts, NoneFell}
+use Rattle.line_run.specs.Pending.{IsUnfinished}
 use Rattle.device_cli.specs.World.{world_of}
 use Rattle.sdbt_base.specs.Arrays.{State}
 use Rattle.device_course.specs.States.{IsListed, IsAt}
 use Rattle.device_course.specs.Keys.{KeepsOn}
-use Rattle.device_cli.proofs.Serving.{IsServing}
+use Rattle.device_cli.proofs.Serving.{HandledBy}
+use Rattle.line_run.proofs.LineLaws.{IsServing}
 use Rattle.device_cli.proofs.run.serve_piece.Given as goal
 
 abbrev pub invariant-loop-front : goal.invariant-loop-front
@@ -22,8 +24,8 @@ invariant-loop-front g l =
       keeps : KeepsOn P.tells (T.drawn l.fn.tape) (T.drawn l.tape) (L.written l.fn.ledger) (L.written l.ledger) l.fn.desk.session (P.history l.fn.platform) (P.history l.platform) (Unit {0}) (IsListed l.desk.session (P.history l.platform).present);
       stands : P.tells → (entry : State) → IsAt (P.history l.fn.platform).present l.fn.desk.session entry → (now : State) × IsAt (P.history l.platform).present l.desk.session now;
       counts : NoneFell (counts (P.faults l.fn.platform) (T.faults l.fn.tape) 0 (O.faults l.fn.output) (L.faults l.fn.ledger)) (counts (P.faults l.platform) (T.faults l.tape) 0 (O.faults l.output) (L.faults l.ledger));
-      serving : (rest : List ℕ) → IsPending l.fn.pending rest
-          → IsServing P.tells (world_of P l.fn.desk.session l.fn.platform) (world_of P l.desk.session l.platform)
+      serving : (rest : List ℕ) → IsUnfinished l.fn.pending rest
+          → IsServing (HandledBy P.tells) (world_of P l.fn.desk.session l.fn.platform) (world_of P l.desk.session l.platform)
           (O.written l.fn.output) (O.written l.output) (rest ++ l.fn.piece) l.pending l.rest;
     }
 

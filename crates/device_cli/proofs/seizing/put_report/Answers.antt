@@ -3,7 +3,7 @@ use Rattle.std.specs.Prelude.{flat_map}
 use Rattle.sdbt_base.specs.Told.{Got}
 use Rattle.sdbt_base.proofs.ToldLaws.{Got-nothing}
 use Rattle.seizure.specs.declared.opened.Opened.{Opened}
-use Rattle.device_cli.specs.Replied.{HasPut}
+use Rattle.line_run.specs.Puts.{HasPut}
 use Rattle.device_cli.specs.Seizing.{opened_line, counts_line}
 use Rattle.device_cli.proofs.SeizeWordLaws.{put_front, put_last}
 use Rattle.device_cli.proofs.seizing.put_report.Goals as goal

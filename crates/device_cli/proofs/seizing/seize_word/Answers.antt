@@ -2,9 +2,9 @@ use Rattle.std.proofs.Common.{◌≡◌, ℕ, List, Err, inl, inr, ap, sym, subs
 use Rattle.sdbt_base.specs.Faults.{Rose}
 use Rattle.std.specs.Prelude.{map, string_bytes}
 use Rattle.device_cli.specs.Seizing.{IsRefused, Seizes}
-use Rattle.device_cli.specs.declared.stop.DeviceStop.{DeviceStop}
-use Rattle.device_cli.specs.declared.stop.DeviceStop.TheVariants as device
-use Rattle.device_cli.specs.declared.stop.Stop.{Stop}
+use Rattle.session_calls.specs.declared.stops.DeviceStop.{DeviceStop}
+use Rattle.session_calls.specs.declared.stops.DeviceStop.TheVariants as device
+use Rattle.line_run.specs.declared.stop.Stop.{Stop}
 use Rattle.device_cli.proofs.SeizeWordLaws.{stopped_whole, stopped_part}
 use Rattle.device_cli.proofs.seizing.seize_word.Goals as goal
 

@@ -4,7 +4,7 @@ use Rattle.sdbt_base.specs.Told.{Got}
 use Rattle.sdbt_base.proofs.ToldLaws.{Got-nothing}
 use Rattle.script_lang.specs.Replies.{line_of}
 use Rattle.workload.specs.Summaries.{heading}
-use Rattle.device_cli.specs.Replied.{HasPut}
+use Rattle.line_run.specs.Puts.{HasPut}
 use Rattle.device_cli.proofs.SeizeWordLaws.{put_front, put_last}
 use Rattle.device_cli.proofs.WorkLaws.{summary_parts}
 use Rattle.device_cli.proofs.working.put_summary.Goals as goal

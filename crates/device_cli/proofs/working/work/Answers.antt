@@ -1,7 +1,7 @@
 use Rattle.std.proofs.Common.{◌≡◌, List, ℕ, [], Option, None, Some, Ok, ap, subst, ◌∙◌}
 use Rattle.device_course.proofs.KeysLaws.{on_start, on_done}
 use Rattle.device_cli.specs.Ran.{Ran}
-use Rattle.device_cli.specs.Replied.{damage_line}
+use Rattle.line_run.specs.Puts.{damage_line}
 use Rattle.device_cli.specs.Working.{script_of}
 use Rattle.device_cli.specs.World.{World, world_of}
 use Rattle.device_cli.proofs.WorkLaws.{worked_none, told_replies}

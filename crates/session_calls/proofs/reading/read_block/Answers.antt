@@ -5,7 +5,7 @@ use Rattle.device_course.proofs.KeysLaws.{needed_read}
 use Rattle.device_session.specs.declared.refusals.ReadRefusal.TheVariants as refusals
 use Rattle.session_calls.specs.Blame.{counts}
 use Rattle.session_calls.proofs.CellLaws.{wrong_page}
-use Rattle.session_calls.proofs.LookLaws.{look_along, other_read_refusal, read_blamed, read_leads, read_named, read_refused}
+use Rattle.session_calls.proofs.LookLaws.{read_of_call, look_along, other_read_refusal, read_blamed, read_leads, read_named, read_refused}
 use Rattle.session_calls.proofs.StateLaws.{at_array, served_still}
 use Rattle.session_calls.proofs.reading.read_block.Goals as goal
 
@@ -30,6 +30,7 @@ returns-in-Ok-clause-goes g c drawn = record {
       (let there = c.in-Ok.ensures.array told device array.contents at.there.session.0 in
       (at_array _ _ device array there.0 (c.in-Ok.ensures.same.1 ∙ at.there.session.1) (served_still _ _ (c.read.ensures.looks.time told) at.served), there.1)));
   needs_still = tt;
+  stops = tt;
   cause = tt;
 }
 
@@ -41,6 +42,7 @@ returns-in-Err-clause-goes g c drawn = record {
       read_refused _ _ device array c.args.block c.read.new.out c.in-Err.refusal c.stop_of_read.result c.stop_of_read.ensures there.0 there.1
       (c.in-Err.ensures.same.1 ∙ at.there.session.1) (served_still _ _ (c.read.ensures.looks.time told) at.served)));
   needs_still = needed_read c.args.session.now c.read.new.self c.in-Err.ensures.same.2;
+  stops = read_of_call c.in-Err.refusal _ c.stop_of_read.ensures;
   cause = read_blamed c.in-Err.refusal _ _ _ (counts (g.P.Platform.faults c.args.platform.now) drawn.faults 0 0 0) (counts (g.P.Platform.faults c.read.new.platform) drawn.faults 0 0 0) c.stop_of_read.ensures c.in-Err.ensures.cause;
 }
 
@@ -50,3 +52,9 @@ returns-in-Err-clause-damage g c told mounted addr is =
     let named : c.in-Err.refusal ≡ refusals.BadRecord addr = read_named c.in-Err.refusal c.stop_of_read.result addr c.stop_of_read.ensures cc in
     wrong_page (Some c.args.session.now) c.args.session.now _ addr _ _ refl c.requires.open mounted (c.read.ensures.looks.time told)
     (λ follows. inl (subst (λ (i : Image). Wrong i.readable c.args.session.now.root addr) (sym (c.read.ensures.looks.image told)) (c.in-Err.ensures.damaged told follows addr (ap Err named))))
+
+pub returns-in-Ok-clause-reads : goal.returns-in-Ok-clause-reads
+returns-in-Ok-clause-reads g c = record { most = c.in-Ok.ensures.reads.most; warm = c.in-Ok.ensures.reads.warm; fills = c.in-Ok.ensures.reads.fills }
+
+pub returns-in-Err-clause-reads : goal.returns-in-Err-clause-reads
+returns-in-Err-clause-reads g c = record { most = c.in-Err.ensures.reads.most; warm = c.in-Err.ensures.reads.warm; fills = λ told. tt }

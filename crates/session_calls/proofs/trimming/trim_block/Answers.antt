@@ -3,7 +3,7 @@ use Rattle.device_session.specs.Open.{is_touched}
 use Rattle.device_session.specs.declared.refusals.TrimRefusal.TheVariants as refusals
 use Rattle.session_calls.specs.Blame.{counts}
 use Rattle.session_calls.proofs.CellLaws.{wrong_page}
-use Rattle.session_calls.proofs.LookLaws.{look_along, other_trim_refusal, trim_blamed, trim_done, trim_leads, trim_named, trim_refused}
+use Rattle.session_calls.proofs.LookLaws.{trim_of_call, look_along, other_trim_refusal, trim_blamed, trim_done, trim_leads, trim_named, trim_refused}
 use Rattle.session_calls.proofs.StateLaws.{served_still}
 use Rattle.session_calls.proofs.trimming.trim_block.Goals as goal
 
@@ -25,6 +25,7 @@ returns-in-Ok-clause-goes g c drawn = record {
       (λ told device array at. trim_leads _ _ device array c.args.block (Ok tt)
       (trim_done _ _ device array c.args.block (is_touched c.args.session.now) at.there.session.1 (c.in-Ok.ensures.array told device array.contents at.there.session.0).array (served_still _ _ (c.trim.ensures.looks.time told) at.served)));
   needs_still = tt;
+  stops = tt;
   cause = tt;
 }
 
@@ -35,6 +36,7 @@ returns-in-Err-clause-goes g c drawn = record {
       (trim_refused _ _ device array c.args.block (is_touched c.args.session.now) c.in-Err.refusal c.stop_of_trim.result c.stop_of_trim.ensures (c.in-Err.ensures.array told device array.contents at.there.session.0).array
       (c.in-Err.ensures.updates.touched_still ∙ at.there.session.1) (served_still _ _ (c.trim.ensures.looks.time told) at.served)));
   needs_still = c.in-Err.ensures.updates.needs_still;
+  stops = trim_of_call c.in-Err.refusal _ c.stop_of_trim.ensures;
   cause = trim_blamed c.in-Err.refusal _ _ _ (counts (g.P.Platform.faults c.args.platform.now) drawn.faults 0 0 0) (counts (g.P.Platform.faults c.trim.new.platform) drawn.faults 0 0 0) c.stop_of_trim.ensures c.in-Err.ensures.cause;
 }
 

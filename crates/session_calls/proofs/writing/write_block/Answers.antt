@@ -5,7 +5,7 @@ use Rattle.device_session.specs.declared.refusals.WriteRefusal.TheVariants as re
 use Rattle.session_calls.specs.Blame.{counts}
 use Rattle.session_calls.proofs.CellLaws.{wrong_page}
 use Rattle.session_calls.proofs.StateLaws.{at_array, served_still}
-use Rattle.session_calls.proofs.WriteLaws.{other_refusal, write_added, write_along, write_blamed, write_named, write_refused}
+use Rattle.session_calls.proofs.WriteLaws.{write_of_call, other_refusal, write_added, write_along, write_blamed, write_named, write_refused}
 use Rattle.session_calls.proofs.writing.write_block.Goals as goal
 
 pub stop_of_write-requires : goal.stop_of_write-requires
@@ -25,6 +25,7 @@ returns-in-Ok-clause-goes g c = record {
   along = write_along g.P.Platform g.T.Tape _ _ _ _ _ _ c.args.block c.args.content.now (Ok tt) c.in-Ok.ensures.goes_on c.in-Ok.ensures.updates.needs c.in-Ok.ensures.keeps c.in-Ok.ensures.grows
       (λ told device array at. at_array _ _ device (written array c.args.block c.args.content.now) (c.in-Ok.ensures.array told device array.contents at.there.session.0).array c.in-Ok.ensures.touched (served_still _ _ (c.write.ensures.grows.time told) at.served));
   needs_still = tt;
+  stops = tt;
   cause = tt;
 }
 
@@ -33,6 +34,7 @@ returns-in-Err-clause-goes g c = record {
   along = write_along g.P.Platform g.T.Tape _ _ _ _ _ _ c.args.block c.args.content.now (Err c.stop_of_write.result) c.in-Err.ensures.goes_on c.in-Err.ensures.updates.needs c.in-Err.ensures.keeps c.in-Err.ensures.grows
       (λ told device array at. write_refused _ _ device array c.args.block c.args.content.now (padded c.args.content.now) c.in-Err.refusal _ c.stop_of_write.ensures (c.in-Err.ensures.array told device array.contents at.there.session.0).array (c.in-Err.ensures.updates.touched_still ∙ at.there.session.1) (served_still _ _ (c.write.ensures.grows.time told) at.served));
   needs_still = c.in-Err.ensures.updates.needs_still;
+  stops = write_of_call c.in-Err.refusal _ c.stop_of_write.ensures;
   cause = write_blamed c.in-Err.refusal _ _ _ _ _ (counts (g.P.Platform.faults c.args.platform.now) (g.T.Tape.faults c.args.tape.now) 0 0 0)
       (counts (g.P.Platform.faults c.write.new.platform) (g.T.Tape.faults c.write.new.tape) 0 0 0) c.stop_of_write.ensures c.in-Err.ensures.cause;
 }

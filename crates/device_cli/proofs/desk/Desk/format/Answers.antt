@@ -7,8 +7,8 @@ use Rattle.script_lang.specs.Replies.{said}
 use Rattle.script_lang.specs.Replies as replies
 use Rattle.script_lang.specs.declared.replies.Reply.{Reply as Given}
 use Rattle.script_lang.specs.declared.replies.Reply.TheVariants as given
-use Rattle.device_cli.specs.declared.stop.DeviceStop.{DeviceStop}
-use Rattle.device_cli.specs.declared.stop.DeviceStop.TheVariants as device
+use Rattle.session_calls.specs.declared.stops.DeviceStop.{DeviceStop}
+use Rattle.session_calls.specs.declared.stops.DeviceStop.TheVariants as device
 use Rattle.device_cli.specs.World.{World, world_of}
 use Rattle.device_cli.specs.Replied.{Serves, Halts, outcome}
 use Rattle.device_cli.specs.Represents.{Represents}

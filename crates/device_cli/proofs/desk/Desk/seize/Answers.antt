@@ -10,7 +10,7 @@ use Rattle.script_lang.specs.declared.replies.Reply.{Reply as Given}
 use Rattle.device_cli.specs.Seen.{Saw}
 use Rattle.script_lang.specs.Commands as commands
 use Rattle.device_cli.specs.World.{World, world_of}
-use Rattle.device_cli.specs.declared.stop.DeviceStop.TheVariants as device
+use Rattle.session_calls.specs.declared.stops.DeviceStop.TheVariants as device
 use Rattle.device_cli.proofs.ServedLaws.{halts_still}
 use Rattle.device_cli.proofs.ServingLaws.{serves_seized}
 use Rattle.device_cli.proofs.SeizingLaws.{saw_seized}

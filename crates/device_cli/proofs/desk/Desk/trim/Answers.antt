@@ -1,19 +1,17 @@
-use Rattle.std.proofs.Common.{◌≡◌, ◌<◌, ℕ, Bool, None, Some, Ok, Err, refl, ◌∙◌, ap, subst, rules, arith}
-use Rattle.std.specs.Prelude.{◌||◌}
+use Rattle.std.proofs.Common.{◌≡◌, ◌<◌, ◌≤◌, None, Some, Err, refl, ◌∙◌, ap, rules, arith}
+use Rattle.std.proofs.lemmas.Result.{err_from_is_err_and}
 use Rattle.std.proofs.lemmas.Grind.{common_steps}
-use Rattle.device_cli.specs.declared.stop.DeviceStop.TheVariants as device
-use Rattle.device_cli.specs.World.{World, is_full, world_of}
-use Rattle.script_lang.specs.Replies as replies
-use Rattle.device_cli.specs.Replied.{Serves}
-use Rattle.std.specs.FinMap.{contains_key}
 use Rattle.sdbt_base.specs.Arrays.{unmapped}
+use Rattle.device_course.proofs.KeysLaws.{on_start}
+use Rattle.device_session.specs.Open.{blocks_of}
 use Rattle.script_lang.specs.Commands.{Trim}
-use Rattle.device_cli.proofs.ServedLaws.{at, with_session, has_session, serves_still, halts_still, serves_range, serves_damaged, gives_unmounted_trim, gives_trimmed, gives_trim_range}
-use Rattle.device_cli.proofs.ServingLaws.{serves_unmounted}
-use Rattle.device_cli.proofs.CellLaws.{after_looked, mounted_still, wrong_page}
-use Rattle.device_course.proofs.KeysLaws.{on_start, on_look, listed_some}
-use Rattle.device_cli.proofs.EnoughLaws.{enough_kept, enough_more}
-use Rattle.device_session.specs.declared.refusals.TrimRefusal.TheVariants as refusals
+use Rattle.script_lang.specs.Replies as replies
+use Rattle.device_cli.specs.World.{World, is_full, world_of}
+use Rattle.device_cli.proofs.CallLaws.{after_stopped, halts_led, mounted_held, no_draw, no_root, on_held, past_device, same_stop, serves_led, trim_sound, within_device}
+use Rattle.device_cli.proofs.EnoughLaws.{enough_more}
+use Rattle.device_cli.proofs.ServedLaws.{gives_unmounted_trim, gives_trimmed, gives_trim_range}
+use Rattle.device_cli.proofs.ServingLaws.{keeps_same, serves_unmounted}
+use Rattle.device_cli.proofs.desk.Desk.trim.Given.{Over}
 use Rattle.device_cli.proofs.desk.Desk.trim.Goals as goal
 
 pub returns-in_default-clause-answered : goal.returns-in_default-clause-answered
@@ -23,79 +21,85 @@ returns-in_default-clause-answered g c told entry rep =
     serves_unmounted c.args.self.now.session c.args.self.now.session (P.history c.args.platform.now) (P.head c.args.platform.now) (P.capacity c.args.platform.now) (P.reads c.args.platform.now) entry (Trim c.args.block) none none
     (λ full there. gives_unmounted_trim full there c.args.block) rep
 
-pub returns-in-Ok-clause-answered : goal.returns-in-Ok-clause-answered
-returns-in-Ok-clause-answered g c told entry rep =
-    let P = g.P.Platform in
-    let old : World = world_of P c.args.self.now.session c.args.platform.now in
-    let new : World = world_of P (Some c.trim.new.self) c.trim.new.platform in
-    let taken : c.args.self.now.session ≡ Some c.in-Some.session = c.in-Some.is in
-    with_session old c.in-Some.session entry taken rep (λ state. Serves old new state (Trim c.args.block) (Ok replies.Done))
-    (λ d t holds touched.
-    let within : c.args.block < d.blocks = subst (λ (n : ℕ). c.args.block < n) holds.stands.blocks c.in-Ok.ensures.cause in
-    let after = has_session new c.trim.new.self d (unmapped t c.args.block) refl (c.in-Ok.ensures.array told d t.contents holds).array.0
-    ((c.in-Ok.ensures.array told d t.contents holds).array.1 ∙ ap (λ (b : Bool). b || contains_key t.contents c.args.block) touched) in
-    serves_still old new (at d t) (at d (unmapped t c.args.block)) (Trim c.args.block) replies.Done (has_session old c.in-Some.session d t taken holds touched)
-    (gives_trimmed (is_full old (Trim c.args.block)) d t c.args.block within) after (c.trim.ensures.looks.time told))
-
-pub returns-in-Err-Range-clause-answered : goal.returns-in-Err-Range-clause-answered
-returns-in-Err-Range-clause-answered g c told entry rep =
-    let P = g.P.Platform in
-    let old = world_of P c.args.self.now.session c.args.platform.now in
-    serves_range old (world_of P (Some c.trim.new.self) c.trim.new.platform) c.in-Some.session c.trim.new.self entry (Trim c.args.block) c.args.block c.in-Some.is refl rep (λ d t holds. ((rw c.in-Err-Range.field-0-is at c.in-Err-Range.ensures.array) told d t.contents holds).array) c.in-Err-Range.ensures.updates.touched_still
-    (rw c.in-Err-Range.field-0-is at c.in-Err-Range.ensures.cause) (λ d t past. gives_trim_range (is_full old (Trim c.args.block)) d t c.args.block past) (c.trim.ensures.looks.time told)
-
-pub returns-in-Err-BadRecord-clause-answered : goal.returns-in-Err-BadRecord-clause-answered
-returns-in-Err-BadRecord-clause-answered g c told entry rep =
-    let P = g.P.Platform in
-    serves_damaged (world_of P c.args.self.now.session c.args.platform.now) (world_of P (Some c.trim.new.self) c.trim.new.platform) c.in-Some.session entry (Trim c.args.block) c.in-Err-BadRecord.addr c.in-Some.is rep
-    (λ d t holds. ((rw c.in-Err-BadRecord.field-0-is at c.in-Err-BadRecord.ensures.array) told d t.contents holds).array)
-
-pub returns-in-Err-PlatformFault-clause-answered : goal.returns-in-Err-PlatformFault-clause-answered
-returns-in-Err-PlatformFault-clause-answered g c told entry rep =
-    let P = g.P.Platform in
-    halts_still (world_of P c.args.self.now.session c.args.platform.now) (world_of P (Some c.trim.new.self) c.trim.new.platform) entry (Trim c.args.block) device.Platform tt rep (c.trim.ensures.looks.time told)
-
-pub returns-in-Err-Memory-clause-answered : goal.returns-in-Err-Memory-clause-answered
-returns-in-Err-Memory-clause-answered g c told entry rep =
-    let P = g.P.Platform in
-    halts_still (world_of P c.args.self.now.session c.args.platform.now) (world_of P (Some c.trim.new.self) c.trim.new.platform) entry (Trim c.args.block) device.Memory tt rep (c.trim.ensures.looks.time told)
-
 pub returns-in_default-clause-keeps : goal.returns-in_default-clause-keeps
 returns-in_default-clause-keeps g c = λ drawn written. on_start _ drawn written c.args.self.now.session _ _
 
-pub returns-in-Ok-clause-keeps : goal.returns-in-Ok-clause-keeps
-returns-in-Ok-clause-keeps g c = λ drawn written. on_look _ drawn written c.args.self.now.session _ _ _ _ c.trim.ensures.looks.image c.trim.ensures.looks.time (λ told keys kept h. c.trim.ensures.listed told keys (listed_some _ c.in-Some.session _ keys c.in-Some.is h))
+-- ---- a block past the device's
 
-pub returns-in-Err-Range-clause-keeps : goal.returns-in-Err-Range-clause-keeps
-returns-in-Err-Range-clause-keeps g c = λ drawn written. on_look _ drawn written c.args.self.now.session _ _ _ _ c.trim.ensures.looks.image c.trim.ensures.looks.time (λ told keys kept h. c.trim.ensures.listed told keys (listed_some _ c.in-Some.session _ keys c.in-Some.is h))
+pub returns-then-block-blocks-clause-answered : goal.returns-then-block-blocks-clause-answered
+returns-then-block-blocks-clause-answered g c told entry rep =
+    let old : World = world_of g.P.Platform c.args.self.now.session c.args.platform.now in
+    let new : World = world_of g.P.Platform (Some c.in-Some.session) c.args.platform.now in
+    let past : blocks_of c.in-Some.session ≤ c.args.block = omega (arith, c.if-block-blocks.true, c.blocks-2.ensures) in
+    serves_led old new c.in-Some.session c.in-Some.session entry (Trim c.args.block) replies.Range (λ t. t) c.in-Some.is refl (c.requires.cell told)
+    (λ d t at. (at, gives_trim_range (is_full old (Trim c.args.block)) d t c.args.block (past_device _ c.in-Some.session d t c.args.block at past))) (keeps_same old new refl) rep
 
-pub returns-in-Err-Memory-clause-keeps : goal.returns-in-Err-Memory-clause-keeps
-returns-in-Err-Memory-clause-keeps g c = λ drawn written. on_look _ drawn written c.args.self.now.session _ _ _ _ c.trim.ensures.looks.image c.trim.ensures.looks.time (λ told keys kept h. tt)
+pub returns-then-block-blocks-clause-keeps : goal.returns-then-block-blocks-clause-keeps
+returns-then-block-blocks-clause-keeps g c = λ drawn written. on_held _ _ _ _ _ c.args.self.now.session (Some c.in-Some.session) _ _ _ _ _ _ c.in-Some.is (on_start _ drawn written (Some c.in-Some.session) _ (Unit {0})) (λ going. tt) (λ keys h. h)
 
-pub returns-in-Err-BadRecord-clause-keeps : goal.returns-in-Err-BadRecord-clause-keeps
-returns-in-Err-BadRecord-clause-keeps g c = λ drawn written. on_look _ drawn written c.args.self.now.session _ _ _ _ c.trim.ensures.looks.image c.trim.ensures.looks.time (λ told keys kept h. tt)
+-- ---- a block that was trimmed
 
-pub returns-in-Err-PlatformFault-clause-keeps : goal.returns-in-Err-PlatformFault-clause-keeps
-returns-in-Err-PlatformFault-clause-keeps g c = λ drawn written. on_look _ drawn written c.args.self.now.session _ _ _ _ c.trim.ensures.looks.image c.trim.ensures.looks.time (λ told keys kept h. tt)
+pub returns-clause-after : goal.returns-clause-after
+returns-clause-after g c =
+    let along = (c.in_ok-trim_block.ensures.goes (no_draw None)).along in record {
+      ready = along.is_open;
+      mounted = λ told. along.mounted told (mounted_held _ c.in-Some.session _ c.in-Some.is (c.requires.mounted told));
+      reply = search rules;
+      short = search rules;
+      bad_root = λ told e. cc;
+      capacity = along.capacity;
+      rises = along.rises;
+      added = tt;
+      full = λ e. cc;
+    }
 
-pub returns-in-Ok-clause-after : goal.returns-in-Ok-clause-after
-returns-in-Ok-clause-after g c = after_looked _ _ _ _ _ _ _ c.trim.ensures.looks c.in-Ok.ensures.goes_on.is_open
-    (λ told. mounted_still _ c.in-Some.session _ _ _ c.in-Some.is (c.requires.mounted told) c.trim.ensures.goes_on.root (c.trim.ensures.looks.time told) (c.trim.ensures.goes_on.follows told))
-    (search rules) (search rules) (λ e. cc)
+pub returns-clause-blame : goal.returns-clause-blame
+returns-clause-blame g c = record { fell = (c.in_ok-trim_block.ensures.goes (no_draw None)).along.fell; cause = tt }
 
-pub returns-in-Ok-clause-enough : goal.returns-in-Ok-clause-enough
-returns-in-Ok-clause-enough g c updates enough =
-    enough_more c.args.self.now.session c.in-Some.session c.trim.new.self updates c.in-Some.is c.trim.ensures.updates.needs enough
+pub returns-clause-enough : goal.returns-clause-enough
+returns-clause-enough g c updates enough =
+    enough_more c.args.self.now.session c.in-Some.session c.trim_block.new.session updates c.in-Some.is (omega (arith, (c.in_ok-trim_block.ensures.goes (no_draw None)).along.needs)) enough
 
-pub returns-in-Err-Range-clause-enough : goal.returns-in-Err-Range-clause-enough
-returns-in-Err-Range-clause-enough g c updates enough =
-    enough_kept c.args.self.now.session c.in-Some.session c.trim.new.self updates c.in-Some.is c.in-Err-Range.ensures.updates.needs_still enough
+pub returns-clause-keeps : goal.returns-clause-keeps
+returns-clause-keeps g c = λ drawn written.
+    on_held _ _ _ _ _ c.args.self.now.session (Some c.in-Some.session) _ _ _ _ _ _ c.in-Some.is ((c.in_ok-trim_block.ensures.goes (no_draw drawn)).along.keeps written) (λ going. tt) (λ keys h. h)
 
--- what is named is a wrong page below the root record in the cell
-pub returns-in-Err-BadRecord-clause-damage : goal.returns-in-Err-BadRecord-clause-damage
-returns-in-Err-BadRecord-clause-damage g c told addr is =
-    let P = g.P.Platform in
-    let named : refusals.BadRecord c.in-Err-BadRecord.addr ≡ refusals.BadRecord addr = cc in
-    wrong_page c.args.self.now.session c.in-Some.session (P.head c.args.platform.now) addr (P.history c.args.platform.now) (P.history c.trim.new.platform) c.in-Some.is (rw c.in-Some.is at c.requires.ready)
-    (c.requires.mounted told) (c.trim.ensures.looks.time told)
-    (λ follows. (((rw c.in-Err-BadRecord.field-0-is at c.in-Err-BadRecord.ensures.damaged) told addr (ap Err named)).damage follows).1)
+pub returns-clause-answered : goal.returns-clause-answered
+returns-clause-answered g c told entry rep =
+    let old : World = world_of g.P.Platform c.args.self.now.session c.args.platform.now in
+    let new : World = world_of g.P.Platform (Some c.trim_block.new.session) c.trim_block.new.platform in
+    let within : c.args.block < blocks_of c.in-Some.session = omega (arith, c.if-block-blocks.false, c.blocks-2.ensures) in
+    serves_led old new c.in-Some.session c.trim_block.new.session entry (Trim c.args.block) replies.Done (λ t. unmapped t c.args.block) c.in-Some.is refl (c.requires.cell told)
+    (λ d t at. (c.in_ok-trim_block.ensures.leads told d t at, gives_trimmed (is_full old (Trim c.args.block)) d t c.args.block (within_device _ c.in-Some.session d t c.args.block at within)))
+    ((c.in_ok-trim_block.ensures.goes (no_draw None)).along.cell told) rep
+
+-- ---- a stop
+
+stopped : (g : Over) (c : goal.After-from_residual g) → c.from_residual.result ≡ Err c.in_err-trim_block.field-0.0
+stopped g c = let p = err_from_is_err_and c.from_residual.result c.from_residual.ensures.1 in p.1 ∙ ap Err p.2
+
+pub returns-in_err-trim_block-clause-after : goal.returns-in_err-trim_block-clause-after
+returns-in_err-trim_block-clause-after g c =
+    let goes = c.in_err-trim_block.ensures.goes (no_draw None) in
+    rw (stopped g c) (after_stopped g.P.Platform _ _ _ _ (Trim c.args.block) c.in_err-trim_block.field-0.0 (no_root _ goes.stops) goes.along.capacity goes.along.rises (omega (arith, c.in_err-trim_block.ensures.head)))
+
+pub returns-in_err-trim_block-clause-blame : goal.returns-in_err-trim_block-clause-blame
+returns-in_err-trim_block-clause-blame g c =
+    let goes = c.in_err-trim_block.ensures.goes (no_draw None) in
+    rw (stopped g c) (record { fell = goes.along.fell; cause = goes.cause })
+
+pub returns-in_err-trim_block-clause-damage : goal.returns-in_err-trim_block-clause-damage
+returns-in_err-trim_block-clause-damage g c told = rw (stopped g c) (λ addr is.
+    c.in_err-trim_block.ensures.damage told (mounted_held _ c.in-Some.session _ c.in-Some.is (c.requires.mounted told)) addr (same_stop c.in_err-trim_block.field-0.0 _ is))
+
+pub returns-in_err-trim_block-clause-keeps : goal.returns-in_err-trim_block-clause-keeps
+returns-in_err-trim_block-clause-keeps g c = λ drawn written.
+    rw (stopped g c) (on_held _ _ _ _ _ c.args.self.now.session (Some c.in-Some.session) _ _ _ _ _ _ c.in-Some.is ((c.in_err-trim_block.ensures.goes (no_draw drawn)).along.keeps written) (λ going. tt) (λ keys h. tt))
+
+pub returns-in_err-trim_block-clause-answered : goal.returns-in_err-trim_block-clause-answered
+returns-in_err-trim_block-clause-answered g c told entry rep =
+    let old : World = world_of g.P.Platform c.args.self.now.session c.args.platform.now in
+    let new : World = world_of g.P.Platform (Some c.trim_block.new.session) c.trim_block.new.platform in
+    rw (stopped g c) (halts_led old new c.in-Some.session entry (Trim c.args.block) c.in_err-trim_block.field-0.0 c.in-Some.is (c.requires.cell told)
+    (λ d t at. trim_sound _ c.trim_block.new.session d t c.args.block c.in_err-trim_block.field-0.0 (c.in_err-trim_block.ensures.leads told d t at))
+    ((c.in_err-trim_block.ensures.goes (no_draw None)).along.cell told) rep)

@@ -1,18 +1,17 @@
-use Rattle.std.proofs.Common.{◌≡◌, ◌<◌, ℕ, None, Some, Ok, Err, refl, rules, ◌∙◌, subst, ap, arith, List, take}
+use Rattle.std.proofs.Common.{◌≡◌, ◌<◌, ◌≤◌, List, ℕ, None, Some, Err, refl, take, ◌∙◌, ap, rules, arith}
 use Rattle.std.proofs.lemmas.Grind.{common_steps}
-use Rattle.device_cli.specs.declared.stop.DeviceStop.TheVariants as device
-use Rattle.device_cli.specs.World.{World, is_full, world_of}
-use Rattle.script_lang.specs.Replies as replies
-use Rattle.device_cli.specs.Replied.{Serves}
-use Rattle.std.specs.Prelude.{List}
+use Rattle.std.proofs.lemmas.Result.{err_from_is_err_and}
 use Rattle.sdbt_base.specs.Arrays.{written}
+use Rattle.device_course.proofs.KeysLaws.{on_start}
+use Rattle.device_session.specs.Open.{blocks_of}
 use Rattle.script_lang.specs.Commands.{Write}
-use Rattle.device_cli.proofs.ServedLaws.{at, with_session, has_session, serves_still, halts_still, serves_range, serves_damaged, is_full_true, is_full_false, gives_unmounted_write, gives_written, gives_write_range, gives_write_full}
-use Rattle.device_cli.proofs.ServingLaws.{serves_unmounted}
-use Rattle.device_cli.proofs.CellLaws.{mounted_still, wrong_page}
-use Rattle.device_course.proofs.KeysLaws.{on_start, on_update}
-use Rattle.device_cli.proofs.EnoughLaws.{enough_kept, enough_more}
-use Rattle.device_session.specs.declared.refusals.WriteRefusal.TheVariants as refusals
+use Rattle.script_lang.specs.Replies as replies
+use Rattle.device_cli.specs.World.{World, is_full, world_of}
+use Rattle.device_cli.proofs.CallLaws.{after_stopped, halts_led, mounted_held, no_root, on_held, past_device, same_stop, serves_led, within_device, write_added, write_sound}
+use Rattle.device_cli.proofs.EnoughLaws.{enough_more}
+use Rattle.device_cli.proofs.ServedLaws.{gives_unmounted_write, gives_write_full, gives_write_range, gives_written, is_full_false, is_full_true}
+use Rattle.device_cli.proofs.ServingLaws.{keeps_same, serves_unmounted}
+use Rattle.device_cli.proofs.desk.Desk.write.Given.{Over}
 use Rattle.device_cli.proofs.desk.Desk.write.Goals as goal
 
 pub returns-in_default-clause-answered : goal.returns-in_default-clause-answered
@@ -23,123 +22,106 @@ returns-in_default-clause-answered g c told entry rep =
     serves_unmounted c.args.self.now.session c.args.self.now.session (P.history c.args.platform.now) (P.head c.args.platform.now) (P.capacity c.args.platform.now) (P.reads c.args.platform.now) entry (Write c.args.block bytes) none none
     (λ full there. gives_unmounted_write full there c.args.block bytes) rep
 
-pub returns-in-Ok-clause-answered : goal.returns-in-Ok-clause-answered
-returns-in-Ok-clause-answered g c told entry rep =
-    let P = g.P.Platform in
-    let bytes : List ℕ = take c.args.count c.args.self.now.buffer in
-    let old : World = world_of P c.args.self.now.session c.args.platform.now in
-    let new : World = world_of P (Some c.write.new.self) c.write.new.platform in
-    let taken : c.args.self.now.session ≡ Some c.in-Some.session = c.in-Some.is in
-    with_session old c.in-Some.session entry taken rep (λ state. Serves old new state (Write c.args.block bytes) (Ok replies.Done))
-    (λ d t holds touched.
-    let within : c.args.block < d.blocks = subst (λ (n : ℕ). c.args.block < n) holds.stands.blocks c.in-Ok.ensures.cause.0 in
-    let room = is_full_false old (Write c.args.block bytes) (omega (arith, g.met.P.Platform.has_room c.args.platform.now, c.in-Ok.ensures.cause.1)) in
-    let after = has_session new c.write.new.self d (written t c.args.block bytes) refl (c.in-Ok.ensures.array told d t.contents holds).array c.in-Ok.ensures.touched in
-    serves_still old new (at d t) (at d (written t c.args.block bytes)) (Write c.args.block bytes) replies.Done (has_session old c.in-Some.session d t taken holds touched)
-    (gives_written (is_full old (Write c.args.block bytes)) d t c.args.block bytes room within) after (c.write.ensures.grows.time told))
-
-pub returns-in-Err-Range-clause-answered : goal.returns-in-Err-Range-clause-answered
-returns-in-Err-Range-clause-answered g c told entry rep =
-    let P = g.P.Platform in
-    let bytes : List ℕ = take c.args.count c.args.self.now.buffer in
-    let old = world_of P c.args.self.now.session c.args.platform.now in
-    serves_range old (world_of P (Some c.write.new.self) c.write.new.platform) c.in-Some.session c.write.new.self entry (Write c.args.block bytes) c.args.block c.in-Some.is refl rep (λ d t holds. ((rw c.in-Err-Range.field-0-is at c.in-Err-Range.ensures.array) told d t.contents holds).array) c.in-Err-Range.ensures.updates.touched_still
-    (rw c.in-Err-Range.field-0-is at c.in-Err-Range.ensures.cause) (λ d t past. gives_write_range (is_full old (Write c.args.block bytes)) d t c.args.block bytes past) (c.write.ensures.grows.time told)
-
-pub returns-in-Err-Full-clause-answered : goal.returns-in-Err-Full-clause-answered
-returns-in-Err-Full-clause-answered g c told entry rep =
-    let P = g.P.Platform in
-    let bytes : List ℕ = take c.args.count c.args.self.now.buffer in
-    let old : World = world_of P c.args.self.now.session c.args.platform.now in
-    let new : World = world_of P (Some c.write.new.self) c.write.new.platform in
-    let taken : c.args.self.now.session ≡ Some c.in-Some.session = c.in-Some.is in
-    with_session old c.in-Some.session entry taken rep (λ state. Serves old new state (Write c.args.block bytes) (Ok replies.Full))
-    (λ d t holds touched.
-    let both = rw c.in-Err-Full.field-0-is at c.in-Err-Full.ensures.cause in
-    let within : c.args.block < d.blocks = subst (λ (n : ℕ). c.args.block < n) holds.stands.blocks both.0 in
-    let after = has_session new c.write.new.self d t refl ((rw c.in-Err-Full.field-0-is at c.in-Err-Full.ensures.array) told d t.contents holds).array (c.in-Err-Full.ensures.updates.touched_still ∙ touched) in
-    serves_still old new (at d t) (at d t) (Write c.args.block bytes) replies.Full (has_session old c.in-Some.session d t taken holds touched)
-    (gives_write_full (is_full old (Write c.args.block bytes)) d t c.args.block bytes (is_full_true old (Write c.args.block bytes) (omega (arith, both.1))) within) after (c.write.ensures.grows.time told))
-
-pub returns-in-Err-BadRecord-clause-answered : goal.returns-in-Err-BadRecord-clause-answered
-returns-in-Err-BadRecord-clause-answered g c told entry rep =
-    let P = g.P.Platform in
-    let bytes : List ℕ = take c.args.count c.args.self.now.buffer in
-    serves_damaged (world_of P c.args.self.now.session c.args.platform.now) (world_of P (Some c.write.new.self) c.write.new.platform) c.in-Some.session entry (Write c.args.block bytes) c.in-Err-BadRecord.addr c.in-Some.is rep
-    (λ d t holds. ((rw c.in-Err-BadRecord.field-0-is at c.in-Err-BadRecord.ensures.array) told d t.contents holds).array)
-
-pub returns-in-Err-Memory-clause-answered : goal.returns-in-Err-Memory-clause-answered
-returns-in-Err-Memory-clause-answered g c told entry rep =
-    let P = g.P.Platform in
-    let bytes : List ℕ = take c.args.count c.args.self.now.buffer in
-    halts_still (world_of P c.args.self.now.session c.args.platform.now) (world_of P (Some c.write.new.self) c.write.new.platform) entry (Write c.args.block bytes) device.Memory tt rep (c.write.ensures.grows.time told)
-
-pub returns-in-Err-TapeFault-clause-answered : goal.returns-in-Err-TapeFault-clause-answered
-returns-in-Err-TapeFault-clause-answered g c told entry rep =
-    let P = g.P.Platform in
-    let bytes : List ℕ = take c.args.count c.args.self.now.buffer in
-    halts_still (world_of P c.args.self.now.session c.args.platform.now) (world_of P (Some c.write.new.self) c.write.new.platform) entry (Write c.args.block bytes) device.Tape tt rep (c.write.ensures.grows.time told)
-
-pub returns-in-Err-PlatformFault-clause-answered : goal.returns-in-Err-PlatformFault-clause-answered
-returns-in-Err-PlatformFault-clause-answered g c told entry rep =
-    let P = g.P.Platform in
-    let bytes : List ℕ = take c.args.count c.args.self.now.buffer in
-    halts_still (world_of P c.args.self.now.session c.args.platform.now) (world_of P (Some c.write.new.self) c.write.new.platform) entry (Write c.args.block bytes) device.Platform tt rep (c.write.ensures.grows.time told)
-
 pub returns-in_default-clause-keeps : goal.returns-in_default-clause-keeps
 returns-in_default-clause-keeps g c = λ ledger. on_start _ _ ledger c.args.self.now.session _ _
 
-pub returns-in-Ok-clause-keeps : goal.returns-in-Ok-clause-keeps
-returns-in-Ok-clause-keeps g c = λ ledger. on_update _ _ _ ledger c.args.self.now.session c.in-Some.session _ _ _ _ _ c.in-Some.is c.write.ensures.keeps c.write.ensures.grows.time (λ keys done. done)
+-- ---- a block past the device's
 
-pub returns-in-Err-Range-clause-keeps : goal.returns-in-Err-Range-clause-keeps
-returns-in-Err-Range-clause-keeps g c = λ ledger. on_update _ _ _ ledger c.args.self.now.session c.in-Some.session _ _ _ _ _ c.in-Some.is c.write.ensures.keeps c.write.ensures.grows.time (λ keys done. done)
+pub returns-then-block-blocks-clause-answered : goal.returns-then-block-blocks-clause-answered
+returns-then-block-blocks-clause-answered g c told entry rep =
+    let old : World = world_of g.P.Platform c.args.self.now.session c.args.platform.now in
+    let new : World = world_of g.P.Platform (Some c.in-Some.session) c.args.platform.now in
+    let bytes : List ℕ = take c.args.count c.args.self.now.buffer in
+    let past : blocks_of c.in-Some.session ≤ c.args.block = omega (arith, c.if-block-blocks.true, c.blocks-2.ensures) in
+    serves_led old new c.in-Some.session c.in-Some.session entry (Write c.args.block bytes) replies.Range (λ t. t) c.in-Some.is refl (c.requires.before.cell told)
+    (λ d t at. (at, gives_write_range (is_full old (Write c.args.block bytes)) d t c.args.block bytes (past_device _ c.in-Some.session d t c.args.block at past))) (keeps_same old new refl) rep
 
-pub returns-in-Err-Full-clause-keeps : goal.returns-in-Err-Full-clause-keeps
-returns-in-Err-Full-clause-keeps g c = λ ledger. on_update _ _ _ ledger c.args.self.now.session c.in-Some.session _ _ _ _ _ c.in-Some.is c.write.ensures.keeps c.write.ensures.grows.time (λ keys done. done)
+pub returns-then-block-blocks-clause-keeps : goal.returns-then-block-blocks-clause-keeps
+returns-then-block-blocks-clause-keeps g c = λ ledger. on_held _ _ _ _ _ c.args.self.now.session (Some c.in-Some.session) _ _ _ _ _ _ c.in-Some.is (on_start _ _ ledger (Some c.in-Some.session) _ (Unit {0})) (λ going. tt) (λ keys h. h)
 
-pub returns-in-Err-Memory-clause-keeps : goal.returns-in-Err-Memory-clause-keeps
-returns-in-Err-Memory-clause-keeps g c = λ ledger. on_update _ _ _ ledger c.args.self.now.session c.in-Some.session _ _ _ _ _ c.in-Some.is c.write.ensures.keeps c.write.ensures.grows.time (λ keys done. tt)
+-- ---- no page is free
 
-pub returns-in-Err-BadRecord-clause-keeps : goal.returns-in-Err-BadRecord-clause-keeps
-returns-in-Err-BadRecord-clause-keeps g c = λ ledger. on_update _ _ _ ledger c.args.self.now.session c.in-Some.session _ _ _ _ _ c.in-Some.is c.write.ensures.keeps c.write.ensures.grows.time (λ keys done. tt)
+pub returns-then-head-capacity-clause-answered : goal.returns-then-head-capacity-clause-answered
+returns-then-head-capacity-clause-answered g c told entry rep =
+    let old : World = world_of g.P.Platform c.args.self.now.session c.args.platform.now in
+    let new : World = world_of g.P.Platform (Some c.in-Some.session) c.args.platform.now in
+    let bytes : List ℕ = take c.args.count c.args.self.now.buffer in
+    let within : c.args.block < blocks_of c.in-Some.session = omega (arith, c.if-block-blocks.false, c.blocks-2.ensures) in
+    let full = is_full_true old (Write c.args.block bytes) (omega (arith, c.if-head-capacity.true, c.head.ensures.value, c.capacity.ensures.value)) in
+    serves_led old new c.in-Some.session c.in-Some.session entry (Write c.args.block bytes) replies.Full (λ t. t) c.in-Some.is refl (c.requires.before.cell told)
+    (λ d t at. (at, gives_write_full (is_full old (Write c.args.block bytes)) d t c.args.block bytes full (within_device _ c.in-Some.session d t c.args.block at within))) (keeps_same old new refl) rep
 
-pub returns-in-Err-TapeFault-clause-keeps : goal.returns-in-Err-TapeFault-clause-keeps
-returns-in-Err-TapeFault-clause-keeps g c = λ ledger. on_update _ _ _ ledger c.args.self.now.session c.in-Some.session _ _ _ _ _ c.in-Some.is c.write.ensures.keeps c.write.ensures.grows.time (λ keys done. tt)
+pub returns-then-head-capacity-clause-keeps : goal.returns-then-head-capacity-clause-keeps
+returns-then-head-capacity-clause-keeps g c = λ ledger. on_held _ _ _ _ _ c.args.self.now.session (Some c.in-Some.session) _ _ _ _ _ _ c.in-Some.is (on_start _ _ ledger (Some c.in-Some.session) _ (Unit {0})) (λ going. tt) (λ keys h. h)
 
-pub returns-in-Err-PlatformFault-clause-keeps : goal.returns-in-Err-PlatformFault-clause-keeps
-returns-in-Err-PlatformFault-clause-keeps g c = λ ledger. on_update _ _ _ ledger c.args.self.now.session c.in-Some.session _ _ _ _ _ c.in-Some.is c.write.ensures.keeps c.write.ensures.grows.time (λ keys done. tt)
+-- ---- a block that was written
 
-pub returns-in-Ok-clause-after : goal.returns-in-Ok-clause-after
-returns-in-Ok-clause-after g c = record {
-  ready = c.in-Ok.ensures.goes_on.is_open;
-  mounted = λ told. mounted_still _ c.in-Some.session _ _ _ c.in-Some.is (c.requires.before.mounted told) c.write.ensures.goes_on.root (c.write.ensures.grows.time told) (c.write.ensures.goes_on.follows told);
-  reply = search rules;
-  short = search rules;
-  bad_root = search rules;
-  capacity = search rules;
-  rises = search rules;
-  added = search rules;
-  full = search rules;
-}
+pub returns-clause-after : goal.returns-clause-after
+returns-clause-after g c =
+    let along = c.in_ok-write_block.ensures.goes.along in record {
+      ready = along.is_open;
+      mounted = λ told. along.mounted told (mounted_held _ c.in-Some.session _ c.in-Some.is (c.requires.before.mounted told));
+      reply = search rules;
+      short = search rules;
+      bad_root = λ told e. cc;
+      capacity = along.capacity;
+      rises = along.rises;
+      added = tt;
+      full = λ e. cc;
+    }
 
-pub returns-in-Ok-clause-enough : goal.returns-in-Ok-clause-enough
-returns-in-Ok-clause-enough g c updates enough =
-    enough_more c.args.self.now.session c.in-Some.session c.write.new.self updates c.in-Some.is c.write.ensures.updates.needs enough
+pub returns-clause-blame : goal.returns-clause-blame
+returns-clause-blame g c = record { fell = c.in_ok-write_block.ensures.goes.along.fell; cause = tt }
 
-pub returns-in-Err-Range-clause-enough : goal.returns-in-Err-Range-clause-enough
-returns-in-Err-Range-clause-enough g c updates enough =
-    enough_kept c.args.self.now.session c.in-Some.session c.write.new.self updates c.in-Some.is c.in-Err-Range.ensures.updates.needs_still enough
+pub returns-clause-enough : goal.returns-clause-enough
+returns-clause-enough g c updates enough =
+    enough_more c.args.self.now.session c.in-Some.session c.write_block.new.session updates c.in-Some.is (omega (arith, c.in_ok-write_block.ensures.goes.along.needs)) enough
 
-pub returns-in-Err-Full-clause-enough : goal.returns-in-Err-Full-clause-enough
-returns-in-Err-Full-clause-enough g c updates enough =
-    enough_kept c.args.self.now.session c.in-Some.session c.write.new.self updates c.in-Some.is c.in-Err-Full.ensures.updates.needs_still enough
+pub returns-clause-keeps : goal.returns-clause-keeps
+returns-clause-keeps g c = λ ledger.
+    on_held _ _ _ _ _ c.args.self.now.session (Some c.in-Some.session) _ _ _ _ _ _ c.in-Some.is (c.in_ok-write_block.ensures.goes.along.keeps ledger) (λ going. tt) (λ keys h. h)
 
--- what is named is a wrong page below the root record in the cell
-pub returns-in-Err-BadRecord-clause-damage : goal.returns-in-Err-BadRecord-clause-damage
-returns-in-Err-BadRecord-clause-damage g c told addr is =
-    let P = g.P.Platform in
-    let named : refusals.BadRecord c.in-Err-BadRecord.addr ≡ refusals.BadRecord addr = cc in
-    wrong_page c.args.self.now.session c.in-Some.session (P.head c.args.platform.now) addr (P.history c.args.platform.now) (P.history c.write.new.platform) c.in-Some.is (rw c.in-Some.is at c.requires.before.ready)
-    (c.requires.before.mounted told) (c.write.ensures.grows.time told)
-    (λ follows. (((rw c.in-Err-BadRecord.field-0-is at c.in-Err-BadRecord.ensures.damaged) told addr (ap Err named)).damage follows).1)
+pub returns-clause-answered : goal.returns-clause-answered
+returns-clause-answered g c told entry rep =
+    let old : World = world_of g.P.Platform c.args.self.now.session c.args.platform.now in
+    let new : World = world_of g.P.Platform (Some c.write_block.new.session) c.write_block.new.platform in
+    let bytes : List ℕ = take c.args.count c.args.self.now.buffer in
+    let within : c.args.block < blocks_of c.in-Some.session = omega (arith, c.if-block-blocks.false, c.blocks-2.ensures) in
+    let room = is_full_false old (Write c.args.block bytes) (omega (arith, g.met.P.Platform.has_room c.args.platform.now, c.if-head-capacity.false, c.head.ensures.value, c.capacity.ensures.value)) in
+    serves_led old new c.in-Some.session c.write_block.new.session entry (Write c.args.block bytes) replies.Done (λ t. written t c.args.block bytes) c.in-Some.is refl (c.requires.before.cell told)
+    (λ d t at. (c.in_ok-write_block.ensures.leads told d t at, gives_written (is_full old (Write c.args.block bytes)) d t c.args.block bytes room (within_device _ c.in-Some.session d t c.args.block at within)))
+    (c.in_ok-write_block.ensures.goes.along.cell told) rep
+
+-- ---- a stop
+
+stopped : (g : Over) (c : goal.After-from_residual g) → c.from_residual.result ≡ Err c.in_err-write_block.field-0.0
+stopped g c = let p = err_from_is_err_and c.from_residual.result c.from_residual.ensures.1 in p.1 ∙ ap Err p.2
+
+pub returns-in_err-write_block-clause-after : goal.returns-in_err-write_block-clause-after
+returns-in_err-write_block-clause-after g c =
+    let bytes : List ℕ = take c.args.count c.args.self.now.buffer in
+    let goes = c.in_err-write_block.ensures.goes in
+    rw (stopped g c) (after_stopped g.P.Platform _ _ _ _ (Write c.args.block bytes) c.in_err-write_block.field-0.0 (no_root _ goes.stops) goes.along.capacity goes.along.rises
+    (write_added g.P.Platform g.T.Tape _ _ _ _ c.args.block bytes _ c.in_err-write_block.field-0.0 goes.along.adds c.in_err-write_block.ensures.adds))
+
+pub returns-in_err-write_block-clause-blame : goal.returns-in_err-write_block-clause-blame
+returns-in_err-write_block-clause-blame g c =
+    let goes = c.in_err-write_block.ensures.goes in
+    rw (stopped g c) (record { fell = goes.along.fell; cause = goes.cause })
+
+pub returns-in_err-write_block-clause-damage : goal.returns-in_err-write_block-clause-damage
+returns-in_err-write_block-clause-damage g c told = rw (stopped g c) (λ addr is.
+    c.in_err-write_block.ensures.damage told (mounted_held _ c.in-Some.session _ c.in-Some.is (c.requires.before.mounted told)) addr (same_stop c.in_err-write_block.field-0.0 _ is))
+
+pub returns-in_err-write_block-clause-keeps : goal.returns-in_err-write_block-clause-keeps
+returns-in_err-write_block-clause-keeps g c = λ ledger.
+    rw (stopped g c) (on_held _ _ _ _ _ c.args.self.now.session (Some c.in-Some.session) _ _ _ _ _ _ c.in-Some.is (c.in_err-write_block.ensures.goes.along.keeps ledger) (λ going. tt) (λ keys h. tt))
+
+pub returns-in_err-write_block-clause-answered : goal.returns-in_err-write_block-clause-answered
+returns-in_err-write_block-clause-answered g c told entry rep =
+    let old : World = world_of g.P.Platform c.args.self.now.session c.args.platform.now in
+    let new : World = world_of g.P.Platform (Some c.write_block.new.session) c.write_block.new.platform in
+    let bytes : List ℕ = take c.args.count c.args.self.now.buffer in
+    rw (stopped g c) (halts_led old new c.in-Some.session entry (Write c.args.block bytes) c.in_err-write_block.field-0.0 c.in-Some.is (c.requires.before.cell told)
+    (λ d t at. write_sound _ c.write_block.new.session d t c.args.block bytes c.in_err-write_block.field-0.0 (c.in_err-write_block.ensures.leads told d t at))
+    (c.in_err-write_block.ensures.goes.along.cell told) rep)

@@ -1,4 +1,4 @@
-//! What is looked at before the first line.
+//! What is looked at before anything is served.
 ghost use Rattle.std.specs.Prelude.{◌≡◌, ◌≤◌, ◌⊎◌, IfErr, IfOk, OnOk, IsErrOf, IfSome, IfNone, length};
 ghost use Rattle.sdbt_base.specs.Faults.{Rose};
 ghost use Rattle.platform.specs.History.{Steps};
@@ -6,15 +6,15 @@ ghost use Rattle.root_codec.specs.declared.root.Root.{Root};
 ghost use Rattle.root_codec.specs.RootRecord.{root_bytes};
 ghost use Rattle.page_store.specs.Roots.{IsRootWithin};
 ghost use Rattle.device_terms.specs.Served.{IsServedImage};
-ghost use Rattle.device_cli.specs.Checks.{IsInCell};
+ghost use Rattle.session_calls.specs.Cells.{IsInCell};
 
-use crate::stop::DeviceStop;
+use crate::stops::DeviceStop;
 use platform::Platform;
 use root_codec::{Root, decode_root};
 use sdbt_base::ROOT;
 
-/// The root record in the cell, if there is one. Refused by `BadRoot` where the cell is full, and not with one that can be served.
-pub(crate) fn check_cell<P: Platform>(platform: &mut P) -> Result<Option<Root>, DeviceStop>
+/// The root record in the cell, if there is one. Stops at `BadRoot` where the cell is full, and not with one that can be served.
+pub fn check_cell<P: Platform>(platform: &mut P) -> Result<Option<Root>, DeviceStop>
     ensures found { P.tells → IfOk result (IsInCell (P.history platform.old).present) }
     ensures served { P.tells → OnOk result (IsServedImage (P.history platform.old).present) }
     ensures bad_root { P.tells → IsErrOf result DeviceStop.BadRoot → IsServedImage (P.history platform.old).present → ⊥ }

@@ -1,25 +1,10 @@
 //! Why a run stops before the end of its input.
 
-/// Why the device could not serve a line.
-#[derive(Clone, Copy, Debug, PartialEq, Eq)]
-pub(crate) enum DeviceStop {
-    /// The medium or the root cell failed.
-    Platform,
-    /// The tape gave no key.
-    Tape,
-    /// The ledger failed.
-    Ledger,
-    /// The cell is full, and not with a root record that is served.
-    BadRoot,
-    /// The page at this address holds no record that fits its place.
-    BadRecord { addr: u64 },
-    /// No memory was given.
-    Memory,
-}
+use session_calls::DeviceStop;
 
-/// Why a run stops.
+/// Why a run stops before its input ends.
 #[derive(Clone, Copy, Debug, PartialEq, Eq)]
-pub(crate) enum Stop {
+pub enum Stop {
     /// The input failed.
     Source,
     /// The output failed.
@@ -32,10 +17,10 @@ pub(crate) enum Stop {
 
 impl Stop {
     ghost use Rattle.std.specs.Prelude.{◌≡◌};
-    ghost use Rattle.device_cli.specs.Run.{status_of};
+    ghost use Rattle.line_run.specs.Stops.{status_of};
 
     /// The exit status.
-    pub(crate) fn status(self) -> u8
+    pub fn status(self) -> u8
         ensures { result ≡ status_of self }
     {
         match self {

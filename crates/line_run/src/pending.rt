@@ -1,15 +1,15 @@
 //! The bytes of a line whose line feed has not come yet.
 ghost use Rattle.std.specs.Prelude.{◌≡◌, ◌↔◌, ℕ, List, [], ◌++◌, None, Some, IsTrue, option_copied};
-ghost use Rattle.device_cli.specs.Kept.{IsKept};
+ghost use Rattle.line_run.specs.Pending.{IsPending};
 
 use std::marker::Model;
 
-/// The greatest length of a line that is kept. No longer line is in the grammar.
-pub(crate) const MAX_LINE: usize = 8300;
+/// The greatest length of a line whose bytes stay. No longer line is in the grammar.
+const MAX_LINE: usize = 8300;
 
 /// What has come of a line: its bytes, or only that there are more than `MAX_LINE` of them.
 #[derive(Drop)]
-pub(crate) struct Pending {
+pub struct Pending {
     bytes: [u8; MAX_LINE],
     len: usize,
     is_overlong: bool,
@@ -27,8 +27,8 @@ impl Model for Pending {
 
 impl Pending {
     /// Nothing of a line.
-    pub(crate) fn new() -> Pending
-        ensures { IsKept result [] }
+    pub fn new() -> Pending
+        ensures { IsPending result [] }
     {
         Pending {
             bytes: [0; MAX_LINE],
@@ -38,15 +38,15 @@ impl Pending {
     }
 
     /// Whether nothing of a line has come.
-    pub(crate) fn is_empty(&self) -> bool
-        ensures { (line : List ℕ) → IsKept self.now line → IsTrue result ↔ (line ≡ []) }
+    pub fn is_empty(&self) -> bool
+        ensures { (line : List ℕ) → IsPending self.now line → IsTrue result ↔ (line ≡ []) }
     {
         self.len == 0 && !self.is_overlong
     }
 
     /// More bytes of the line. Those of a line that grows past `MAX_LINE` are let go.
-    pub(crate) fn push(&mut self, piece: &[u8])
-        ensures { (line : List ℕ) → IsKept self.old line → IsKept self.new (line ++ piece.now) }
+    pub fn push(&mut self, piece: &[u8])
+        ensures { (line : List ℕ) → IsPending self.old line → IsPending self.new (line ++ piece.now) }
     {
         if self.is_overlong || piece.len() > MAX_LINE - self.len {
             self.is_overlong = true;
@@ -58,7 +58,7 @@ impl Pending {
     }
 
     /// The bytes of the line, or None where there are more than `MAX_LINE`.
-    pub(crate) fn line(&self) -> Option<&[u8]>
+    pub fn line(&self) -> Option<&[u8]>
         ensures { option_copied result ≡ self.now }
     {
         if self.is_overlong {
@@ -70,8 +70,8 @@ impl Pending {
 
     /// The bytes of the line, which ends with these, or None where there are more than `MAX_LINE`. A line of which nothing had come
     /// is not copied.
-    pub(crate) fn complete<'a>(&'a mut self, end: &'a [u8]) -> Option<&'a [u8]>
-        ensures { (line : List ℕ) → IsKept self.old line → IsKept (option_copied result) (line ++ end.now) }
+    pub fn complete<'a>(&'a mut self, end: &'a [u8]) -> Option<&'a [u8]>
+        ensures { (line : List ℕ) → IsPending self.old line → IsPending (option_copied result) (line ++ end.now) }
     {
         if self.is_empty() && end.len() <= MAX_LINE {
             return Some(end);
@@ -81,8 +81,8 @@ impl Pending {
     }
 
     /// Nothing of the next line yet.
-    pub(crate) fn clear(&mut self)
-        ensures { IsKept self.new [] }
+    pub fn clear(&mut self)
+        ensures { IsPending self.new [] }
     {
         self.len = 0;
         self.is_overlong = false;

@@ -3,10 +3,11 @@ use Rattle.std.proofs.Common.{◌≡◌, ◌⊎◌, inl, inr, ℕ, ◌≤◌, �
 use Rattle.std.specs.Prelude.{IfErr}
 use Rattle.sdbt_base.specs.Faults.{Rose}
 use Rattle.sdbt_base.proofs.FaultLaws.{Rose-within}
-use Rattle.device_cli.specs.Run.{Counts, NoneFell, HasCause, IsOfLine, TookUntil}
-use Rattle.device_cli.specs.declared.stop.Stop.{Stop}
-use Rattle.device_cli.specs.declared.stop.Stop.TheVariants as stops
-use Rattle.device_cli.specs.declared.stop.DeviceStop.TheVariants as device
+use Rattle.line_run.specs.Stops.{HasCause, IsOfLine, TookUntil}
+use Rattle.session_calls.specs.Blame.{Counts, NoneFell}
+use Rattle.line_run.specs.declared.stop.Stop.{Stop}
+use Rattle.line_run.specs.declared.stop.Stop.TheVariants as stops
+use Rattle.session_calls.specs.declared.stops.DeviceStop.TheVariants as device
 
 pub NoneFell-nothing : (a : Counts) → NoneFell a a
 NoneFell-nothing a = grind arith

@@ -2,10 +2,11 @@ use Rattle.std.proofs.Common.{◌≡◌, ◌==◌, List, [], ◌∷◌, ℕ, len
 use Rattle.std.proofs.lemmas.Bool.{eqb-true}
 use Rattle.sdbt_base.specs.Told.{Got, GotPart}
 use Rattle.sdbt_base.proofs.ToldLaws.{Got-nothing}
-use Rattle.device_cli.specs.Replied.{damage_line, IsSound}
-use Rattle.device_cli.specs.declared.stop.DeviceStop.{DeviceStop}
-use Rattle.device_cli.specs.declared.stop.DeviceStop.TheVariants as device
-use Rattle.device_cli.proofs.run.last_line.Goals as goal
+use Rattle.line_run.specs.Puts.{damage_line}
+use Rattle.line_run.specs.Stops.{IsSound}
+use Rattle.session_calls.specs.declared.stops.DeviceStop.{DeviceStop}
+use Rattle.session_calls.specs.declared.stops.DeviceStop.TheVariants as device
+use Rattle.line_run.proofs.texts.last_line.Goals as goal
 
 nothing : (bytes : List ℕ) → length bytes ≡ 0 → bytes ≡ []
 nothing [] e = refl

@@ -1,0 +1,219 @@
+-- What a desk has of a call of its session.
+use Rattle.std.proofs.Common.{◌≡◌, ℕ, ◌+◌, ◌<◌, ◌≤◌, Bool, true, false, List, Option, None, Some, Ok, Err, refl, sym, ◌∙◌, subst, ap, arith}
+use Rattle.platform.specs.Image.{Image}
+use Rattle.platform.specs.History.{History, Turns}
+use Rattle.platform.specs.declared.platforms.Platform.{Ghosts}
+use Rattle.sdbt_base.specs.declared.tapes.Tape.{Ghosts as TapeGhosts}
+use Rattle.sdbt_base.specs.Arrays.{Blocks, Device, Session as OpenSession, State, committed, session_on}
+use Rattle.device_terms.specs.Served.{IsServedImage}
+use Rattle.device_course.specs.Keys.{KeepsOn}
+use Rattle.device_course.specs.Marks.{Leaves}
+use Rattle.device_course.specs.States.{IsAt}
+use Rattle.device_course.specs.States as states
+use Rattle.device_session.specs.declared.refusals.CommitReply.TheVariants as replies
+use Rattle.device_course.proofs.KeysLaws.{on_done}
+use Rattle.device_session.specs.Open.{blocks_of}
+use Rattle.device_session.specs.Sessions.{Session}
+use Rattle.script_lang.specs.Answers.{answer, none_counted}
+use Rattle.script_lang.specs.Commands.{Command, Commit, Write}
+use Rattle.script_lang.specs.Replies.{Committed, Full, Reply}
+use Rattle.script_lang.specs.declared.replies.Reply.{Reply as Given}
+use Rattle.std.specs.Prelude.{IfSome, IsErrOf}
+use Rattle.session_calls.specs.Along.{Drawn}
+use Rattle.session_calls.specs.Damage.{IsMounted}
+use Rattle.session_calls.specs.Blame.{IsOfCall}
+use Rattle.session_calls.specs.Commits.{CommitLeads, HasNumber, IsShort, ReplyLeads, StopsAt}
+use Rattle.session_calls.specs.Mounts.{MountLeads}
+use Rattle.session_calls.specs.Goes.{AddsBlock, ReadsBlock, TrimsBlock, WritesBlock}
+use Rattle.session_calls.specs.declared.stops.DeviceStop.{DeviceStop}
+use Rattle.session_calls.specs.declared.stops.DeviceStop.TheVariants as stops
+use Rattle.session_calls.proofs.StateLaws.{at_array}
+use Rattle.device_cli.specs.Added.{left_by}
+use Rattle.device_cli.specs.Desk.{After}
+use Rattle.device_cli.specs.Replied.{Halts, Serves}
+use Rattle.line_run.specs.Stops.{IsSound}
+use Rattle.device_cli.specs.Represents.{Represents}
+use Rattle.device_cli.specs.World.{World, is_full, needed_of, world_of}
+use Rattle.device_cli.specs.declared.desk.Desk.{Desk}
+use Rattle.device_cli.proofs.ServedLaws.{at, with_session, has_session, serves_still, halts_still, is_full_false, is_full_true, gives_commit_full, gives_idle, gives_raised}
+use Rattle.device_cli.proofs.ServingLaws.{KeepsCell, keeps_same, needed_some}
+
+-- the device has as many blocks as the session
+pub within_device : (image : Image) (session : Session) (d : Device) (t : OpenSession) (block : ℕ) → IsAt image (Some session) (at d t) → block < blocks_of session → block < d.blocks
+within_device image session d t block there within = subst (λ (n : ℕ). block < n) there.there.session.0.stands.blocks within
+
+pub past_device : (image : Image) (session : Session) (d : Device) (t : OpenSession) (block : ℕ) → IsAt image (Some session) (at d t) → blocks_of session ≤ block → d.blocks ≤ block
+past_device image session d t block there past = subst (λ (n : ℕ). n ≤ block) there.there.session.0.stands.blocks past
+
+-- a reply behind a call that left the cell, by the array that it led to
+pub serves_led : (old new : World) (session now : Session) (entry : State) (command : Command) (reply : Reply) (next : OpenSession → OpenSession) → old.session ≡ Some session → new.session ≡ Some now
+    → IsServedImage old.history.present
+    → ((d : Device) (t : OpenSession) → IsAt old.history.present (Some session) (at d t)
+    → IsAt new.history.present (Some now) (at d (next t)) × ((reply, at d (next t)) ≡ answer (is_full old command) none_counted (at d t) command))
+    → KeepsCell old new → Represents old entry → Serves old new entry command (Ok reply)
+serves_led old new session now entry command reply next taken going served led keeps rep =
+    with_session old session entry taken rep (λ state. Serves old new state command (Ok reply))
+    (λ d t holds touched.
+    let both = led d t (at_array old.history.present session d t holds touched served) in
+    serves_still old new (at d t) (at d (next t)) command reply (has_session old session d t taken holds touched) both.1
+    (has_session new now d (next t) going both.0.there.session.0 both.0.there.session.1) keeps)
+
+-- a stop at a call that left the cell, and met no damage over an array
+pub halts_led : (old new : World) (session : Session) (entry : State) (command : Command) (stop : DeviceStop) → old.session ≡ Some session → IsServedImage old.history.present
+    → ((d : Device) (t : OpenSession) → IsAt old.history.present (Some session) (at d t) → IsSound stop) → KeepsCell old new → Represents old entry → Serves old new entry command (Err stop)
+halts_led old new session entry command stop taken served sound keeps rep =
+    with_session old session entry taken rep (λ state. Serves old new state command (Err stop))
+    (λ d t holds touched. halts_still old new (at d t) command stop (sound d t (at_array old.history.present session d t holds touched served)) (has_session old session d t taken holds touched) keeps)
+
+pub trim_sound : (image : Image) (now : Session) (d : Device) (t : OpenSession) (block : ℕ) (stop : DeviceStop) → TrimsBlock image now d t block (Err stop) → IsSound stop
+trim_sound image now d t block stops.Memory led = tt
+trim_sound image now d t block stops.Platform led = tt
+trim_sound image now d t block stops.Tape led = tt
+trim_sound image now d t block stops.Ledger led = tt
+trim_sound image now d t block stops.BadRoot led = led
+trim_sound image now d t block (stops.BadRecord addr) led = led
+
+pub write_sound : (image : Image) (now : Session) (d : Device) (t : OpenSession) (block : ℕ) (bytes : List ℕ) (stop : DeviceStop) → WritesBlock image now d t block bytes (Err stop) → IsSound stop
+write_sound image now d t block bytes stops.Memory led = tt
+write_sound image now d t block bytes stops.Platform led = tt
+write_sound image now d t block bytes stops.Tape led = tt
+write_sound image now d t block bytes stops.Ledger led = tt
+write_sound image now d t block bytes stops.BadRoot led = led
+write_sound image now d t block bytes (stops.BadRecord addr) led = led
+
+pub read_sound : (image : Image) (now : Session) (d : Device) (t : OpenSession) (block : ℕ) (bytes : List ℕ) (stop : DeviceStop) → ReadsBlock image now d t block bytes (Err stop) → IsSound stop
+read_sound image now d t block bytes stops.Memory led = tt
+read_sound image now d t block bytes stops.Platform led = tt
+read_sound image now d t block bytes stops.Tape led = tt
+read_sound image now d t block bytes stops.Ledger led = tt
+read_sound image now d t block bytes stops.BadRoot led = led
+read_sound image now d t block bytes (stops.BadRecord addr) led = led
+
+-- what is kept by a call of what is held
+pub on_held : (tells : Type 0) (drawn drawn_now : Option (List (List ℕ))) (written written_now : Option (List ℕ)) (held there : Option Session) (old new : History) (Was Going : Type 0) (Then Done : List (List ℕ) → Type 0) → held ≡ there
+    → KeepsOn tells drawn drawn_now written written_now there old new Was Then → (Going → Was) → ((keys : List (List ℕ)) → Then keys → Done keys) → KeepsOn tells drawn drawn_now written written_now held old new Going Done
+on_held tells drawn drawn_now written written_now held there old new Was Going Then Done is on was done =
+    subst (λ (s : Option Session). KeepsOn tells drawn drawn_now written written_now s old new Going Done) (sym is)
+    (on_done tells drawn drawn_now written written_now there old new Was Going Then Done on was done)
+
+-- a call for a block never stops at the root record
+pub no_root : {X : Type 0} (stop : DeviceStop) → IsOfCall stop → IsErrOf {T = X} {E = DeviceStop} (Err stop) stops.BadRoot → ⊥
+no_root stops.BadRoot of e = of
+no_root stops.Platform of e = cc
+no_root stops.Tape of e = cc
+no_root stops.Ledger of e = cc
+no_root stops.Memory of e = cc
+no_root (stops.BadRecord addr) of e = cc
+
+-- what a stop of a call leaves
+pub after_stopped : {S : Type 0} (P : Ghosts S) (before desk : Desk) (old new : S) (command : Command) (stop : DeviceStop) → (IsErrOf {T = Given} {E = DeviceStop} (Err stop) stops.BadRoot → ⊥) → P.capacity new ≡ P.capacity old → P.head old ≤ P.head new
+    → P.head new ≤ P.head old + left_by stop command (needed_of before.session) → After P before desk old new command (Err stop)
+after_stopped P before desk old new command stop none capacity rises added = record {
+  ready = tt;
+  mounted = λ told. tt;
+  reply = tt;
+  short = tt;
+  bad_root = λ told. none;
+  capacity = capacity;
+  rises = rises;
+  added = added;
+  full = tt;
+}
+
+-- the session that is held is on the root record in the cell
+pub mounted_held : (held : Option Session) (session : Session) (image : Image) → held ≡ Some session → IfSome held (IsMounted image) → IsMounted image session
+mounted_held held session image is mounted = subst (λ (s : Option Session). IfSome s (IsMounted image)) is mounted
+
+-- nothing that a call draws
+abbrev pub no_draw : Option (List (List ℕ)) → Drawn
+no_draw keys = record { keys = keys; faults = 0 }
+
+-- one stop, whatever the answers are beside it
+pub same_stop : {X Y : Type 0} (stop other : DeviceStop) → IsErrOf {T = X} {E = DeviceStop} (Err stop) other → IsErrOf {T = Y} {E = DeviceStop} (Err stop) other
+same_stop stop other is = let e : stop ≡ other = cc in ap Err e
+
+-- a write that stopped added a page at most where the platform failed, and else none
+pub write_added : {S R : Type 0} (P : Ghosts S) (T : TapeGhosts R) (platform platform_now : S) (tape tape_now : R) (block : ℕ) (bytes : List ℕ) (changes : ℕ) (stop : DeviceStop) → P.head platform_now ≤ P.head platform + 1
+    → AddsBlock P T platform platform_now tape tape_now (Err stop) → P.head platform_now ≤ P.head platform + left_by stop (Write block bytes) changes
+write_added P T platform platform_now tape tape_now block bytes changes stops.Platform one adds = one
+write_added P T platform platform_now tape tape_now block bytes changes stops.Tape one adds = omega (arith, adds.head)
+write_added P T platform platform_now tape tape_now block bytes changes stops.Memory one adds = omega (arith, adds.head)
+write_added P T platform platform_now tape tape_now block bytes changes stops.Ledger one adds = absurd adds
+write_added P T platform platform_now tape tape_now block bytes changes stops.BadRoot one adds = absurd adds
+write_added P T platform platform_now tape tape_now block bytes changes (stops.BadRecord addr) one adds = omega (arith, adds.head)
+
+-- ---- a mount
+
+pub mount_sound : (image : Image) (entry : State) (stop : DeviceStop) → MountLeads image entry (Err stop) → IsSound stop
+mount_sound image entry stops.Memory led = tt
+mount_sound image entry stops.Platform led = tt
+mount_sound image entry stops.Tape led = tt
+mount_sound image entry stops.Ledger led = tt
+mount_sound image entry stops.BadRoot led = led
+mount_sound image entry (stops.BadRecord addr) led = led
+
+pub at_none : (w : World) (entry : State) → w.session ≡ None → Represents w entry → IsServedImage w.history.present → IsAt w.history.present None entry
+at_none w entry none rep served = record { there = subst (λ (s : Option Session). states.Represents w.history.present s entry) none rep; served = served }
+
+-- ---- a commit
+
+number_at : (old new : World) (now : Session) (number : ℕ) (d : Device) (contents : Blocks) (touched : Bool) → new.session ≡ Some now → is_full old Commit ≡ false
+    → ReplyLeads old.history new.history now d (record { contents = contents; touched = touched }) (replies.Committed number) → Serves old new (at d (record { contents = contents; touched = touched })) Commit (Ok (Committed number))
+number_at old new now number d contents false going room led =
+    let t : OpenSession = record { contents = contents; touched = false } in
+    subst (λ (n : ℕ). Serves old new (at d t) Commit (Ok (Committed n))) (sym led.1)
+    (at d t, (none_counted, gives_idle (is_full old Commit) d t refl), has_session new now d t going led.0.there.session.0 led.0.there.session.1, led.2)
+number_at old new now number d contents true going room led =
+    let t : OpenSession = record { contents = contents; touched = true } in
+    let after : OpenSession = session_on (committed d t) in
+    subst (λ (n : ℕ). Serves old new (at d t) Commit (Ok (Committed n))) (sym led.1)
+    (at (committed d t) after, (none_counted, gives_raised (is_full old Commit) d t room refl), has_session new now (committed d t) after going led.0.there.session.0 led.0.there.session.1, led.2)
+
+-- it was answered with a number
+pub serves_number : {S R W : Type 0} (P : Ghosts S) (platform platform_now : S) (tape tape_now : R) (ledger ledger_now : W) (held : Option Session) (session now : Session) (number : ℕ) (entry : State) → held ≡ Some session → IsServedImage (P.history platform).present
+    → HasNumber P platform platform_now tape tape_now ledger ledger_now session now number
+    → ((d : Device) (t : OpenSession) → IsAt (P.history platform).present (Some session) (at d t) → ReplyLeads (P.history platform) (P.history platform_now) now d t (replies.Committed number))
+    → Represents (world_of P held platform) entry → Serves (world_of P held platform) (world_of P (Some now) platform_now) entry Commit (Ok (Committed number))
+serves_number P platform platform_now tape tape_now ledger ledger_now held session now number entry taken served has leads rep =
+    let old : World = world_of P held platform in
+    let new : World = world_of P (Some now) platform_now in
+    with_session old session entry taken rep (λ state. Serves old new state Commit (Ok (Committed number)))
+    (λ d t holds touched. number_at old new now number d t.contents t.touched refl (is_full_false old Commit (omega (arith, has.room, needed_some old session taken)))
+    (leads d t (at_array old.history.present session d t holds touched served)))
+
+-- too few pages are free
+pub serves_short : {S R W : Type 0} (P : Ghosts S) (platform platform_now : S) (tape tape_now : R) (ledger ledger_now : W) (held : Option Session) (session now : Session) (needed free : ℕ) (entry : State) → held ≡ Some session → IsServedImage (P.history platform).present
+    → IsShort P platform platform_now tape tape_now ledger ledger_now session now needed free
+    → ((d : Device) (t : OpenSession) → IsAt (P.history platform).present (Some session) (at d t) → ReplyLeads (P.history platform) (P.history platform_now) now d t (replies.Full needed free))
+    → Represents (world_of P held platform) entry → Serves (world_of P held platform) (world_of P (Some now) platform_now) entry Commit (Ok Full)
+serves_short P platform platform_now tape tape_now ledger ledger_now held session now needed free entry taken served short leads rep =
+    let old : World = world_of P held platform in
+    let new : World = world_of P (Some now) platform_now in
+    with_session old session entry taken rep (λ state. Serves old new state Commit (Ok Full))
+    (λ d t holds touched.
+    let led = leads d t (at_array old.history.present session d t holds touched served) in
+    let full : is_full old Commit ≡ true = is_full_true old Commit (omega (arith, short.short, short.is_needed, short.is_free, needed_some old session taken)) in
+    serves_still old new (at d t) (at d t) Commit Full (has_session old session d t taken holds touched) (gives_commit_full (is_full old Commit) d t full (sym touched ∙ short.touched))
+    (has_session new now d t refl led.0.there.session.0 led.0.there.session.1) (keeps_same old new (ap (λ p. P.history p) short.same.1)))
+
+-- it stopped
+pub halts_commit : {S R : Type 0} (P : Ghosts S) (T : TapeGhosts R) (platform platform_now : S) (tape tape_now : R) (held now : Option Session) (session : Session) (stop : DeviceStop) (entry : State) → held ≡ Some session → P.tells → IsServedImage (P.history platform).present
+    → StopsAt P T platform platform_now tape tape_now session stop
+    → ((d : Device) (t : OpenSession) → IsAt (P.history platform).present (Some session) (at d t) → CommitLeads (P.history platform) (P.history platform_now) d t (Err stop))
+    → Represents (world_of P held platform) entry → Serves (world_of P held platform) (world_of P now platform_now) entry Commit (Err stop)
+halts_commit P T platform platform_now tape tape_now held now session stops.Platform entry taken told served stopped leads rep =
+    let old : World = world_of P held platform in
+    let new : World = world_of P now platform_now in
+    with_session old session entry taken rep (λ state. Halts old new state Commit stops.Platform)
+    (λ d t holds touched.
+    let made : (answer (is_full old Commit) none_counted (at d t) Commit).1.device ≡ Some (committed d t) =
+    sym (ap (λ (p : Reply × State). p.1.device) (gives_raised (is_full old Commit) d t (is_full_false old Commit (omega (arith, stopped.room, needed_some old session taken))) (sym touched ∙ stopped.touched))) in
+    subst (λ (there : Option Device). Turns old.history new.history (Leaves (Some d)) (Leaves there)) (sym made) (leads d t (at_array old.history.present session d t holds touched served)))
+halts_commit P T platform platform_now tape tape_now held now session stops.Tape entry taken told served stopped leads rep =
+    halts_still (world_of P held platform) (world_of P now platform_now) entry Commit stops.Tape tt rep (stopped.left told)
+halts_commit P T platform platform_now tape tape_now held now session stops.Ledger entry taken told served stopped leads rep =
+    halts_still (world_of P held platform) (world_of P now platform_now) entry Commit stops.Ledger tt rep (stopped.left told)
+halts_commit P T platform platform_now tape tape_now held now session stops.Memory entry taken told served stopped leads rep =
+    halts_still (world_of P held platform) (world_of P now platform_now) entry Commit stops.Memory tt rep (stopped.left.1 told)
+halts_commit P T platform platform_now tape tape_now held now session stops.BadRoot entry taken told served stopped leads rep = absurd stopped.left
+halts_commit P T platform platform_now tape tape_now held now session (stops.BadRecord addr) entry taken told served stopped leads rep = absurd stopped.left
