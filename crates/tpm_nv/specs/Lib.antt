@@ -3,3 +3,4 @@ pub mod Messages
 pub mod Replies
 pub mod Attributes
 pub mod Areas
+pub mod Cells

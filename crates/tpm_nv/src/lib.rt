@@ -7,6 +7,7 @@
 #![tactic(auto)]
 
 mod attributes;
+mod cells;
 mod commands;
 mod contents;
 mod fields;
@@ -16,6 +17,7 @@ mod laws;
 mod public;
 
 pub use attributes::Attribute;
+pub use cells::{BadIndex, OnTpm, parse_cell};
 pub use commands::{
     DATA, READ_COMMAND, READ_PUBLIC_COMMAND, WRITE_COMMAND, put_read, put_read_public, put_write,
 };

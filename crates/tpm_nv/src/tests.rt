@@ -110,3 +110,57 @@ fn what_was_written(rt: HostRuntime) {
     assert!(rt; read_written(&done[..18]).is_err());
     assert!(rt; read_written(&refusal(0x09, 0x20)).is_err_and(|why| why == Failure::Code(0x920)));
 }
+
+/// Whether a word names the index of this handle, and a device or none.
+fn names(word: &str, handle: u32, is_named: bool) -> bool {
+    match parse_cell(word) {
+        Ok(Some(cell)) => cell.index.handle() == handle && cell.device.is_some() == is_named,
+        _ => false,
+    }
+}
+
+fn is_folder(word: &str) -> bool {
+    match parse_cell(word) {
+        Ok(None) => true,
+        _ => false,
+    }
+}
+
+fn is_bad(word: &str) -> bool {
+    match parse_cell(word) {
+        Err(BadIndex) => true,
+        _ => false,
+    }
+}
+
+#[test]
+fn words(rt: HostRuntime) {
+    assert!(rt; names("tpm:0x1500020", HANDLE, false));
+    assert!(rt; names("tpm:0x01AbcDeF", 0x1ab_cdef, false));
+    assert!(rt; names("tpm:0x1500020@/dev/tpm1", HANDLE, true));
+    assert!(rt; names("tpm:0x1500020@a@b", HANDLE, true));
+    for word in [
+        "tpm:",
+        "tpm:0x",
+        "tpm:0x1500020@",
+        "tpm:0x+1500020",
+        "tpm:0x001500020",
+        "tpm:0X1500020",
+        "tpm:1500020",
+        "tpm:0x150002g",
+        "tpm:0x81000001",
+        "tpm:0x2000000",
+        "tpm:0x1500020 ",
+    ] {
+        assert!(rt; is_bad(word), "{word}");
+    }
+    for word in [
+        "",
+        "tpm",
+        "./tpm:0x1500020",
+        "TPM:0x1500020",
+        "/var/lib/keys",
+    ] {
+        assert!(rt; is_folder(word), "{word}");
+    }
+}
