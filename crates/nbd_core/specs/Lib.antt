@@ -1,0 +1,4 @@
+pub mod Room
+pub mod Passed
+pub mod Stops
+pub mod Haggling
