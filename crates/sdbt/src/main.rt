@@ -5,23 +5,20 @@
 //! over one in memory.
 #![tactic(auto)]
 
-mod ledger;
-mod not_ready;
 mod texts;
-mod watched;
 
-use crate::not_ready::{NotReady, RANDOM};
-use crate::texts::{HELP, USAGE, VERSION, failure_of};
-use crate::watched::Watched;
+use crate::texts::{HELP, NAME, USAGE, VERSION};
 use device_cli::run_main;
-use key_tape::{SeedTape, SourceTape};
-use platform::{FilePlatform, LockFile, MemPlatform};
+use folder_files::{LockFile, open_in_folders};
+use folder_objects::{NotReady, Watched, open_keys, open_ledger, reason_of};
+use key_tape::SeedTape;
+use platform::MemPlatform;
 use sdbt_base::{MemSink, ReadSource, Sink, WriteSink};
 use std::alloc::Global;
 use std::io::IsTerminal;
 use std::process::ExitCode;
 use std::rt::{Env, Files};
-use std::{env, fs, io};
+use std::{env, io};
 
 /// How many pages the medium in memory can have.
 const PAGES: u64 = 262_144;
@@ -40,14 +37,20 @@ const NO_MEMORY: u8 = 11;
 
 fn main(rt: HostRuntime) -> ExitCode {
     let status = serve(&rt, rt.stderr().is_terminal());
-    if let Some(failure) = failure_of(status) {
-        let _ = eprint!(rt; "{failure}");
-    }
+    tell_failure(&rt, status);
     ExitCode::from(status)
 }
 
-/// Does what the command line asks for, with standard error at a terminal or not. The answer is the
-/// exit status.
+/// Says on standard error why a run ended with this status. At status 1 that was said before.
+fn tell_failure(rt: &impl Eprint, status: u8) {
+    if status == FAULTY {
+        let _ = eprint!(rt; "{USAGE}");
+    } else if let Some(reason) = reason_of(status) {
+        let _ = eprintln!(rt; "{NAME}: {reason}");
+    }
+}
+
+/// Does what the command line asks for, with standard error at a terminal or not. The answer is the exit status.
 fn serve<R>(rt: &R, at_terminal: bool) -> u8
 where
     R: Env + Files + Alloc<A = Global> + Input + Print + Eprint + Clone + Drop,
@@ -129,7 +132,7 @@ where
         Ok(status) => status,
         Err(not_ready) if not_ready.is_memory() => NO_MEMORY,
         Err(not_ready) => {
-            let _ = not_ready.tell(rt, cell, folder);
+            let _ = not_ready.tell(rt, NAME, cell, folder);
             NOT_READY
         }
     }
@@ -149,13 +152,11 @@ where
     R: Files + Alloc<A = Global> + Input + Print + Eprint + Clone + Drop,
     R::File: LockFile,
 {
-    let platform = FilePlatform::open_apart(rt.clone()?, cell, folder)?;
     let is_seizure = words.first().is_some_and(|word| word.as_str() == "seize");
-    let mut platform = Watched::new(platform, rt, at_terminal && is_seizure);
-    let random = fs::open(rt, RANDOM).map_err(NotReady::Keys)?;
-    let mut tape = SourceTape::new(ReadSource::new(random));
-    let ledger = ledger::open(rt, folder).map_err(NotReady::Ledger)?;
-    let mut ledger = WriteSink::new(ledger);
+    let platform = open_in_folders(rt.clone()?, cell, folder)?;
+    let mut platform = Watched::new(platform, rt, NAME, at_terminal && is_seizure);
+    let mut tape = open_keys(rt)?;
+    let mut ledger = open_ledger(rt, folder)?;
     let mut input = ReadSource::new(rt.reader());
     let mut output = WriteSink::new(io::writer(rt));
     Ok(run_main(

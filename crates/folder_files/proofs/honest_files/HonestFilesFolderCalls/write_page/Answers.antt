@@ -1,0 +1,14 @@
+use Rattle.std.proofs.Common.{◌≡◌, [], ◌∷◌, ◌++◌, false, length, refl, sym, ◌∙◌, arith}
+use Rattle.std.proofs.lemmas.Grind.{common_steps}
+use Rattle.folder_files.proofs.Answering.{Keeps, keeps_wrote}
+use Rattle.folder_files.proofs.honest_files.HonestFilesFolderCalls.write_page.Goals as goal
+
+pub invariant_of-self-2 : goal.invariant_of-self-2
+invariant_of-self-2 c =
+    let old = c.args.self.now in
+    let was : Keeps old.calls.events old.pages.items old.root old.new_root false =
+    record { pages_are = λ calm. old.pages_are c.if-self.false; root_is = old.root_is c.if-self.false; new_is = old.new_is c.if-self.false; honest = old.honest } in
+    let at : c.args.addr ≡ length old.pages.items = grind (arith, common_steps) in
+    let all = keeps_wrote old.calls.events c.note-2.new.self.events old.pages.items old.root old.new_root c.args.addr c.args.page.now c.note-2.ensures at was in
+    let items : c.push.new.self.items ≡ old.pages.items ++ c.args.page.now ∷ [] = grind (arith, common_steps) in
+    record { pages_are = λ calm. all.pages_are refl ∙ sym items; root_is = λ calm. all.root_is; new_is = λ calm. all.new_is; root_size = old.root_size; new_size = old.new_size; honest = all.honest }

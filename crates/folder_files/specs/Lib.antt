@@ -1,0 +1,5 @@
+pub mod Answers
+pub mod Found
+pub mod Honest
+pub mod Note
+pub mod Places

@@ -1,0 +1,15 @@
+//! The files of a device in folders, with a record of the calls on them.
+#![tactic(auto)]
+
+mod honest_files;
+mod lock_file;
+mod media_file;
+mod opening;
+mod record;
+mod root_file;
+mod std_files;
+
+pub use honest_files::{HonestFiles, open_honest};
+pub use lock_file::LockFile;
+pub use opening::open_in_folders;
+pub use std_files::StdFiles;

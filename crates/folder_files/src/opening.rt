@@ -1,0 +1,112 @@
+//! A platform in folders that exist: what is done before the first call on their files.
+ghost use Rattle.std.specs.Prelude.{◌≡◌, ◌≤◌, ◌<◌, ◌*◌, ◌↔◌, [], false, IfOk, IfErr, IsOk};
+ghost use Rattle.sdbt_base.specs.declared.limits.TheConstants.{RECORD};
+ghost use Rattle.folder_platform.specs.Refusals.{ShowsCause};
+ghost use Rattle.folder_files.specs.Answers.{TellsHeld};
+
+use crate::media_file::PAGE_LEN;
+use crate::record::Record;
+use crate::root_file::OWNER_ALONE;
+use crate::{LockFile, StdFiles};
+use folder_platform::{FolderFile, FolderPlatform, OpenRefusal, told};
+use platform::Platform;
+use sdbt_base::MAX_PAGES;
+use std::fs::{self, OpenFile, OpenOptions};
+use std::io::{self, ErrorKind};
+use std::os::unix::fs::OpenOptionsExt;
+use std::rt::Files;
+
+/// The platform in two folders that exist: the root record in `cell`, and the medium in `folder`. They may be one.
+///
+/// As long as it is there, it has the locks on `media` and on the folder of `root`. They are advisory: they keep out
+/// other platforms, and no other program. Nothing is changed before both are taken, but that `media` is made where
+/// there is none.
+pub fn open_in_folders<R: Files + Alloc + Clone + Drop>(
+    rt: R,
+    cell: &str,
+    folder: &str,
+) -> Result<FolderPlatform<StdFiles<R>>, OpenRefusal>
+where
+    R::File: LockFile,
+    ensures faults { IfOk result (λ platform. ⟦<FolderPlatform<StdFiles<R>> as Platform>⟧.faults platform ≡ 0) }
+    ensures sound { IfOk result (λ platform. platform.is_stuck ≡ false) }
+    ensures cause { IfErr result ShowsCause }
+{
+    FolderPlatform::open(files_in(rt, cell, folder)?)
+}
+
+// The files of two folders, with both locks, and no call on them yet.
+fn files_in<R: Files + Alloc + Clone + Drop>(
+    rt: R,
+    cell: &str,
+    folder: &str,
+) -> Result<StdFiles<R>, OpenRefusal>
+where
+    R::File: LockFile,
+    ensures new { IfOk result (λ files. files.calls.events ≡ []) }
+    ensures cause { IfErr result ShowsCause }
+{
+    let root = format!(in rt.alloc(); "{cell}/root")?;
+    let new_root = format!(in rt.alloc(); "{cell}/root.new")?;
+    let media = format!(in rt.alloc(); "{folder}/media")?;
+    let cell = open_folder(&rt, FolderFile::Cell, cell)?;
+    let folder = open_folder(&rt, FolderFile::Folder, folder)?;
+    locked(FolderFile::Cell, cell.try_lock())?;
+    let media = told(FolderFile::Media, open_media(&rt, media.as_str()))?;
+    locked(FolderFile::Media, media.try_lock())?;
+    let metadata = told(FolderFile::Media, media.metadata())?;
+    not_too_long(metadata.len())?;
+    Ok(StdFiles {
+        rt,
+        root,
+        new_root,
+        cell,
+        folder,
+        media,
+        new_file: None,
+        calls: Record::new(),
+    })
+}
+
+// What a try for the lock on a file answered: that another has it is a refusal of its own.
+fn locked(file: FolderFile, outcome: io::Result<()>) -> Result<(), OpenRefusal>
+    ensures { TellsHeld file outcome result }
+{
+    match outcome {
+        Err(error) if error.kind() == ErrorKind::WouldBlock => Err(OpenRefusal::InUse),
+        other => told(file, other),
+    }
+}
+
+// Opens a folder, and refuses what is none.
+fn open_folder<R: Files>(files: &R, file: FolderFile, path: &str) -> Result<R::File, OpenRefusal>
+    ensures cause { IfErr result ShowsCause }
+{
+    let folder = told(file, fs::open(files, path))?;
+    let metadata = told(file, folder.metadata())?;
+    if !metadata.is_dir() {
+        return Err(OpenRefusal::of(file, ErrorKind::NotADirectory.into()));
+    }
+    Ok(folder)
+}
+
+// Opens the file of the medium, which is made where there is none.
+fn open_media<R: Files>(files: &R, path: &str) -> io::Result<R::File> {
+    OpenOptions::new()
+        .read(true)
+        .write(true)
+        .create(true)
+        .mode(OWNER_ALONE)
+        .open(files, path)
+}
+
+// Refuses a file of so many bytes where no medium has as many pages, of which the last may be there in part.
+fn not_too_long(len: u64) -> Result<(), OpenRefusal>
+    ensures limit { IsOk result ↔ (len ≤ MAX_PAGES * RECORD) }
+    ensures refusal { IfErr result (λ refusal. refusal ≡ OpenRefusal.TooLong len) }
+{
+    if len > MAX_PAGES * PAGE_LEN {
+        return Err(OpenRefusal::TooLong { len });
+    }
+    Ok(())
+}

@@ -1,0 +1,81 @@
+//! What is done with the files of a root record, by their names.
+ghost use Rattle.std.specs.Prelude.{◌≡◌, ◌≤◌, ⊤, min, take, length, IfOk, MatchOption};
+ghost use Rattle.std.specs.Io.KnownBytes.{Consumes};
+ghost use Rattle.folder_files.specs.Answers.{TellsMissing, IsNoneIfMissing};
+
+use sdbt_base::{read_whole, write_whole};
+use std::fs::{self, OpenFile, OpenOptions};
+use std::io::{self, ErrorKind, Read};
+use std::os::unix::fs::OpenOptionsExt;
+use std::rt::Files;
+
+/// Who may read the files: their owner alone, since the root record is a key.
+pub(crate) const OWNER_ALONE: u32 = 0o600;
+
+// What a call on a path answered: nothing where there is no such file, and every other failure stays one.
+fn unless_missing<T>(outcome: io::Result<T>) -> io::Result<Option<T>>
+    ensures { TellsMissing outcome result }
+{
+    match outcome {
+        Ok(value) => Ok(Some(value)),
+        Err(error) if error.kind() == ErrorKind::NotFound => Ok(None),
+        Err(error) => Err(error),
+    }
+}
+
+/// Removes a file, if there is one of this name.
+pub(crate) fn remove(files: &impl Files, path: &str) -> io::Result<()> {
+    unless_missing(fs::remove_file(files, path))?;
+    Ok(())
+}
+
+/// Syncs a file, if there is one of this name.
+pub(crate) fn sync(files: &impl Files, path: &str) -> io::Result<()> {
+    match unless_missing(fs::open(files, path))? {
+        Some(file) => file.sync_all(),
+        None => Ok(()),
+    }
+}
+
+/// How many bytes of a file were put into the buffer, from its first one on; or `None`, if there is none of this name.
+pub(crate) fn read(files: &impl Files, path: &str, into: &mut [u8]) -> io::Result<Option<usize>>
+    ensures { IfOk result (λ n. MatchOption n ⊤ (λ n. n ≤ length into.old)) }
+{
+    read_opened(fs::open(files, path), into)
+}
+
+// The same of a file that was opened: there is none where it is missing, and that is told of no other failure.
+fn read_opened<F: Read + OpenFile + Drop>(
+    opened: io::Result<F>,
+    into: &mut [u8],
+) -> io::Result<Option<usize>>
+    ensures within { IfOk result (λ n. MatchOption n ⊤ (λ n. n ≤ length into.old)) }
+    ensures missing { IsNoneIfMissing opened result }
+{
+    let Some(mut file) = unless_missing(opened)? else {
+        return Ok(None);
+    };
+    let len = file.metadata()?.len();
+    Ok(Some(read_front(&mut file, len, into)?))
+}
+
+// Reads a file of so many bytes from its first one on, as far as there is room for them, and answers how many it read.
+fn read_front<F: Read>(file: &mut F, len: u64, into: &mut [u8]) -> io::Result<usize>
+    ensures count { IfOk result (λ n. n ≡ min len (length into.old)) }
+    ensures bytes { IfOk result (λ n. Consumes (F.remaining file.old) (F.remaining file.new) (take n into.new)) }
+{
+    let n = len.min(into.len() as u64) as usize;
+    read_whole(file, &mut into[..n])?;
+    Ok(n)
+}
+
+/// Makes a file, of whose name there must be none, with these bytes. It stays open.
+pub(crate) fn make<R: Files>(files: &R, path: &str, bytes: &[u8]) -> io::Result<R::File> {
+    let mut file = OpenOptions::new()
+        .write(true)
+        .create_new(true)
+        .mode(OWNER_ALONE)
+        .open(files, path)?;
+    write_whole(&mut file, bytes)?;
+    Ok(file)
+}

@@ -1,0 +1,16 @@
+//! What a program makes of folders before it serves a device in them, and what it says on standard error.
+//!
+//! The platform is made by `open_in_folders` of `folder_files`, first of all: it has the locks.
+#![tactic(auto)]
+
+mod failures;
+mod key_source;
+mod ledger_file;
+mod not_ready;
+mod watched;
+
+pub use failures::reason_of;
+pub use key_source::{RANDOM, open_keys};
+pub use ledger_file::{LedgerFile, open_ledger};
+pub use not_ready::NotReady;
+pub use watched::Watched;

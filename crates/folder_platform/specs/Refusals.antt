@@ -1,0 +1,33 @@
+-- Why folders can't be a platform.
+use Rattle.std.specs.Prelude.{◌≡◌, ◌≢◌, ◌<◌, ◌*◌, ⊤, Result, Ok, Err}
+use Rattle.std.specs.IoError.{error_kind}
+use Rattle.std.specs.declared.io.Error.{Error}
+use Rattle.std.specs.declared.io.ErrorKind.TheVariants.{OutOfMemory}
+use Rattle.sdbt_base.specs.declared.limits.TheConstants.{RECORD, MAX_PAGES}
+use Rattle.folder_platform.specs.declared.refusals.FolderFile.{FolderFile}
+use Rattle.folder_platform.specs.declared.refusals.OpenRefusal.{OpenRefusal}
+use Rattle.folder_platform.specs.declared.refusals.OpenRefusal.TheVariants.{TooLong, InUse, Io, Memory}
+
+-- no memory was given
+abbrev pub IsMemory : OpenRefusal → Type 0
+IsMemory refusal = refusal ≡ Memory
+
+-- a refusal shows its cause where one can be known: a length beyond that of all pages, or an error that is none of memory
+abbrev pub ShowsCause : OpenRefusal → Type 0
+ShowsCause (TooLong len) = MAX_PAGES * RECORD < len
+ShowsCause InUse = ⊤
+ShowsCause (Io _ error) = error_kind error ≢ OutOfMemory
+ShowsCause Memory = ⊤
+
+-- a refusal that says what an error of this file says
+abbrev pub IsRefusalOf : FolderFile → Error → OpenRefusal → Type 0
+IsRefusalOf file error (TooLong _) = ⊥
+IsRefusalOf file error InUse = ⊥
+IsRefusalOf file error (Io named told) = (named ≡ file) × (told ≡ error) × (error_kind error ≢ OutOfMemory)
+IsRefusalOf file error Memory = error_kind error ≡ OutOfMemory
+
+-- what a call on a file gave, or a refusal that says its error
+abbrev pub TellsFile : {T : Type 0} → FolderFile → Result T Error → Result T OpenRefusal → Type 0
+TellsFile file (Ok value) told = told ≡ Ok value
+TellsFile file (Err error) (Ok value) = ⊥
+TellsFile file (Err error) (Err refusal) = IsRefusalOf file error refusal

@@ -1,0 +1,42 @@
+-- Which calls on files a call of the platform consists of.
+use Rattle.std.specs.Prelude.{◌≡◌, ◌⊎◌, ◌↔◌, ℕ, Bool, true, false, List, [], ◌∷◌, ◌++◌, Option, Some, None, Result, Ok, Err, take, IsTrue, IsSome}
+use Rattle.folder_platform.specs.Files.{Files}
+use Rattle.folder_platform.specs.Events.{Event, pages_counted, media_synced, folder_synced, root_read, root_synced, root_removed, new_removed, new_made, new_synced, new_renamed, cell_synced}
+use Rattle.folder_platform.specs.Told.{cell_with}
+
+-- these calls one after another, the oldest first: all of them were done, or the last one that was made failed
+abbrev pub Attempts : List (Bool → Event) → Bool → List Event → List Event → Type 0
+Attempts [] done old new = (done ≡ true) × (new ≡ old)
+Attempts (call ∷ calls) done old new = Attempts calls done (call true ∷ old) new ⊎ ((done ≡ false) × (new ≡ call false ∷ old))
+
+-- `root.new` is removed, made with these bytes and synced, it becomes `root`, and the folder is synced
+abbrev pub Replaces : List ℕ → Bool → List Event → List Event → Type 0
+Replaces bytes = Attempts (new_removed ∷ (λ done. new_made done bytes) ∷ new_synced ∷ new_renamed ∷ cell_synced ∷ [])
+
+-- `root.new` is removed, and `root`, and the folder is synced
+abbrev pub Removes : Bool → List Event → List Event → Type 0
+Removes = Attempts (new_removed ∷ root_removed ∷ cell_synced ∷ [])
+
+-- an opening, the newest call first: `root.new` was removed, so many pages were counted, and `media`, its folder, `root` and its folder were synced
+abbrev pub opening : ℕ → List Event
+opening n = cell_synced true ∷ root_synced true ∷ folder_synced true ∷ media_synced true ∷ pages_counted n ∷ new_removed true ∷ []
+
+-- the calls begin with an opening
+abbrev pub AreOpened : List Event → Type 0
+AreOpened events = (n : ℕ) × (later : List Event) × (events ≡ later ++ opening n)
+
+-- files that held this were opened, and no other call was made
+pub record IsOpening (were are : Files) (events : List Event) : Type 0 where
+  pub files : are ≡ were
+  pub calls : (n : ℕ) × (events ≡ opening n)
+
+-- so many bytes of the buffer are what `root` begins with, if it is there
+abbrev pub NotesRoot : {E : Type 0} → Result (Option ℕ) E → List ℕ → List Event → List Event → Type 0
+NotesRoot (Ok None) into old new = new ≡ root_read None ∷ old
+NotesRoot (Ok (Some n)) into old new = new ≡ root_read (Some (take n into)) ∷ old
+NotesRoot (Err _) into old new = new ≡ old
+
+-- whether the cell is full, and then what it holds, by one look at `root`
+abbrev pub NotesCell : {E : Type 0} → Result Bool E → List ℕ → List Event → List Event → Type 0
+NotesCell (Ok full) into old new = (root : Option (List ℕ)) × (new ≡ root_read root ∷ old) × (IsTrue full ↔ IsSome (cell_with root)) × (IsTrue full → cell_with root ≡ Some into)
+NotesCell (Err _) into old new = new ≡ old

@@ -1,0 +1,159 @@
+//! What no contract can say of a folder: which calls its files get, and in which order.
+//!
+//! Bodies that are proved and that these tests refuse: an opening that tries no lock, or changes a file before it has both; one that
+//! takes another folder for that of the root record or of the medium; a method of `StdFiles` that makes another call of the system
+//! than it notes, or none.
+use crate::doubles::CallLog;
+use crate::folders::{APART, CELL, FOLDER, left, make_apart, make_folder, open};
+use crate::script::first_unlike;
+use folder_platform::OpenRefusal;
+use sdbt_base::{RECORD, ROOT};
+use std::test::Fail;
+use std::{fs, io};
+
+/// The calls of `open` over a torn last page, and how many they are.
+const OPENING: &str =
+    "open folder, measure folder, open folder, measure folder, lock folder, open media, lock media, \
+    measure media, remove root.new, measure media, lengthen media, sync media, sync folder, open root, sync root, sync folder";
+
+const OPENING_CALLS: usize = 16;
+
+/// The calls of an opening with the root record in a folder of its own.
+const OPENING_APART: &str =
+    "open cell, measure cell, open folder, measure folder, lock cell, open media, lock media, \
+    measure media, remove root.new, measure media, lengthen media, sync media, sync folder, open root, sync cell";
+
+/// A folder with two pages, the last of them torn, a root record of 5 and a `root.new`.
+fn fresh_folder(rt: &HostRuntime) -> io::Result<()> {
+    make_folder(rt, &[7; RECORD + 100], &[5; ROOT])
+}
+
+/// Whether an opening of these folders, for the root record and the medium, makes these calls, and all lines of a script come
+/// true then.
+fn are_so(
+    rt: &HostRuntime,
+    cell: &str,
+    folder: &str,
+    opening: &str,
+    script: &str,
+) -> Result<bool, Fail> {
+    let log = CallLog::new(rt.alloc());
+    let mut platform = open(rt, &log, cell, folder)?;
+    let opens = log.is(opening);
+    Ok(opens && first_unlike(&mut platform, rt.alloc(), &log, script).is_none())
+}
+
+/// What each call answers, and the calls on files that it makes.
+const CALLS: &str = "\
+append 8: at 2 by seek media, write media
+read 0: 7 7 by seek media, read media
+sync: done by sync data of media
+load: root 5 by open root, measure root, read root
+swap 3: done by remove root.new, make root.new, write root.new, sync root.new, put in place of root, sync folder
+clear: done by remove root.new, remove root, sync folder
+load: empty by open root
+swap 3: done by remove root.new, make root.new, write root.new, sync root.new, put in place of root, sync folder
+read 0 failing 1: fault by seek media, read media
+load failing 0: fault by open root
+append 8: at 3 by seek media, write media
+append 8 failing 1: fault by seek media, write media
+append 8: fault by no call
+read 0: fault by no call
+sync: fault by no call
+load: fault by no call
+swap 3: fault by no call
+clear: fault by no call";
+
+#[test]
+fn calls_files_in_order(rt: HostRuntime) -> Result<(), Fail> {
+    fresh_folder(&rt)?;
+    assert!(rt; are_so(&rt, FOLDER, FOLDER, OPENING, CALLS)?);
+    fs::remove_dir_all(&rt, FOLDER)?;
+    Ok(())
+}
+
+/// The same of those that differ with two folders.
+const CALLS_APART: &str = "\
+swap 3: done by remove root.new, make root.new, write root.new, sync root.new, put in place of root, sync cell
+clear: done by remove root.new, remove root, sync cell";
+
+#[test]
+fn calls_two_folders_in_order(rt: HostRuntime) -> Result<(), Fail> {
+    make_apart(&rt)?;
+    assert!(rt; are_so(&rt, CELL, APART, OPENING_APART, CALLS_APART)?);
+    fs::remove_dir_all(&rt, CELL)?;
+    fs::remove_dir_all(&rt, APART)?;
+    Ok(())
+}
+
+/// Whether a call whose call on a file of this number fails answers a fault, and leaves a root record of this byte, or none for
+/// 0, and a `root.new` or none. Once one failed that changes something no call is made any more.
+fn is_answered(
+    rt: &HostRuntime,
+    call: &str,
+    failing: usize,
+    leaves: (u8, bool),
+) -> Result<bool, Fail> {
+    fresh_folder(rt)?;
+    let alloc = rt.alloc();
+    let log = CallLog::new(alloc);
+    let mut platform = open(rt, &log, FOLDER, FOLDER)?;
+    let failed = format!(in alloc; "{call} failing {failing}: fault")?;
+    let is_failed = first_unlike(&mut platform, alloc, &log, failed.as_str()).is_none();
+    let is_left = left(rt)? == leaves;
+    let synced = if matches!(call, "read 0" | "load") {
+        "sync: done by sync data of media"
+    } else {
+        "sync: fault by no call"
+    };
+    Ok(is_failed && is_left && first_unlike(&mut platform, alloc, &log, synced).is_none())
+}
+
+#[test]
+fn each_failed_call_is_answered(rt: HostRuntime) -> Result<(), Fail> {
+    // A call, and for each call on a file that it makes what is left after that one failed: the first byte of the root record,
+    // and whether there is a `root.new`. The next opening removes that.
+    let as_before = (5, false);
+    let left_behind = (5, true);
+    let swap = [
+        as_before,
+        as_before,
+        left_behind,
+        left_behind,
+        left_behind,
+        (3, false),
+    ];
+    let rows: [(&str, &[(u8, bool)]); 6] = [
+        ("append 8", &[as_before; 2]),
+        ("read 0", &[as_before; 2]),
+        ("sync", &[as_before]),
+        ("load", &[as_before; 3]),
+        ("swap 3", &swap),
+        ("clear", &[as_before, as_before, (0, false)]),
+    ];
+    for (call, all) in rows {
+        for (i, leaves) in all.iter().enumerate() {
+            assert!(rt; is_answered(&rt, call, i, *leaves)?, "{call} {i}");
+        }
+    }
+    fs::remove_dir_all(&rt, FOLDER)?;
+    Ok(())
+}
+
+/// Whether an opening is refused whose call on a file of this number fails.
+fn is_refused(rt: &HostRuntime, failing: usize) -> io::Result<bool> {
+    fresh_folder(rt)?;
+    let log = CallLog::new(rt.alloc());
+    log.begin(Some(failing));
+    let refusal = open(rt, &log, FOLDER, FOLDER).err();
+    Ok(matches!(refusal, Some(OpenRefusal::Io { .. })))
+}
+
+#[test]
+fn each_failed_call_refuses_the_folder(rt: HostRuntime) -> Result<(), Fail> {
+    for failing in 0..OPENING_CALLS {
+        assert!(rt; is_refused(&rt, failing)?, "call {failing}");
+    }
+    fs::remove_dir_all(&rt, FOLDER)?;
+    Ok(())
+}
