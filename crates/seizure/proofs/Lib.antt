@@ -3,6 +3,7 @@ pub mod OpenedLaws
 pub mod WorkLaws
 pub mod SearchLaws
 pub mod LooksLaws
+pub mod ReadsLaws
 pub mod CountLaws
 pub mod AscendLaws
 pub mod MappedLaws

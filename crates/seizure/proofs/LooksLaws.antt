@@ -1,10 +1,12 @@
 -- Calls that only look, one after another.
 use Rattle.std.proofs.Common.{◌≡◌, ◌≤◌, ℕ, inl, inr, refl, ◌∙◌, arith}
+use Rattle.std.specs.Prelude.{Result, Ok, Err, IfErr, IsErrOf}
 use Rattle.sdbt_base.specs.Faults.{Rose}
 use Rattle.platform.specs.Image.{Image}
 use Rattle.platform.specs.declared.platforms.Platform.{Ghosts}
 use Rattle.platform.proofs.Moments.{During-then, During-step, Turns-not, Steps-refl}
 use Rattle.seizure.specs.declared.refusals.SeizeRefusal.{SeizeRefusal}
+use Rattle.seizure.specs.declared.refusals.SeizeRefusal.TheVariants.{BadRoot, Memory, PlatformFault}
 use Rattle.seizure.specs.Looks.{Looks, Stops}
 
 pub looks_none : {S : Type 0} (P : Ghosts S) (at : S) → Looks P at at
@@ -41,3 +43,14 @@ stops_since before mid now refusal one other stops = elim stops [
   | inl memory ↦ inl memory
   | inr fault ↦ inr (fault.0, rose_since before mid now one other fault.1)
 ]
+
+not_memory : {R : Type 0} (refusal : SeizeRefusal) → refusal ≡ Memory → (let result : Result R SeizeRefusal = Err refusal in result ≡ Err BadRoot) → ⊥
+not_memory refusal memory bad = cc
+
+not_fault : {R : Type 0} (refusal : SeizeRefusal) → refusal ≡ PlatformFault → (let result : Result R SeizeRefusal = Err refusal in result ≡ Err BadRoot) → ⊥
+not_fault refusal fault bad = cc
+
+-- a call that stops so never says that the cell is bad
+pub not_bad_root : {R : Type 0} (result : Result R SeizeRefusal) (before now : ℕ) → IfErr result (Stops before now) → IsErrOf result BadRoot → ⊥
+not_bad_root (Ok it) before now stops bad = cc
+not_bad_root {R = R} (Err refusal) before now stops bad = elim stops [ inl memory ↦ not_memory {R = R} refusal memory bad | inr fault ↦ not_fault {R = R} refusal fault.0 bad ]

@@ -39,7 +39,7 @@ pub record IsSearched (roots pages keys : List (List ℕ)) (opened : List Opened
 pub page_is : (pages : List (List ℕ)) (key : List ℕ) (addr : ℕ) (page : List ℕ) → slice_get pages addr ≡ Some page → body_at pages key addr ≡ masked key page
 page_is pages key addr page there = ap (masked key) (get_or_from_slice_get pages addr page [] there)
 
-ends_at : (roots pages : List (List ℕ)) (addr : ℕ) (key : List ℕ) → IsFound roots pages key → OpensAt pages (link addr key) → ChainEnds roots pages (link addr key)
+pub ends_at : (roots pages : List (List ℕ)) (addr : ℕ) (key : List ℕ) → IsFound roots pages key → OpensAt pages (link addr key) → ChainEnds roots pages (link addr key)
 ends_at roots pages addr key found opens = elim found [
   | inl root ↦ chain_begins roots pages (link addr key) root opens
   | inr on ↦ chain_goes_on roots pages on.0 (link addr key) on.1 on.2 opens

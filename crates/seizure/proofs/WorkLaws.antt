@@ -1,16 +1,18 @@
 -- The set of keys beside their list, and what the list gains.
 use Rattle.std.proofs.Common.{◌≡◌, ◌⊎◌, ◌↔◌, ◌<◌, ◌+◌, inl, inr, true, false, not, Bool, ℕ, List, [], ◌∷◌, ◌++◌, take, length, get_or, refl, sym, ap, ap₂, map, subst, ◌∙◌, arith, append-nil, append_assoc}
-use Rattle.std.specs.Prelude.{Contains, IsTrue}
+use Rattle.std.specs.Prelude.{◌≢◌, Contains, IsTrue}
 use Rattle.std.specs.Ordering.{nat_cmp}
 use Rattle.std.specs.Cmp.Lexicographic.{slice_cmp}
 use Rattle.std.specs.BTreeMap.{is_at}
 use Rattle.std.specs.BTreeSet.{BTreeSet, contains, Updates}
 use Rattle.std.specs.List.{list_any}
 use Rattle.std.proofs.lemmas.Bool.{cases_lt}
-use Rattle.std.proofs.lemmas.List.{take_more, map-append}
+use Rattle.std.proofs.lemmas.List.{take_more, map-append, get_or_default}
+use Rattle.std.proofs.lemmas.List.Quantifiers.{all_pairs_push}
 use Rattle.std.proofs.lemmas.List.Elements.{All-nil, All-cons, All-weaker, All-append, Contains-push, Contains-push_cases, Contains-append_left}
 use Rattle.std.proofs.lemmas.Map.Lookups.{exact_bytes}
 use Rattle.std.proofs.lemmas.Map.Views.{tells_apart}
+use Rattle.key_graph.specs.Chains.{Distinct}
 use Rattle.key_graph.specs.Opening.{kind_of, key_in}
 use Rattle.seizure.specs.declared.opened.Opened.{Opened}
 use Rattle.seizure.specs.declared.work.Work.{Work}
@@ -43,6 +45,14 @@ set_more old new keys x is updates key = elim (either (is_at (slice_cmp nat_cmp 
 
 pub set_same : (old new : BTreeSet (List ℕ)) (keys : List (List ℕ)) → new.keys ≡ old.keys → IsSetOf old keys → IsSetOf new keys
 set_same old new keys same is key = subst (λ (ks : List (List ℕ)). IsTrue (list_any (is_at (slice_cmp nat_cmp key)) ks) ↔ Contains keys key) (sym same) (is key)
+
+-- a key that isn't in a list, behind it
+pub distinct_push : (keys : List (List ℕ)) (x : List ℕ) → Distinct keys → (Contains keys x → ⊥) → Distinct (keys ++ x ∷ [])
+distinct_push keys x once other = all_pairs_push (λ a b. a ≢ b) keys x once (λ k d within same. other (k, within, get_or_default keys k x d within ∙ same))
+
+pub was_new : (there added : Bool) → added ≡ not there → added ≡ true → there ≡ true → ⊥
+was_new true added is new old = cc
+was_new false added is new old = cc
 
 pub was_there : (there added : Bool) → added ≡ not there → added ≡ false → there ≡ true
 was_there true added is old = refl

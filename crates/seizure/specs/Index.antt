@@ -1,5 +1,5 @@
 -- Pages, kept as the first bytes that a key's keystream must have to open them.
-use Rattle.std.specs.Prelude.{◌≡◌, ◌<◌, ◌↔◌, ℕ, List, Some, All, Contains, map, take, slice_get}
+use Rattle.std.specs.Prelude.{◌≡◌, ◌≢◌, ◌<◌, ◌↔◌, ℕ, List, Some, All, AllPairs, Contains, map, take, slice_get}
 use Rattle.std.specs.Int.{w64, from_be_bytes}
 use Rattle.std.specs.List.Sorted.{IsNonDecreasingBy}
 use Rattle.seal_record.specs.Keystream.{stream}
@@ -24,6 +24,14 @@ pub record AreMarks (pages : List (List ℕ)) (below : ℕ) (marks : List Marked
 -- each is of an address below this one
 abbrev pub AreBelow : ℕ → List Marked → Type 0
 AreBelow below marks = All (λ m. m.addr < below) marks
+
+-- no two numbers of a list are the same
+abbrev pub IsOnce : List ℕ → Type 0
+IsOnce addrs = AllPairs (λ one other. one ≢ other) addrs
+
+-- no two are of one page
+abbrev pub AreApart : List Marked → Type 0
+AreApart marks = IsOnce (map (λ m. m.addr) marks)
 
 -- they are in the order of their first 8 bytes
 abbrev pub AreRising : List Marked → Type 0

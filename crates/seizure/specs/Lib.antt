@@ -3,3 +3,4 @@ pub mod Report
 pub mod Index
 pub mod Work
 pub mod Looks
+pub mod Reads

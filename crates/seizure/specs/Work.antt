@@ -5,14 +5,15 @@ use Rattle.std.specs.Cmp.Lexicographic.{slice_cmp}
 use Rattle.std.specs.BTreeSet.{contains}
 use Rattle.seal_record.specs.Sealing.{masked}
 use Rattle.key_graph.specs.Opening.{kind_of, count_of, key_in}
-use Rattle.key_graph.specs.Chains.{ReachedBody}
+use Rattle.key_graph.specs.Chains.{Distinct, ReachedBody}
 use Rattle.seizure.specs.declared.opened.Opened.{Opened}
 use Rattle.seizure.specs.declared.work.Work.{Work}
 use Rattle.seizure.specs.Opened.{told_of}
 
--- the set has just the keys of the list
-abbrev pub KnowsItsKeys : Work → Type 0
-KnowsItsKeys work = (key : List ℕ) → IsTrue (contains (slice_cmp nat_cmp) work.known key) ↔ Contains work.keys key
+-- the set has just the keys of the list, in which none stands twice
+pub record KnowsItsKeys (work : Work) : Type 0 where
+  pub same : (key : List ℕ) → IsTrue (contains (slice_cmp nat_cmp) work.known key) ↔ Contains work.keys key
+  pub once : Distinct work.keys
 
 -- a list gained some of these keys, and now it has them all
 pub record Gains (old new : List (List ℕ)) (IsOne : List ℕ → Type 0) : Type 0 where

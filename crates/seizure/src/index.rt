@@ -1,7 +1,7 @@
 //! Pages, kept as the first bytes that a key's keystream must have to open them.
 ghost use Rattle.std.specs.Prelude.{◌≡◌, ◌<◌, ◌+◌, ◌↔◌, [], ℕ, List, Some, All, Contains, IfOk, OnOk, length, slice_get};
 ghost use Rattle.key_graph.specs.Chains.{OpensAt, link};
-ghost use Rattle.seizure.specs.Index.{number_of, AreMarks, AreBelow, AreRising, IsHit};
+ghost use Rattle.seizure.specs.Index.{number_of, AreMarks, AreBelow, AreApart, AreRising, IsHit, IsOnce};
 ghost use Rattle.seizure.specs.declared.index.Marked.{Marked};
 
 use sdbt_base::{Addrs, Key, Memory, RECORD};
@@ -57,6 +57,7 @@ impl Index {
         ensures marks { OnOk result ((pages : List (List ℕ)) → slice_get pages addr ≡ Some page.now →
             AreMarks pages addr self.old.marks.items → AreMarks pages (addr + 1) self.new.marks.items) }
         ensures below { OnOk result (AreBelow addr self.old.marks.items → AreBelow (addr + 1) self.new.marks.items) }
+        ensures apart { OnOk result (AreBelow addr self.old.marks.items → AreApart self.old.marks.items → AreApart self.new.marks.items) }
     {
         let front = front_wanted(addr, page);
         self.marks.push(Marked { front, addr })?;
@@ -68,6 +69,7 @@ impl Index {
         ensures marks { (pages : List (List ℕ)) (below : ℕ) → AreMarks pages below self.old.marks.items →
             AreMarks pages below self.new.marks.items }
         ensures below { (below : ℕ) → AreBelow below self.old.marks.items → AreBelow below self.new.marks.items }
+        ensures apart { AreApart self.old.marks.items → AreApart self.new.marks.items }
         ensures rising { AreRising self.new.marks.items }
     {
         self.marks.sort_unstable_by_key(|mark| mark.number());
@@ -79,6 +81,7 @@ impl Index {
         ensures below { IfOk result (λ addrs. (below : ℕ) → AreBelow below self.now.marks.items → All (λ addr. addr < below) addrs) }
         ensures opened { IfOk result (λ addrs. (pages : List (List ℕ)) → AreMarks pages (length pages) self.now.marks.items →
             (addr : ℕ) → Contains addrs addr ↔ OpensAt pages (link addr key.now)) }
+        ensures once { IfOk result (λ addrs. AreApart self.now.marks.items → IsOnce addrs) }
     {
         let front = stream_front(key);
         hits(alloc, self.near(number_of_front(&front)), &front)
@@ -90,6 +93,7 @@ impl Index {
         ensures some { All (Contains self.now.marks.items) result.now }
         ensures all { (mark : Marked) → Contains self.now.marks.items mark → number_of mark.front ≡ number →
             Contains result.now mark }
+        ensures apart { AreApart self.now.marks.items → AreApart result.now }
     {
         let start = self.marks.partition_point(|mark| mark.number() < number);
         let (_, rest) = self.marks.split_at(start);
@@ -100,7 +104,8 @@ impl Index {
 
 /// The addresses of the marks that begin with these bytes.
 fn hits(alloc: Global, marks: &[Marked], front: &[u8; 16]) -> Result<Addrs, Memory>
-    ensures { IfOk result (λ addrs. (addr : ℕ) → Contains addrs addr ↔ IsHit marks.now front.now addr) }
+    ensures hits { IfOk result (λ addrs. (addr : ℕ) → Contains addrs addr ↔ IsHit marks.now front.now addr) }
+    ensures once { IfOk result (λ addrs. AreApart marks.now → IsOnce addrs) }
 {
     let mut addrs = Addrs::new(alloc);
     for mark in marks {

@@ -1,9 +1,10 @@
 //! A seizure of a platform.
-ghost use Rattle.std.specs.Prelude.{◌≡◌, ◌<◌, [], ℕ, List, None, All, Contains, IfOk, IfErr, OnOk, IsErrOf};
+ghost use Rattle.std.specs.Prelude.{◌≡◌, ◌<◌, ◌≤◌, ◌⊎◌, ◌+◌, [], ℕ, List, None, All, Contains, IfOk, IfErr, OnOk, IsErrOf, length};
 ghost use Rattle.sdbt_base.specs.Faults.{Rose};
 ghost use Rattle.page_store.specs.Roots.{IsBadCell};
-ghost use Rattle.seizure.specs.Index.{AreMarks, AreBelow, AreRising};
+ghost use Rattle.seizure.specs.Index.{AreMarks, AreBelow, AreApart, AreRising};
 ghost use Rattle.seizure.specs.Looks.{Looks, Stops};
+ghost use Rattle.seizure.specs.Reads.{ReadsEach, ReadsFew};
 ghost use Rattle.seizure.specs.Report.{IsSeizure, Begins, roots_of};
 ghost use Rattle.seizure.specs.Work.{KnowsItsKeys, Gains, Tried, IsAllReached};
 
@@ -29,7 +30,10 @@ pub fn seize<P: Platform>(alloc: Global, platform: &mut P) -> Result<Report, Sei
     ensures pages { IfOk result (λ report. report.pages ≡ P.head platform.old) }
     ensures bad { P.tells → IsErrOf result SeizeRefusal.BadRoot →
         IsBadCell (P.head platform.old) (P.history platform.old).present.cell }
-    ensures unread { P.tells → (P.history platform.old).present.cell ≡ None → P.reads platform.new ≡ P.reads platform.old }
+    ensures unread { P.tells → IsErrOf result SeizeRefusal.BadRoot ⊎ ((P.history platform.old).present.cell ≡ None) →
+        P.reads platform.new ≡ P.reads platform.old }
+    ensures reads { P.tells → ReadsFew (P.head platform.old) (P.history platform.old).present.cell [] (P.history platform.old).present.readable
+        (P.reads platform.old) (P.reads platform.new) }
     ensures looks { Looks P.Platform platform.old platform.new }
     ensures cause { IsErrOf result SeizeRefusal.PlatformFault → Rose (P.faults platform.old) (P.faults platform.new) }
 {
@@ -55,8 +59,10 @@ pub fn seize_all<P: Platform>(
     ensures pages { IfOk result (λ report. report.pages ≡ P.head platform.old) }
     ensures bad { P.tells → IsErrOf result SeizeRefusal.BadRoot →
         IsBadCell (P.head platform.old) (P.history platform.old).present.cell }
-    ensures unread { P.tells → keys.now ≡ [] → (P.history platform.old).present.cell ≡ None →
+    ensures unread { P.tells → IsErrOf result SeizeRefusal.BadRoot ⊎ ((keys.now ≡ []) × ((P.history platform.old).present.cell ≡ None)) →
         P.reads platform.new ≡ P.reads platform.old }
+    ensures reads { P.tells → ReadsFew (P.head platform.old) (P.history platform.old).present.cell keys.now (P.history platform.old).present.readable
+        (P.reads platform.old) (P.reads platform.new) }
     ensures looks { Looks P.Platform platform.old platform.new }
     ensures cause { IsErrOf result SeizeRefusal.PlatformFault → Rose (P.faults platform.old) (P.faults platform.new) }
 {
@@ -95,6 +101,8 @@ fn seize_from<P: Platform>(
         IsSeizure roots (P.history platform.old).present.readable report) }
     ensures pages { IfOk result (λ report. report.pages ≡ P.head platform.old) }
     ensures unread { work.keys ≡ [] → platform.new ≡ platform.old }
+    ensures reads { P.tells → (roots : List (List ℕ)) → Gains [] work.keys (Contains roots) →
+        ReadsEach roots (P.history platform.old).present.readable (P.reads platform.old) (P.reads platform.new) }
     ensures looks { Looks P.Platform platform.old platform.new }
     ensures stops { IfErr result (Stops (P.faults platform.old) (P.faults platform.new)) }
 {
@@ -110,6 +118,8 @@ fn search<P: Platform>(alloc: Global, platform: &mut P, work: &mut Work) -> Resu
     requires fresh { work.old.opened ≡ [] }
     ensures reached { P.tells → OnOk result ((roots : List (List ℕ)) → Gains [] work.old.keys (Contains roots) →
         IsAllReached roots (P.history platform.old).present.readable work.new.opened) }
+    ensures reads { P.tells → (roots : List (List ℕ)) → Gains [] work.old.keys (Contains roots) →
+        ReadsEach roots (P.history platform.old).present.readable (P.reads platform.old) (P.reads platform.new) }
     ensures looks { Looks P.Platform platform.old platform.new }
     ensures stops { IfErr result (Stops (P.faults platform.old) (P.faults platform.new)) }
 {
@@ -129,7 +139,9 @@ fn index_of<P: Platform>(alloc: Global, platform: &mut P) -> Result<Index, Seize
     ensures marks { P.tells → IfOk result (λ index.
         AreMarks (P.history platform.old).present.readable (P.head platform.old) index.marks.items) }
     ensures below { IfOk result (λ index. AreBelow (P.head platform.old) index.marks.items) }
+    ensures apart { IfOk result (λ index. AreApart index.marks.items) }
     ensures rising { IfOk result (λ index. AreRising index.marks.items) }
+    ensures reads { P.tells → P.reads platform.new ≤ P.reads platform.old + P.head platform.old }
     ensures looks { Looks P.Platform platform.old platform.new }
     ensures stops { IfErr result (Stops (P.faults platform.old) (P.faults platform.new)) }
 {
@@ -155,6 +167,7 @@ fn open_each<P: Platform>(
     ensures tried { P.tells → OnOk result
         (Tried (P.history platform.old).present.readable key.now addrs.now work.old work.new) }
     ensures known { OnOk result (KnowsItsKeys work.new) }
+    ensures reads { P.tells → P.reads platform.new ≤ P.reads platform.old + length addrs.now }
     ensures looks { Looks P.Platform platform.old platform.new }
     ensures stops { IfErr result (Stops (P.faults platform.old) (P.faults platform.new)) }
 {

@@ -19,5 +19,8 @@ loop-mark-preserved c =
       | else-eq w ↦ subst (HasHits marks c.args.front.now (i + 1)) (sym w.addrs-is) (hit_other marks c.args.front.now i c.loop-mark.addrs mark c.loop-mark.invariant here (not_from_Decides c.eq.result (slice_eq-Decides Decides-eqb mark.front c.args.front.now c.eq.result c.eq.ensures) w.if-eq.false))
     ]
 
-pub returns : goal.returns
-returns c = hits_all c.args.marks.now c.args.front.now c.loop-mark.addrs c.loop-mark.mark-index c.loop-mark.invariant c.loop-mark-test.false
+pub returns-clause-hits : goal.returns-clause-hits
+returns-clause-hits c = hits_all c.args.marks.now c.args.front.now c.loop-mark.addrs c.loop-mark.mark-index c.loop-mark.invariant c.loop-mark-test.false
+
+pub returns-clause-once : goal.returns-clause-once
+returns-clause-once c = c.loop-mark.invariant.once

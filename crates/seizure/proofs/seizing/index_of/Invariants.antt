@@ -1,4 +1,5 @@
-use Rattle.seizure.specs.Index.{AreMarks, AreBelow}
+use Rattle.std.proofs.Common.{◌≤◌, ◌+◌}
+use Rattle.seizure.specs.Index.{AreMarks, AreBelow, AreApart}
 use Rattle.seizure.specs.Looks.{Looks}
 use Rattle.seizure.proofs.seizing.index_of.Given as goal
 
@@ -7,4 +8,6 @@ invariant-loop-addr g l = record {
   looks : Looks g.P.Platform l.fn.platform l.platform;
   marks : g.P.Platform.tells → AreMarks (g.P.Platform.history l.fn.platform).present.readable l.addr l.index.marks.items;
   below : AreBelow l.addr l.index.marks.items;
+  apart : AreApart l.index.marks.items;
+  reads : g.P.Platform.tells → g.P.Platform.reads l.platform ≤ g.P.Platform.reads l.fn.platform + l.addr;
 }

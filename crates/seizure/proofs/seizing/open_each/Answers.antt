@@ -31,4 +31,5 @@ loop-i-preserved g c =
           (tried_more pages key (take i addrs) addr c.unseal.new.out c.args.work.now c.loop-i.work c.note.new.self (c.loop-i.invariant.tried told) body
           c.in_ok-note.ensures.known c.in_ok-note.ensures.opened c.in_ok-note.ensures.keys));
       known = c.in_ok-note.ensures.known;
+      reads = λ told. omega (arith, c.loop-i.invariant.reads told, c.read.ensures.reads_by_one told);
     }

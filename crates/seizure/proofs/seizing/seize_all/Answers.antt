@@ -1,11 +1,16 @@
-use Rattle.std.proofs.Common.{◌≡◌, [], None, ap, ◌∙◌}
+use Rattle.std.proofs.Common.{◌≡◌, inl, inr, [], None, ap, ◌∙◌}
 use Rattle.seizure.specs.Report.{roots_of}
+use Rattle.seizure.proofs.LooksLaws.{not_bad_root}
 use Rattle.seizure.proofs.SearchLaws.{root_none, nothing_wanted}
 use Rattle.seizure.proofs.seizing.seize_all.Goals as goal
 
 pub returns-clause-unread : goal.returns-clause-unread
-returns-clause-unread g c = λ told no_key empty.
-    (let P = g.P.Platform in
-    let none : c.in-Ok.root ≡ None = root_none (P.history c.args.platform.now).present.cell c.in-Ok.root empty (c.in-Ok.ensures.found told) in
-    let nothing : c.in_ok-work.work.keys ≡ [] = nothing_wanted c.in_ok-work.work.keys (roots_of c.args.keys.now c.in-Ok.root) c.in_ok-work.ensures.keys (ap (roots_of c.args.keys.now) none ∙ no_key) in
-    ap P.reads (c.seize_from.ensures.unread nothing) ∙ c.in-Ok.ensures.reads_cell.reads told)
+returns-clause-unread g c = λ told either.
+    elim either [
+      | inl bad ↦ absurd (not_bad_root c.seize_from.result _ _ c.seize_from.ensures.stops bad)
+      | inr nothing ↦
+          (let P = g.P.Platform in
+          let none : c.in-Ok.root ≡ None = root_none (P.history c.args.platform.now).present.cell c.in-Ok.root nothing.1 (c.in-Ok.ensures.found told) in
+          let no_keys : c.in_ok-work.work.keys ≡ [] = nothing_wanted c.in_ok-work.work.keys (roots_of c.args.keys.now c.in-Ok.root) c.in_ok-work.ensures.keys (ap (roots_of c.args.keys.now) none ∙ nothing.0) in
+          ap P.reads (c.seize_from.ensures.unread no_keys) ∙ c.in-Ok.ensures.reads_cell.reads told)
+    ]

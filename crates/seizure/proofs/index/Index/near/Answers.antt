@@ -3,9 +3,9 @@ use Rattle.std.specs.Prelude.{All, Contains}
 use Rattle.std.specs.List.Sorted.{IsNonDecreasingBy}
 use Rattle.std.proofs.lemmas.Bool.{leb-false, ltb-true}
 use Rattle.std.proofs.lemmas.List.Sorted.{IsPartitionedBy-leb, IsPartitionedBy-ltb, IsPartitionPoint-from_clause, IsNonDecreasingBy-drop}
-use Rattle.seizure.specs.Index.{number_of}
+use Rattle.seizure.specs.Index.{number_of, AreApart}
 use Rattle.seizure.specs.declared.index.Marked.{Marked}
-use Rattle.seizure.proofs.IndexLaws.{part_some, part_all}
+use Rattle.seizure.proofs.IndexLaws.{part_some, part_all, apart_part}
 use Rattle.seizure.proofs.index.Index.near.Goals as goal
 
 pub returns-clause-some : goal.returns-clause-some
@@ -31,3 +31,10 @@ returns-clause-all c = λ mark has is.
     (λ k d below. ltb-true _ _ (subst (λ (l : List Marked). nat_lt (number (get_or l k d)) n ≡ true) c.deref.ensures.value (start.0 k d (omega arith) below)))
     (λ k d from to. leb-false _ _ (subst (λ (l : List Marked). nat_le (number (get_or l k d)) n ≡ false) rest (end.1 k d from (subst (λ (l : List Marked). k < length l) (sym rest) to))))
     mark has is))
+
+pub returns-clause-apart : goal.returns-clause-apart
+returns-clause-apart c = λ apart.
+    (let marks = c.args.self.now.marks.items in
+    let near : c.split_at-2.result.0.now ≡ take c.partition_point.result (drop c.partition_point-start.result marks) =
+    c.split_at-2.ensures.front ∙ ap (take c.partition_point.result) (c.split_at.ensures.back ∙ ap (drop c.partition_point-start.result) c.deref-2.ensures.value) in
+    subst AreApart (sym near) (apart_part marks c.partition_point-start.result c.partition_point.result apart))
