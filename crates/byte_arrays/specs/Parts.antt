@@ -1,7 +1,8 @@
 -- The parts of a range of so many bytes from an offset on, each in one block.
 use Rattle.std.specs.Prelude.{◌≡◌, ◌⊎◌, ◌+◌, ◌*◌, ◌/◌, ◌<◌, ◌≤◌, ℕ}
 
--- behind the bytes of the range that are done come so many that lie in one block, from a place of it on: they begin the range or their block, and they end the range or their block
+-- behind the bytes of the range that are done come so many that lie in one block, from a place of
+-- it on: they begin the range or their block, and they end the range or their block
 pub record IsPart (offset n done block start count : ℕ) : Type 0 where
   pub at : 4096 * block + start ≡ offset + done
   pub inside : start + count ≤ 4096

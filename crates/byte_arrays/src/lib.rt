@@ -1,6 +1,6 @@
 //! An array of bytes over blocks of 4,096 bytes: which blocks a range of bytes touches, which it
-//! covers, the parts of it that lie in one block each, and what reads and writes of these parts make
-//! of the array.
+//! covers, the parts of it that lie in one block each, and what reads and writes of these parts
+//! make of the array.
 #![tactic(auto)]
 
 mod laws;

@@ -46,7 +46,8 @@ impl Part {
         requires { length block.now ≡ 4096 }
         // They are those that the array of all blocks has there.
         ensures { (content : ℕ → List ℕ) → block.now ≡ content self.now.block
-            → result.now ≡ bytes_at (byte_of content) (4096 * self.now.block + self.now.start) self.now.count }
+            → result.now ≡ bytes_at (byte_of content)
+            (4096 * self.now.block + self.now.start) self.now.count }
     {
         &block[self.start..self.start + self.count]
     }
@@ -55,10 +56,12 @@ impl Part {
     pub fn paste(&self, bytes: &[u8], block: &mut [u8])
         requires bytes { length bytes.now ≡ self.now.count }
         requires block { length block.old ≡ 4096 }
-        // Where they are a part of all that is put into an array, the block has what the array has then.
+        // Where they are a part of all that is put into an array, the block has what the array has
+        // then.
         ensures { (array : ℕ → ℕ) (offset : ℕ) (all : List ℕ) (done : ℕ)
             → IsPart offset (length all) done self.now.block self.now.start self.now.count
-            → bytes.now ≡ take self.now.count (drop done all) → block.old ≡ bytes_at array (4096 * self.now.block) 4096
+            → bytes.now ≡ take self.now.count (drop done all)
+            → block.old ≡ bytes_at array (4096 * self.now.block) 4096
             → block.new ≡ bytes_at (with_bytes array offset all) (4096 * self.now.block) 4096 }
     {
         block[self.start..self.start + self.count].copy_from_slice(bytes);

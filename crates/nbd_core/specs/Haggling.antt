@@ -33,7 +33,8 @@ AwaitsFlags bytes = length bytes < 4
 abbrev pub LacksFlags : List ℕ → Type 0
 LacksFlags bytes = (4 ≤ length bytes) × ((flags : ClientFlags) (more : List ℕ) → bytes ≢ flags_bytes flags ++ more)
 
--- bytes that may still become an option: none is whole at their front, and their first eight, where these are there, are what each option begins with
+-- bytes that may still become an option: none is whole at their front, and their first eight, where
+-- these are there, are what each option begins with
 abbrev pub AwaitsOption : List ℕ → Type 0
 AwaitsOption bytes = ((sent : OptionSent) (more : List ℕ) → FitsOption sent → bytes ≢ option_bytes sent ++ more) × (8 ≤ length bytes → take 8 bytes ≡ codes "IHAVEOPT")
 
@@ -98,7 +99,8 @@ pub record OptionCame (left left_now : Option (List ℕ)) (old new : Room) (resu
   pub takes : Came left left_now old new.left AwaitsOption came
   pub ends : OptionEnd left_now new.ahead came result
 
--- how options ended, of which all were answered: with a rest behind them, and a part of one answer more
+-- how options ended, of which all were answered: with a rest behind them, and a part of one answer
+-- more
 abbrev pub TalkEnd : ℕ → Bool → List OptionSent → List ℕ → List ℕ → Option (List ℕ) → List ℕ → Result Agreed Stop → Type 0
 TalkEnd size no_zeroes options rest part left ahead (Ok agreed.Requests) = EndWith Export options × (rest ≡ ahead) × (part ≡ [])
 TalkEnd size no_zeroes options rest part left ahead (Ok agreed.Nothing) = (EndWith Abort options ⊎ (AreOthers options × (rest ≡ []) × IsAtEnd left)) × (part ≡ [])

@@ -19,7 +19,8 @@ pub record Takes (left left_now : Option (List ℕ)) (old new : Room) : Type 0 w
   pub piece : length taken ≤ 65536
   pub count : new.left + length taken ≡ old.left
 
--- the last piece of what was taken, if anything was, has 65,536 bytes at most, and was taken when what had come before made one wait
+-- the last piece of what was taken, if anything was, has 65,536 bytes at most, and was taken when
+-- what had come before made one wait
 abbrev pub IsPrompt : (List ℕ → Type 0) → List ℕ → List ℕ → Type 0
 IsPrompt Waits ahead taken = (taken ≡ []) ⊎ ((earlier : List ℕ) × (piece : List ℕ) × (taken ≡ earlier ++ piece) × (length piece ≤ 65536) × Waits (ahead ++ earlier))
 

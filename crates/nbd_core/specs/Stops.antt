@@ -10,7 +10,8 @@ status_of Sink = 4
 status_of Limit = 12
 status_of Broken = 14
 
--- a stop of the input or the output comes only where its count of faults rose, and the limit's where nothing more may be taken
+-- a stop of the input or the output comes only where its count of faults rose, and the limit's
+-- where nothing more may be taken
 abbrev pub HasCause : ℕ → ℕ → ℕ → ℕ → ℕ → Stop → Type 0
 HasCause input input_now output output_now left_to_take Source = Rose input input_now
 HasCause input input_now output output_now left_to_take Sink = Rose output output_now

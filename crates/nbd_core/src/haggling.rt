@@ -34,8 +34,11 @@ pub fn haggle<I: Source, O: Sink>(
     output: &mut O,
 ) -> Result<Agreed, Stop>
     requires { intake.old.ahead ≡ [] }
-    ensures haggled { Haggled size (I.left input.old) (I.left input.new) intake.old intake.new (O.written output.old) (O.written output.new) result }
-    ensures cause { IfErr result (HasCause (I.faults input.old) (I.faults input.new) (O.faults output.old) (O.faults output.new) intake.new.left) }
+    ensures haggled { Haggled size (I.left input.old) (I.left input.new) intake.old intake.new
+        (O.written output.old) (O.written output.new) result }
+    ensures cause { IfErr result
+        (HasCause (I.faults input.old) (I.faults input.new) (O.faults output.old)
+        (O.faults output.new) intake.new.left) }
     ensures input { I.faults input.old ≤ I.faults input.new }
     ensures output { O.faults output.old ≤ O.faults output.new }
 {
@@ -49,7 +52,8 @@ fn take_flags<I: Source>(intake: &mut Intake, input: &mut I) -> Result<ClientFla
     ensures came { FlagsCame (I.left input.old) (I.left input.new) intake.old intake.new result }
     ensures limit { IfErr result (λ stop. stop ≡ Stop.Limit → intake.new.left ≡ 0) }
     ensures fell { I.faults input.old ≤ I.faults input.new }
-    ensures cause { IfErr result (λ stop. stop ≡ Stop.Source → Rose (I.faults input.old) (I.faults input.new)) }
+    ensures cause { IfErr result (λ stop. stop ≡ Stop.Source
+        → Rose (I.faults input.old) (I.faults input.new)) }
 {
     if !intake.need(input, CLIENT_FLAGS)? {
         return Err(Stop::Broken);
@@ -69,8 +73,12 @@ fn answer_options<I: Source, O: Sink>(
     input: &mut I,
     output: &mut O,
 ) -> Result<Agreed, Stop>
-    ensures talk { Talk size flags.no_zeroes (I.left input.old) (I.left input.new) intake.old intake.new (O.written output.old) (O.written output.new) result }
-    ensures cause { IfErr result (HasCause (I.faults input.old) (I.faults input.new) (O.faults output.old) (O.faults output.new) intake.new.left) }
+    ensures talk { Talk size flags.no_zeroes (I.left input.old)
+        (I.left input.new) intake.old intake.new (O.written output.old)
+        (O.written output.new) result }
+    ensures cause { IfErr result
+        (HasCause (I.faults input.old) (I.faults input.new) (O.faults output.old)
+        (O.faults output.new) intake.new.left) }
     ensures input { I.faults input.old ≤ I.faults input.new }
     ensures output { O.faults output.old ≤ O.faults output.new }
 {
@@ -90,7 +98,8 @@ fn next_option<I: Source>(intake: &mut Intake, input: &mut I) -> Result<Option<O
     ensures came { OptionCame (I.left input.old) (I.left input.new) intake.old intake.new result }
     ensures limit { IfErr result (λ stop. stop ≡ Stop.Limit → intake.new.left ≡ 0) }
     ensures fell { I.faults input.old ≤ I.faults input.new }
-    ensures cause { IfErr result (λ stop. stop ≡ Stop.Source → Rose (I.faults input.old) (I.faults input.new)) }
+    ensures cause { IfErr result (λ stop. stop ≡ Stop.Source
+        → Rose (I.faults input.old) (I.faults input.new)) }
 {
     if !intake.need(input, OPTION_MAGIC)? {
         if intake.count() > 0 {
@@ -119,10 +128,14 @@ fn put_answer<O: Sink>(
     flags: ClientFlags,
     output: &mut O,
 ) -> Result<(), Stop>
-    ensures put { OnOk result (Got (O.written output.old) (answer_by size flags.no_zeroes kind) (O.written output.new)) }
-    ensures part { OnErr result (GotPart (O.written output.old) (answer_by size flags.no_zeroes kind) (O.written output.new)) }
+    ensures put { OnOk result
+        (Got (O.written output.old) (answer_by size flags.no_zeroes kind) (O.written output.new)) }
+    ensures part { OnErr result
+        (GotPart (O.written output.old) (answer_by size flags.no_zeroes kind)
+        (O.written output.new)) }
     ensures fell { O.faults output.old ≤ O.faults output.new }
-    ensures cause { IfErr result (λ stop. (stop ≡ Stop.Sink) × Rose (O.faults output.old) (O.faults output.new)) }
+    ensures cause { IfErr result (λ stop. (stop ≡ Stop.Sink)
+        × Rose (O.faults output.old) (O.faults output.new)) }
 {
     match kind {
         OptionKind::Export => put_export(size, flags, output),
@@ -135,10 +148,14 @@ fn put_answer<O: Sink>(
 
 /// Puts the answer after which requests come.
 fn put_export<O: Sink>(size: u64, flags: ClientFlags, output: &mut O) -> Result<(), Stop>
-    ensures put { OnOk result (Got (O.written output.old) (export_answer size flags.no_zeroes) (O.written output.new)) }
-    ensures part { OnErr result (GotPart (O.written output.old) (export_answer size flags.no_zeroes) (O.written output.new)) }
+    ensures put { OnOk result
+        (Got (O.written output.old) (export_answer size flags.no_zeroes) (O.written output.new)) }
+    ensures part { OnErr result
+        (GotPart (O.written output.old) (export_answer size flags.no_zeroes)
+        (O.written output.new)) }
     ensures fell { O.faults output.old ≤ O.faults output.new }
-    ensures cause { IfErr result (λ stop. (stop ≡ Stop.Sink) × Rose (O.faults output.old) (O.faults output.new)) }
+    ensures cause { IfErr result (λ stop. (stop ≡ Stop.Sink)
+        × Rose (O.faults output.old) (O.faults output.new)) }
 {
     let mut answer = [0; EXPORT_ANSWER];
     let count = write_export_answer(size, flags, &mut answer);
@@ -147,10 +164,13 @@ fn put_export<O: Sink>(size: u64, flags: ClientFlags, output: &mut O) -> Result<
 
 /// Puts the reply to an option after which no request comes, or another option does.
 fn put_reply<O: Sink>(kind: OptionKind, answer: Answer, output: &mut O) -> Result<(), Stop>
-    ensures put { OnOk result (Got (O.written output.old) (option_reply kind answer) (O.written output.new)) }
-    ensures part { OnErr result (GotPart (O.written output.old) (option_reply kind answer) (O.written output.new)) }
+    ensures put { OnOk result
+        (Got (O.written output.old) (option_reply kind answer) (O.written output.new)) }
+    ensures part { OnErr result
+        (GotPart (O.written output.old) (option_reply kind answer) (O.written output.new)) }
     ensures fell { O.faults output.old ≤ O.faults output.new }
-    ensures cause { IfErr result (λ stop. (stop ≡ Stop.Sink) × Rose (O.faults output.old) (O.faults output.new)) }
+    ensures cause { IfErr result (λ stop. (stop ≡ Stop.Sink)
+        × Rose (O.faults output.old) (O.faults output.new)) }
 {
     let mut reply = [0; OPTION_REPLY];
     write_option_reply(kind, answer, &mut reply);
@@ -162,7 +182,8 @@ pub(crate) fn put<O: Sink>(bytes: &[u8], output: &mut O) -> Result<(), Stop>
     ensures put { OnOk result (Got (O.written output.old) bytes.now (O.written output.new)) }
     ensures part { OnErr result (GotPart (O.written output.old) bytes.now (O.written output.new)) }
     ensures fell { O.faults output.old ≤ O.faults output.new }
-    ensures cause { IfErr result (λ stop. (stop ≡ Stop.Sink) × Rose (O.faults output.old) (O.faults output.new)) }
+    ensures cause { IfErr result (λ stop. (stop ≡ Stop.Sink)
+        × Rose (O.faults output.old) (O.faults output.new)) }
 {
     match output.put(bytes) {
         Ok(()) => Ok(()),

@@ -16,8 +16,8 @@ const PIECE: usize = 65_536;
 /// The most bytes that can be asked for at once.
 pub const MOST: usize = 4_096;
 
-/// Bytes that came, one behind the other: those of the room between `from` and `to` aren't used yet.
-/// So what is read lies in one place, and is taken in large pieces.
+/// Bytes that came, one behind the other: those of the room between `from` and `to` aren't used
+/// yet. So what is read lies in one place, and is taken in large pieces.
 #[derive(Drop)]
 pub struct Intake {
     room: Vec<u8>,
@@ -74,17 +74,21 @@ impl Intake {
         self.from += count;
     }
 
-    /// Takes until so many bytes are there, at most 4,096. Answers false where the input ends before.
+    /// Takes until so many bytes are there, at most 4,096. Answers false where the input ends
+    /// before.
     pub fn need<I: Source>(&mut self, input: &mut I, count: usize) -> Result<bool, Stop>
         requires { count ≤ 4096 }
-        ensures came { Came (I.left input.old) (I.left input.new) self.old self.new.left (IsShorter count) self.new.ahead }
+        ensures came { Came (I.left input.old) (I.left input.new) self.old self.new.left
+            (IsShorter count) self.new.ahead }
         ensures there { IfOk result (λ there. there ≡ true → count ≤ length self.new.ahead) }
-        ensures end { IfOk result (λ there. there ≡ false → IsAtEnd (I.left input.new) × (length self.new.ahead < count)) }
+        ensures end { IfOk result (λ there. there ≡ false
+            → IsAtEnd (I.left input.new) × (length self.new.ahead < count)) }
         ensures short { OnErr result (length self.new.ahead < count) }
         ensures limit { IfErr result (λ stop. stop ≡ Stop.Limit → self.new.left ≡ 0) }
         ensures input { IfErr result (λ stop. (stop ≡ Stop.Source) ⊎ (stop ≡ Stop.Limit)) }
         ensures fell { I.faults input.old ≤ I.faults input.new }
-        ensures cause { IfErr result (λ stop. stop ≡ Stop.Source → Rose (I.faults input.old) (I.faults input.new)) }
+        ensures cause { IfErr result (λ stop. stop ≡ Stop.Source
+            → Rose (I.faults input.old) (I.faults input.new)) }
     {
         while self.count() < count {
             match self.more(input) {
@@ -96,15 +100,17 @@ impl Intake {
         Ok(true)
     }
 
-    /// Lets the next bytes of the input go, so many, which need not fit the room. Answers false where
-    /// the input ends before.
+    /// Lets the next bytes of the input go, so many, which need not fit the room. Answers false
+    /// where the input ends before.
     pub fn pass<I: Source>(&mut self, input: &mut I, count: u64) -> Result<bool, Stop>
-        ensures passed { Passed (I.left input.old) (I.left input.new) self.old self.new count result }
+        ensures passed { Passed (I.left input.old)
+            (I.left input.new) self.old self.new count result }
         ensures limit { IfErr result (λ stop. stop ≡ Stop.Limit → self.new.left ≡ 0) }
         ensures input { IfErr result (λ stop. (stop ≡ Stop.Source) ⊎ (stop ≡ Stop.Limit)) }
         ensures end { IfOk result (λ whole. whole ≡ false → IsAtEnd (I.left input.new)) }
         ensures fell { I.faults input.old ≤ I.faults input.new }
-        ensures cause { IfErr result (λ stop. stop ≡ Stop.Source → Rose (I.faults input.old) (I.faults input.new)) }
+        ensures cause { IfErr result (λ stop. stop ≡ Stop.Source
+            → Rose (I.faults input.old) (I.faults input.new)) }
     {
         let mut left = count;
         while left > 0 {
@@ -124,13 +130,15 @@ impl Intake {
     fn more<I: Source>(&mut self, input: &mut I) -> Result<usize, Stop>
         requires { length self.old.ahead < 4096 }
         ensures takes { Takes (I.left input.old) (I.left input.new) self.old self.new }
-        ensures more { IfOk result (λ count. length self.new.ahead ≡ length self.old.ahead + count) }
+        ensures more { IfOk result (λ count. length self.new.ahead
+            ≡ length self.old.ahead + count) }
         ensures end { IfOk result (λ count. count ≡ 0 → IsAtEnd (I.left input.new)) }
         ensures same { OnErr result (self.new ≡ self.old) }
         ensures limit { IfErr result (λ stop. stop ≡ Stop.Limit → self.new.left ≡ 0) }
         ensures input { IfErr result (λ stop. (stop ≡ Stop.Source) ⊎ (stop ≡ Stop.Limit)) }
         ensures fell { I.faults input.old ≤ I.faults input.new }
-        ensures cause { IfErr result (λ stop. stop ≡ Stop.Source → Rose (I.faults input.old) (I.faults input.new)) }
+        ensures cause { IfErr result (λ stop. stop ≡ Stop.Source
+            → Rose (I.faults input.old) (I.faults input.new)) }
     {
         let here = self.to - self.from;
         settle(&mut self.room, self.from, self.to);
@@ -166,7 +174,8 @@ fn take_behind<I: Source>(
     input: &mut I,
 ) -> Result<usize, SourceFault>
     requires { (0 < most) × (at + most ≤ length room.old) }
-    ensures taken { IfOk result (λ count. (bytes : List ℕ) × (length bytes ≡ count) × Gave (I.left input.old) bytes (I.left input.new)
+    ensures taken { IfOk result (λ count. (bytes : List ℕ) × (length bytes ≡ count)
+        × Gave (I.left input.old) bytes (I.left input.new)
         × (take (at + count) room.new ≡ take at room.old ++ bytes)) }
     ensures bound { IfOk result (λ count. count ≤ most) }
     ensures end { IfOk result (λ count. count ≡ 0 → IsAtEnd (I.left input.new)) }

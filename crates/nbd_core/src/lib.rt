@@ -1,5 +1,5 @@
-//! The server of a device over NBD. What stands so far: taking of the input, and what is said before
-//! requests.
+//! The server of a device over NBD. What stands so far: taking of the input, and what is said
+//! before requests.
 #![tactic(auto)]
 
 mod haggling;

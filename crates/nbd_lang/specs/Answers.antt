@@ -16,6 +16,7 @@ abbrev pub option_reply : OptionKind → Answer → List ℕ
 option_reply kind answer =
     to_be_bytes w64 0x0003e889045565a9 ++ (to_be_bytes w32 (option_number kind) ++ (to_be_bytes w32 (answer_number answer) ++ to_be_bytes w32 0))
 
--- the answer after which requests are served: the size in bytes, and the flags `has flags` (bit 0), `flush` (bit 2) and `trim` (bit 5); and zeros, unless none were wanted
+-- the answer after which requests are served: the size in bytes, and the flags `has flags` (bit 0),
+-- `flush` (bit 2) and `trim` (bit 5); and zeros, unless none were wanted
 abbrev pub export_answer : ℕ → Bool → List ℕ
 export_answer size no_zeroes = to_be_bytes w64 size ++ (to_be_bytes w16 37 ++ (if no_zeroes then [] else replicate 124 0))

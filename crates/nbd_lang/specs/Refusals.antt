@@ -9,7 +9,8 @@ use Rattle.nbd_lang.specs.declared.replies.Outcome.TheVariants.{Invalid, NoSpace
 abbrev pub refused_if : Bool → Outcome → Option Outcome → Option Outcome
 refused_if holds why else_why = if holds then Some why else else_why
 
--- by its kind, and whether it has flags, is longer than 32 MiB, and passes the end: the first that is refused is answered
+-- by its kind, and whether it has flags, is longer than 32 MiB, and passes the end: the first that
+-- is refused is answered
 abbrev pub refusal_by : RequestKind → Bool → Bool → Bool → Option Outcome
 refusal_by Read flags long past = refused_if (flags || long || past) Invalid None
 refusal_by Write flags long past = refused_if (flags || long) Invalid (refused_if past NoSpace None)

@@ -1,4 +1,5 @@
-//! A field of four bytes. Those of two and of eight are read by `record_fields`, which has no other.
+//! A field of four bytes. Those of two and of eight are read by `record_fields`, which has no
+//! other.
 ghost use Rattle.std.specs.Prelude.{◌≡◌, ◌<◌, ◌^◌, ℕ, length};
 ghost use Rattle.std.specs.Int.{w32, to_be_bytes};
 

@@ -5,8 +5,8 @@ ghost use Rattle.nbd_lang.specs.declared.greeting.ClientFlags.{ClientFlags};
 
 use crate::fields::u32_of;
 
-/// What the server says first: `NBDMAGIC`, `IHAVEOPT`, and that it speaks the fixed newstyle and can
-/// leave away the zeros behind an export's flags.
+/// What the server says first: `NBDMAGIC`, `IHAVEOPT`, and that it speaks the fixed newstyle and
+/// can leave away the zeros behind an export's flags.
 pub const GREETING: [u8; 18] = *b"NBDMAGICIHAVEOPT\x00\x03";
 
 /// How many bytes the client's flags have.

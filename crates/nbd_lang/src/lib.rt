@@ -1,6 +1,7 @@
-//! The words of an NBD client and of its server, in the layout of NBD's fixed newstyle: the greeting
-//! and the client's flags, options and their answers, requests and their replies. Each has one
-//! spelling and one reading. (<https://github.com/NetworkBlockDevice/nbd/blob/master/doc/proto.md>)
+//! The words of an NBD client and of its server, in the layout of NBD's fixed newstyle: the
+//! greeting and the client's flags, options and their answers, requests and their replies. Each has
+//! one spelling and one reading.
+//! (<https://github.com/NetworkBlockDevice/nbd/blob/master/doc/proto.md>)
 #![tactic(auto)]
 
 mod answers;

@@ -38,7 +38,8 @@ pub fn is_option(bytes: &[u8]) -> bool
     bytes == b"IHAVEOPT".as_slice()
 }
 
-/// The option whose eight bytes these are, behind the eight that each option begins with. All spell one.
+/// The option whose eight bytes these are, behind the eight that each option begins with. All spell
+/// one.
 pub fn read_option(bytes: &[u8]) -> OptionHead
     requires { length bytes.now ≡ 8 }
     ensures spelled { codes "IHAVEOPT" ++ bytes.now ≡ option_head result }

@@ -23,7 +23,8 @@ pub enum Outcome {
 /// Writes the head of a reply over the first 16 bytes of `out`. A read's bytes stand behind it.
 pub fn write_reply_head(outcome: Outcome, cookie: u64, out: &mut [u8])
     requires { 16 ≤ length out.old }
-    ensures { out.new ≡ reply_bytes (record { outcome = outcome; cookie = cookie; bytes = drop 16 out.old }) }
+    ensures { out.new ≡ reply_bytes
+        (record { outcome = outcome; cookie = cookie; bytes = drop 16 out.old }) }
 {
     out[..4].copy_from_slice(&0x6744_6698u32.to_be_bytes());
     out[4..8].copy_from_slice(&number_of(outcome).to_be_bytes());

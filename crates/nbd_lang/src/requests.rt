@@ -57,7 +57,8 @@ pub fn is_request(bytes: &[u8]) -> bool
     u32_of(bytes) == 0x2560_9513
 }
 
-/// The request whose 24 bytes these are, behind the four that each request begins with. All spell one.
+/// The request whose 24 bytes these are, behind the four that each request begins with. All spell
+/// one.
 pub fn read_request(bytes: &[u8]) -> Request
     requires { length bytes.now ≡ 24 }
     ensures spelled { to_be_bytes w32 0x25609513 ++ bytes.now ≡ request_head result }

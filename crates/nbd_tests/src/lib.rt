@@ -1,0 +1,5 @@
+//! Worked rows of the device over NBD, on objects in memory.
+#![tactic(auto)]
+
+#[cfg(test)]
+mod options;
