@@ -18,7 +18,7 @@ use Rattle.device_cli.specs.Program.{ServesScript, Forgets}
 use Rattle.device_cli.specs.Ran.{Ran, AnswersScript, IsComplete}
 use Rattle.line_run.specs.Stops.{Ending, exit_of, HasCause}
 use Rattle.line_run.specs.Puts.{damage_line}
-use Rattle.device_cli.specs.Seizing.{Seizing, Seizes}
+use Rattle.device_cli.specs.Seizing.{Seizing, Seizes, ReadsFewFor}
 use Rattle.device_cli.specs.World.{World, world}
 use Rattle.device_cli.specs.declared.checking.Finding.{Finding}
 use Rattle.line_run.specs.declared.stop.Stop.{Stop}
@@ -83,8 +83,9 @@ checked_at tells status old new ending undrawn unput pages steps same is checks 
 
 pub seizing_at : {S R I O L : Type 0} (tells : Type 0) (records : List (List ℕ)) (status : ℕ) (old new : Handed S R I O L) (ending : Ending) → new.tape ≡ old.tape → new.input ≡ old.input → new.ledger ≡ old.ledger
     → new.world.head ≡ old.world.head → (tells → Steps old.world.history new.world.history) → (tells → new.world.history.present ≡ old.world.history.present) → status ≡ exit_of ending
-    → Seizes tells old.world.head old.world.history.present records old.written new.written ending → IfErr ending (HasCause old.counts new.counts) → Seizing tells records status old new
-seizing_at tells records status old new ending undrawn untaken unput pages steps same is seizes cause = record {
+    → Seizes tells old.world.head old.world.history.present records old.written new.written ending → (tells → ReadsFewFor old.world.head old.world.history.present records old.world.reads new.world.reads)
+    → IfErr ending (HasCause old.counts new.counts) → Seizing tells records status old new
+seizing_at tells records status old new ending undrawn untaken unput pages steps same is seizes reads cause = record {
   undrawn = undrawn;
   untaken = untaken;
   unput = unput;
@@ -93,6 +94,7 @@ seizing_at tells records status old new ending undrawn untaken unput pages steps
   ending = ending;
   status_is = is;
   seizes = seizes;
+  reads = reads;
   bad_root = λ told bad. subst (λ (n : ℕ). (n ≡ 8) ⊎ (n ≡ 4) ⊎ (n ≡ 5)) (sym is) (bad_status tells old.world.head old.world.history.present records old.written new.written ending seizes told bad);
   complete = λ told good quiet. subst (λ (n : ℕ). (n ≡ 0) ⊎ (n ≡ 11)) (sym is)
       (complete_seizure tells old.world.head old.world.history.present records old.counts new.counts old.written new.written ending seizes cause told good quiet);

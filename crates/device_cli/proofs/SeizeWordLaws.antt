@@ -5,14 +5,15 @@ use Rattle.sdbt_base.specs.Told.{Got, GotPart}
 use Rattle.sdbt_base.proofs.ToldLaws.{Got-then, GotPart-then}
 use Rattle.platform.specs.Image.{Image}
 use Rattle.page_store.specs.Roots.{IsBadCell}
+use Rattle.seizure.specs.Reads.{ReadsFew}
 use Rattle.seizure.specs.Report.{Begins, Seized}
 use Rattle.device_terms.specs.Served.{IsServedCell}
 use Rattle.seizure.specs.declared.opened.Opened.{Opened}
 use Rattle.line_run.specs.Stops.{Ending, IsSound, exit_of, HasCause}
 use Rattle.line_run.specs.Puts.{HasPut, damage_line}
 use Rattle.session_calls.specs.Blame.{Counts, NoneRose}
-use Rattle.device_cli.specs.Given.{HasBadRecord}
-use Rattle.device_cli.specs.Seizing.{IsReportOf, IsRefused, Seizes, opened_line}
+use Rattle.device_cli.specs.Given.{AreGiven, HasBadRecord}
+use Rattle.device_cli.specs.Seizing.{IsReportOf, IsRefused, ReadsFewFor, Seizes, opened_line}
 use Rattle.session_calls.specs.declared.stops.DeviceStop.{DeviceStop}
 use Rattle.session_calls.specs.declared.stops.DeviceStop.TheVariants as device
 use Rattle.line_run.specs.declared.stop.Stop.TheVariants as stops
@@ -177,3 +178,16 @@ stopped_part tells head image records written now device.Platform R bad why unso
 stopped_part tells head image records written now device.Tape R bad why unsound part = absurd (unsound tt)
 stopped_part tells head image records written now device.Ledger R bad why unsound part = absurd (unsound tt)
 stopped_part tells head image records written now (device.BadRecord addr) R bad why unsound part = absurd (no_record R addr why)
+
+-- a cell that can be seized, and words that are root records, are not refused
+pub not_refused : (head : ℕ) (image : Image) (records keys : List (List ℕ)) → (IsBadCell head image.cell → ⊥) → AreGiven head records keys → IsRefused head image records → ⊥
+not_refused head image records keys good given refused = elim refused [ inl cell ↦ good cell | inr word ↦ given_not_bad head records keys given word ]
+
+-- how often pages were read, over the same image
+pub few_for : (head head_then : ℕ) (image image_then : Image) (records keys keys_then : List (List ℕ)) (reads mid now : ℕ) → head_then ≡ head → image_then ≡ image → keys_then ≡ keys → mid ≡ reads
+    → (IsRefused head image records → ⊥) → AreGiven head records keys → ReadsFew head_then image_then.cell keys_then image_then.readable mid now → ReadsFewFor head image records reads now
+few_for head head_then image image_then records keys keys_then reads mid now there same these before good given few =
+    let at_head = subst (λ (h : ℕ). ReadsFew h image_then.cell keys_then image_then.readable mid now) there few in
+    let at_image = subst (λ (i : Image). ReadsFew head i.cell keys_then i.readable mid now) same at_head in
+    let at_keys = subst (λ (ks : List (List ℕ)). ReadsFew head image.cell ks image.readable mid now) these at_image in
+    inr (good, keys, given, subst (λ (r : ℕ). ReadsFew head image.cell keys image.readable r now) before at_keys)

@@ -7,6 +7,7 @@ use Rattle.platform.specs.History.{During}
 use Rattle.page_store.specs.Roots.{IsBadCell}
 use Rattle.seizure.specs.declared.opened.Opened.{Opened}
 use Rattle.seizure.specs.Opened.{count_of_kind}
+use Rattle.seizure.specs.Reads.{ReadsFew}
 use Rattle.seizure.specs.Report.{Seized, IsSeizure, Begins}
 use Rattle.device_cli.specs.Given.{AreGiven, HasBadRecord}
 use Rattle.line_run.specs.Stops.{Ending, exit_of}
@@ -51,6 +52,13 @@ IsReportOf tells head image records seized =
 abbrev pub IsRefused : ℕ → Image → List (List ℕ) → Type 0
 IsRefused head image records = IsBadCell head image.cell ⊎ HasBadRecord head records
 
+-- no page was read; or the seizure isn't refused, and each page was read once at most, and once more for each key by which a chain ends at it, from the
+-- key of the root record in the cell and those of the root records that these words are
+abbrev pub ReadsFewFor : ℕ → Image → List (List ℕ) → ℕ → ℕ → Type 0
+ReadsFewFor head image records reads reads_now =
+    (reads_now ≡ reads) ⊎ ((IsRefused head image records → ⊥) × (keys : List (List ℕ)) × AreGiven head records keys
+    × ReadsFew head image.cell keys image.readable reads reads_now)
+
 -- the text of the report was put; or the seizure is refused, and the line that says so was put; or, where the output failed, a first part of
 -- the one or the other; or nothing was, and without memory only where it isn't refused
 abbrev pub Seizes : Type 0 → ℕ → Image → List (List ℕ) → Option (List ℕ) → Option (List ℕ) → Ending → Type 0
@@ -66,8 +74,8 @@ Seizes tells head image records written written_now (Err (stops.Device device.Me
     (tells → IsRefused head image records → ⊥) × (written_now ≡ written)
 Seizes tells head image records written written_now (Err _) = ⊥
 
--- a seizure with the root records that these words are: no key is drawn, nothing taken, no entry put, no page added, and the image is as it was at
--- each moment; it ends so, with this status: 8 exactly where the cell is full, and not with the root record of a root within the pages, or a
+-- a seizure with the root records that these words are: no key is drawn, nothing taken, no entry put, no page added, few are read, and the image is as
+-- it was at each moment; it ends so, with this status: 8 exactly where the cell is full, and not with the root record of a root within the pages, or a
 -- word is none, unless that could not be told or not be said; and else 0, unless something failed or no memory was given
 pub record Seizing {S R I O L : Type 0} (tells : Type 0) (records : List (List ℕ)) (status : ℕ) (old new : Handed S R I O L) : Type 0 where
   pub undrawn : new.tape ≡ old.tape
@@ -79,4 +87,5 @@ pub record Seizing {S R I O L : Type 0} (tells : Type 0) (records : List (List �
   pub status_is : status ≡ exit_of ending
   pub seizes : Seizes tells old.world.head old.world.history.present records old.written new.written ending
   pub bad_root : tells → IsRefused old.world.head old.world.history.present records → (status ≡ 8) ⊎ (status ≡ 4) ⊎ (status ≡ 5)
+  pub reads : tells → ReadsFewFor old.world.head old.world.history.present records old.world.reads new.world.reads
   pub complete : tells → (IsRefused old.world.head old.world.history.present records → ⊥) → NoneRose old.counts new.counts → (status ≡ 0) ⊎ (status ≡ 11)

@@ -4,10 +4,11 @@ ghost use Rattle.sdbt_base.specs.Faults.{Rose};
 ghost use Rattle.platform.specs.History.{Steps};
 ghost use Rattle.page_store.specs.Roots.{IsBadCell};
 ghost use Rattle.seizure.specs.Looks.{Looks};
+ghost use Rattle.seizure.specs.Reads.{ReadsFew};
 ghost use Rattle.line_run.specs.Stops.{IsBlamedOn};
 ghost use Rattle.session_calls.specs.Blame.{counts};
 ghost use Rattle.line_run.specs.Puts.{HasPut};
-ghost use Rattle.device_cli.specs.Seizing.{IsReport, IsReportOf, IsRefused, Seizes, opened_line, counts_line, report_text};
+ghost use Rattle.device_cli.specs.Seizing.{IsReport, IsReportOf, IsRefused, ReadsFewFor, Seizes, opened_line, counts_line, report_text};
 
 use crate::given::keys_given;
 use arrayvec::ArrayVec;
@@ -43,6 +44,8 @@ pub(crate) fn seize_word<P: Platform, O: Sink>(
     ensures time { P.tells → Steps (P.history platform.old) (P.history platform.new) }
     ensures head { P.head platform.new ≡ P.head platform.old }
     ensures capacity { P.capacity platform.new ≡ P.capacity platform.old }
+    ensures reads { P.tells → ReadsFewFor (P.head platform.old) (P.history platform.old).present (map string_bytes records.now)
+        (P.reads platform.old) (P.reads platform.new) }
 {
     match find(alloc, records, platform) {
         Ok(report) => put_report(&report, output),
@@ -66,6 +69,8 @@ fn find<P: Platform>(
     ensures stops { IfErr result (λ stop. (stop ≡ DeviceStop.BadRoot) ⊎ (stop ≡ DeviceStop.Memory)
         ⊎ ((stop ≡ DeviceStop.Platform) × Rose (P.faults platform.old) (P.faults platform.new))) }
     ensures looks { Looks P.Platform platform.old platform.new }
+    ensures reads { P.tells → ReadsFewFor (P.head platform.old) (P.history platform.old).present (map string_bytes records.now)
+        (P.reads platform.old) (P.reads platform.new) }
 {
     check_root(platform)?;
     match keys_given(records, platform.head()) {
@@ -86,6 +91,8 @@ fn open_all<P: Platform>(
     ensures stops { IfErr result (λ stop. (stop ≡ DeviceStop.BadRoot) ⊎ (stop ≡ DeviceStop.Memory)
         ⊎ ((stop ≡ DeviceStop.Platform) × Rose (P.faults platform.old) (P.faults platform.new))) }
     ensures looks { Looks P.Platform platform.old platform.new }
+    ensures reads { P.tells → ReadsFew (P.head platform.old) (P.history platform.old).present.cell keys.now
+        (P.history platform.old).present.readable (P.reads platform.old) (P.reads platform.new) }
 {
     let Ok(keys) = listed(alloc, keys) else {
         return Err(DeviceStop::Memory);
@@ -117,6 +124,7 @@ fn check_root<P: Platform>(platform: &mut P) -> Result<(), DeviceStop>
     ensures stops { IfErr result (λ stop. (stop ≡ DeviceStop.BadRoot)
         ⊎ ((stop ≡ DeviceStop.Platform) × Rose (P.faults platform.old) (P.faults platform.new))) }
     ensures looks { Looks P.Platform platform.old platform.new }
+    ensures unread { P.tells → P.reads platform.new ≡ P.reads platform.old }
 {
     match current(platform) {
         Ok(_) => Ok(()),

@@ -21,8 +21,8 @@ pub struct Committed {
 
 /// Makes a session's changes the device's, where enough pages are free, and hands the session back.
 ///
-/// `Full` comes exactly where fewer pages are free than the commit needs, and all is then as it was. A stop ends the session: the
-/// device is the one from before, or, where the platform failed, that one or the one with the session's array.
+/// `Full` comes exactly where fewer pages are free than the commit needs, and all is then as it was. A stop ends the session, whose
+/// buffers are wiped: the device is the one from before, or, where the platform failed, that one or the one with the session's array.
 pub fn commit_session<P: Platform, T: Tape, L: Sink>(
     mut session: Session,
     platform: &mut P,
@@ -38,7 +38,10 @@ pub fn commit_session<P: Platform, T: Tape, L: Sink>(
 {
     match session.commit(platform, tape, ledger) {
         Ok(reply) => Ok(Committed { session, reply }),
-        Err(fault) => Err(stop_of(fault)),
+        Err(fault) => {
+            session.wipe();
+            Err(stop_of(fault))
+        }
     }
 }
 

@@ -10,7 +10,7 @@ use Rattle.device_cli.specs.Given.{HasBadRecord}
 use Rattle.device_cli.specs.Handed.{handed}
 use Rattle.line_run.specs.Stops.{Ending, status_of}
 use Rattle.line_run.specs.Puts.{damage_line}
-use Rattle.device_cli.specs.Seizing.{IsRefused, Seizes}
+use Rattle.device_cli.specs.Seizing.{IsRefused, ReadsFewFor, Seizes}
 use Rattle.device_cli.specs.Words.{AreSeizeWords, AreWorkWords, records_of}
 use Rattle.device_cli.specs.Working.{Working}
 use Rattle.device_cli.specs.World.{World, world_of}
@@ -243,8 +243,10 @@ returns-in-Ok-seize_word-clause-seizes g c words =
     let ending : Ending = Ok tt in
     let records = records_of (map string_bytes c.args.words.now) in
     let seizes = subst (λ (records : List (List ℕ)). Seizes g.P.Platform.tells old.world.head old.world.history.present records old.written new.written ending) c.records_of.ensures c.in-Ok-seize_word.ensures.seizes in
+    let reads : g.P.Platform.tells → ReadsFewFor old.world.head old.world.history.present records old.world.reads new.world.reads =
+    subst (λ (records : List (List ℕ)). g.P.Platform.tells → ReadsFewFor old.world.head old.world.history.present records old.world.reads new.world.reads) c.records_of.ensures c.seize_word.ensures.reads in
     let part : ArePart _ _ old.counts new.counts = record { platform = inr (refl, refl); tape = inl (refl, refl); input = inl (refl, refl); output = inr (refl, refl); ledger = inl (refl, refl) } in
-    seizing_at g.P.Platform.tells records _ old new ending refl refl refl c.seize_word.ensures.head c.seize_word.ensures.time c.seize_word.ensures.image refl seizes
+    seizing_at g.P.Platform.tells records _ old new ending refl refl refl c.seize_word.ensures.head c.seize_word.ensures.time c.seize_word.ensures.image refl seizes reads
     (cause_wide _ _ old.counts new.counts ending part c.in-Ok-seize_word.ensures.blame.cause)
 
 pub returns-in-Err-seize_word-clause-seizes : goal.returns-in-Err-seize_word-clause-seizes
@@ -254,8 +256,10 @@ returns-in-Err-seize_word-clause-seizes g c words =
     let ending : Ending = Err c.in-Err-seize_word.stop in
     let records = records_of (map string_bytes c.args.words.now) in
     let seizes = subst (λ (records : List (List ℕ)). Seizes g.P.Platform.tells old.world.head old.world.history.present records old.written new.written ending) c.records_of.ensures c.in-Err-seize_word.ensures.seizes in
+    let reads : g.P.Platform.tells → ReadsFewFor old.world.head old.world.history.present records old.world.reads new.world.reads =
+    subst (λ (records : List (List ℕ)). g.P.Platform.tells → ReadsFewFor old.world.head old.world.history.present records old.world.reads new.world.reads) c.records_of.ensures c.seize_word.ensures.reads in
     let part : ArePart _ _ old.counts new.counts = record { platform = inr (refl, refl); tape = inl (refl, refl); input = inl (refl, refl); output = inr (refl, refl); ledger = inl (refl, refl) } in
-    seizing_at g.P.Platform.tells records _ old new ending refl refl refl c.seize_word.ensures.head c.seize_word.ensures.time c.seize_word.ensures.image c.status-in-Err-seize_word.ensures seizes
+    seizing_at g.P.Platform.tells records _ old new ending refl refl refl c.seize_word.ensures.head c.seize_word.ensures.time c.seize_word.ensures.image c.status-in-Err-seize_word.ensures seizes reads
     (cause_wide _ _ old.counts new.counts ending part c.in-Err-seize_word.ensures.blame.cause)
 
 pub returns-in-Err-seize_word-clause-refuses : goal.returns-in-Err-seize_word-clause-refuses
