@@ -2,14 +2,10 @@ pub mod Image
 pub mod Calls
 pub mod Counts
 pub mod Failures
-pub mod Folder
 pub mod History
 pub mod Kept
 pub mod Log
 pub mod Logged
 pub mod Mem
-pub mod Places
 pub mod Runs
 pub mod Told
-pub mod Refusals
-pub mod Untold

@@ -1,5 +1,4 @@
 //! The platform in memory: a loss of power, and calls that are to fail.
-use crate::doubles::CallLog;
 use crate::script::first_unlike;
 use medium_trace::Pages;
 use platform::{CallKind, Failure, MemPlatform, Platform};
@@ -9,7 +8,7 @@ use std::test::Fail;
 
 /// The place of the first line of a script that does not come true, or `None`.
 fn unlike(platform: &mut MemPlatform, alloc: Global, script: &str) -> Option<usize> {
-    first_unlike(platform, alloc, &CallLog::new(alloc), script)
+    first_unlike(platform, alloc, script)
 }
 
 /// A loss of power that tears one page, if it can be torn.
