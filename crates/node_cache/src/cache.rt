@@ -59,7 +59,7 @@ impl NodeCache {
         let mut slots = LruCache::new(alloc, room_for(capacity))?;
         let mut addrs = Vec::with_capacity(alloc, capacity)?;
         for number in 0..capacity {
-            slots.put(number, Slot::Empty)?;
+            slots.put(number, Slot::new())?;
             addrs.push(None)?;
         }
         Ok(NodeCache { slots, addrs })
@@ -115,10 +115,8 @@ impl NodeCache {
         ensures { (first : Kept) (others : List Kept) → self.now.kept ≡ first ∷ others → option_copied result ≡ Some first.node }
     {
         let (_, slot) = self.slots.peek_mru()?;
-        match slot {
-            Slot::Full(kept) => Some(&kept.node),
-            Slot::Empty => None,
-        }
+        let kept = slot.kept()?;
+        Some(&kept.node)
     }
 
     /// The addresses for which nodes are kept, the most recent first.
@@ -127,7 +125,7 @@ impl NodeCache {
     {
         let mut addrs = Addrs::new(alloc);
         for (_, slot) in self.slots.iter() {
-            if let Slot::Full(kept) = slot {
+            if let Some(kept) = slot.kept() {
                 addrs.push(kept.addr)?;
             }
         }
@@ -191,7 +189,7 @@ fn least_used(slots: &LruCache<usize, Slot>) -> usize
 /// Copies a node into a slot, which is then the one that was used last.
 fn fill(slots: &mut LruCache<usize, Slot>, number: usize, addr: u64, key: &Key, node: &NodeBody)
     requires { IsSome (lookup (nat_eq number) slots.old.entries) }
-    ensures written { slots.new ≡ lru_cache ((number, Slot.Full (kept_node addr key.now node.now)) ∷ remove_entry (nat_eq number) slots.old.entries) slots.old.cap }
+    ensures written { slots.new ≡ lru_cache ((number, Some (kept_node addr key.now node.now)) ∷ remove_entry (nat_eq number) slots.old.entries) slots.old.cap }
     ensures distinct { IsDistinct nat_eq (keys_of slots.new.entries) }
 {
     match slots.get_mut(&number) {
@@ -205,11 +203,11 @@ fn fill(slots: &mut LruCache<usize, Slot>, number: usize, addr: u64, key: &Key, 
 /// Makes a slot an empty one, which is then the one that was used last.
 fn empty(slots: &mut LruCache<usize, Slot>, number: usize)
     requires { IsSome (lookup (nat_eq number) slots.old.entries) }
-    ensures written { slots.new ≡ lru_cache ((number, Slot.Empty) ∷ remove_entry (nat_eq number) slots.old.entries) slots.old.cap }
+    ensures written { slots.new ≡ lru_cache ((number, None) ∷ remove_entry (nat_eq number) slots.old.entries) slots.old.cap }
     ensures distinct { IsDistinct nat_eq (keys_of slots.new.entries) }
 {
     match slots.get_mut(&number) {
-        Some(slot) => *slot = Slot::Empty,
+        Some(slot) => slot.clear(),
         None => unreachable!(),
     }
     let count = slots.len();
@@ -218,11 +216,14 @@ fn empty(slots: &mut LruCache<usize, Slot>, number: usize)
 
 /// Whether the node in a slot, if there is one, is kept under this key.
 fn has_key(slots: &LruCache<usize, Slot>, number: usize, key: &Key) -> bool
-    ensures { IsTrue result ↔ ((kept : Kept) × (lookup (nat_eq number) slots.now.entries ≡ Some (Slot.Full kept)) × (kept.key ≡ key.now)) }
+    ensures { IsTrue result ↔ ((kept : Kept) × (lookup (nat_eq number) slots.now.entries ≡ Some (Some kept)) × (kept.key ≡ key.now)) }
 {
-    match slots.peek(&number) {
-        Some(Slot::Full(kept)) => kept.key == *key,
-        _ => false,
+    let Some(slot) = slots.peek(&number) else {
+        return false;
+    };
+    match slot.kept() {
+        Some(kept) => kept.key == *key,
+        None => false,
     }
 }
 

@@ -1,10 +1,12 @@
-ghost use Rattle.std.specs.Prelude.{◌≡◌};
+ghost use Rattle.std.specs.Prelude.{◌≡◌, None, Some, Option};
+ghost use Rattle.std.specs.Option.{option_copied};
 ghost use Rattle.node_codec.specs.declared.body.NodeBody.{NodeBody};
 ghost use Rattle.node_cache.specs.declared.slots.Kept.{Kept};
 
 use arrayvec::ArrayVec;
 use node_codec::NodeBody;
 use sdbt_base::Key;
+use std::marker::Model;
 
 /// A node that is kept, with the address and the key that it was read or written under.
 #[derive(Drop)]
@@ -17,16 +19,39 @@ pub struct Kept {
     pub node: NodeBody,
 }
 
-/// A place for one node.
+/// A place for one node. What it is written over stays when the node is let go, so that the next node finds room there.
 #[derive(Drop)]
-pub enum Slot {
-    /// No node.
-    Empty,
-    /// A node that is kept.
-    Full(Kept),
+pub struct Slot {
+    is_full: bool,
+    room: Option<Kept>,
+}
+
+impl Model for Slot {
+    ghost use Rattle.std.specs.Prelude.{None, Option, cond};
+    ghost use Rattle.node_cache.specs.declared.slots.Kept.{Kept};
+
+    ghost Value = { Option Kept };
+
+    ghost view = { λ s. cond s.is_full s.room None };
 }
 
 impl Kept {
+    /// A copy of a node, for its address under its key.
+    fn of(addr: u64, key: &Key, node: &NodeBody) -> Kept
+        ensures { result ≡ record { addr = addr; key = key.now; node = node.now } }
+    {
+        let mut kept = Kept {
+            addr,
+            key: *key,
+            node: NodeBody {
+                level: node.level,
+                entries: ArrayVec::new(),
+            },
+        };
+        kept.copy(addr, key, node);
+        kept
+    }
+
     /// Becomes a copy of a node, for its address under its key.
     fn copy(&mut self, addr: u64, key: &Key, node: &NodeBody)
         ensures { self.new ≡ record { addr = addr; key = key.now; node = node.now } }
@@ -43,24 +68,42 @@ impl Kept {
 }
 
 impl Slot {
+    /// A place in which no node stands.
+    pub(crate) fn new() -> Slot
+        ensures { result ≡ None }
+    {
+        Slot {
+            is_full: false,
+            room: None,
+        }
+    }
+
+    /// The node that stands here.
+    pub(crate) fn kept(&self) -> Option<&Kept>
+        ensures { option_copied result ≡ self.now }
+    {
+        if self.is_full {
+            self.room.as_ref()
+        } else {
+            None
+        }
+    }
+
     /// Writes a copy of a node over what stands here, for its address under its key.
     pub(crate) fn fill(&mut self, addr: u64, key: &Key, node: &NodeBody)
-        ensures { self.new ≡ Slot.Full (record { addr = addr; key = key.now; node = node.now }) }
+        ensures { self.new ≡ Some (record { addr = addr; key = key.now; node = node.now }) }
     {
-        match self {
-            Slot::Full(kept) => kept.copy(addr, key, node),
-            Slot::Empty => {
-                let mut kept = Kept {
-                    addr,
-                    key: *key,
-                    node: NodeBody {
-                        level: node.level,
-                        entries: ArrayVec::new(),
-                    },
-                };
-                kept.copy(addr, key, node);
-                *self = Slot::Full(kept);
-            }
+        match &mut self.room {
+            Some(kept) => kept.copy(addr, key, node),
+            None => self.room = Some(Kept::of(addr, key, node)),
         }
+        self.is_full = true;
+    }
+
+    /// Lets go the node that stands here.
+    pub(crate) fn clear(&mut self)
+        ensures { self.new ≡ None }
+    {
+        self.is_full = false;
     }
 }
