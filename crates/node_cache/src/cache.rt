@@ -59,7 +59,7 @@ impl NodeCache {
         let mut slots = LruCache::new(alloc, room_for(capacity))?;
         let mut addrs = Vec::with_capacity(alloc, capacity)?;
         for number in 0..capacity {
-            slots.put(number, Slot::new())?;
+            slots.put(number, Slot::new(alloc)?)?;
             addrs.push(None)?;
         }
         Ok(NodeCache { slots, addrs })

@@ -1,11 +1,12 @@
-ghost use Rattle.std.specs.Prelude.{◌≡◌, None, Some, Option};
+ghost use Rattle.std.specs.Prelude.{◌≡◌, None, Some, Option, IfOk};
 ghost use Rattle.std.specs.Option.{option_copied};
 ghost use Rattle.node_codec.specs.declared.body.NodeBody.{NodeBody};
 ghost use Rattle.node_cache.specs.declared.slots.Kept.{Kept};
 
 use arrayvec::ArrayVec;
 use node_codec::NodeBody;
-use sdbt_base::Key;
+use sdbt_base::{Key, Memory};
+use std::alloc::Global;
 use std::marker::Model;
 
 /// A node that is kept, with the address and the key that it was read or written under.
@@ -19,20 +20,23 @@ pub struct Kept {
     pub node: NodeBody,
 }
 
-/// A place for one node. What it is written over stays when the node is let go, so that the next node finds room there.
+/// A place for one node, on the heap. What it is written over stays when the node is let go, so that the next node finds
+/// room there.
 #[derive(Drop)]
 pub struct Slot {
     is_full: bool,
-    room: Option<Kept>,
+    room: Vec<Kept>,
 }
 
 impl Model for Slot {
-    ghost use Rattle.std.specs.Prelude.{None, Option, cond};
+    ghost use Rattle.std.specs.Prelude.{◌≤◌, None, Option, cond, slice_get, vec_capacity};
     ghost use Rattle.node_cache.specs.declared.slots.Kept.{Kept};
 
     ghost Value = { Option Kept };
 
-    ghost view = { λ s. cond s.is_full s.room None };
+    ghost view = { λ s. cond s.is_full (slice_get s.room.items 0) None };
+
+    ghost invariant = { λ s. 1 ≤ vec_capacity s.room };
 }
 
 impl Kept {
@@ -69,13 +73,13 @@ impl Kept {
 
 impl Slot {
     /// A place in which no node stands.
-    pub(crate) fn new() -> Slot
-        ensures { result ≡ None }
+    pub(crate) fn new(alloc: Global) -> Result<Slot, Memory>
+        ensures { IfOk result (λ slot. slot ≡ None) }
     {
-        Slot {
+        Ok(Slot {
             is_full: false,
-            room: None,
-        }
+            room: Vec::with_capacity(alloc, 1)?,
+        })
     }
 
     /// The node that stands here.
@@ -83,7 +87,7 @@ impl Slot {
         ensures { option_copied result ≡ self.now }
     {
         if self.is_full {
-            self.room.as_ref()
+            self.room.first()
         } else {
             None
         }
@@ -93,9 +97,10 @@ impl Slot {
     pub(crate) fn fill(&mut self, addr: u64, key: &Key, node: &NodeBody)
         ensures { self.new ≡ Some (record { addr = addr; key = key.now; node = node.now }) }
     {
-        match &mut self.room {
-            Some(kept) => kept.copy(addr, key, node),
-            None => self.room = Some(Kept::of(addr, key, node)),
+        if self.room.is_empty() {
+            let _room = self.room.push(Kept::of(addr, key, node));
+        } else {
+            self.room[0].copy(addr, key, node);
         }
         self.is_full = true;
     }

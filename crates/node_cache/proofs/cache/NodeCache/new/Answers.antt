@@ -6,7 +6,7 @@ use Rattle.node_cache.proofs.cache.NodeCache.new.Goals as goal
 pub loop-number-preserved : goal.loop-number-preserved
 loop-number-preserved c =
     let more = filled_more c.loop-number.slots.entries c.loop-number.addrs.items c.loop-number.number c.loop-number.slots.cap (omega (arith, c.loop-number-test.true, c.loop-number.invariant.1)) c.loop-number.invariant.0 in
-    rw (c.in_ok-put.ensures.entries, c.in_ok-push.ensures.items, c.new-in-loop-number.ensures) (more, c.loop-number.invariant.1)
+    rw (c.in_ok-put.ensures.entries, c.in_ok-push.ensures.items, c.in_ok-new.ensures) (more, c.loop-number.invariant.1)
 
 pub invariant_of-result : goal.invariant_of-result
 invariant_of-result c = filled_tied c.loop-number.slots.entries c.loop-number.addrs.items c.loop-number.number c.loop-number.invariant.0
