@@ -6,8 +6,8 @@ ghost use Rattle.device_session.specs.Causes.{IsMountCause};
 
 use crate::refusals::MountRefusal;
 use btree_update::Grove;
-use node_cache::NodeCache;
-use page_store::{Buffers, CurrentRefusal, current};
+use btree_walk::NodeReader;
+use page_store::{CurrentRefusal, current};
 use platform::Platform;
 use root_codec::Root;
 use std::alloc::Global;
@@ -25,8 +25,7 @@ pub struct Session {
     pub(crate) mapped: u64,
     pub(crate) is_touched: bool,
     pub(crate) grove: Grove,
-    pub(crate) cache: NodeCache,
-    pub(crate) buffers: Buffers,
+    pub(crate) reader: NodeReader,
     pub(crate) alloc: Global,
 }
 
@@ -44,8 +43,8 @@ impl Model for Session {
       mapped = s.mapped;
       is_touched = s.is_touched;
       grove = s.grove;
-      cache = s.cache;
-      buffers = s.buffers;
+      cache = s.reader.cache;
+      buffers = s.reader.buffers;
     } };
 }
 
@@ -78,10 +77,7 @@ impl Session {
         let Some(root) = found else {
             return Err(MountRefusal::NoDevice);
         };
-        let Ok(buffers) = Buffers::new(alloc) else {
-            return Err(MountRefusal::Memory);
-        };
-        let Ok(cache) = NodeCache::new(alloc, cache) else {
+        let Ok(reader) = NodeReader::new(alloc, cache) else {
             return Err(MountRefusal::Memory);
         };
         let grove = Grove::of(alloc, &root);
@@ -91,8 +87,7 @@ impl Session {
             mapped,
             is_touched: false,
             grove,
-            cache,
-            buffers,
+            reader,
             alloc,
         })
     }
@@ -123,6 +118,6 @@ impl Session {
         ensures wiped { IsBlank self.new.buffers }
         ensures same { self.new ≡ record self.old { buffers = self.new.buffers } }
     {
-        self.buffers.wipe();
+        self.reader.buffers.wipe();
     }
 }

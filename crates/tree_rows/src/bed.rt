@@ -7,18 +7,18 @@ ghost use Rattle.btree_update.specs.Held.{AreBelow};
 use crate::device::{Device, key_of};
 use crate::shape::nodes_of;
 use btree_update::{Grove, ReadyRefusal};
-use node_cache::NodeCache;
+use btree_walk::NodeReader;
 use page_store::FetchRefusal;
 use platform::Platform;
 use root_codec::Root;
 use std::alloc::Global;
 use std::marker::Model;
 
-/// A grove, the device that it stands on, and a cache before it.
+/// A grove, the device that it stands on, and what its nodes are read with.
 #[derive(Drop)]
 pub(crate) struct Bed {
     device: Device,
-    cache: NodeCache,
+    reader: NodeReader,
     root: Root,
     grove: Grove,
 }
@@ -41,7 +41,7 @@ impl Bed {
     pub(crate) fn over(
         alloc: Global,
         device: Device,
-        cache: NodeCache,
+        reader: NodeReader,
         size: (u16, u64),
         level: u8,
         addr: u64,
@@ -62,7 +62,7 @@ impl Bed {
         let grove = Grove::of(alloc, &root);
         Some(Bed {
             device,
-            cache,
+            reader,
             root,
             grove,
         })
@@ -72,7 +72,7 @@ impl Bed {
     pub(crate) fn commit(self, alloc: Global) -> Option<Bed> {
         let Bed {
             mut device,
-            cache,
+            reader,
             root,
             grove,
         } = self;
@@ -80,7 +80,7 @@ impl Bed {
         Bed::over(
             alloc,
             device,
-            cache,
+            reader,
             (root.order, root.blocks),
             grove.level(),
             top.addr,
@@ -101,8 +101,7 @@ impl Bed {
                 alloc,
                 block,
                 &mut self.device.platform,
-                &mut self.cache,
-                &mut self.device.buffers,
+                &mut self.reader,
             ),
         )
     }
@@ -126,8 +125,7 @@ impl Bed {
                 alloc,
                 block,
                 &mut self.device.platform,
-                &mut self.cache,
-                &mut self.device.buffers,
+                &mut self.reader,
             )
             .ok()?;
         self.grove.insert(block, addr, key_of(addr));
@@ -145,8 +143,7 @@ impl Bed {
                 alloc,
                 block,
                 &mut self.device.platform,
-                &mut self.cache,
-                &mut self.device.buffers,
+                &mut self.reader,
             )
             .ok()?;
         if is_mapped {
@@ -163,8 +160,7 @@ impl Bed {
         let found = self.grove.find(
             block,
             &mut self.device.platform,
-            &mut self.cache,
-            &mut self.device.buffers,
+            &mut self.reader,
         )?;
         Ok(found.map(|entry| entry.addr))
     }
