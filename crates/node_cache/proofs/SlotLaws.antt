@@ -225,10 +225,10 @@ entry_at s ((t, v) ∷ es) found = elim (eqb_tells s t) [
 pub written_at_slot : (s : ℕ) (v : Option Kept) (es : List (ℕ × Option Kept)) → IsSome (lookup (nat_eq s) es) → set_value (nat_eq s) (promoted (nat_eq s) es) v ≡ (s, v) ∷ remove_entry (nat_eq s) es
 written_at_slot s v es found = let e = entry_at s es found in rw (e.1, eq-eqb s s refl) refl
 
-set_here : {X : Type 0} (xs : List X) (s : ℕ) (v : X) → s < length xs → slice_get (set xs s v) s ≡ Some v
+pub set_here : {X : Type 0} (xs : List X) (s : ℕ) (v : X) → s < length xs → slice_get (set xs s v) s ≡ Some v
 set_here xs s v within = let bound = length-set xs s v in slice_get-get_or (set xs s v) s v (omega arith) ∙ ap Some (get_or-set_same xs s v v within)
 
-set_there : {X : Type 0} (xs : List X) (s : ℕ) (v : X) (t : ℕ) → t ≢ s → slice_get (set xs s v) t ≡ slice_get xs t
+pub set_there : {X : Type 0} (xs : List X) (s : ℕ) (v : X) (t : ℕ) → t ≢ s → slice_get (set xs s v) t ≡ slice_get xs t
 set_there xs s v t other =
     let bound = length-set xs s v in
     elim (slice_get_cases xs t).1 [
