@@ -1,5 +1,6 @@
-ghost use Rattle.std.specs.Prelude.{◌≡◌, ◌≤◌, [], IfOk};
+ghost use Rattle.std.specs.Prelude.{◌≡◌, ◌≤◌, [], IfOk, box_value};
 ghost use Rattle.page_store.specs.Buffer.{IsBlank};
+ghost use Rattle.btree_walk.specs.Readers.{IsWiped};
 
 use arrayvec::ArrayVec;
 use node_cache::NodeCache;
@@ -26,11 +27,7 @@ impl NodeReader {
         ensures cache { IfOk result (λ reader. reader.cache ≡ record { capacity = capacity; kept = [] }) }
         ensures buffers { IfOk result (λ reader. IsBlank reader.buffers) }
     {
-        let blank = NodeBody {
-            level: 0,
-            entries: ArrayVec::new(),
-        };
-        let node = Box::new(alloc, blank)?;
+        let node = Box::new(alloc, blank_node())?;
         let buffers = Buffers::new(alloc)?;
         let cache = NodeCache::new(alloc, capacity)?;
         Ok(NodeReader {
@@ -38,5 +35,25 @@ impl NodeReader {
             buffers,
             node,
         })
+    }
+
+    /// Leaves nothing of what was read or sealed in the buffers, nor of the node that was read last. The cache is as it was.
+    pub fn wipe(&mut self)
+        ensures wiped { IsWiped self.new.buffers (box_value self.new.node) }
+        ensures cache { self.new.cache ≡ self.old.cache }
+    {
+        self.buffers.wipe();
+        *self.node = blank_node();
+    }
+}
+
+/// A node without entries, whose room has nothing but zeros.
+fn blank_node() -> NodeBody
+    ensures level { result.level ≡ 0 }
+    ensures entries { result.entries.items ≡ [] }
+{
+    NodeBody {
+        level: 0,
+        entries: ArrayVec::new(),
     }
 }

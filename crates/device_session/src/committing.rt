@@ -88,7 +88,7 @@ impl Session {
         self.grove = Grove::of(self.alloc, &root);
         self.root = root;
         self.is_touched = false;
-        self.reader.buffers.wipe();
+        self.reader.wipe();
     }
 }
 

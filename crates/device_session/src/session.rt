@@ -1,7 +1,7 @@
 ghost use Rattle.std.specs.Prelude.{◌≡◌, ◌≤◌, IfOk, IfErr, IsErrOf};
 ghost use Rattle.sdbt_base.specs.Faults.{Rose};
 ghost use Rattle.platform.specs.Calls.{Looks};
-ghost use Rattle.page_store.specs.Buffer.{IsBlank};
+ghost use Rattle.btree_walk.specs.Readers.{IsWiped};
 ghost use Rattle.device_session.specs.Causes.{IsMountCause};
 
 use crate::refusals::MountRefusal;
@@ -33,6 +33,7 @@ impl Model for Session {
     ghost use Rattle.device_session.specs.Sessions as specs;
     ghost use Rattle.btree_twigs.specs.contracts.twigs.Child as child;
     ghost use Rattle.std.specs.Coded.{codes};
+    ghost use Rattle.std.specs.Prelude.{box_value};
 
     ghost Value = { specs.Session };
 
@@ -45,6 +46,7 @@ impl Model for Session {
       grove = s.grove;
       cache = s.reader.cache;
       buffers = s.reader.buffers;
+      node = box_value s.reader.node;
     } };
 }
 
@@ -113,11 +115,12 @@ impl Session {
         self.root.blocks
     }
 
-    /// Leaves nothing of what was read or sealed in the session's buffers: for a session that is given up.
+    /// Leaves nothing of what was read or sealed in the session's buffers, nor of the node that was read last: for a session
+    /// that is given up.
     pub fn wipe(&mut self)
-        ensures wiped { IsBlank self.new.buffers }
-        ensures same { self.new ≡ record self.old { buffers = self.new.buffers } }
+        ensures wiped { IsWiped self.new.buffers self.new.node }
+        ensures same { self.new ≡ record self.old { buffers = self.new.buffers; node = self.new.node } }
     {
-        self.reader.buffers.wipe();
+        self.reader.wipe();
     }
 }

@@ -1,4 +1,4 @@
-ghost use Rattle.std.specs.Prelude.{◌≡◌, None, Some, Option, IfOk};
+ghost use Rattle.std.specs.Prelude.{◌≡◌, [], None, Some, Option, IfOk, replicate};
 ghost use Rattle.std.specs.Option.{option_copied};
 ghost use Rattle.node_codec.specs.declared.body.NodeBody.{NodeBody};
 ghost use Rattle.node_cache.specs.declared.slots.Kept.{Kept};
@@ -69,6 +69,15 @@ impl Kept {
             Err(_) => unreachable!(),
         }
     }
+
+    /// Writes over the keys: that of the node, and with its entries those of its children.
+    fn wipe(&mut self)
+        ensures key { self.new.key ≡ replicate 32 0 }
+        ensures entries { self.new.node.entries.items ≡ [] }
+    {
+        self.key = Key::from_bytes([0; 32]);
+        self.node.entries = ArrayVec::new();
+    }
 }
 
 impl Slot {
@@ -105,10 +114,13 @@ impl Slot {
         self.is_full = true;
     }
 
-    /// Lets go the node that stands here.
+    /// Lets go the node that stands here. Its keys are written over.
     pub(crate) fn clear(&mut self)
         ensures { self.new ≡ None }
     {
+        if !self.room.is_empty() {
+            self.room[0].wipe();
+        }
         self.is_full = false;
     }
 }
