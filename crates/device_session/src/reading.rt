@@ -57,10 +57,7 @@ impl Session {
         if block >= self.root.blocks {
             return Err(ReadRefusal::Range);
         }
-        let found = match self
-            .grove
-            .find(block, platform, &mut self.reader)
-        {
+        let found = match self.grove.find(block, platform, &mut self.reader) {
             Ok(found) => found,
             Err(FetchRefusal::BadRecord { addr }) => return Err(ReadRefusal::BadRecord { addr }),
             Err(FetchRefusal::PlatformFault) => return Err(ReadRefusal::PlatformFault),

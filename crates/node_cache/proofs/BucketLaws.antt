@@ -1,13 +1,12 @@
 -- What becomes of the buckets of a cache where the address of a slot changes.
 use Rattle.std.specs.Prelude.{IfNone}
-use Rattle.std.proofs.Common.{◌≡◌, ◌≢◌, ℕ, ◌+◌, ◌<◌, ◌%◌, ◌⊎◌, List, ◌++◌, Option, None, Some, length, take, drop, append-nil, refl, sym, ap, subst, inl, inr, ◌∙◌, arith, slice_get}
+use Rattle.std.proofs.Common.{◌≡◌, ◌≢◌, ℕ, ◌<◌, ◌%◌, List, ◌++◌, Option, None, Some, length, take, drop, append-nil, refl, sym, ap, subst, inl, inr, ◌∙◌, arith, slice_get}
 use Rattle.std.proofs.lemmas.Bool.Decides.{eqb_tells}
 use Rattle.std.proofs.lemmas.List.{length-set, take_all}
 use Rattle.std.proofs.Math.Seq.{drop-length}
 use Rattle.std.proofs.lemmas.Option.{slice_get_within}
 use Rattle.std.proofs.Math.ListN.{set}
 use Rattle.node_cache.specs.declared.buckets.Bucket.{Bucket}
-use Rattle.node_cache.specs.declared.buckets.Bucket.TheVariants.{Empty, One, Many}
 use Rattle.node_cache.specs.Slots.{IsUnlisted}
 use Rattle.node_cache.specs.Buckets.{MayHave, Covers}
 use Rattle.node_cache.proofs.SlotLaws.{set_here, set_there}

@@ -97,12 +97,8 @@ impl Bed {
             return None;
         }
         Some(
-            self.grove.ready(
-                alloc,
-                block,
-                &mut self.device.platform,
-                &mut self.reader,
-            ),
+            self.grove
+                .ready(alloc, block, &mut self.device.platform, &mut self.reader),
         )
     }
 
@@ -121,12 +117,7 @@ impl Bed {
         }
         let _is_mapped = self
             .grove
-            .ready(
-                alloc,
-                block,
-                &mut self.device.platform,
-                &mut self.reader,
-            )
+            .ready(alloc, block, &mut self.device.platform, &mut self.reader)
             .ok()?;
         self.grove.insert(block, addr, key_of(addr));
         Some(())
@@ -139,12 +130,7 @@ impl Bed {
         }
         let is_mapped = self
             .grove
-            .ready(
-                alloc,
-                block,
-                &mut self.device.platform,
-                &mut self.reader,
-            )
+            .ready(alloc, block, &mut self.device.platform, &mut self.reader)
             .ok()?;
         if is_mapped {
             self.grove.remove(block);
@@ -157,11 +143,9 @@ impl Bed {
         if block >= self.root.blocks {
             return Ok(None);
         }
-        let found = self.grove.find(
-            block,
-            &mut self.device.platform,
-            &mut self.reader,
-        )?;
+        let found = self
+            .grove
+            .find(block, &mut self.device.platform, &mut self.reader)?;
         Ok(found.map(|entry| entry.addr))
     }
 

@@ -1,4 +1,4 @@
-use Rattle.std.proofs.Common.{◌≡◌, ◌≢◌, Some, None, sym, ap, subst, ◌∙◌, slice_get}
+use Rattle.std.proofs.Common.{◌≢◌, Some, None, sym, ap, subst, ◌∙◌, slice_get}
 use Rattle.node_cache.specs.declared.buckets.Bucket.TheVariants.{Empty, One}
 use Rattle.node_cache.specs.Slots.{IsUnlisted}
 use Rattle.node_cache.proofs.BucketLaws.{unlisted_where, if_none}
