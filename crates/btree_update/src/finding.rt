@@ -10,17 +10,16 @@ ghost use Rattle.btree_update.specs.Finding.{FindsFrom, StopsFrom, RootFinds, Ro
 
 use crate::holding::least_of_root;
 use btree_twigs::{Child, Spot};
-use node_cache::NodeCache;
+use btree_walk::NodeReader;
 use node_codec::Entry;
-use page_store::{Buffers, FetchRefusal, Want};
+use page_store::{FetchRefusal, Want};
 use platform::Platform;
 use sdbt_base::Key;
 
 /// The entry of a block below a root, or `None`: through the nodes in memory, and then on the medium, through the cache.
 pub(crate) fn find_root<P: Platform>(
     platform: &mut P,
-    cache: &mut NodeCache,
-    buf: &mut Buffers,
+    reader: &mut NodeReader,
     order: u16,
     block: u64,
     top: &Child,
@@ -28,20 +27,20 @@ pub(crate) fn find_root<P: Platform>(
     high: u64,
 ) -> Result<Option<Entry>, FetchRefusal>
     requires can { CanHoldRoot order level block high (P.head platform.old) top.now }
-    ensures found { P.tells → StandsOver (P.history platform.old).present.readable cache.old →
+    ensures found { P.tells → StandsOver (P.history platform.old).present.readable reader.old.cache →
         IfOk result (RootFinds (FitsAt (P.history platform.old).present.readable) order block (level - 1) high top.now) }
-    ensures bad { P.tells → StandsOver (P.history platform.old).present.readable cache.old → (addr : ℕ) → IsErrOf result (FetchRefusal.BadRecord addr) →
+    ensures bad { P.tells → StandsOver (P.history platform.old).present.readable reader.old.cache → (addr : ℕ) → IsErrOf result (FetchRefusal.BadRecord addr) →
         RootStops (P.history platform.old).present.readable order block addr (level - 1) high top.now }
     ensures entry { IfOk result (λ found. IfSome found (λ e. (e.low ≡ block) × (e.addr < P.head platform.old))) }
-    ensures caches { CachesAmong P.Platform (λ pages. HaveNodes pages (stubs level high top.now)) platform.old cache.old cache.new }
+    ensures caches { CachesAmong P.Platform (λ pages. HaveNodes pages (stubs level high top.now)) platform.old reader.old.cache reader.new.cache }
     ensures looks { Looks P.Platform level platform.old platform.new }
     ensures cause { IsErrOf result FetchRefusal.PlatformFault → Rose (P.faults platform.old) (P.faults platform.new) }
-    ensures uses { UsesCache P.Platform (λ kept. RootKeeps kept order block (level - 1) high top.now) level platform.old platform.new cache.old cache.new result }
+    ensures uses { UsesCache P.Platform (λ kept. RootKeeps kept order block (level - 1) high top.now) level platform.old platform.new reader.old.cache reader.new.cache result }
 {
     match top {
         Child::Grown { twig, .. } => {
             let spot = btree_twigs::find(twig, block, high);
-            find_from(platform, cache, buf, order, block, spot)
+            find_from(platform, reader, order, block, spot)
         }
         Child::Kept { low, addr, key } => {
             let want = Want {
@@ -53,7 +52,7 @@ pub(crate) fn find_root<P: Platform>(
                 most: order,
             };
             let key = Key::from_bytes(*key);
-            btree_walk::find(platform, cache, &want, &key, block, buf)
+            btree_walk::find(platform, reader, &want, &key, block)
         }
     }
 }
@@ -61,22 +60,21 @@ pub(crate) fn find_root<P: Platform>(
 /// The entry of a block from where a search in memory ended, or `None`.
 fn find_from<P: Platform>(
     platform: &mut P,
-    cache: &mut NodeCache,
-    buf: &mut Buffers,
+    reader: &mut NodeReader,
     order: u16,
     block: u64,
     spot: Spot,
 ) -> Result<Option<Entry>, FetchRefusal>
     requires can { CanGoOn order block (P.head platform.old) spot }
-    ensures found { P.tells → StandsOver (P.history platform.old).present.readable cache.old →
+    ensures found { P.tells → StandsOver (P.history platform.old).present.readable reader.old.cache →
         IfOk result (FindsFrom (FitsAt (P.history platform.old).present.readable) order block spot) }
-    ensures bad { P.tells → StandsOver (P.history platform.old).present.readable cache.old → (addr : ℕ) → IsErrOf result (FetchRefusal.BadRecord addr) →
+    ensures bad { P.tells → StandsOver (P.history platform.old).present.readable reader.old.cache → (addr : ℕ) → IsErrOf result (FetchRefusal.BadRecord addr) →
         StopsFrom (P.history platform.old).present.readable order block addr spot }
     ensures entry { IfOk result (λ found. IfSome found (λ e. (e.low ≡ block) × (e.addr < P.head platform.old))) }
-    ensures caches { CachesAmong P.Platform (λ pages. HaveSpot pages spot) platform.old cache.old cache.new }
+    ensures caches { CachesAmong P.Platform (λ pages. HaveSpot pages spot) platform.old reader.old.cache reader.new.cache }
     ensures looks { Looks P.Platform (level_from spot) platform.old platform.new }
     ensures cause { IsErrOf result FetchRefusal.PlatformFault → Rose (P.faults platform.old) (P.faults platform.new) }
-    ensures uses { UsesCache P.Platform (λ kept. KeepsFrom kept order block spot) (level_from spot) platform.old platform.new cache.old cache.new result }
+    ensures uses { UsesCache P.Platform (λ kept. KeepsFrom kept order block spot) (level_from spot) platform.old platform.new reader.old.cache reader.new.cache result }
 {
     match spot {
         Spot::Found { addr, key } => {
@@ -104,7 +102,7 @@ fn find_from<P: Platform>(
                 most: order,
             };
             let key = Key::from_bytes(key);
-            btree_walk::find(platform, cache, &start, &key, block, buf)
+            btree_walk::find(platform, reader, &start, &key, block)
         }
     }
 }

@@ -33,9 +33,9 @@ use crate::opening::{note, open_root};
 use crate::refusals::ReadyRefusal;
 use crate::siblings::is_mapped;
 use btree_twigs::{Child, Spot, Twig, find, level_of, put_top, take_top};
-use node_cache::NodeCache;
+use btree_walk::NodeReader;
 use node_codec::Entry;
-use page_store::{Buffers, FetchRefusal};
+use page_store::FetchRefusal;
 use platform::Platform;
 use root_codec::Root;
 use sdbt_base::{Key, Unkept};
@@ -132,31 +132,29 @@ impl Grove {
         &self,
         block: u64,
         platform: &mut P,
-        cache: &mut NodeCache,
-        buf: &mut Buffers,
+        reader: &mut NodeReader,
     ) -> Result<Option<Entry>, FetchRefusal>
         requires sound { IsSound self.now }
         requires to { block < self.now.blocks }
         requires within { AreBelow (P.head platform.old) (places_of self.now) }
-        ensures found { P.tells → StandsOver (P.history platform.old).present.readable cache.old → IfOk result (GroveFinds (P.history platform.old).present.readable block self.now) }
-        ensures maps { P.tells → StandsOver (P.history platform.old).present.readable cache.old → (mapped : List Mapped) → GroveMaps (P.history platform.old).present.readable self.now mapped →
+        ensures found { P.tells → StandsOver (P.history platform.old).present.readable reader.old.cache → IfOk result (GroveFinds (P.history platform.old).present.readable block self.now) }
+        ensures maps { P.tells → StandsOver (P.history platform.old).present.readable reader.old.cache → (mapped : List Mapped) → GroveMaps (P.history platform.old).present.readable self.now mapped →
             IfOk result (IsMappedAs mapped block) }
-        ensures bad { P.tells → StandsOver (P.history platform.old).present.readable cache.old → (addr : ℕ) → IsErrOf result (FetchRefusal.BadRecord addr) →
+        ensures bad { P.tells → StandsOver (P.history platform.old).present.readable reader.old.cache → (addr : ℕ) → IsErrOf result (FetchRefusal.BadRecord addr) →
             GroveStops (P.history platform.old).present.readable block addr self.now }
         // Where the tree maps anything at all, no node is refused.
-        ensures fits { P.tells → StandsOver (P.history platform.old).present.readable cache.old → (mapped : List Mapped) → GroveMaps (P.history platform.old).present.readable self.now mapped →
+        ensures fits { P.tells → StandsOver (P.history platform.old).present.readable reader.old.cache → (mapped : List Mapped) → GroveMaps (P.history platform.old).present.readable self.now mapped →
             (addr : ℕ) → ¬ (IsErrOf result (FetchRefusal.BadRecord addr)) }
         ensures entry { IfOk result (λ found. IfSome found (λ e. (e.low ≡ block) × (e.addr < P.head platform.old))) }
         // What is kept is of the places that lead down from the nodes that the tree names.
-        ensures caches { CachesAmong P.Platform (λ pages. HaveNodes pages (places_of self.now)) platform.old cache.old cache.new }
+        ensures caches { CachesAmong P.Platform (λ pages. HaveNodes pages (places_of self.now)) platform.old reader.old.cache reader.new.cache }
         ensures looks { Looks P.Platform self.now.level platform.old platform.new }
         ensures cause { IsErrOf result FetchRefusal.PlatformFault → Rose (P.faults platform.old) (P.faults platform.new) }
-        ensures uses { UsesCache P.Platform (λ kept. KeepsWay kept block self.now) self.now.level platform.old platform.new cache.old cache.new result }
+        ensures uses { UsesCache P.Platform (λ kept. KeepsWay kept block self.now) self.now.level platform.old platform.new reader.old.cache reader.new.cache result }
     {
         find_root(
             platform,
-            cache,
-            buf,
+            reader,
             self.order,
             block,
             &self.top,
@@ -172,27 +170,26 @@ impl Grove {
         alloc: Global,
         block: u64,
         platform: &mut P,
-        cache: &mut NodeCache,
-        buf: &mut Buffers,
+        reader: &mut NodeReader,
     ) -> Result<bool, ReadyRefusal>
         requires sound { IsSound self.old }
         requires to { block < self.old.blocks }
         requires within { AreBelow (P.head platform.old) (places_of self.old) }
         ensures can { IfOk result (λ mapped. CanInsert block self.new × (IsTrue mapped → CanRemove block self.new)) }
-        ensures reads { P.tells → StandsOver (P.history platform.old).present.readable cache.old →
+        ensures reads { P.tells → StandsOver (P.history platform.old).present.readable reader.old.cache →
             IfOk result (λ mapped. IsReadFrom (P.history platform.old).present.readable block self.new × (IsTrue mapped → IsReadBeside (P.history platform.old).present.readable block self.new)) }
-        ensures mapped { P.tells → StandsOver (P.history platform.old).present.readable cache.old →
+        ensures mapped { P.tells → StandsOver (P.history platform.old).present.readable reader.old.cache →
             IfOk result (λ mapped. (map : List Mapped) → GroveMaps (P.history platform.old).present.readable self.old map → OnTrue mapped (HasBlock block map) × OnFalse mapped (LacksBlock block map)) }
         // The answer is what a look-up finds.
-        ensures finds { P.tells → StandsOver (P.history platform.old).present.readable cache.old →
+        ensures finds { P.tells → StandsOver (P.history platform.old).present.readable reader.old.cache →
             IfOk result (λ mapped. OnTrue mapped ((entry : Entry) × GroveFinds (P.history platform.old).present.readable block self.old (Some entry))
             × OnFalse mapped (GroveFinds (P.history platform.old).present.readable block self.old None)) }
-        ensures bad { P.tells → StandsOver (P.history platform.old).present.readable cache.old →
+        ensures bad { P.tells → StandsOver (P.history platform.old).present.readable reader.old.cache →
             RefusesWrong (P.history platform.old).present.readable block self.old (λ addr. IsErrOf result (ReadyRefusal.BadRecord addr)) }
         ensures sound { IsSound self.new }
         ensures tree { KeepsTree self.old self.new }
         // What is kept is of the places that lead down from the nodes that the tree names.
-        ensures caches { CachesAmong P.Platform (λ pages. HaveNodes pages (places_of self.old)) platform.old cache.old cache.new }
+        ensures caches { CachesAmong P.Platform (λ pages. HaveNodes pages (places_of self.old)) platform.old reader.old.cache reader.new.cache }
         ensures looks { Looks P.Platform (2 * self.old.level) platform.old platform.new }
         ensures cause { IsErrOf result ReadyRefusal.PlatformFault → Rose (P.faults platform.old) (P.faults platform.new) }
     {
@@ -202,8 +199,7 @@ impl Grove {
         let left = hold_way(
             alloc,
             platform,
-            cache,
-            buf,
+            reader,
             self.order,
             least,
             block,

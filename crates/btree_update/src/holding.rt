@@ -19,8 +19,7 @@ use crate::kept::read_kept;
 use crate::refusals::ReadyRefusal;
 use crate::siblings::{Left, hold_beside, left_of_leaf};
 use btree_twigs::{Child, Twig, end_of, low_of, place};
-use node_cache::NodeCache;
-use page_store::Buffers;
+use btree_walk::NodeReader;
 use platform::Platform;
 use std::alloc::Global;
 
@@ -31,8 +30,7 @@ use std::alloc::Global;
 pub(crate) fn hold_way<P: Platform>(
     alloc: Global,
     platform: &mut P,
-    cache: &mut NodeCache,
-    buf: &mut Buffers,
+    reader: &mut NodeReader,
     order: u16,
     least: u16,
     block: u64,
@@ -44,18 +42,18 @@ pub(crate) fn hold_way<P: Platform>(
 ) -> Result<Left, ReadyRefusal>
     requires can { CanHold order least level block high (P.head platform.old) child.now }
     ensures at_hand { IfOk result (λ _. HeldFrom AnyRead order least block (level - 1) high child.now held.new.items) }
-    ensures reads { P.tells → StandsOver (P.history platform.old).present.readable cache.old →
+    ensures reads { P.tells → StandsOver (P.history platform.old).present.readable reader.old.cache →
         IfOk result (λ _. HeldFrom (IsReadAs (P.history platform.old).present.readable order) order least block (level - 1) high child.now held.new.items) }
     ensures helps { IfOk result (LeftOf AnyRead order block (level - 1) high child.now held.new.items beside.new.items) }
-    ensures beside { P.tells → StandsOver (P.history platform.old).present.readable cache.old →
+    ensures beside { P.tells → StandsOver (P.history platform.old).present.readable reader.old.cache →
         IfOk result (LeftOf (IsReadAs (P.history platform.old).present.readable order) order block (level - 1) high child.now held.new.items beside.new.items) }
-    ensures bad { P.tells → StandsOver (P.history platform.old).present.readable cache.old → (addr : ℕ) → IsErrOf result (ReadyRefusal.BadRecord addr) →
+    ensures bad { P.tells → StandsOver (P.history platform.old).present.readable reader.old.cache → (addr : ℕ) → IsErrOf result (ReadyRefusal.BadRecord addr) →
         WrongFrom (P.history platform.old).present.readable order least block addr (level - 1) high child.now }
-    ensures mapped { P.tells → StandsOver (P.history platform.old).present.readable cache.old →
+    ensures mapped { P.tells → StandsOver (P.history platform.old).present.readable reader.old.cache →
         IfOk result (λ left. (mapped : List Mapped) → MapsFrom (P.history platform.old).present.readable order least (level - 1) high child.now mapped → IsMappedBy block mapped left) }
-    ensures finds { P.tells → StandsOver (P.history platform.old).present.readable cache.old →
+    ensures finds { P.tells → StandsOver (P.history platform.old).present.readable reader.old.cache →
         IfOk result (IsFoundBy (ChildFinds (FitsAt (P.history platform.old).present.readable) order least block (level - 1) high child.now)) }
-    ensures caches { CachesAmong P.Platform (λ pages. HaveNodes pages (stubs level high child.now)) platform.old cache.old cache.new }
+    ensures caches { CachesAmong P.Platform (λ pages. HaveNodes pages (stubs level high child.now)) platform.old reader.old.cache reader.new.cache }
     ensures looks { Looks P.Platform (2 * level - 1) platform.old platform.new }
     ensures cause { IsErrOf result ReadyRefusal.PlatformFault → Rose (P.faults platform.old) (P.faults platform.new) }
 {
@@ -63,8 +61,7 @@ pub(crate) fn hold_way<P: Platform>(
         Child::Grown { twig, .. } => hold_below(
             alloc,
             platform,
-            cache,
-            buf,
+            reader,
             order,
             block,
             twig,
@@ -75,13 +72,12 @@ pub(crate) fn hold_way<P: Platform>(
         ),
         Child::Kept { low, addr, key } => {
             let twig = read_kept(
-                alloc, platform, cache, buf, order, least, level, *low, high, *addr, *key,
+                alloc, platform, reader, order, least, level, *low, high, *addr, *key,
             )?;
             let left = hold_below(
                 alloc,
                 platform,
-                cache,
-                buf,
+                reader,
                 order,
                 block,
                 &twig,
@@ -102,8 +98,7 @@ pub(crate) fn hold_way<P: Platform>(
 pub(crate) fn hold_below<P: Platform>(
     alloc: Global,
     platform: &mut P,
-    cache: &mut NodeCache,
-    buf: &mut Buffers,
+    reader: &mut NodeReader,
     order: u16,
     block: u64,
     twig: &Twig,
@@ -114,18 +109,18 @@ pub(crate) fn hold_below<P: Platform>(
 ) -> Result<Left, ReadyRefusal>
     requires can { CanHoldBelow order level block high (P.head platform.old) twig.now }
     ensures at_hand { IfOk result (λ _. OnWay block (λ end c. HeldFor AnyRead order block level end c held.new.items) high twig.now) }
-    ensures reads { P.tells → StandsOver (P.history platform.old).present.readable cache.old →
+    ensures reads { P.tells → StandsOver (P.history platform.old).present.readable reader.old.cache →
         IfOk result (λ _. OnWay block (λ end c. HeldFor (IsReadAs (P.history platform.old).present.readable order) order block level end c held.new.items) high twig.now) }
     ensures helps { IfOk result (IsLeft (λ loses. HelpsBelow AnyRead order block level high twig.now held.new.items beside.new.items loses) order (length (children_of twig.now))) }
-    ensures beside { P.tells → StandsOver (P.history platform.old).present.readable cache.old →
+    ensures beside { P.tells → StandsOver (P.history platform.old).present.readable reader.old.cache →
         IfOk result (IsLeft (λ loses. HelpsBelow (IsReadAs (P.history platform.old).present.readable order) order block level high twig.now held.new.items beside.new.items loses) order (length (children_of twig.now))) }
-    ensures bad { P.tells → StandsOver (P.history platform.old).present.readable cache.old → (addr : ℕ) → IsErrOf result (ReadyRefusal.BadRecord addr) →
+    ensures bad { P.tells → StandsOver (P.history platform.old).present.readable reader.old.cache → (addr : ℕ) → IsErrOf result (ReadyRefusal.BadRecord addr) →
         WrongUnder (P.history platform.old).present.readable order block addr level high twig.now }
-    ensures mapped { P.tells → StandsOver (P.history platform.old).present.readable cache.old →
+    ensures mapped { P.tells → StandsOver (P.history platform.old).present.readable reader.old.cache →
         IfOk result (λ left. (mapped : List Mapped) → Maps (P.history platform.old).present.readable order (stubs_below level high twig.now) mapped → IsMappedBy block mapped left) }
-    ensures finds { P.tells → StandsOver (P.history platform.old).present.readable cache.old →
+    ensures finds { P.tells → StandsOver (P.history platform.old).present.readable reader.old.cache →
         IfOk result (IsFoundBy (FindsAmong (FitsAt (P.history platform.old).present.readable) order block (stubs_below level high twig.now))) }
-    ensures caches { CachesAmong P.Platform (λ pages. HaveNodes pages (stubs_below level high twig.now)) platform.old cache.old cache.new }
+    ensures caches { CachesAmong P.Platform (λ pages. HaveNodes pages (stubs_below level high twig.now)) platform.old reader.old.cache reader.new.cache }
     ensures looks { Looks P.Platform (2 * level) platform.old platform.new }
     ensures cause { IsErrOf result ReadyRefusal.PlatformFault → Rose (P.faults platform.old) (P.faults platform.new) }
 {
@@ -140,10 +135,10 @@ pub(crate) fn hold_below<P: Platform>(
     let end = end_of(&twig.children, at, high);
     let half = order / 2;
     let left = hold_way(
-        alloc, platform, cache, buf, order, half, block, child, level, end, held, beside,
+        alloc, platform, reader, order, half, block, child, level, end, held, beside,
     )?;
     hold_beside(
-        alloc, platform, cache, buf, order, twig, at, level, high, left, beside,
+        alloc, platform, reader, order, twig, at, level, high, left, beside,
     )
 }
 

@@ -10,8 +10,8 @@ ghost use Rattle.btree_update.specs.Holding.{IsNodeFor, IsNodeOf};
 use crate::reading::read_node;
 use crate::refusals::ReadyRefusal;
 use btree_twigs::Twig;
-use node_cache::NodeCache;
-use page_store::{Buffers, Want};
+use btree_walk::NodeReader;
+use page_store::Want;
 use platform::Platform;
 use sdbt_base::Key;
 use std::alloc::Global;
@@ -20,8 +20,7 @@ use std::alloc::Global;
 pub(crate) fn read_kept<P: Platform>(
     alloc: Global,
     platform: &mut P,
-    cache: &mut NodeCache,
-    buf: &mut Buffers,
+    reader: &mut NodeReader,
     order: u16,
     least: u16,
     level: u8,
@@ -33,15 +32,15 @@ pub(crate) fn read_kept<P: Platform>(
     requires within { addr < P.head platform.old }
     requires inner { 1 ≤ level }
     ensures fits { IfOk result (IsNodeFor (record { addr = addr; level = level; low = low; high = high; least = least; most = order })) }
-    ensures reads { P.tells → StandsOver (P.history platform.old).present.readable cache.old →
+    ensures reads { P.tells → StandsOver (P.history platform.old).present.readable reader.old.cache →
         IfOk result (IsNodeOf (P.history platform.old).present.readable (record { addr = addr; level = level; low = low; high = high; least = least; most = order }) key) }
-    ensures bad { P.tells → StandsOver (P.history platform.old).present.readable cache.old → (wrong : ℕ) → IsErrOf result (ReadyRefusal.BadRecord wrong) →
+    ensures bad { P.tells → StandsOver (P.history platform.old).present.readable reader.old.cache → (wrong : ℕ) → IsErrOf result (ReadyRefusal.BadRecord wrong) →
         (wrong ≡ addr) × NothingFits (P.history platform.old).present.readable (record { addr = addr; level = level; low = low; high = high; least = least; most = order }) key }
-    ensures stands { P.tells → StandsOver (P.history platform.old).present.readable cache.old → StandsOver (P.history platform.old).present.readable cache.new }
-    ensures but { KeepsBut addr key cache.old cache.new }
+    ensures stands { P.tells → StandsOver (P.history platform.old).present.readable reader.old.cache → StandsOver (P.history platform.old).present.readable reader.new.cache }
+    ensures but { KeepsBut addr key reader.old.cache reader.new.cache }
     ensures looks { Looks P.Platform 1 platform.old platform.new }
     ensures cause { IsErrOf result ReadyRefusal.PlatformFault → Rose (P.faults platform.old) (P.faults platform.new) }
-    ensures capacity { cache.new.capacity ≡ cache.old.capacity }
+    ensures capacity { reader.new.cache.capacity ≡ reader.old.cache.capacity }
 {
     let want = Want {
         addr,
@@ -52,5 +51,5 @@ pub(crate) fn read_kept<P: Platform>(
         most: order,
     };
     let key = Key::from_bytes(key);
-    read_node(alloc, platform, cache, &want, &key, buf)
+    read_node(alloc, platform, reader, &want, &key)
 }

@@ -11,12 +11,10 @@ ghost use Rattle.btree_update.specs.Reading.{all_kept};
 ghost use Rattle.btree_update.specs.Holding.{IsNodeFor, IsNodeOf};
 
 use crate::refusals::ReadyRefusal;
-use arrayvec::ArrayVec;
 use btree_twigs::{Child, Twig};
-use btree_walk::fits;
-use node_cache::NodeCache;
+use btree_walk::{NodeReader, fits};
 use node_codec::NodeBody;
-use page_store::{Buffers, FetchRefusal, Want, fetch_node};
+use page_store::{FetchRefusal, Want, fetch_node};
 use platform::Platform;
 use sdbt_base::Key;
 use std::alloc::{AllocError, Global};
@@ -25,39 +23,36 @@ use std::alloc::{AllocError, Global};
 pub(crate) fn read_node<P: Platform>(
     alloc: Global,
     platform: &mut P,
-    cache: &mut NodeCache,
+    reader: &mut NodeReader,
     want: &Want,
     key: &Key,
-    buf: &mut Buffers,
 ) -> Result<Twig, ReadyRefusal>
     requires within { want.now.addr < P.head platform.old }
     requires level { 1 ≤ want.now.level }
     requires small { want.now.addr < 2 ^ 64 }
     ensures fits { IfOk result (IsNodeFor want.now) }
-    ensures reads { P.tells → StandsOver (P.history platform.old).present.readable cache.old →
+    ensures reads { P.tells → StandsOver (P.history platform.old).present.readable reader.old.cache →
         IfOk result (IsNodeOf (P.history platform.old).present.readable want.now key.now) }
-    ensures bad { P.tells → StandsOver (P.history platform.old).present.readable cache.old → (addr : ℕ) → IsErrOf result (ReadyRefusal.BadRecord addr) →
+    ensures bad { P.tells → StandsOver (P.history platform.old).present.readable reader.old.cache → (addr : ℕ) → IsErrOf result (ReadyRefusal.BadRecord addr) →
         (addr ≡ want.now.addr) × NothingFits (P.history platform.old).present.readable want.now key.now }
-    ensures stands { P.tells → StandsOver (P.history platform.old).present.readable cache.old → StandsOver (P.history platform.old).present.readable cache.new }
-    ensures but { KeepsBut want.now.addr key.now cache.old cache.new }
+    ensures stands { P.tells → StandsOver (P.history platform.old).present.readable reader.old.cache → StandsOver (P.history platform.old).present.readable reader.new.cache }
+    ensures but { KeepsBut want.now.addr key.now reader.old.cache reader.new.cache }
     ensures looks { Looks P.Platform 1 platform.old platform.new }
     ensures cause { IsErrOf result ReadyRefusal.PlatformFault → Rose (P.faults platform.old) (P.faults platform.new) }
-    ensures capacity { cache.new.capacity ≡ cache.old.capacity }
+    ensures capacity { reader.new.cache.capacity ≡ reader.old.cache.capacity }
 {
-    if let Some(node) = cache.get(want.addr, key) {
+    if let Some(node) = reader.cache.get(want.addr, key) {
         if !fits(want, node) {
             return Err(ReadyRefusal::BadRecord { addr: want.addr });
         }
         return in_memory(alloc, node);
     }
-    let mut node = NodeBody {
-        level: want.level,
-        entries: ArrayVec::new(),
-    };
-    match fetch_node(platform, want, key, buf, &mut node.entries) {
+    let node: &mut NodeBody = &mut reader.node;
+    node.level = want.level;
+    match fetch_node(platform, want, key, &mut reader.buffers, &mut node.entries) {
         Ok(()) => {
-            cache.put(want.addr, key, &node);
-            in_memory(alloc, &node)
+            reader.cache.put(want.addr, key, node);
+            in_memory(alloc, node)
         }
         Err(FetchRefusal::BadRecord { addr }) => Err(ReadyRefusal::BadRecord { addr }),
         Err(FetchRefusal::PlatformFault) => Err(ReadyRefusal::PlatformFault),

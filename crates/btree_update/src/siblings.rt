@@ -17,8 +17,7 @@ ghost use Rattle.btree_update.specs.Beside.{CanRead, LendsFrom, HoldsBeside, IsA
 use crate::kept::read_kept;
 use crate::refusals::ReadyRefusal;
 use btree_twigs::{Child, Twig, end_of};
-use node_cache::NodeCache;
-use page_store::Buffers;
+use btree_walk::NodeReader;
 use platform::Platform;
 use std::alloc::Global;
 
@@ -47,8 +46,7 @@ pub struct Help {
 pub(crate) fn hold_beside<P: Platform>(
     alloc: Global,
     platform: &mut P,
-    cache: &mut NodeCache,
-    buf: &mut Buffers,
+    reader: &mut NodeReader,
     order: u16,
     twig: &Twig,
     at: usize,
@@ -62,13 +60,13 @@ pub(crate) fn hold_beside<P: Platform>(
     requires within { (1 ≤ at) × (at ≤ length (children_of twig.now)) }
     ensures helps { (front : List Child) (c : Child) (back : List Child) → children_of twig.now ≡ front ++ c ∷ back → length front + 1 ≡ at
         → IfOk result (HoldsBeside AnyRead order (level - 1) (length (children_of twig.now)) high front c back beside.old.items beside.new.items left) }
-    ensures reads { P.tells → StandsOver (P.history platform.old).present.readable cache.old →
+    ensures reads { P.tells → StandsOver (P.history platform.old).present.readable reader.old.cache →
         (front : List Child) (c : Child) (back : List Child) → children_of twig.now ≡ front ++ c ∷ back → length front + 1 ≡ at
         → IfOk result (HoldsBeside (IsReadAs (P.history platform.old).present.readable order) order (level - 1) (length (children_of twig.now)) high front c back beside.old.items beside.new.items left) }
-    ensures bad { P.tells → StandsOver (P.history platform.old).present.readable cache.old →
+    ensures bad { P.tells → StandsOver (P.history platform.old).present.readable reader.old.cache →
         (front : List Child) (c : Child) (back : List Child) → children_of twig.now ≡ front ++ c ∷ back → length front + 1 ≡ at → (addr : ℕ) → IsErrOf result (ReadyRefusal.BadRecord addr)
         → IsWrongBeside low_in (IsWrongChild (P.history platform.old).present.readable order addr level) high front c back }
-    ensures caches { CachesAmong P.Platform (λ pages. HaveNodes pages (stubs_below level high twig.now)) platform.old cache.old cache.new }
+    ensures caches { CachesAmong P.Platform (λ pages. HaveNodes pages (stubs_below level high twig.now)) platform.old reader.old.cache reader.new.cache }
     ensures looks { Looks P.Platform 1 platform.old platform.new }
     ensures cause { IsErrOf result ReadyRefusal.PlatformFault → Rose (P.faults platform.old) (P.faults platform.new) }
 {
@@ -84,8 +82,7 @@ pub(crate) fn hold_beside<P: Platform>(
             let help = read_help(
                 alloc,
                 platform,
-                cache,
-                buf,
+                reader,
                 order,
                 &twig.children[other],
                 level,
@@ -153,8 +150,7 @@ fn can_lend(twig: &Twig, order: u16) -> bool
 fn read_help<P: Platform>(
     alloc: Global,
     platform: &mut P,
-    cache: &mut NodeCache,
-    buf: &mut Buffers,
+    reader: &mut NodeReader,
     order: u16,
     child: &Child,
     level: u8,
@@ -162,11 +158,11 @@ fn read_help<P: Platform>(
 ) -> Result<Help, ReadyRefusal>
     requires can { CanRead order level high (P.head platform.old) child.now }
     ensures helps { IfOk result (λ h. LendsFrom AnyRead order (level - 1) (loses_for h.lends) high (out-Child child.now) h.node) }
-    ensures reads { P.tells → StandsOver (P.history platform.old).present.readable cache.old →
+    ensures reads { P.tells → StandsOver (P.history platform.old).present.readable reader.old.cache →
         IfOk result (λ h. LendsFrom (IsReadAs (P.history platform.old).present.readable order) order (level - 1) (loses_for h.lends) high (out-Child child.now) h.node) }
-    ensures bad { P.tells → StandsOver (P.history platform.old).present.readable cache.old → (addr : ℕ) → IsErrOf result (ReadyRefusal.BadRecord addr) →
+    ensures bad { P.tells → StandsOver (P.history platform.old).present.readable reader.old.cache → (addr : ℕ) → IsErrOf result (ReadyRefusal.BadRecord addr) →
         IsWrongChild (P.history platform.old).present.readable order addr level high child.now }
-    ensures caches { CachesAmong P.Platform (λ pages. HaveNodes pages (stubs level high child.now)) platform.old cache.old cache.new }
+    ensures caches { CachesAmong P.Platform (λ pages. HaveNodes pages (stubs level high child.now)) platform.old reader.old.cache reader.new.cache }
     ensures looks { Looks P.Platform 1 platform.old platform.new }
     ensures cause { IsErrOf result ReadyRefusal.PlatformFault → Rose (P.faults platform.old) (P.faults platform.new) }
 {
@@ -178,7 +174,7 @@ fn read_help<P: Platform>(
         Child::Kept { low, addr, key } => {
             let least = order / 2;
             let twig = read_kept(
-                alloc, platform, cache, buf, order, least, level, *low, high, *addr, *key,
+                alloc, platform, reader, order, least, level, *low, high, *addr, *key,
             )?;
             let lends = can_lend(&twig, order);
             Ok(Help {

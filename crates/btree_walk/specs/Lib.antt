@@ -5,4 +5,5 @@ pub mod Finds
 pub mod Looks
 pub mod Mapped
 pub mod Nodes
+pub mod Readers
 pub mod Refusals

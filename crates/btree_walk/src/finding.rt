@@ -7,10 +7,10 @@ ghost use Rattle.btree_walk.specs.Finds.{AsksFor, Finds, Stops, IsFound};
 ghost use Rattle.btree_walk.specs.Looks.{Looks};
 
 use crate::looking::look;
+use crate::reader::NodeReader;
 use crate::turns::Turn;
-use node_cache::NodeCache;
 use node_codec::Entry;
-use page_store::{Buffers, FetchRefusal, Want};
+use page_store::{FetchRefusal, Want};
 use platform::Platform;
 use sdbt_base::Key;
 
@@ -22,36 +22,35 @@ use sdbt_base::Key;
 /// nodes. `BadRecord` comes exactly where the way comes to a place that does not fit, with that address.
 pub fn find<P: Platform>(
     platform: &mut P,
-    cache: &mut NodeCache,
+    reader: &mut NodeReader,
     start: &Want,
     key: &Key,
     block: u64,
-    buf: &mut Buffers,
 ) -> Result<Option<Entry>, FetchRefusal>
     requires within { start.now.addr < P.head platform.old }
     requires asks { AsksFor start.now block }
 
     ensures found { P.tells → IfOk result
-        (IsFound (P.history platform.old).present.readable start.now key.now block cache.old cache.new) }
+        (IsFound (P.history platform.old).present.readable start.now key.now block reader.old.cache reader.new.cache) }
     ensures bad { P.tells → (addr : ℕ) → IsErrOf result (FetchRefusal.BadRecord addr) →
-        Stops (Sees cache.old.kept (P.history platform.old).present.readable) start.now.most block
-        (Misses cache.old.kept (P.history platform.old).present.readable) addr (start.now.level - 1) start.now key.now }
+        Stops (Sees reader.old.cache.kept (P.history platform.old).present.readable) start.now.most block
+        (Misses reader.old.cache.kept (P.history platform.old).present.readable) addr (start.now.level - 1) start.now key.now }
     // What is answered is of this block, and stands below the node, whatever the platform tells.
     ensures entry { IfOk result (λ found. IfSome found (λ e. (e.low ≡ block) × (e.addr < start.now.addr))) }
     ensures kept { (found : Option Entry) (path : List ℕ) →
-        Finds (KeptFits cache.old.kept) start.now.most block found (start.now.level - 1) start.now key.now path →
+        Finds (KeptFits reader.old.cache.kept) start.now.most block found (start.now.level - 1) start.now key.now path →
         (platform.new ≡ platform.old) × (result ≡ Ok found) }
 
-    ensures keeps { P.tells → KeepsOnly (P.history platform.old).present.readable cache.old cache.new }
-    ensures capacity { cache.new.capacity ≡ cache.old.capacity }
+    ensures keeps { P.tells → KeepsOnly (P.history platform.old).present.readable reader.old.cache reader.new.cache }
+    ensures capacity { reader.new.cache.capacity ≡ reader.old.cache.capacity }
     // What is kept is of the places that lead down from the node.
-    ensures among { P.tells → StandsOver (P.history platform.old).present.readable cache.old →
-        StaysAmong (λ places. GoDown (P.history platform.old).present.readable places × IsAmong places start.now.addr key.now) cache.old cache.new }
+    ensures among { P.tells → StandsOver (P.history platform.old).present.readable reader.old.cache →
+        StaysAmong (λ places. GoDown (P.history platform.old).present.readable places × IsAmong places start.now.addr key.now) reader.old.cache reader.new.cache }
     ensures looks { Looks P.Platform start.now.level platform.old platform.new }
     ensures cause { IsErrOf result FetchRefusal.PlatformFault → Rose (P.faults platform.old) (P.faults platform.new) }
 {
-    match look(platform, cache, start, key, block, buf)? {
+    match look(platform, reader, start, key, block)? {
         Turn::Found(found) => Ok(found),
-        Turn::Below(next, next_key) => find(platform, cache, &next, &next_key, block, buf),
+        Turn::Below(next, next_key) => find(platform, reader, &next, &next_key, block),
     }
 }

@@ -12,6 +12,7 @@ mod laws;
 mod list_laws;
 mod listing;
 mod looking;
+mod reader;
 mod refusals;
 mod turns;
 mod walking;
@@ -25,5 +26,6 @@ pub use list_laws::{
     lists_few, lists_in_order, lists_the_tree, no_level_above, one_listing, one_place,
 };
 pub use listing::{addresses, entries};
+pub use reader::NodeReader;
 pub use refusals::WalkRefusal;
 pub use turns::fits;

@@ -7,11 +7,10 @@ ghost use Rattle.btree_walk.specs.Ways.{IsTurn};
 ghost use Rattle.btree_walk.specs.Sights.{KeptFits, StillKeeps};
 ghost use Rattle.btree_walk.specs.Finds.{AsksFor, LooksFor};
 
+use crate::reader::NodeReader;
 use crate::turns::{Turn, fits, turn_at};
-use arrayvec::ArrayVec;
-use node_cache::NodeCache;
 use node_codec::NodeBody;
-use page_store::{Buffers, FetchRefusal, Want, fetch_node};
+use page_store::{FetchRefusal, Want, fetch_node};
 use platform::Platform;
 use sdbt_base::Key;
 
@@ -19,52 +18,47 @@ use sdbt_base::Key;
 /// then keeps.
 pub(crate) fn look<P: Platform>(
     platform: &mut P,
-    cache: &mut NodeCache,
+    reader: &mut NodeReader,
     want: &Want,
     key: &Key,
     block: u64,
-    buf: &mut Buffers,
 ) -> Result<Turn, FetchRefusal>
     requires within { want.now.addr < P.head platform.old }
     requires asks { AsksFor want.now block }
 
-    ensures look { LooksFor P.Platform want.now key.now block platform.old platform.new cache.old cache.new result }
-    ensures kept { (entries : List Entry) → KeptFits cache.old.kept want.now key.now (NodeRecord want.now.level entries) →
+    ensures look { LooksFor P.Platform want.now key.now block platform.old platform.new reader.old.cache reader.new.cache result }
+    ensures kept { (entries : List Entry) → KeptFits reader.old.cache.kept want.now key.now (NodeRecord want.now.level entries) →
         (platform.new ≡ platform.old) × IsOkAnd result (IsTurn want.now entries block) }
 
-    ensures still { (node : NodeBody) → IsKept cache.old.kept want.now.addr key.now node → StillKeeps want.now.addr cache.old cache.new }
+    ensures still { (node : NodeBody) → IsKept reader.old.cache.kept want.now.addr key.now node → StillKeeps want.now.addr reader.old.cache reader.new.cache }
 {
-    if let Some(node) = cache.get(want.addr, key) {
+    if let Some(node) = reader.cache.get(want.addr, key) {
         return if fits(want, node) {
             Ok(turn_at(want, node, block))
         } else {
             Err(FetchRefusal::BadRecord { addr: want.addr })
         };
     }
-    look_at_page(platform, cache, want, key, block, buf)
+    look_at_page(platform, reader, want, key, block)
 }
 
-/// Looks at the page of a place for a block, and has the cache keep its node. Apart from `look`, so that a look at a kept
-/// node needs no room for another one.
+/// Looks at the page of a place for a block, and has the cache keep its node.
 fn look_at_page<P: Platform>(
     platform: &mut P,
-    cache: &mut NodeCache,
+    reader: &mut NodeReader,
     want: &Want,
     key: &Key,
     block: u64,
-    buf: &mut Buffers,
 ) -> Result<Turn, FetchRefusal>
     requires within { want.now.addr < P.head platform.old }
     requires asks { AsksFor want.now block }
 
-    ensures { LooksFor P.Platform want.now key.now block platform.old platform.new cache.old cache.new result }
+    ensures { LooksFor P.Platform want.now key.now block platform.old platform.new reader.old.cache reader.new.cache result }
 {
-    let mut node = NodeBody {
-        level: want.level,
-        entries: ArrayVec::new(),
-    };
-    fetch_node(platform, want, key, buf, &mut node.entries)?;
-    let turn = turn_at(want, &node, block);
-    cache.put(want.addr, key, &node);
+    let node: &mut NodeBody = &mut reader.node;
+    node.level = want.level;
+    fetch_node(platform, want, key, &mut reader.buffers, &mut node.entries)?;
+    let turn = turn_at(want, node, block);
+    reader.cache.put(want.addr, key, node);
     Ok(turn)
 }

@@ -3,6 +3,7 @@ use Rattle.std.proofs.Common.{◌≡◌, ℕ, ◌+◌, ◌<◌, ◌≤◌, Optio
 use Rattle.std.specs.Prelude.{OnOk}
 use Rattle.platform.specs.declared.platforms.Platform.{Ghosts}
 use Rattle.node_codec.specs.declared.body.Entry.{Entry}
+use Rattle.node_codec.specs.declared.body.NodeBody.{NodeBody}
 use Rattle.page_store.specs.Buffer.{Held}
 use Rattle.page_store.specs.declared.refusals.FetchRefusal.{FetchRefusal}
 use Rattle.node_cache.specs.Kept.{Cached}
@@ -27,12 +28,12 @@ few_none P block platform session result refused = record {
 }
 
 -- a look-up, and then at most one page
-pub few_found : {S : Type 0} (P : Ghosts S) (block : ℕ) (platform mid after : S) (was session : Session) (cache : Cached) (buffers : Held) (told : Result (Option Entry) FetchRefusal) (result : Result (Unit {0}) ReadRefusal) → session ≡ was → block < blocks_of session
+pub few_found : {S : Type 0} (P : Ghosts S) (block : ℕ) (platform mid after : S) (was session : Session) (cache : Cached) (buffers : Held) (node : NodeBody) (told : Result (Option Entry) FetchRefusal) (result : Result (Unit {0}) ReadRefusal) → session ≡ was → block < blocks_of session
     → Looks P session.grove.level platform mid → UsesCache P (λ kept. KeepsWay kept block session.grove) session.grove.level platform mid session.cache cache told
     → (P.tells → P.reads after ≤ P.reads mid + 1) → (P.tells → OnOk result (session.grove.level ≤ cache.capacity → KeepsWay cache.kept block session.grove))
-    → ReadsFew P block platform after was (record session { cache = cache; buffers = buffers }) result
-few_found P block platform mid after was session cache buffers told result same within looks uses more filled =
-    subst (λ (s : Session). ReadsFew P block platform after s (record session { cache = cache; buffers = buffers }) result) same (record {
+    → ReadsFew P block platform after was (record session { cache = cache; buffers = buffers; node = node }) result
+few_found P block platform mid after was session cache buffers node told result same within looks uses more filled =
+    subst (λ (s : Session). ReadsFew P block platform after s (record session { cache = cache; buffers = buffers; node = node }) result) same (record {
       most = λ tells. (let one = looks.reads_most tells in let two = more tells in omega (arith, one, two));
       none = λ tells past. absurd (omega (arith, within, past));
       warm = λ tells keeps. subst (λ x. P.reads after ≤ P.reads x + 1) (uses.warm keeps) (more tells);

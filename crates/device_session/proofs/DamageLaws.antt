@@ -6,6 +6,7 @@ use Rattle.platform.specs.Image.{Image, IsEarlier, IsWhole}
 use Rattle.node_codec.specs.declared.body.Entry.{Entry}
 use Rattle.node_codec.specs.Record.{DataRecord}
 use Rattle.root_codec.specs.declared.root.Root.{Root}
+use Rattle.node_codec.specs.declared.body.NodeBody.{NodeBody}
 use Rattle.page_store.specs.Buffer.{Held}
 use Rattle.page_store.specs.Places.{IsRecordAt}
 use Rattle.page_store.specs.Tree.{Parts, Mapped, Tree, Wrong, joined}
@@ -60,17 +61,17 @@ maps_ready : (pages : List (List ℕ)) (old new : Grove) (mapped : List Mapped) 
 maps_ready pages old new mapped k m = ready_maps pages new old mapped (record { order = sym k.order; blocks = sym k.blocks; head = sym k.head; level = sym k.level; top = sym k.top; gone = sym k.gone; never = sym k.never }) m
 
 -- what is brought into memory beside the tree changes nothing
-pub follows_ready : (session : Session) (grove : Grove) (cache : Cached) (buffers : Held) (image after : Image) → after ≡ image → KeepsTree session.grove grove → (StandsOver image.readable session.cache → StandsOver image.readable cache) → Follows session image →
-    Follows (with_ready session grove cache buffers) after
-follows_ready session grove cache buffers image after same k keeps f = subst (Follows (with_ready session grove cache buffers)) (sym same) (record {
+pub follows_ready : (session : Session) (grove : Grove) (cache : Cached) (buffers : Held) (node : NodeBody) (image after : Image) → after ≡ image → KeepsTree session.grove grove → (StandsOver image.readable session.cache → StandsOver image.readable cache) → Follows session image →
+    Follows (with_ready session grove cache buffers node) after
+follows_ready session grove cache buffers node image after same k keeps f = subst (Follows (with_ready session grove cache buffers node)) (sym same) (record {
   places = ready_follows image.readable session.root session.grove grove k f.places;
   counted = λ parts stands many. let m = f.counted parts stands many in record { mapped = m.mapped; maps = maps_ready image.readable session.grove grove m.mapped k m.maps; many = m.many };
   cached = keeps f.cached;
 })
 
 -- a look leaves it so
-pub follows_looked : (session : Session) (cache : Cached) (buffers : Held) (image after : Image) → after ≡ image → (StandsOver image.readable session.cache → StandsOver image.readable cache) → Follows session image → Follows (record session { cache = cache; buffers = buffers }) after
-follows_looked session cache buffers image after same keeps f = subst (Follows (record session { cache = cache; buffers = buffers })) (sym same) (record { places = f.places; counted = f.counted; cached = keeps f.cached })
+pub follows_looked : (session : Session) (cache : Cached) (buffers : Held) (node : NodeBody) (image after : Image) → after ≡ image → (StandsOver image.readable session.cache → StandsOver image.readable cache) → Follows session image → Follows (record session { cache = cache; buffers = buffers; node = node }) after
+follows_looked session cache buffers node image after same keeps f = subst (Follows (record session { cache = cache; buffers = buffers; node = node })) (sym same) (record { places = f.places; counted = f.counted; cached = keeps f.cached })
 
 -- what is found of the block, whichever it is
 pub found_by : {E : Type 0} (pages : List (List ℕ)) (block : ℕ) (session : Session) (result : Result Bool E) → IfOk result (λ mapped. OnTrue mapped ((entry : Entry) × GroveFinds pages block session.grove (Some entry)) × OnFalse mapped (GroveFinds pages block session.grove None)) →

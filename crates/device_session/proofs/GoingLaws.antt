@@ -6,6 +6,7 @@ use Rattle.platform.specs.declared.platforms.Platform.{Ghosts}
 use Rattle.platform.specs.Image.{Image}
 use Rattle.platform.proofs.CallLaws.{looks_start}
 use Rattle.device_terms.proofs.MomentLaws.{stays_then}
+use Rattle.node_codec.specs.declared.body.NodeBody.{NodeBody}
 use Rattle.page_store.specs.Buffer.{Held}
 use Rattle.node_cache.specs.Kept.{Cached}
 use Rattle.btree_twigs.specs.Stubs.{nodes}
@@ -38,27 +39,27 @@ goes_then Known Next image mid after pages more session between now one two next
   capacity = two.capacity ∙ one.capacity;
 }
 
-looked_open : (session : Session) (cache : Cached) (buffers : Held) (pages : ℕ) → IsOpen session pages → IsOpen (record session { cache = cache; buffers = buffers }) pages
-looked_open session cache buffers pages o = record { served = o.served; mapped = o.mapped; tree = o.tree; level = o.level; below = o.below }
+looked_open : (session : Session) (cache : Cached) (buffers : Held) (node : NodeBody) (pages : ℕ) → IsOpen session pages → IsOpen (record session { cache = cache; buffers = buffers; node = node }) pages
+looked_open session cache buffers node pages o = record { served = o.served; mapped = o.mapped; tree = o.tree; level = o.level; below = o.below }
 
 -- a look
-pub goes_looked : (Known : Type 0) (image after : Image) (pages more : ℕ) (was session : Session) (cache : Cached) (buffers : Held) → session ≡ was → (Known → after ≡ image) → more ≡ pages → (Known → StandsOver image.readable session.cache → StandsOver image.readable cache)
-    → cache.capacity ≡ session.cache.capacity → IsOpen was pages → GoesOn Known image after more was (record session { cache = cache; buffers = buffers })
-goes_looked Known image after pages more was session cache buffers same still head keeps capacity o =
-    subst (λ (s : Session). GoesOn Known image after more s (record session { cache = cache; buffers = buffers })) same (record {
-      follows = λ known f. follows_looked session cache buffers image after (still known) (keeps known) f;
-      is_open = subst (IsOpen (record session { cache = cache; buffers = buffers })) (sym head) (looked_open session cache buffers pages (subst (λ (s : Session). IsOpen s pages) (sym same) o));
+pub goes_looked : (Known : Type 0) (image after : Image) (pages more : ℕ) (was session : Session) (cache : Cached) (buffers : Held) (node : NodeBody) → session ≡ was → (Known → after ≡ image) → more ≡ pages → (Known → StandsOver image.readable session.cache → StandsOver image.readable cache)
+    → cache.capacity ≡ session.cache.capacity → IsOpen was pages → GoesOn Known image after more was (record session { cache = cache; buffers = buffers; node = node })
+goes_looked Known image after pages more was session cache buffers node same still head keeps capacity o =
+    subst (λ (s : Session). GoesOn Known image after more s (record session { cache = cache; buffers = buffers; node = node })) same (record {
+      follows = λ known f. follows_looked session cache buffers node image after (still known) (keeps known) f;
+      is_open = subst (IsOpen (record session { cache = cache; buffers = buffers; node = node })) (sym head) (looked_open session cache buffers node pages (subst (λ (s : Session). IsOpen s pages) (sym same) o));
       root = refl;
       capacity = capacity;
     })
 
 -- a look that brings nodes into memory
-pub goes_ready : (Known : Type 0) (image after : Image) (pages more : ℕ) (was session : Session) (grove : Grove) (cache : Cached) (buffers : Held) → session ≡ was → (Known → after ≡ image) → more ≡ pages → KeepsTree session.grove grove → IsSound grove
-    → (Known → StandsOver image.readable session.cache → StandsOver image.readable cache) → cache.capacity ≡ session.cache.capacity → IsOpen was pages → GoesOn Known image after more was (with_ready session grove cache buffers)
-goes_ready Known image after pages more was session grove cache buffers same still head tree sound keeps capacity o =
-    subst (λ (s : Session). GoesOn Known image after more s (with_ready session grove cache buffers)) same (record {
-      follows = λ known f. follows_ready session grove cache buffers image after (still known) tree (keeps known) f;
-      is_open = ready_open session grove cache buffers pages more head tree sound (subst (λ (s : Session). IsOpen s pages) (sym same) o);
+pub goes_ready : (Known : Type 0) (image after : Image) (pages more : ℕ) (was session : Session) (grove : Grove) (cache : Cached) (buffers : Held) (node : NodeBody) → session ≡ was → (Known → after ≡ image) → more ≡ pages → KeepsTree session.grove grove → IsSound grove
+    → (Known → StandsOver image.readable session.cache → StandsOver image.readable cache) → cache.capacity ≡ session.cache.capacity → IsOpen was pages → GoesOn Known image after more was (with_ready session grove cache buffers node)
+goes_ready Known image after pages more was session grove cache buffers node same still head tree sound keeps capacity o =
+    subst (λ (s : Session). GoesOn Known image after more s (with_ready session grove cache buffers node)) same (record {
+      follows = λ known f. follows_ready session grove cache buffers node image after (still known) tree (keeps known) f;
+      is_open = ready_open session grove cache buffers node pages more head tree sound (subst (λ (s : Session). IsOpen s pages) (sym same) o);
       root = refl;
       capacity = capacity;
     })

@@ -11,6 +11,7 @@ use Rattle.key_graph.proofs.ChainLaws.{map_contains}
 use Rattle.page_store.specs.Tree.{Parts, Place, Subtree, joined}
 use Rattle.page_store.specs.Kept.{Kept}
 use Rattle.page_store.specs.Keeping.{KeepsKeys}
+use Rattle.node_codec.specs.declared.body.NodeBody.{NodeBody}
 use Rattle.page_store.specs.Buffer.{Held}
 use Rattle.page_store.proofs.KeptLaws.{root_of_stands}
 use Rattle.btree_twigs.specs.Stubs.{Stub}
@@ -110,11 +111,11 @@ listed_fresh session image device contents keys none h = record {
 }
 
 -- a look leaves them so
-pub listed_looked : (was session : Session) (cache : Cached) (buffers : Held) (image after : Image) → session ≡ was → after ≡ image → (StandsOver image.readable session.cache → StandsOver image.readable cache)
-    → (StandsOver image.readable session.cache → StaysAmong (HaveNodes image.readable (places_of session.grove)) session.cache cache) → StaysListed image after was (record session { cache = cache; buffers = buffers })
-listed_looked was session cache buffers image after is same keeps stays keys listed =
+pub listed_looked : (was session : Session) (cache : Cached) (buffers : Held) (node : NodeBody) (image after : Image) → session ≡ was → after ≡ image → (StandsOver image.readable session.cache → StandsOver image.readable cache)
+    → (StandsOver image.readable session.cache → StaysAmong (HaveNodes image.readable (places_of session.grove)) session.cache cache) → StaysListed image after was (record session { cache = cache; buffers = buffers; node = node })
+listed_looked was session cache buffers node image after is same keeps stays keys listed =
     let h = subst (λ (s : Session). HoldsListed s image keys) (sym is) listed in
-    record { device = h.device; contents = h.contents; holds = holds_looked session cache buffers image after h.device h.contents same keeps stays h.holds; listed = h.listed }
+    record { device = h.device; contents = h.contents; holds = holds_looked session cache buffers node image after h.device h.contents same keeps stays h.holds; listed = h.listed }
 
 -- one that has an array has a list of its keys
 pub listed_itself : (session : Session) (image : Image) (device : Device) (contents : Blocks) → Holds session image device contents → HoldsListed session image (map (λ s. s.key) (places_of session.grove))

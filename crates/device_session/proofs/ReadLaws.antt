@@ -9,6 +9,7 @@ use Rattle.sdbt_base.specs.Arrays.{Device, Blocks, content_of}
 use Rattle.platform.specs.Image.{Image}
 use Rattle.node_codec.specs.declared.body.Entry.{Entry}
 use Rattle.node_codec.specs.Record.{DataRecord}
+use Rattle.node_codec.specs.declared.body.NodeBody.{NodeBody}
 use Rattle.page_store.specs.Buffer.{Held}
 use Rattle.page_store.specs.declared.wants.Want.{Want}
 use Rattle.page_store.specs.Places.{IsRecordAt, NothingFits, block_want, child_want}
@@ -45,9 +46,9 @@ use Rattle.device_session.proofs.AmongLaws.{held_nodes}
 
 -- ---- only the cache and the buffers change
 
-pub holds_looked : (session : Session) (cache : Cached) (buffers : Held) (image after : Image) (device : Device) (contents : Blocks) → after ≡ image → (StandsOver image.readable session.cache → StandsOver image.readable cache) →
-    (StandsOver image.readable session.cache → StaysAmong (HaveNodes image.readable (places_of session.grove)) session.cache cache) → Holds session image device contents → Holds (record session { cache = cache; buffers = buffers }) after device contents
-holds_looked session cache buffers image after device contents same keeps stays h = subst (λ i. Holds (record session { cache = cache; buffers = buffers }) i device contents) (sym same) (record {
+pub holds_looked : (session : Session) (cache : Cached) (buffers : Held) (node : NodeBody) (image after : Image) (device : Device) (contents : Blocks) → after ≡ image → (StandsOver image.readable session.cache → StandsOver image.readable cache) →
+    (StandsOver image.readable session.cache → StaysAmong (HaveNodes image.readable (places_of session.grove)) session.cache cache) → Holds session image device contents → Holds (record session { cache = cache; buffers = buffers; node = node }) after device contents
+holds_looked session cache buffers node image after device contents same keeps stays h = subst (λ i. Holds (record session { cache = cache; buffers = buffers; node = node }) i device contents) (sym same) (record {
   committed = h.committed;
   stands = h.stands;
   each = h.each;

@@ -7,6 +7,7 @@ use Rattle.std.specs.Bool.{OnTrue, OnFalse}
 use Rattle.sdbt_base.specs.Arrays.{Device, Blocks}
 use Rattle.platform.specs.Image.{Image}
 use Rattle.root_codec.specs.declared.root.Root.{Root}
+use Rattle.node_codec.specs.declared.body.NodeBody.{NodeBody}
 use Rattle.page_store.specs.Buffer.{Held}
 use Rattle.page_store.specs.Tree.{Mapped, joined}
 use Rattle.btree_twigs.specs.Stubs.{Stub, Takes, stubs}
@@ -39,8 +40,8 @@ use Rattle.device_session.proofs.LeftLaws.{update_left}
 -- ---- a tree that is ready for an update
 
 -- the session with such a tree, after a look
-abbrev pub with_ready : Session → Grove → Cached → Held → Session
-with_ready session grove cache buffers = record session { grove = grove; cache = cache; buffers = buffers }
+abbrev pub with_ready : Session → Grove → Cached → Held → NodeBody → Session
+with_ready session grove cache buffers node = record session { grove = grove; cache = cache; buffers = buffers; node = node }
 
 places_same : (old new : Grove) → KeepsTree old new → places_of new ≡ places_of old
 places_same old new k = let level = k.level in let blocks = k.blocks in let top = k.top in (λ i. stubs (level i) (blocks i) (top i))
@@ -65,8 +66,8 @@ ready_tree true root old new k sound t = record {
       subst (λ n. IsTop n (new.level - 1) new.blocks new.top) (sym order) (subst (λ n. IsTop old.order (n - 1) new.blocks new.top) (sym level) (subst (λ n. IsTop old.order (old.level - 1) n new.top) (sym blocks) (subst (λ c. IsTop old.order (old.level - 1) old.blocks c) (sym top) t.top)));
 }
 
-pub ready_open : (session : Session) (grove : Grove) (cache : Cached) (buffers : Held) (pages now : ℕ) → now ≡ pages → KeepsTree session.grove grove → IsSound grove → IsOpen session pages → IsOpen (with_ready session grove cache buffers) now
-ready_open session grove cache buffers pages now same k sound o = record {
+pub ready_open : (session : Session) (grove : Grove) (cache : Cached) (buffers : Held) (node : NodeBody) (pages now : ℕ) → now ≡ pages → KeepsTree session.grove grove → IsSound grove → IsOpen session pages → IsOpen (with_ready session grove cache buffers node) now
+ready_open session grove cache buffers node pages now same k sound o = record {
   served = record { in_range = o.served.in_range; key = o.served.key; within = omega (arith, o.served.within, same) };
   mapped = o.mapped;
   tree = ready_tree session.is_touched session.root session.grove grove k sound o.tree;
@@ -74,9 +75,9 @@ ready_open session grove cache buffers pages now same k sound o = record {
   below = subst (λ n. AreBelow n (places_of grove)) (sym same) (subst (AreBelow pages) (sym (places_same session.grove grove k)) o.below);
 }
 
-pub ready_holds : (session : Session) (grove : Grove) (cache : Cached) (buffers : Held) (image after : Image) (device : Device) (contents : Blocks) → after ≡ image → KeepsTree session.grove grove → IsSound grove → (StandsOver image.readable session.cache → StandsOver image.readable cache) →
-    (StandsOver image.readable session.cache → StaysAmong (HaveNodes image.readable (places_of session.grove)) session.cache cache) → Holds session image device contents → Holds (with_ready session grove cache buffers) after device contents
-ready_holds session grove cache buffers image after device contents same k sound keeps stays h = subst (λ i. Holds (with_ready session grove cache buffers) i device contents) (sym same) (record {
+pub ready_holds : (session : Session) (grove : Grove) (cache : Cached) (buffers : Held) (node : NodeBody) (image after : Image) (device : Device) (contents : Blocks) → after ≡ image → KeepsTree session.grove grove → IsSound grove → (StandsOver image.readable session.cache → StandsOver image.readable cache) →
+    (StandsOver image.readable session.cache → StaysAmong (HaveNodes image.readable (places_of session.grove)) session.cache cache) → Holds session image device contents → Holds (with_ready session grove cache buffers node) after device contents
+ready_holds session grove cache buffers node image after device contents same k sound keeps stays h = subst (λ i. Holds (with_ready session grove cache buffers node) i device contents) (sym same) (record {
   committed = h.committed;
   stands = h.stands;
   each = h.each;
@@ -89,12 +90,12 @@ ready_holds session grove cache buffers image after device contents same k sound
   among = stays h.cached h.committed.places (held_nodes session image device contents h) h.among;
 })
 
-pub ready_listed : (session : Session) (grove : Grove) (cache : Cached) (buffers : Held) (image after : Image) (keys : List (List ℕ)) → after ≡ image → KeepsTree session.grove grove → IsSound grove → (StandsOver image.readable session.cache → StandsOver image.readable cache) →
-    (StandsOver image.readable session.cache → StaysAmong (HaveNodes image.readable (places_of session.grove)) session.cache cache) → HoldsListed session image keys → HoldsListed (with_ready session grove cache buffers) after keys
-ready_listed session grove cache buffers image after keys same k sound keeps stays h = record {
+pub ready_listed : (session : Session) (grove : Grove) (cache : Cached) (buffers : Held) (node : NodeBody) (image after : Image) (keys : List (List ℕ)) → after ≡ image → KeepsTree session.grove grove → IsSound grove → (StandsOver image.readable session.cache → StandsOver image.readable cache) →
+    (StandsOver image.readable session.cache → StaysAmong (HaveNodes image.readable (places_of session.grove)) session.cache cache) → HoldsListed session image keys → HoldsListed (with_ready session grove cache buffers node) after keys
+ready_listed session grove cache buffers node image after keys same k sound keeps stays h = record {
   device = h.device;
   contents = h.contents;
-  holds = ready_holds session grove cache buffers image after h.device h.contents same k sound keeps stays h.holds;
+  holds = ready_holds session grove cache buffers node image after h.device h.contents same k sound keeps stays h.holds;
   listed = λ s has own. h.listed s (subst (λ ss. Contains ss s) (places_same session.grove grove k) has) own;
 }
 

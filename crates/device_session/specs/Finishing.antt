@@ -4,8 +4,8 @@ use Rattle.sdbt_base.specs.Told.{Got, GotPart}
 use Rattle.platform.specs.History.{History, CellStays}
 use Rattle.root_codec.specs.declared.root.Root.{Root}
 use Rattle.root_codec.specs.RootRecord.{root_bytes}
-use Rattle.page_store.specs.Buffer.{IsBlank}
 use Rattle.node_cache.specs.declared.slots.Kept.{Kept}
+use Rattle.btree_walk.specs.Readers.{IsWiped}
 use Rattle.btree_update.specs.declared.groves.Grove.{Grove}
 use Rattle.grove_accounts.specs.Holding.{IsTreeOf}
 use Rattle.device_session.specs.declared.refusals.CommitFault.{CommitFault}
@@ -44,4 +44,4 @@ pub record TakesUp (session : Session) (root : Root) (now : Session) : Type 0 wh
   pub none_held : HoldsNone now.grove
   pub kept : All (Contains session.cache.kept) now.cache.kept
   pub forgot : LacksNodes session.grove.gone.items now.cache.kept
-  pub wiped : IsBlank now.buffers
+  pub wiped : IsWiped now.buffers now.node

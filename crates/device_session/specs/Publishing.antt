@@ -8,10 +8,10 @@ use Rattle.platform.specs.declared.platforms.Platform.{Ghosts as PlatformGhosts}
 use Rattle.platform.specs.Image.{LeavesOnly}
 use Rattle.platform.specs.History.{Turns, CellStays}
 use Rattle.root_codec.specs.RootRecord.{root_bytes}
-use Rattle.page_store.specs.Buffer.{IsBlank}
 use Rattle.page_store.specs.Stands.{Stands}
 use Rattle.page_store.specs.Tree.{Parts, Tree}
 use Rattle.btree_walk.specs.Among.{IsAmong, KeepsAmong}
+use Rattle.btree_walk.specs.Readers.{IsWiped}
 use Rattle.btree_update.specs.Groves.{places_of}
 use Rattle.grove_accounts.specs.Holding.{IsTreeOf}
 use Rattle.device_session.specs.declared.refusals.CommitReply.{CommitReply}
@@ -40,14 +40,14 @@ pub record HasTreeKeys (session : Session) (pages : List (List ℕ)) : Type 0 wh
 
 -- a commit that raised the number: as many pages were added as there were nodes in memory, and the root record in the cell names the last of them with
 -- the key that was drawn last; the session has no data pages that weren't told of, and its tree is the new one, with no node in memory. No node that is gone
--- is left in its cache, and nothing of what was read or sealed in its buffers; and where it had an array, each key in its fields is of the new tree
+-- is left in its cache, nothing of what was read or sealed in its buffers, and no entry in the room of the node that was read last; and where it had an array, each key in its fields is of the new tree
 pub record HasRaised {S R : Type 0} (P : PlatformGhosts S) (T : TapeGhosts R) (platform platform_now : S) (tape tape_now : R) (session now : Session) (reply : CommitReply) : Type 0 where
   pub replied : reply ≡ Committed (number_of session + 1)
   pub number : number_of now ≡ number_of session + 1
   pub untouched : is_touched now ≡ false
   pub pages : AreDataPages now []
   pub tree : IsTreeOf now.root now.grove
-  pub wiped : IsBlank now.buffers
+  pub wiped : IsWiped now.buffers now.node
   pub forgot : All (λ addr. All (λ node. node.addr ≢ addr) now.cache.kept) session.grove.gone.items
   pub head : P.head platform_now ≡ P.head platform + needed_by session
   pub names : NamesLast (T.drawn tape) (T.drawn tape_now) (P.head platform_now) (root_of now)

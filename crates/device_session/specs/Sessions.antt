@@ -1,6 +1,7 @@
 -- What contracts see of a session.
 use Rattle.std.specs.Prelude.{ℕ, Bool}
 use Rattle.root_codec.specs.declared.root.Root.{Root}
+use Rattle.node_codec.specs.declared.body.NodeBody.{NodeBody}
 use Rattle.node_cache.specs.Kept.{Cached}
 use Rattle.page_store.specs.Buffer.{Held}
 use Rattle.btree_update.specs.declared.groves.Grove.{Grove}
@@ -19,3 +20,5 @@ pub record Session : Type 0 where
   pub cache : Cached
   -- the bytes of the last page that was read or sealed, and of its record
   pub buffers : Held
+  -- the node that was read last
+  pub node : NodeBody

@@ -59,7 +59,7 @@ impl Session {
             self.mapped,
             platform,
             tape,
-            &mut self.buffers,
+            &mut self.reader.buffers,
         ) {
             Ok(prepared) => prepared,
             Err(CommitRefusal::Full { needed, free }) => {
@@ -84,11 +84,11 @@ impl Session {
         requires { FitsRoot root }
         ensures { TakesUp self.old root self.new }
     {
-        forget(&mut self.cache, self.grove.gone());
+        forget(&mut self.reader.cache, self.grove.gone());
         self.grove = Grove::of(self.alloc, &root);
         self.root = root;
         self.is_touched = false;
-        self.buffers.wipe();
+        self.reader.wipe();
     }
 }
 

@@ -57,10 +57,7 @@ impl Session {
         if block >= self.root.blocks {
             return Err(ReadRefusal::Range);
         }
-        let found = match self
-            .grove
-            .find(block, platform, &mut self.cache, &mut self.buffers)
-        {
+        let found = match self.grove.find(block, platform, &mut self.reader) {
             Ok(found) => found,
             Err(FetchRefusal::BadRecord { addr }) => return Err(ReadRefusal::BadRecord { addr }),
             Err(FetchRefusal::PlatformFault) => return Err(ReadRefusal::PlatformFault),
@@ -69,7 +66,7 @@ impl Session {
             out.fill(0);
             return Ok(());
         };
-        match read_block(platform, &entry, block, &mut self.buffers, out) {
+        match read_block(platform, &entry, block, &mut self.reader.buffers, out) {
             Ok(()) => {}
             Err(FetchRefusal::BadRecord { .. }) => {
                 return Err(ReadRefusal::BadRecord { addr: entry.addr });

@@ -37,12 +37,7 @@ impl Session {
         ensures looks { Looks P.Platform (2 * self.old.grove.level) platform.old platform.new }
         ensures cause { IsErrOf result ReadyRefusal.PlatformFault → Rose (P.faults platform.old) (P.faults platform.new) }
     {
-        self.grove.ready(
-            self.alloc,
-            block,
-            platform,
-            &mut self.cache,
-            &mut self.buffers,
-        )
+        self.grove
+            .ready(self.alloc, block, platform, &mut self.reader)
     }
 }

@@ -1,13 +1,13 @@
 ghost use Rattle.std.specs.Prelude.{◌≡◌, ◌≤◌, IfOk, IfErr, IsErrOf};
 ghost use Rattle.sdbt_base.specs.Faults.{Rose};
 ghost use Rattle.platform.specs.Calls.{Looks};
-ghost use Rattle.page_store.specs.Buffer.{IsBlank};
+ghost use Rattle.btree_walk.specs.Readers.{IsWiped};
 ghost use Rattle.device_session.specs.Causes.{IsMountCause};
 
 use crate::refusals::MountRefusal;
 use btree_update::Grove;
-use node_cache::NodeCache;
-use page_store::{Buffers, CurrentRefusal, current};
+use btree_walk::NodeReader;
+use page_store::{CurrentRefusal, current};
 use platform::Platform;
 use root_codec::Root;
 use std::alloc::Global;
@@ -25,8 +25,7 @@ pub struct Session {
     pub(crate) mapped: u64,
     pub(crate) is_touched: bool,
     pub(crate) grove: Grove,
-    pub(crate) cache: NodeCache,
-    pub(crate) buffers: Buffers,
+    pub(crate) reader: NodeReader,
     pub(crate) alloc: Global,
 }
 
@@ -34,6 +33,7 @@ impl Model for Session {
     ghost use Rattle.device_session.specs.Sessions as specs;
     ghost use Rattle.btree_twigs.specs.contracts.twigs.Child as child;
     ghost use Rattle.std.specs.Coded.{codes};
+    ghost use Rattle.std.specs.Prelude.{box_value};
 
     ghost Value = { specs.Session };
 
@@ -44,8 +44,9 @@ impl Model for Session {
       mapped = s.mapped;
       is_touched = s.is_touched;
       grove = s.grove;
-      cache = s.cache;
-      buffers = s.buffers;
+      cache = s.reader.cache;
+      buffers = s.reader.buffers;
+      node = box_value s.reader.node;
     } };
 }
 
@@ -78,10 +79,7 @@ impl Session {
         let Some(root) = found else {
             return Err(MountRefusal::NoDevice);
         };
-        let Ok(buffers) = Buffers::new(alloc) else {
-            return Err(MountRefusal::Memory);
-        };
-        let Ok(cache) = NodeCache::new(alloc, cache) else {
+        let Ok(reader) = NodeReader::new(alloc, cache) else {
             return Err(MountRefusal::Memory);
         };
         let grove = Grove::of(alloc, &root);
@@ -91,8 +89,7 @@ impl Session {
             mapped,
             is_touched: false,
             grove,
-            cache,
-            buffers,
+            reader,
             alloc,
         })
     }
@@ -118,11 +115,12 @@ impl Session {
         self.root.blocks
     }
 
-    /// Leaves nothing of what was read or sealed in the session's buffers: for a session that is given up.
+    /// Leaves nothing of what was read or sealed in the session's buffers, nor of the node that was read last: for a session
+    /// that is given up.
     pub fn wipe(&mut self)
-        ensures wiped { IsBlank self.new.buffers }
-        ensures same { self.new ≡ record self.old { buffers = self.new.buffers } }
+        ensures wiped { IsWiped self.new.buffers self.new.node }
+        ensures same { self.new ≡ record self.old { buffers = self.new.buffers; node = self.new.node } }
     {
-        self.buffers.wipe();
+        self.reader.wipe();
     }
 }

@@ -116,8 +116,8 @@ impl Session {
     {
         are_bytes(content);
         let addr = platform.head();
-        self.buffers.put_block(addr, block, content);
-        let placed = match self.buffers.append(platform, tape) {
+        self.reader.buffers.put_block(addr, block, content);
+        let placed = match self.reader.buffers.append(platform, tape) {
             Ok(placed) => placed,
             Err(AppendFault::TapeFault) => return Err(WriteRefusal::TapeFault),
             Err(AppendFault::PlatformFault) => return Err(WriteRefusal::PlatformFault),

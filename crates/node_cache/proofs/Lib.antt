@@ -1,1 +1,2 @@
+mod BucketLaws
 pub mod SlotLaws

@@ -1,3 +1,4 @@
+pub mod Buckets
 pub mod Kept
 pub mod Lends
 pub mod Slots

@@ -4,25 +4,23 @@ use Rattle.std.specs.List.{IsDistinct}
 use Rattle.std.specs.Map.{keys_of, lookup}
 use Rattle.lru.specs.LruCache.{last_entry}
 use Rattle.node_cache.specs.declared.slots.Kept.{Kept}
-use Rattle.node_cache.specs.declared.slots.Slot.{Slot}
-use Rattle.node_cache.specs.declared.slots.Slot.TheVariants.{Empty, Full}
 
 -- the nodes in slots, in their order
-abbrev pub kept_in : List (ℕ × Slot) → List Kept
+abbrev pub kept_in : List (ℕ × Option Kept) → List Kept
 kept_in [] = []
-kept_in ((number, Empty) ∷ slots) = kept_in slots
-kept_in ((number, Full kept) ∷ slots) = kept ∷ kept_in slots
+kept_in ((number, None) ∷ slots) = kept_in slots
+kept_in ((number, Some kept) ∷ slots) = kept ∷ kept_in slots
 
 -- the address of the node in a slot
-abbrev pub address_in : Slot → Option ℕ
-address_in Empty = None
-address_in (Full kept) = Some kept.addr
+abbrev pub address_in : Option Kept → Option ℕ
+address_in None = None
+address_in (Some kept) = Some kept.addr
 
 -- behind an empty slot no node stands
-abbrev pub IsFullFirst : List (ℕ × Slot) → Type 0
+abbrev pub IsFullFirst : List (ℕ × Option Kept) → Type 0
 IsFullFirst [] = Unit {0}
-IsFullFirst ((number, Empty) ∷ slots) = kept_in slots ≡ []
-IsFullFirst ((number, Full kept) ∷ slots) = IsFullFirst slots
+IsFullFirst ((number, None) ∷ slots) = kept_in slots ≡ []
+IsFullFirst ((number, Some kept) ∷ slots) = IsFullFirst slots
 
 -- no two nodes have one address
 abbrev pub AreApart : List Kept → Type 0
@@ -30,7 +28,7 @@ AreApart [] = Unit {0}
 AreApart (kept ∷ others) = All (λ other. other.addr ≢ kept.addr) others × AreApart others
 
 -- numbered slots in the order of their use, and for each number the address of the node that stands there
-pub record IsTied (slots : List (ℕ × Slot)) (addrs : List (Option ℕ)) : Type 0 where
+pub record IsTied (slots : List (ℕ × Option Kept)) (addrs : List (Option ℕ)) : Type 0 where
   pub listed : All (λ slot. slice_get addrs slot.0 ≡ Some (address_in slot.1)) slots
   pub each : (number : ℕ) → number < length addrs → IsSome (lookup (nat_eq number) slots)
   pub apart : AreApart (kept_in slots)
@@ -42,12 +40,12 @@ abbrev pub IsUnlisted : List (Option ℕ) → ℕ → Type 0
 IsUnlisted addrs addr = (number : ℕ) → slice_get addrs number ≢ Some (Some addr)
 
 -- the slots have numbers of their own, and the last one has this
-pub record IsLeastUsed (slots : List (ℕ × Slot)) (number : ℕ) : Type 0 where
-  pub content : Slot
+pub record IsLeastUsed (slots : List (ℕ × Option Kept)) (number : ℕ) : Type 0 where
+  pub content : Option Kept
   pub is : last_entry slots ≡ Some (number, content)
   pub distinct : IsDistinct nat_eq (keys_of slots)
 
 -- the slot that a node of an address is to have: its own, or the one that was used least
-abbrev pub IsSlotFor : List (ℕ × Slot) → List (Option ℕ) → ℕ → ℕ → Type 0
+abbrev pub IsSlotFor : List (ℕ × Option Kept) → List (Option ℕ) → ℕ → ℕ → Type 0
 IsSlotFor slots addrs addr number =
     (slice_get addrs number ≡ Some (Some addr)) ⊎ (IsUnlisted addrs addr × IsLeastUsed slots number)

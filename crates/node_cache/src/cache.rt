@@ -8,8 +8,10 @@ ghost use Rattle.std.specs.NonZero.{non_zero_usize_get};
 ghost use Rattle.node_codec.specs.declared.body.NodeBody.{NodeBody};
 ghost use Rattle.node_cache.specs.declared.slots.Kept.{Kept};
 ghost use Rattle.node_cache.specs.Kept.{kept_node};
-ghost use Rattle.node_cache.specs.Slots.{IsLeastUsed, IsSlotFor, IsUnlisted};
+ghost use Rattle.node_cache.specs.Slots.{IsLeastUsed, IsSlotFor};
+ghost use Rattle.node_cache.specs.Buckets.{Covers};
 
+use crate::buckets::{Bucket, note, slot_of};
 use crate::slots::Slot;
 use lru::LruCache;
 use node_codec::NodeBody;
@@ -17,6 +19,9 @@ use sdbt_base::{Addrs, Key, Memory};
 use std::alloc::Global;
 use std::marker::Model;
 use std::num::NonZeroUsize;
+
+/// How many buckets there are for each slot: so many that few addresses share one.
+const BUCKETS: usize = 4;
 
 /// Whether a node was put into a cache.
 #[derive(Clone, Copy, Debug, PartialEq, Eq)]
@@ -32,18 +37,20 @@ pub enum Put {
 pub struct NodeCache {
     slots: LruCache<usize, Slot>,
     addrs: Vec<Option<u64>>,
+    buckets: Vec<Bucket>,
 }
 
 impl Model for NodeCache {
     ghost use Rattle.std.specs.Prelude.{length};
     ghost use Rattle.node_cache.specs.Kept.{Cached};
-    ghost use Rattle.node_cache.specs.Slots.{kept_in, IsTied};
+    ghost use Rattle.node_cache.specs.Slots.{kept_in};
+    ghost use Rattle.node_cache.specs.Buckets.{IsKeptBy};
 
     ghost Value = { Cached };
 
     ghost view = { λ c. record { capacity = length c.addrs.items; kept = kept_in c.slots.entries } };
 
-    ghost invariant = { λ c. IsTied c.slots.entries c.addrs.items };
+    ghost invariant = { λ c. IsKeptBy c.slots.entries c.addrs.items c.buckets.items };
 }
 
 impl NodeCache {
@@ -59,10 +66,15 @@ impl NodeCache {
         let mut slots = LruCache::new(alloc, room_for(capacity))?;
         let mut addrs = Vec::with_capacity(alloc, capacity)?;
         for number in 0..capacity {
-            slots.put(number, Slot::Empty)?;
+            slots.put(number, Slot::new(alloc)?)?;
             addrs.push(None)?;
         }
-        Ok(NodeCache { slots, addrs })
+        let buckets = vec![in alloc; Bucket::Empty; BUCKETS * capacity]?;
+        Ok(NodeCache {
+            slots,
+            addrs,
+            buckets,
+        })
     }
 
     /// Keeps a node for its address under its key, as the most recent one, in the place of one that was kept
@@ -75,7 +87,8 @@ impl NodeCache {
         if self.addrs.is_empty() {
             return Put::Off;
         }
-        let number = slot_for(&self.slots, &self.addrs, addr);
+        let number = slot_for(&self.slots, &self.buckets, &self.addrs, addr);
+        note(&mut self.buckets, &self.addrs, number, addr);
         self.addrs[number] = Some(addr);
         fill(&mut self.slots, number, addr, key, node);
         Put::Stored
@@ -100,7 +113,7 @@ impl NodeCache {
         ensures used { IsTrue result → (node : NodeBody) × Uses self.old addr key.now (Some node) self.new }
         ensures none { ¬ (IsTrue result) → Uses self.old addr key.now None self.new }
     {
-        let Some(number) = slot_of(&self.addrs, addr) else {
+        let Some(number) = slot_of(&self.buckets, &self.addrs, addr) else {
             return false;
         };
         let is_kept = has_key(&self.slots, number, key);
@@ -115,10 +128,8 @@ impl NodeCache {
         ensures { (first : Kept) (others : List Kept) → self.now.kept ≡ first ∷ others → option_copied result ≡ Some first.node }
     {
         let (_, slot) = self.slots.peek_mru()?;
-        match slot {
-            Slot::Full(kept) => Some(&kept.node),
-            Slot::Empty => None,
-        }
+        let kept = slot.kept()?;
+        Some(&kept.node)
     }
 
     /// The addresses for which nodes are kept, the most recent first.
@@ -127,7 +138,7 @@ impl NodeCache {
     {
         let mut addrs = Addrs::new(alloc);
         for (_, slot) in self.slots.iter() {
-            if let Slot::Full(kept) = slot {
+            if let Some(kept) = slot.kept() {
                 addrs.push(kept.addr)?;
             }
         }
@@ -141,7 +152,7 @@ impl NodeCache {
           kept = without addr self.old.kept;
         } }
     {
-        if let Some(number) = slot_of(&self.addrs, addr) {
+        if let Some(number) = slot_of(&self.buckets, &self.addrs, addr) {
             self.addrs[number] = None;
             empty(&mut self.slots, number);
             self.slots.demote(&number);
@@ -157,22 +168,20 @@ fn room_for(capacity: usize) -> NonZeroUsize
 }
 
 /// The number of the slot that a node of an address is to have: its own, or the one that was used least.
-fn slot_for(slots: &LruCache<usize, Slot>, addrs: &[Option<u64>], addr: u64) -> usize
-    requires { 0 < length slots.now.entries }
+fn slot_for(
+    slots: &LruCache<usize, Slot>,
+    buckets: &[Bucket],
+    addrs: &[Option<u64>],
+    addr: u64,
+) -> usize
+    requires some { 0 < length slots.now.entries }
+    requires covers { Covers buckets.now addrs.now }
     ensures { IsSlotFor slots.now.entries addrs.now addr result }
 {
-    match slot_of(addrs, addr) {
+    match slot_of(buckets, addrs, addr) {
         Some(number) => number,
         None => least_used(slots),
     }
-}
-
-/// The number of the slot in which the node of an address stands.
-fn slot_of(addrs: &[Option<u64>], addr: u64) -> Option<usize>
-    ensures found { IfSome result (λ number. slice_get addrs.now number ≡ Some (Some addr)) }
-    ensures none { IfNone result (IsUnlisted addrs.now addr) }
-{
-    addrs.iter().position(|kept| *kept == Some(addr))
 }
 
 /// The number of the slot that was used least recently.
@@ -191,7 +200,7 @@ fn least_used(slots: &LruCache<usize, Slot>) -> usize
 /// Copies a node into a slot, which is then the one that was used last.
 fn fill(slots: &mut LruCache<usize, Slot>, number: usize, addr: u64, key: &Key, node: &NodeBody)
     requires { IsSome (lookup (nat_eq number) slots.old.entries) }
-    ensures written { slots.new ≡ lru_cache ((number, Slot.Full (kept_node addr key.now node.now)) ∷ remove_entry (nat_eq number) slots.old.entries) slots.old.cap }
+    ensures written { slots.new ≡ lru_cache ((number, Some (kept_node addr key.now node.now)) ∷ remove_entry (nat_eq number) slots.old.entries) slots.old.cap }
     ensures distinct { IsDistinct nat_eq (keys_of slots.new.entries) }
 {
     match slots.get_mut(&number) {
@@ -205,11 +214,11 @@ fn fill(slots: &mut LruCache<usize, Slot>, number: usize, addr: u64, key: &Key, 
 /// Makes a slot an empty one, which is then the one that was used last.
 fn empty(slots: &mut LruCache<usize, Slot>, number: usize)
     requires { IsSome (lookup (nat_eq number) slots.old.entries) }
-    ensures written { slots.new ≡ lru_cache ((number, Slot.Empty) ∷ remove_entry (nat_eq number) slots.old.entries) slots.old.cap }
+    ensures written { slots.new ≡ lru_cache ((number, None) ∷ remove_entry (nat_eq number) slots.old.entries) slots.old.cap }
     ensures distinct { IsDistinct nat_eq (keys_of slots.new.entries) }
 {
     match slots.get_mut(&number) {
-        Some(slot) => *slot = Slot::Empty,
+        Some(slot) => slot.clear(),
         None => unreachable!(),
     }
     let count = slots.len();
@@ -218,11 +227,14 @@ fn empty(slots: &mut LruCache<usize, Slot>, number: usize)
 
 /// Whether the node in a slot, if there is one, is kept under this key.
 fn has_key(slots: &LruCache<usize, Slot>, number: usize, key: &Key) -> bool
-    ensures { IsTrue result ↔ ((kept : Kept) × (lookup (nat_eq number) slots.now.entries ≡ Some (Slot.Full kept)) × (kept.key ≡ key.now)) }
+    ensures { IsTrue result ↔ ((kept : Kept) × (lookup (nat_eq number) slots.now.entries ≡ Some (Some kept)) × (kept.key ≡ key.now)) }
 {
-    match slots.peek(&number) {
-        Some(Slot::Full(kept)) => kept.key == *key,
-        _ => false,
+    let Some(slot) = slots.peek(&number) else {
+        return false;
+    };
+    match slot.kept() {
+        Some(kept) => kept.key == *key,
+        None => false,
     }
 }
 

@@ -1,12 +1,16 @@
 //! The nodes that were used last, kept under their addresses and keys.
 //!
 //! A cache has a fixed number of slots. All of its memory is taken when it is made: the kit's LRU map then holds
-//! every slot by its number, empty or with a node, in the order of use, and only what stands in a slot changes.
+//! every slot by its number, empty or with a node, in the order of use, and only what stands in a slot changes. Each
+//! address belongs into one of the buckets, which tells the slots that may have it.
 #![tactic(auto)]
 
+mod buckets;
 mod cache;
 mod slots;
 
+#[doc(hidden)]
+pub use buckets::Bucket;
 pub use cache::{NodeCache, Put};
 #[doc(hidden)]
 pub use slots::{Kept, Slot};

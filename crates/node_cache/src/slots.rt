@@ -1,10 +1,13 @@
-ghost use Rattle.std.specs.Prelude.{◌≡◌};
+ghost use Rattle.std.specs.Prelude.{◌≡◌, [], None, Some, Option, IfOk, replicate};
+ghost use Rattle.std.specs.Option.{option_copied};
 ghost use Rattle.node_codec.specs.declared.body.NodeBody.{NodeBody};
 ghost use Rattle.node_cache.specs.declared.slots.Kept.{Kept};
 
 use arrayvec::ArrayVec;
 use node_codec::NodeBody;
-use sdbt_base::Key;
+use sdbt_base::{Key, Memory};
+use std::alloc::Global;
+use std::marker::Model;
 
 /// A node that is kept, with the address and the key that it was read or written under.
 #[derive(Drop)]
@@ -17,16 +20,42 @@ pub struct Kept {
     pub node: NodeBody,
 }
 
-/// A place for one node.
+/// A place for one node, on the heap. What it is written over stays when the node is let go, so that the next node finds
+/// room there.
 #[derive(Drop)]
-pub enum Slot {
-    /// No node.
-    Empty,
-    /// A node that is kept.
-    Full(Kept),
+pub struct Slot {
+    is_full: bool,
+    room: Vec<Kept>,
+}
+
+impl Model for Slot {
+    ghost use Rattle.std.specs.Prelude.{◌≤◌, None, Option, cond, slice_get, vec_capacity};
+    ghost use Rattle.node_cache.specs.declared.slots.Kept.{Kept};
+
+    ghost Value = { Option Kept };
+
+    ghost view = { λ s. cond s.is_full (slice_get s.room.items 0) None };
+
+    ghost invariant = { λ s. 1 ≤ vec_capacity s.room };
 }
 
 impl Kept {
+    /// A copy of a node, for its address under its key.
+    fn of(addr: u64, key: &Key, node: &NodeBody) -> Kept
+        ensures { result ≡ record { addr = addr; key = key.now; node = node.now } }
+    {
+        let mut kept = Kept {
+            addr,
+            key: *key,
+            node: NodeBody {
+                level: node.level,
+                entries: ArrayVec::new(),
+            },
+        };
+        kept.copy(addr, key, node);
+        kept
+    }
+
     /// Becomes a copy of a node, for its address under its key.
     fn copy(&mut self, addr: u64, key: &Key, node: &NodeBody)
         ensures { self.new ≡ record { addr = addr; key = key.now; node = node.now } }
@@ -40,27 +69,58 @@ impl Kept {
             Err(_) => unreachable!(),
         }
     }
+
+    /// Writes over the keys: that of the node, and with its entries those of its children.
+    fn wipe(&mut self)
+        ensures key { self.new.key ≡ replicate 32 0 }
+        ensures entries { self.new.node.entries.items ≡ [] }
+    {
+        self.key = Key::from_bytes([0; 32]);
+        self.node.entries = ArrayVec::new();
+    }
 }
 
 impl Slot {
+    /// A place in which no node stands.
+    pub(crate) fn new(alloc: Global) -> Result<Slot, Memory>
+        ensures { IfOk result (λ slot. slot ≡ None) }
+    {
+        Ok(Slot {
+            is_full: false,
+            room: Vec::with_capacity(alloc, 1)?,
+        })
+    }
+
+    /// The node that stands here.
+    pub(crate) fn kept(&self) -> Option<&Kept>
+        ensures { option_copied result ≡ self.now }
+    {
+        if self.is_full {
+            self.room.first()
+        } else {
+            None
+        }
+    }
+
     /// Writes a copy of a node over what stands here, for its address under its key.
     pub(crate) fn fill(&mut self, addr: u64, key: &Key, node: &NodeBody)
-        ensures { self.new ≡ Slot.Full (record { addr = addr; key = key.now; node = node.now }) }
+        ensures { self.new ≡ Some (record { addr = addr; key = key.now; node = node.now }) }
     {
-        match self {
-            Slot::Full(kept) => kept.copy(addr, key, node),
-            Slot::Empty => {
-                let mut kept = Kept {
-                    addr,
-                    key: *key,
-                    node: NodeBody {
-                        level: node.level,
-                        entries: ArrayVec::new(),
-                    },
-                };
-                kept.copy(addr, key, node);
-                *self = Slot::Full(kept);
-            }
+        if self.room.is_empty() {
+            let _room = self.room.push(Kept::of(addr, key, node));
+        } else {
+            self.room[0].copy(addr, key, node);
         }
+        self.is_full = true;
+    }
+
+    /// Lets go the node that stands here. Its keys are written over.
+    pub(crate) fn clear(&mut self)
+        ensures { self.new ≡ None }
+    {
+        if !self.room.is_empty() {
+            self.room[0].wipe();
+        }
+        self.is_full = false;
     }
 }

@@ -1,9 +1,9 @@
 -- What the sealing of nodes gives.
-use Rattle.std.proofs.Common.{◌≡◌, ℕ, zero, suc, ◌+◌, ◌<◌, ◌≤◌, List, [], ◌∷◌, ◌++◌, length, map, refl, sym, ap, subst, ◌∙◌, arith, append_assoc, append-nil, length-append}
+use Rattle.std.proofs.Common.{◌≡◌, ℕ, zero, suc, ◌+◌, ◌<◌, ◌≤◌, List, [], ◌∷◌, ◌++◌, length, map, take, drop, refl, sym, ap, subst, ◌∙◌, arith, append_assoc, append-nil, length-append}
 use Rattle.std.specs.Prelude.{slice_index}
 use Rattle.std.specs.List.{AllByRecursion}
 use Rattle.std.specs.List.Sorted.{IsStrictlyIncreasing}
-use Rattle.std.proofs.lemmas.List.{length-map}
+use Rattle.std.proofs.lemmas.List.{length-map, take-append-le, drop-append-le}
 use Rattle.std.proofs.lemmas.List.Elements.{All-from_recursion}
 use Rattle.sdbt_base.specs.Bytes.{IsBytes}
 use Rattle.node_codec.specs.declared.body.Entry.{Entry}
@@ -169,3 +169,16 @@ node_fits order level least low high first head twig ns es shaped most deep bloc
       lows = All-from_recursion (λ (e : Entry). e.low < 1048576) es (lows_all high 1048576 es blocks (subst (AllByRecursion (λ n. n < high)) (sym are.lows) (lows_below (IsChild order level) high (children_of twig) each)));
       below = All-from_recursion (λ (e : Entry). e.addr < first + length ns) es are.below;
     }
+
+-- ---- entries behind those that were there
+
+-- an entry more, behind the ones that follow these
+pub grows_by : (front before same after : List Entry) (entry : Entry) → length front ≤ length before → same ≡ before → after ≡ same ++ entry ∷ [] →
+    drop (length front) after ≡ drop (length front) before ++ entry ∷ []
+grows_by front before same after entry le stays more =
+    ap (drop (length front)) (more ∙ ap (λ es. es ++ entry ∷ []) stays) ∙ drop-append-le (length front) before (entry ∷ []) le
+
+pub keeps_front : (front before same after : List Entry) (entry : Entry) → length front ≤ length before → take (length front) before ≡ front → same ≡ before → after ≡ same ++ entry ∷ [] →
+    take (length front) after ≡ front
+keeps_front front before same after entry le first stays more =
+    ap (take (length front)) (more ∙ ap (λ es. es ++ entry ∷ []) stays) ∙ take-append-le (length front) before (entry ∷ []) le ∙ first

@@ -1,8 +1,9 @@
 //! A commit up to its root record.
-ghost use Rattle.std.specs.Prelude.{◌≡◌, ◌≤◌, ◌+◌, suc, IfOk, IsErr, IsErrOf};
+ghost use Rattle.std.specs.Prelude.{◌≡◌, ◌≤◌, ◌+◌, ◌*◌, suc, vec_len, vec_capacity, IfOk, IsErr, IsErrOf};
 ghost use Rattle.sdbt_base.specs.Faults.{Rose};
 ghost use Rattle.page_store.specs.Keeping.{KeepsKeys};
 ghost use Rattle.btree_twigs.specs.Stubs.{stubs, nodes};
+ghost use Rattle.btree_twigs.specs.Top.{child_level};
 ghost use Rattle.btree_update.specs.Groves.{places_of, grown_in};
 ghost use Rattle.shadow_commit.specs.Handing.{OnlyAdds, KnowsPlaces, StopsFrom};
 ghost use Rattle.shadow_commit.specs.Ready.{CanPrepare, CanSealTop, IsSealed, IsReady, IsPrepareCause, IsUnbegun, ListsNewTree};
@@ -13,6 +14,7 @@ use crate::refusals::CommitRefusal;
 use crate::sealing::seal_twig;
 use btree_twigs::Child;
 use btree_update::Grove;
+use node_codec::Entry;
 use page_store::{AppendFault, Buffers};
 use platform::Platform;
 use root_codec::Root;
@@ -57,7 +59,18 @@ pub fn prepare<P: Platform, T: Tape>(
     let Ok(made) = certify(alloc, twig, root, head, grove.gone(), grove.never()) else {
         return Err(CommitRefusal::Memory);
     };
-    match seal_all(grove.top(), root, mapped, platform, tape, buffers) {
+    let Ok(mut entries) = Vec::with_capacity(alloc, 64 * twig.level as usize) else {
+        return Err(CommitRefusal::Memory);
+    };
+    match seal_all(
+        grove.top(),
+        root,
+        mapped,
+        &mut entries,
+        platform,
+        tape,
+        buffers,
+    ) {
         Ok(root) => Ok(Prepared {
             root,
             cert: made.cert,
@@ -74,11 +87,13 @@ fn seal_all<P: Platform, T: Tape>(
     top: &Child,
     root: &Root,
     mapped: u64,
+    entries: &mut Vec<Entry>,
     platform: &mut P,
     tape: &mut T,
     buffers: &mut Buffers,
 ) -> Result<Root, AppendFault>
     requires can { CanSealTop (P.head platform.old) (P.capacity platform.old) root.now mapped top.now }
+    requires room { vec_len entries.old + 64 * child_level top.now ≤ vec_capacity entries.old }
     ensures sealed { (at : CanSealTop (P.head platform.old) (P.capacity platform.old) root.now mapped top.now) → IfOk result (IsSealed P.tells (P.history platform.old).present (P.history platform.new).present
         (P.head platform.old) (P.head platform.new) (T.drawn tape.old) (T.drawn tape.new) root.now mapped (suc at.level) top.now (stubs (suc at.level) root.now.blocks top.now)) }
     ensures within { (at : CanSealTop (P.head platform.old) (P.capacity platform.old) root.now mapped top.now) → P.head platform.new ≤ P.head platform.old + nodes (suc at.level) top.now }
@@ -91,7 +106,7 @@ fn seal_all<P: Platform, T: Tape>(
     let Child::Grown { twig, .. } = top else {
         unreachable!()
     };
-    let placed = seal_twig(twig, buffers, platform, tape)?;
+    let placed = seal_twig(twig, entries, buffers, platform, tape)?;
     let Ok(()) = platform.sync() else {
         return Err(AppendFault::PlatformFault);
     };

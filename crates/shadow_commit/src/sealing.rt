@@ -1,14 +1,14 @@
 //! How the nodes in memory are sealed.
-ghost use Rattle.std.specs.Prelude.{◌≡◌, ◌<◌, ◌≤◌, ◌+◌, suc, IfOk, IsErr, IsErrOf, All};
+ghost use Rattle.std.specs.Prelude.{◌≡◌, ◌<◌, ◌≤◌, ◌+◌, ◌*◌, ◌++◌, [], ◌∷◌, suc, vec_len, vec_capacity, IfOk, IsErr, IsErrOf, All};
 ghost use Rattle.sdbt_base.specs.Bytes.{IsBytes};
 ghost use Rattle.sdbt_base.specs.Faults.{Rose};
-ghost use Rattle.btree_twigs.specs.Stubs.{children_of, nodes, nodes_below, stubs, stubs_below};
+ghost use Rattle.btree_twigs.specs.Top.{child_level};
+ghost use Rattle.btree_twigs.specs.Stubs.{level_of, children_of, nodes, nodes_below, stubs, stubs_below};
 ghost use Rattle.shadow_commit.specs.Sealed.{Seals, SealsNode};
 ghost use Rattle.shadow_commit.specs.Handing.{Adds, Stops, OnlyAdds};
 ghost use Rattle.shadow_commit.specs.NewTree.{AreNodesOver};
 ghost use Rattle.shadow_commit.specs.CanSeal.{CanSeal, CanSealChild};
 
-use arrayvec::ArrayVec;
 use btree_twigs::{Child, Twig};
 use node_codec::Entry;
 use page_store::{AppendFault, Buffers, Placed};
@@ -16,15 +16,17 @@ use platform::Platform;
 use sdbt_base::{Key, Tape};
 
 /// Seals the nodes in memory, each after all below it, and answers where the topmost is. After a fault each page that was
-/// handed over is one of theirs, in order.
+/// handed over is one of theirs, in order. `entries` has room for those of a node of each level, behind what is there; that stays.
 #[cycle(seal)]
 pub(crate) fn seal_twig<P: Platform, T: Tape>(
     twig: &Twig,
+    entries: &mut Vec<Entry>,
     buffers: &mut Buffers,
     platform: &mut P,
     tape: &mut T,
 ) -> Result<Placed, AppendFault>
     requires can { CanSeal (P.head platform.old) (P.capacity platform.old) twig.now }
+    requires room { vec_len entries.old + 64 * level_of twig.now ≤ vec_capacity entries.old }
     ensures sealed { (at : CanSeal (P.head platform.old) (P.capacity platform.old) twig.now) → IfOk result (λ placed.
         Adds (λ nodes. SealsNode (Seals at.level) at.level (P.head platform.old) (children_of twig.now) nodes placed.addr placed.key)
         P.tells (P.history platform.old).present (P.history platform.new).present (P.head platform.old) (P.head platform.new) (T.drawn tape.old) (T.drawn tape.new)) }
@@ -34,13 +36,17 @@ pub(crate) fn seal_twig<P: Platform, T: Tape>(
     ensures beside { OnlyAdds P.Platform T.Tape platform.old platform.new tape.old tape.new }
     ensures platform_cause { IsErrOf result AppendFault.PlatformFault → Rose (P.faults platform.old) (P.faults platform.new) }
     ensures tape_cause { IsErrOf result AppendFault.TapeFault → Rose (T.faults tape.old) (T.faults tape.new) }
+    ensures entries { IfOk result (λ _. entries.new.items ≡ entries.old.items) }
+    ensures room { vec_capacity entries.old ≤ vec_capacity entries.new }
 {
-    let mut entries = ArrayVec::<Entry, 64>::new();
+    let begin = entries.len();
     for child in twig.children.iter() {
-        let entry = seal_child(child, buffers, platform, tape)?;
-        entries.push(entry);
+        let entry = seal_child(child, entries, buffers, platform, tape)?;
+        add(entries, entry);
     }
-    buffers.put_node(platform.head(), twig.level, &entries);
+    let (_, own) = entries.split_at(begin);
+    buffers.put_node(platform.head(), twig.level, own);
+    entries.truncate(begin);
     buffers.append(platform, tape)
 }
 
@@ -48,11 +54,13 @@ pub(crate) fn seal_twig<P: Platform, T: Tape>(
 #[cycle(seal)]
 fn seal_child<P: Platform, T: Tape>(
     child: &Child,
+    entries: &mut Vec<Entry>,
     buffers: &mut Buffers,
     platform: &mut P,
     tape: &mut T,
 ) -> Result<Entry, AppendFault>
     requires can { CanSealChild (P.head platform.old) (P.capacity platform.old) child.now }
+    requires room { vec_len entries.old + 64 * child_level child.now ≤ vec_capacity entries.old }
     ensures sealed { (at : CanSealChild (P.head platform.old) (P.capacity platform.old) child.now) → IfOk result (λ entry.
         Adds (λ nodes. Seals at.level (P.head platform.old) child.now nodes entry)
         P.tells (P.history platform.old).present (P.history platform.new).present (P.head platform.old) (P.head platform.new) (T.drawn tape.old) (T.drawn tape.new)) }
@@ -62,11 +70,13 @@ fn seal_child<P: Platform, T: Tape>(
     ensures beside { OnlyAdds P.Platform T.Tape platform.old platform.new tape.old tape.new }
     ensures platform_cause { IsErrOf result AppendFault.PlatformFault → Rose (P.faults platform.old) (P.faults platform.new) }
     ensures tape_cause { IsErrOf result AppendFault.TapeFault → Rose (T.faults tape.old) (T.faults tape.new) }
+    ensures entries { IfOk result (λ _. entries.new.items ≡ entries.old.items) }
+    ensures room { vec_capacity entries.old ≤ vec_capacity entries.new }
 {
     match child {
         Child::Kept { low, addr, key } => Ok(kept_entry(*low, *addr, key)),
         Child::Grown { low, twig } => {
-            let placed = seal_twig(twig, buffers, platform, tape)?;
+            let placed = seal_twig(twig, entries, buffers, platform, tape)?;
             Ok(Entry {
                 low: *low,
                 addr: placed.addr,
@@ -74,6 +84,15 @@ fn seal_child<P: Platform, T: Tape>(
             })
         }
     }
+}
+
+/// Puts an entry behind others, where there is room.
+fn add(entries: &mut Vec<Entry>, entry: Entry)
+    requires { vec_len entries.old < vec_capacity entries.old }
+    ensures items { entries.new.items ≡ entries.old.items ++ entry ∷ [] }
+    ensures capacity { vec_capacity entries.old ≤ vec_capacity entries.new }
+{
+    let _room = entries.push(entry);
 }
 
 /// The entry of a child on the medium.

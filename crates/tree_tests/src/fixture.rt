@@ -7,18 +7,18 @@ ghost use Rattle.btree_update.specs.Held.{AreBelow};
 use crate::device::{Device, key_of};
 use crate::shape::nodes_of;
 use btree_update::{Grove, ReadyRefusal};
-use node_cache::NodeCache;
+use btree_walk::NodeReader;
 use page_store::FetchRefusal;
 use platform::Platform;
 use root_codec::Root;
 use std::alloc::Global;
 use std::marker::Model;
 
-/// A grove, the device that it stands on, and a cache before it.
+/// A grove, the device that it stands on, and what its nodes are read with.
 #[derive(Drop)]
 pub(crate) struct Fixture {
     device: Device,
-    cache: NodeCache,
+    reader: NodeReader,
     root: Root,
     grove: Grove,
 }
@@ -41,7 +41,7 @@ impl Fixture {
     pub(crate) fn over(
         alloc: Global,
         device: Device,
-        cache: NodeCache,
+        reader: NodeReader,
         size: (u16, u64),
         level: u8,
         addr: u64,
@@ -62,7 +62,7 @@ impl Fixture {
         let grove = Grove::of(alloc, &root);
         Some(Fixture {
             device,
-            cache,
+            reader,
             root,
             grove,
         })
@@ -72,7 +72,7 @@ impl Fixture {
     pub(crate) fn commit(self, alloc: Global) -> Option<Fixture> {
         let Fixture {
             mut device,
-            cache,
+            reader,
             root,
             grove,
         } = self;
@@ -80,7 +80,7 @@ impl Fixture {
         Fixture::over(
             alloc,
             device,
-            cache,
+            reader,
             (root.order, root.blocks),
             grove.level(),
             top.addr,
@@ -97,13 +97,8 @@ impl Fixture {
             return None;
         }
         Some(
-            self.grove.ready(
-                alloc,
-                block,
-                &mut self.device.platform,
-                &mut self.cache,
-                &mut self.device.buffers,
-            ),
+            self.grove
+                .ready(alloc, block, &mut self.device.platform, &mut self.reader),
         )
     }
 
@@ -122,13 +117,7 @@ impl Fixture {
         }
         let _is_mapped = self
             .grove
-            .ready(
-                alloc,
-                block,
-                &mut self.device.platform,
-                &mut self.cache,
-                &mut self.device.buffers,
-            )
+            .ready(alloc, block, &mut self.device.platform, &mut self.reader)
             .ok()?;
         self.grove.insert(block, addr, key_of(addr));
         Some(())
@@ -141,13 +130,7 @@ impl Fixture {
         }
         let is_mapped = self
             .grove
-            .ready(
-                alloc,
-                block,
-                &mut self.device.platform,
-                &mut self.cache,
-                &mut self.device.buffers,
-            )
+            .ready(alloc, block, &mut self.device.platform, &mut self.reader)
             .ok()?;
         if is_mapped {
             self.grove.remove(block);
@@ -160,12 +143,9 @@ impl Fixture {
         if block >= self.root.blocks {
             return Ok(None);
         }
-        let found = self.grove.find(
-            block,
-            &mut self.device.platform,
-            &mut self.cache,
-            &mut self.device.buffers,
-        )?;
+        let found = self
+            .grove
+            .find(block, &mut self.device.platform, &mut self.reader)?;
         Ok(found.map(|entry| entry.addr))
     }
 

@@ -1,7 +1,7 @@
 //! Devices as text: a line for each page.
 use crate::device::{Device, key_of};
 use crate::fixture::Fixture;
-use node_cache::NodeCache;
+use btree_walk::NodeReader;
 use node_codec::Entry;
 use platform::Platform;
 use std::alloc::Global;
@@ -87,7 +87,7 @@ pub(crate) fn fixture_of(
     level: u8,
 ) -> Option<Fixture> {
     let device = device_of(alloc, pages)?;
-    let cache = NodeCache::new(alloc, 16).ok()?;
+    let reader = NodeReader::new(alloc, 16).ok()?;
     let top = device.platform.head().checked_sub(1)?;
-    Fixture::over(alloc, device, cache, (order, blocks), level, top)
+    Fixture::over(alloc, device, reader, (order, blocks), level, top)
 }

@@ -2,8 +2,7 @@
 use crate::device::{Device, key_of};
 use crate::pages::device_of;
 use crate::script::{Act, Outcome, Stage, in_words};
-use btree_walk::{WalkRefusal, addresses, entries, find};
-use node_cache::NodeCache;
+use btree_walk::{NodeReader, WalkRefusal, addresses, entries, find};
 use page_store::{FetchRefusal, Want};
 use platform::Platform;
 use root_codec::Root;
@@ -13,11 +12,11 @@ use std::alloc::Global;
 /// How many nodes a cache can keep at most.
 const MOST_NODES: usize = 4096;
 
-/// A device, and a cache before it.
+/// A device, and what its nodes are read with.
 #[derive(Drop)]
 pub(crate) struct Walker {
     device: Device,
-    cache: NodeCache,
+    reader: NodeReader,
 }
 
 impl Walker {
@@ -28,7 +27,7 @@ impl Walker {
         }
         Some(Walker {
             device: device_of(alloc, pages)?,
-            cache: NodeCache::new(alloc, capacity).ok()?,
+            reader: NodeReader::new(alloc, capacity).ok()?,
         })
     }
 
@@ -56,11 +55,10 @@ impl Walker {
         }
         match find(
             &mut self.device.platform,
-            &mut self.cache,
+            &mut self.reader,
             want,
             key,
             block,
-            &mut self.device.buffers,
         ) {
             Ok(found) => Some(Outcome::At(found.map(|entry| entry.addr))),
             Err(FetchRefusal::BadRecord { addr }) => Some(Outcome::Bad(addr)),
@@ -121,7 +119,7 @@ impl Walker {
             return self.try_other(&act.numbers);
         }
         if act.verb == b'k' {
-            return row_of(alloc, &self.cache.addresses(alloc).ok()?);
+            return row_of(alloc, &self.reader.cache.addresses(alloc).ok()?);
         }
         if act.verb == b'r' {
             let reads = self.device.platform.reads();

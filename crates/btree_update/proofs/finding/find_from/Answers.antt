@@ -20,7 +20,7 @@ returns-in-Below-clause-found g c = λ tells stands.
     subst (λ s. IfOk c.find.result (FindsFrom (FitsAt pages) c.args.order c.args.block s)) (sym c.in-Below.is)
     (IfOk_map _ _ c.find.result
     (λ found h. subst (λ k. FindsBelow (FitsAt pages) c.args.block want k found) c.from_bytes-key.ensures
-    (h.path, finds_page pages c.args.cache.now c.args.order (c.in-Below.level - 1) c.args.block want c.from_bytes-key.result h.path found stands h.finds))
+    (h.path, finds_page pages c.args.reader.now.cache c.args.order (c.in-Below.level - 1) c.args.block want c.from_bytes-key.result h.path found stands h.finds))
     (c.find.ensures.found tells)))
 
 pub returns-in-Below-clause-bad : goal.returns-in-Below-clause-bad
@@ -31,26 +31,26 @@ returns-in-Below-clause-bad g c = λ tells stands addr is.
     let small : c.in-Below.addr < 2 ^ 64 = omega (arith, can.4, g.met.P.Platform.has_room c.args.platform.now, g.met.P.Platform.is_limited c.args.platform.now) in
     subst (StopsFrom pages c.args.order c.args.block addr) (sym c.in-Below.is)
     (subst (λ k. ComesToWrong pages c.args.block addr want k) c.from_bytes-key.ensures
-    (stops_page pages c.args.cache.now c.args.order (c.in-Below.level - 1) c.args.block addr want c.from_bytes-key.result small stands (c.find.ensures.bad tells addr is))))
+    (stops_page pages c.args.reader.now.cache c.args.order (c.in-Below.level - 1) c.args.block addr want c.from_bytes-key.result small stands (c.find.ensures.bad tells addr is))))
 
 -- ---- what the cache keeps
 
 pub returns-in-Found-clause-uses : goal.returns-in-Found-clause-uses
 returns-in-Found-clause-uses g c = record {
   warm = λ keeps. refl;
-  fills = λ tells room. subst (KeepsFrom c.args.cache.now.kept c.args.order c.args.block) (sym c.in-Found.is) (Some (record { low = c.args.block; addr = c.in-Found.addr; key = c.in-Found.key }), refl);
+  fills = λ tells room. subst (KeepsFrom c.args.reader.now.cache.kept c.args.order c.args.block) (sym c.in-Found.is) (Some (record { low = c.args.block; addr = c.in-Found.addr; key = c.in-Found.key }), refl);
 }
 
 pub returns-in-Absent-clause-uses : goal.returns-in-Absent-clause-uses
 returns-in-Absent-clause-uses g c = record {
   warm = λ keeps. refl;
-  fills = λ tells room. subst (KeepsFrom c.args.cache.now.kept c.args.order c.args.block) (sym c.in-Absent.is) (None, refl);
+  fills = λ tells room. subst (KeepsFrom c.args.reader.now.cache.kept c.args.order c.args.block) (sym c.in-Absent.is) (None, refl);
 }
 
 pub returns-in-Below-clause-uses : goal.returns-in-Below-clause-uses
 returns-in-Below-clause-uses g c =
-    let old = c.args.cache.now.kept in
-    let new = c.find.new.cache.kept in
+    let old = c.args.reader.now.cache.kept in
+    let new = c.find.new.reader.cache.kept in
     let want = want_of c.args.order (stub_at c.in-Below.level c.in-Below.low c.in-Below.high c.in-Below.addr c.in-Below.key) in
     record {
       warm = λ keeps.
@@ -58,7 +58,7 @@ returns-in-Below-clause-uses g c =
           (c.find.ensures.kept at.0 at.1.0 (subst (λ k. Finds (KeptFits old) c.args.order c.args.block at.0 (c.in-Below.level - 1) want k at.1.0) (sym c.from_bytes-key.ensures) at.1.1)).0);
       fills = λ tells. OnOk_from _ _ c.find.result
           (λ found h room.
-          let level = subst (λ s. level_from s ≤ c.find.new.cache.capacity) c.in-Below.is room in
+          let level = subst (λ s. level_from s ≤ c.find.new.reader.cache.capacity) c.in-Below.is room in
           subst (KeepsFrom new c.args.order c.args.block) (sym c.in-Below.is)
           (found, subst (λ k. FindsBelow (KeptFits new) c.args.block want k found) c.from_bytes-key.ensures (h.path, h.warm (omega (arith, level, c.find.ensures.capacity)))))
           (c.find.ensures.found tells);

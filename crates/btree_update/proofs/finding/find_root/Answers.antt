@@ -90,7 +90,7 @@ returns-in-Kept-clause-found g c = λ tells stands.
     (λ found h. subst (λ y. RootFindsBy (FitsAt pages) c.args.order c.args.block (c.args.level - 1) c.args.high y found) (sym (made.outs-Kept c.in-Kept.low c.in-Kept.addr c.in-Kept.key))
     (subst (λ w. FindsBelow (FitsAt pages) c.args.block w c.in-Kept.key found) same
     (subst (λ k. FindsBelow (FitsAt pages) c.args.block want k found) c.from_bytes-key.ensures
-    (h.path, finds_page pages c.args.cache.now c.args.order (c.args.level - 1) c.args.block want c.from_bytes-key.result h.path found stands h.finds))))
+    (h.path, finds_page pages c.args.reader.now.cache c.args.order (c.args.level - 1) c.args.block want c.from_bytes-key.result h.path found stands h.finds))))
     (c.find.ensures.found tells)))
 
 pub returns-in-Kept-clause-bad : goal.returns-in-Kept-clause-bad
@@ -105,7 +105,7 @@ returns-in-Kept-clause-bad g c = λ tells stands addr is.
     (subst (RootStopsBy pages c.args.order c.args.block addr (c.args.level - 1) c.args.high) (sym (made.outs-Kept c.in-Kept.low c.in-Kept.addr c.in-Kept.key))
     (subst (λ w. ComesToWrong pages c.args.block addr w c.in-Kept.key) same
     (subst (λ k. ComesToWrong pages c.args.block addr want k) c.from_bytes-key.ensures
-    (stops_page pages c.args.cache.now c.args.order (c.args.level - 1) c.args.block addr want c.from_bytes-key.result small stands (c.find.ensures.bad tells addr is))))))
+    (stops_page pages c.args.reader.now.cache c.args.order (c.args.level - 1) c.args.block addr want c.from_bytes-key.result small stands (c.find.ensures.bad tells addr is))))))
 
 pub returns-in-Kept-clause-entry : goal.returns-in-Kept-clause-entry
 returns-in-Kept-clause-entry g c =
@@ -117,8 +117,8 @@ returns-in-Kept-clause-entry g c =
 
 pub returns-in-Grown-clause-uses : goal.returns-in-Grown-clause-uses
 returns-in-Grown-clause-uses g c =
-    let old = c.args.cache.now.kept in
-    let new = c.find_from.new.cache.kept in
+    let old = c.args.reader.now.cache.kept in
+    let new = c.find_from.new.reader.cache.kept in
     let order = c.args.order in let block = c.args.block in let below = c.args.level - 1 in let high = c.args.high in
     let spot = c.find-spot.result in
     let twig = c.in-Grown.twig in
@@ -138,8 +138,8 @@ returns-in-Grown-clause-uses g c =
 
 pub returns-in-Kept-clause-uses : goal.returns-in-Kept-clause-uses
 returns-in-Kept-clause-uses g c =
-    let old = c.args.cache.now.kept in
-    let new = c.find.new.cache.kept in
+    let old = c.args.reader.now.cache.kept in
+    let new = c.find.new.reader.cache.kept in
     let order = c.args.order in let block = c.args.block in let below = c.args.level - 1 in let high = c.args.high in
     let want = want_at order c.args.level c.in-Kept.low high c.in-Kept.addr c.least_of_root.result in
     let same = root_want_is order c.args.level block high (g.P.Platform.head c.args.platform.now) c.in-Kept.low c.in-Kept.addr c.least_of_root.result c.in-Kept.key c.args.top.now c.requires.can c.in-Kept.is c.least_of_root.ensures in
@@ -160,7 +160,7 @@ returns-in-Kept-clause-uses g c =
 pub returns-in-Grown-clause-caches : goal.returns-in-Grown-clause-caches
 returns-in-Grown-clause-caches g c =
     let spot = spot_is c.args.order c.args.level c.args.block c.args.high (g.P.Platform.head c.args.platform.now) c.in-Grown.low c.in-Grown.twig c.args.top.now c.find-spot.result c.requires.can c.in-Grown.is c.find-spot.ensures in
-    caches_fewer g.P.Platform (λ pages. HaveNodes pages (stubs c.args.level c.args.high c.args.top.now)) (λ pages. HaveSpot pages c.find-spot.result) c.args.platform.now c.args.cache.now c.find_from.new.cache
+    caches_fewer g.P.Platform (λ pages. HaveNodes pages (stubs c.args.level c.args.high c.args.top.now)) (λ pages. HaveSpot pages c.find-spot.result) c.args.platform.now c.args.reader.now.cache c.find_from.new.reader.cache
     (λ pages places such.
     (let below = grown_among places c.args.level c.args.high c.in-Grown.low c.in-Grown.twig c.args.top.now c.in-Grown.is c.requires.can.one such.1 in
     spot_among pages places c.args.block (stubs_below (c.args.level - 1) c.args.high c.in-Grown.twig) c.find-spot.result such.0 below spot)) c.find_from.ensures.caches

@@ -141,7 +141,7 @@ hold_below-returns-clause-bad g t c = λ tells stands addr is.
     c.place-at.ensures.within c.place-at.ensures.before c.place-at.ensures.after at.to c.index-child.ensures in
     let pages = (g.P.Platform.history c.args.platform.now).present.readable in
     let same : (g.P.Platform.history c.hold_way.new.platform).present.readable ≡ pages = ap (λ i. i.readable) (c.in_ok-left.ensures.looks.image tells) in
-    let stands' = subst (λ p. StandsOver p c.hold_way.new.cache) (sym same) (c.in_ok-left.ensures.caches.stands tells stands) in
+    let stands' = subst (λ p. StandsOver p c.hold_way.new.reader.cache) (sym same) (c.in_ok-left.ensures.caches.stands tells stands) in
     let near = c.hold_beside.ensures.bad tells stands' (take w.at cs) c.index-child.result.now (drop (suc w.at) cs) w.split (before_is w.at c.place-at.result cs w.within w.at_is) addr is in
     subst (λ p. WrongUnder p c.args.order c.args.block addr c.args.level c.args.high c.args.twig.now) same
     (wrong_near (g.P.Platform.history c.hold_way.new.platform).present.readable c.args.order c.args.level c.args.high c.args.block addr c.place-at.result c.args.twig.now c.index-child.result.now w near))
@@ -185,7 +185,7 @@ hold_below-returns-clause-beside g t c = λ tells stands.
     let pages = (g.P.Platform.history c.args.platform.now).present.readable in
     let Reads = IsReadAs pages c.args.order in
     let same : (g.P.Platform.history c.hold_way.new.platform).present.readable ≡ pages = ap (λ i. i.readable) (c.in_ok-left.ensures.looks.image tells) in
-    let stands' = subst (λ p. StandsOver p c.hold_way.new.cache) (sym same) (c.in_ok-left.ensures.caches.stands tells stands) in
+    let stands' = subst (λ p. StandsOver p c.hold_way.new.reader.cache) (sym same) (c.in_ok-left.ensures.caches.stands tells stands) in
     let f = subst (λ m. LeftOf Reads c.args.order c.args.block (c.args.level - 1) m c.index-child.result.now c.hold_way.new.held.items c.hold_way.new.beside.items c.in_ok-left.left) e (c.in_ok-left.ensures.beside tells stands) in
     IfOk_map _ _ c.hold_beside.result
     (λ after h. left_at Reads c.args.order c.args.block c.args.level at.least at.low c.args.high c.place-at.result c.args.twig.now c.index-child.result.now (above c.args.level c.if-level-eq0.false) at.shaped w
@@ -278,7 +278,7 @@ hold_way-returns-in_ok-hold-in-Kept-clause-reads g t c = λ tells stands.
     let pages = (g.P.Platform.history c.args.platform.now).present.readable in
     let Reads = IsReadAs pages c.args.order in
     let same : (g.P.Platform.history c.read_kept.new.platform).present.readable ≡ pages = ap (λ i. i.readable) (c.in_ok-twig-in-Kept.ensures.looks.image tells) in
-    let stands' = subst (λ p. StandsOver p c.read_kept.new.cache) (sym same) (c.in_ok-twig-in-Kept.ensures.stands tells stands) in
+    let stands' = subst (λ p. StandsOver p c.read_kept.new.reader.cache) (sym same) (c.in_ok-twig-in-Kept.ensures.stands tells stands) in
     let way = subst (λ p. OnWay c.args.block (λ end d. HeldFor (IsReadAs p c.args.order) c.args.order c.args.block (c.args.level - 1) end d c.hold_below-in-Kept.new.held.items) c.args.high twig) same (c.in_ok-left-in-Kept.ensures.reads tells stands') in
     let lt = way_lt c.args.order c.args.least c.args.level c.args.block c.args.high (g.P.Platform.head c.args.platform.now) c.in-Kept.low c.in-Kept.addr c.in-Kept.key at in
     let small : c.in-Kept.addr < 2 ^ 64 = omega (arith, lt, g.met.P.Platform.has_room c.args.platform.now, g.met.P.Platform.is_limited c.args.platform.now) in
@@ -310,7 +310,7 @@ hold_way-returns-in_err-left-in-Kept-clause-bad g t c =
     let pages = (g.P.Platform.history c.args.platform.now).present.readable in
     let l = above_it c.args.level at.one in
     let same : (g.P.Platform.history c.read_kept.new.platform).present.readable ≡ pages = ap (λ i. i.readable) (c.in_ok-twig-in-Kept.ensures.looks.image tells) in
-    let stands' = subst (λ p. StandsOver p c.read_kept.new.cache) (sym same) (c.in_ok-twig-in-Kept.ensures.stands tells stands) in
+    let stands' = subst (λ p. StandsOver p c.read_kept.new.reader.cache) (sym same) (c.in_ok-twig-in-Kept.ensures.stands tells stands) in
     let w = subst (λ p. WrongUnder p c.args.order c.args.block addr (c.args.level - 1) c.args.high twig) same (c.in_err-left-in-Kept.ensures.bad tells stands' addr (ap Err err)) in
     let node = subst (λ k. IsNodeOf pages (want_at c.args.order k c.in-Kept.low c.args.high c.in-Kept.addr c.args.least) c.in-Kept.key twig) l
     (c.in_ok-twig-in-Kept.ensures.reads tells stands) in
@@ -345,7 +345,7 @@ pub hold_way-returns-in_ok-hold-in-Kept-clause-beside : goal.hold_way-returns-in
 hold_way-returns-in_ok-hold-in-Kept-clause-beside g t c = λ tells stands.
     (let pages = (g.P.Platform.history c.args.platform.now).present.readable in
     let same : (g.P.Platform.history c.read_kept.new.platform).present.readable ≡ pages = ap (λ i. i.readable) (c.in_ok-twig-in-Kept.ensures.looks.image tells) in
-    let stands' = subst (λ p. StandsOver p c.read_kept.new.cache) (sym same) (c.in_ok-twig-in-Kept.ensures.stands tells stands) in
+    let stands' = subst (λ p. StandsOver p c.read_kept.new.reader.cache) (sym same) (c.in_ok-twig-in-Kept.ensures.stands tells stands) in
     let twig = c.in_ok-twig-in-Kept.twig in
     let left = subst (λ p. IsLeft (λ loses. HelpsBelow (IsReadAs p c.args.order) c.args.order c.args.block (c.args.level - 1) c.args.high twig c.hold_below-in-Kept.new.held.items c.hold_below-in-Kept.new.beside.items loses) c.args.order (length (children_of twig)) c.in_ok-left-in-Kept.left) same
     (c.in_ok-left-in-Kept.ensures.beside tells stands') in
@@ -359,7 +359,7 @@ hold_way-returns-in_ok-hold-in-Kept-clause-mapped g t c = λ tells stands mapped
     let twig = c.in_ok-twig-in-Kept.twig in
     let pages = (g.P.Platform.history c.args.platform.now).present.readable in
     let same : (g.P.Platform.history c.read_kept.new.platform).present.readable ≡ pages = ap (λ i. i.readable) (c.in_ok-twig-in-Kept.ensures.looks.image tells) in
-    let stands' = subst (λ p. StandsOver p c.read_kept.new.cache) (sym same) (c.in_ok-twig-in-Kept.ensures.stands tells stands) in
+    let stands' = subst (λ p. StandsOver p c.read_kept.new.reader.cache) (sym same) (c.in_ok-twig-in-Kept.ensures.stands tells stands) in
     let lt = way_lt c.args.order c.args.least c.args.level c.args.block c.args.high (g.P.Platform.head c.args.platform.now) c.in-Kept.low c.in-Kept.addr c.in-Kept.key at in
     let small : c.in-Kept.addr < 2 ^ 64 = omega (arith, lt, g.met.P.Platform.has_room c.args.platform.now, g.met.P.Platform.is_limited c.args.platform.now) in
     let node = subst (λ k. IsNodeOf pages (want_at c.args.order k c.in-Kept.low c.args.high c.in-Kept.addr c.args.least) c.in-Kept.key twig) (above_it c.args.level at.one)
@@ -416,7 +416,7 @@ hold_way-returns-in_ok-hold-in-Kept-clause-finds g t c = λ tells stands.
     let twig = c.in_ok-twig-in-Kept.twig in
     let pages = (g.P.Platform.history c.args.platform.now).present.readable in
     let same : (g.P.Platform.history c.read_kept.new.platform).present.readable ≡ pages = ap (λ i. i.readable) (c.in_ok-twig-in-Kept.ensures.looks.image tells) in
-    let stands' = subst (λ p. StandsOver p c.read_kept.new.cache) (sym same) (c.in_ok-twig-in-Kept.ensures.stands tells stands) in
+    let stands' = subst (λ p. StandsOver p c.read_kept.new.reader.cache) (sym same) (c.in_ok-twig-in-Kept.ensures.stands tells stands) in
     let can = way_read c.args.order c.args.least c.args.level c.args.block c.args.high head c.in-Kept.low c.in-Kept.addr c.in-Kept.key twig at c.in_ok-twig-in-Kept.ensures.fits in
     let fits = subst (λ k. IsNodeFor (want_at c.args.order k c.in-Kept.low c.args.high c.in-Kept.addr c.args.least) twig) l c.in_ok-twig-in-Kept.ensures.fits in
     let node = subst (λ k. IsNodeOf pages (want_at c.args.order k c.in-Kept.low c.args.high c.in-Kept.addr c.args.least) c.in-Kept.key twig) l (c.in_ok-twig-in-Kept.ensures.reads tells stands) in
@@ -437,7 +437,7 @@ hold_below-returns-in_err-left-clause-caches g t c =
     let e = end_is c.args.high c.place-at.result w.at c.end_of-end.result c.deref-2.result.now (children_of c.args.twig.now) c.deref-2.ensures.value w.at_is c.end_of-end.ensures in
     let below = λ (pages : List (List ℕ)). HaveNodes pages (stubs_below c.args.level c.args.high c.args.twig.now) in
     let child = λ (pages : List (List ℕ)). HaveNodes pages (stubs c.args.level c.end_of-end.result c.index-child.result.now) in
-    caches_fewer g.P.Platform below child c.args.platform.now c.args.cache.now c.hold_way.new.cache (λ pages places such. on_way_among pages places c.args.order c.args.block c.args.level c.args.high c.place-at.result c.end_of-end.result c.args.twig.now c.index-child.result.now w e such) c.in_err-left.ensures.caches
+    caches_fewer g.P.Platform below child c.args.platform.now c.args.reader.now.cache c.hold_way.new.reader.cache (λ pages places such. on_way_among pages places c.args.order c.args.block c.args.level c.args.high c.place-at.result c.end_of-end.result c.args.twig.now c.index-child.result.now w e such) c.in_err-left.ensures.caches
 
 pub hold_below-returns-clause-caches : goal.hold_below-returns-clause-caches
 hold_below-returns-clause-caches g t c =
@@ -446,38 +446,38 @@ hold_below-returns-clause-caches g t c =
     let e = end_is c.args.high c.place-at.result w.at c.end_of-end.result c.deref-2.result.now (children_of c.args.twig.now) c.deref-2.ensures.value w.at_is c.end_of-end.ensures in
     let below = λ (pages : List (List ℕ)). HaveNodes pages (stubs_below c.args.level c.args.high c.args.twig.now) in
     let child = λ (pages : List (List ℕ)). HaveNodes pages (stubs c.args.level c.end_of-end.result c.index-child.result.now) in
-    let one = caches_fewer g.P.Platform below child c.args.platform.now c.args.cache.now c.hold_way.new.cache (λ pages places such. on_way_among pages places c.args.order c.args.block c.args.level c.args.high c.place-at.result c.end_of-end.result c.args.twig.now c.index-child.result.now w e such) c.in_ok-left.ensures.caches in
-    caches_then g.P.Platform below below c.args.platform.now c.hold_way.new.platform c.args.cache.now c.hold_way.new.cache c.hold_beside.new.cache c.in_ok-left.ensures.looks.image (λ tells stands places such. such) one c.hold_beside.ensures.caches
+    let one = caches_fewer g.P.Platform below child c.args.platform.now c.args.reader.now.cache c.hold_way.new.reader.cache (λ pages places such. on_way_among pages places c.args.order c.args.block c.args.level c.args.high c.place-at.result c.end_of-end.result c.args.twig.now c.index-child.result.now w e such) c.in_ok-left.ensures.caches in
+    caches_then g.P.Platform below below c.args.platform.now c.hold_way.new.platform c.args.reader.now.cache c.hold_way.new.reader.cache c.hold_beside.new.reader.cache c.in_ok-left.ensures.looks.image (λ tells stands places such. such) one c.hold_beside.ensures.caches
 
 pub hold_way-returns-in-Grown-clause-caches : goal.hold_way-returns-in-Grown-clause-caches
 hold_way-returns-in-Grown-clause-caches g t c =
-    caches_fewer g.P.Platform (λ pages. HaveNodes pages (stubs c.args.level c.args.high c.args.child.now)) (λ pages. HaveNodes pages (stubs_below (c.args.level - 1) c.args.high c.in-Grown.twig)) c.args.platform.now c.args.cache.now c.hold_below.new.cache
+    caches_fewer g.P.Platform (λ pages. HaveNodes pages (stubs c.args.level c.args.high c.args.child.now)) (λ pages. HaveNodes pages (stubs_below (c.args.level - 1) c.args.high c.in-Grown.twig)) c.args.platform.now c.args.reader.now.cache c.hold_below.new.reader.cache
     (λ pages places such. (such.0, grown_among places c.args.level c.args.high c.in-Grown.low c.in-Grown.twig c.args.child.now c.in-Grown.is c.requires.can.one such.1)) c.hold_below.ensures.caches
 
 pub hold_way-returns-in_err-twig-in-Kept-clause-caches : goal.hold_way-returns-in_err-twig-in-Kept-clause-caches
 hold_way-returns-in_err-twig-in-Kept-clause-caches g t c =
-    caches_read g.P.Platform c.args.level c.args.high c.in-Kept.low c.in-Kept.addr c.in-Kept.key c.args.child.now c.args.platform.now c.args.cache.now c.read_kept.new.cache c.in-Kept.is c.requires.can.one c.in_err-twig-in-Kept.ensures.capacity c.in_err-twig-in-Kept.ensures.stands c.in_err-twig-in-Kept.ensures.but
+    caches_read g.P.Platform c.args.level c.args.high c.in-Kept.low c.in-Kept.addr c.in-Kept.key c.args.child.now c.args.platform.now c.args.reader.now.cache c.read_kept.new.reader.cache c.in-Kept.is c.requires.can.one c.in_err-twig-in-Kept.ensures.capacity c.in_err-twig-in-Kept.ensures.stands c.in_err-twig-in-Kept.ensures.but
 
 pub hold_way-returns-in_err-left-in-Kept-clause-caches : goal.hold_way-returns-in_err-left-in-Kept-clause-caches
 hold_way-returns-in_err-left-in-Kept-clause-caches g t c =
-    let one = caches_read g.P.Platform c.args.level c.args.high c.in-Kept.low c.in-Kept.addr c.in-Kept.key c.args.child.now c.args.platform.now c.args.cache.now c.read_kept.new.cache c.in-Kept.is c.requires.can.one c.in_ok-twig-in-Kept.ensures.capacity c.in_ok-twig-in-Kept.ensures.stands c.in_ok-twig-in-Kept.ensures.but in
-    caches_then g.P.Platform (λ pages. HaveNodes pages (stubs c.args.level c.args.high c.args.child.now)) (λ pages. HaveNodes pages (stubs_below (c.args.level - 1) c.args.high c.in_ok-twig-in-Kept.twig)) c.args.platform.now c.read_kept.new.platform c.args.cache.now c.read_kept.new.cache c.hold_below-in-Kept.new.cache
+    let one = caches_read g.P.Platform c.args.level c.args.high c.in-Kept.low c.in-Kept.addr c.in-Kept.key c.args.child.now c.args.platform.now c.args.reader.now.cache c.read_kept.new.reader.cache c.in-Kept.is c.requires.can.one c.in_ok-twig-in-Kept.ensures.capacity c.in_ok-twig-in-Kept.ensures.stands c.in_ok-twig-in-Kept.ensures.but in
+    caches_then g.P.Platform (λ pages. HaveNodes pages (stubs c.args.level c.args.high c.args.child.now)) (λ pages. HaveNodes pages (stubs_below (c.args.level - 1) c.args.high c.in_ok-twig-in-Kept.twig)) c.args.platform.now c.read_kept.new.platform c.args.reader.now.cache c.read_kept.new.reader.cache c.hold_below-in-Kept.new.reader.cache
     c.in_ok-twig-in-Kept.ensures.looks.image
     (λ tells stands places such. nodes_below_read _ places c.args.level c.args.high c.in-Kept.low c.in-Kept.addr c.in-Kept.key _ c.in_ok-twig-in-Kept.twig c.args.child.now refl c.in-Kept.is c.requires.can.one (c.in_ok-twig-in-Kept.ensures.reads tells stands) such)
     one c.in_err-left-in-Kept.ensures.caches
 
 pub hold_way-returns-in_err-hold-in-Kept-clause-caches : goal.hold_way-returns-in_err-hold-in-Kept-clause-caches
 hold_way-returns-in_err-hold-in-Kept-clause-caches g t c =
-    let one = caches_read g.P.Platform c.args.level c.args.high c.in-Kept.low c.in-Kept.addr c.in-Kept.key c.args.child.now c.args.platform.now c.args.cache.now c.read_kept.new.cache c.in-Kept.is c.requires.can.one c.in_ok-twig-in-Kept.ensures.capacity c.in_ok-twig-in-Kept.ensures.stands c.in_ok-twig-in-Kept.ensures.but in
-    caches_then g.P.Platform (λ pages. HaveNodes pages (stubs c.args.level c.args.high c.args.child.now)) (λ pages. HaveNodes pages (stubs_below (c.args.level - 1) c.args.high c.in_ok-twig-in-Kept.twig)) c.args.platform.now c.read_kept.new.platform c.args.cache.now c.read_kept.new.cache c.hold_below-in-Kept.new.cache
+    let one = caches_read g.P.Platform c.args.level c.args.high c.in-Kept.low c.in-Kept.addr c.in-Kept.key c.args.child.now c.args.platform.now c.args.reader.now.cache c.read_kept.new.reader.cache c.in-Kept.is c.requires.can.one c.in_ok-twig-in-Kept.ensures.capacity c.in_ok-twig-in-Kept.ensures.stands c.in_ok-twig-in-Kept.ensures.but in
+    caches_then g.P.Platform (λ pages. HaveNodes pages (stubs c.args.level c.args.high c.args.child.now)) (λ pages. HaveNodes pages (stubs_below (c.args.level - 1) c.args.high c.in_ok-twig-in-Kept.twig)) c.args.platform.now c.read_kept.new.platform c.args.reader.now.cache c.read_kept.new.reader.cache c.hold_below-in-Kept.new.reader.cache
     c.in_ok-twig-in-Kept.ensures.looks.image
     (λ tells stands places such. nodes_below_read _ places c.args.level c.args.high c.in-Kept.low c.in-Kept.addr c.in-Kept.key _ c.in_ok-twig-in-Kept.twig c.args.child.now refl c.in-Kept.is c.requires.can.one (c.in_ok-twig-in-Kept.ensures.reads tells stands) such)
     one c.in_ok-left-in-Kept.ensures.caches
 
 pub hold_way-returns-in_ok-hold-in-Kept-clause-caches : goal.hold_way-returns-in_ok-hold-in-Kept-clause-caches
 hold_way-returns-in_ok-hold-in-Kept-clause-caches g t c =
-    let one = caches_read g.P.Platform c.args.level c.args.high c.in-Kept.low c.in-Kept.addr c.in-Kept.key c.args.child.now c.args.platform.now c.args.cache.now c.read_kept.new.cache c.in-Kept.is c.requires.can.one c.in_ok-twig-in-Kept.ensures.capacity c.in_ok-twig-in-Kept.ensures.stands c.in_ok-twig-in-Kept.ensures.but in
-    caches_then g.P.Platform (λ pages. HaveNodes pages (stubs c.args.level c.args.high c.args.child.now)) (λ pages. HaveNodes pages (stubs_below (c.args.level - 1) c.args.high c.in_ok-twig-in-Kept.twig)) c.args.platform.now c.read_kept.new.platform c.args.cache.now c.read_kept.new.cache c.hold_below-in-Kept.new.cache
+    let one = caches_read g.P.Platform c.args.level c.args.high c.in-Kept.low c.in-Kept.addr c.in-Kept.key c.args.child.now c.args.platform.now c.args.reader.now.cache c.read_kept.new.reader.cache c.in-Kept.is c.requires.can.one c.in_ok-twig-in-Kept.ensures.capacity c.in_ok-twig-in-Kept.ensures.stands c.in_ok-twig-in-Kept.ensures.but in
+    caches_then g.P.Platform (λ pages. HaveNodes pages (stubs c.args.level c.args.high c.args.child.now)) (λ pages. HaveNodes pages (stubs_below (c.args.level - 1) c.args.high c.in_ok-twig-in-Kept.twig)) c.args.platform.now c.read_kept.new.platform c.args.reader.now.cache c.read_kept.new.reader.cache c.hold_below-in-Kept.new.reader.cache
     c.in_ok-twig-in-Kept.ensures.looks.image
     (λ tells stands places such. nodes_below_read _ places c.args.level c.args.high c.in-Kept.low c.in-Kept.addr c.in-Kept.key _ c.in_ok-twig-in-Kept.twig c.args.child.now refl c.in-Kept.is c.requires.can.one (c.in_ok-twig-in-Kept.ensures.reads tells stands) such)
     one c.in_ok-left-in-Kept.ensures.caches

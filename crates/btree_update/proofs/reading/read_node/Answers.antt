@@ -16,30 +16,30 @@ returns-then-not-fits-clause-bad g c = λ tells stands addr is.
     let addr_is : c.args.want.now.addr ≡ addr = cc in (
       sym addr_is,
       nothing_else (g.P.Platform.history c.args.platform.now).present.readable c.args.want.now c.args.key.now c.in-Some.node.now c.requires.small
-          (kept_is_page (g.P.Platform.history c.args.platform.now).present.readable c.args.cache.now c.args.want.now.addr c.args.key.now c.in-Some.node.now stands c.in-Some.ensures.found.here)
+          (kept_is_page (g.P.Platform.history c.args.platform.now).present.readable c.args.reader.now.cache c.args.want.now.addr c.args.key.now c.in-Some.node.now stands c.in-Some.ensures.found.here)
           (λ fits. false≢true (sym c.if-not-fits.true ∙ c.fits.ensures.1 fits)),
     )
 
 pub returns-then-not-fits-clause-stands : goal.returns-then-not-fits-clause-stands
 returns-then-not-fits-clause-stands g c = λ tells stands.
-    (let uses = subst (λ (r : Option (Bor _)). Uses c.args.cache.now c.args.want.now.addr c.args.key.now (option_copied r) c.get.follows.lender-at-none) c.in-Some.is c.get.follows.holds-at-none in
-    stands_on (g.P.Platform.history c.args.platform.now).present.readable c.args.cache.now c.get.follows.lender-at-none stands
-    (keeps_used (g.P.Platform.history c.args.platform.now).present.readable c.args.cache.now c.get.follows.lender-at-none c.args.want.now.addr c.args.key.now c.in-Some.node.now uses))
+    (let uses = subst (λ (r : Option (Bor _)). Uses c.args.reader.now.cache c.args.want.now.addr c.args.key.now (option_copied r) c.get.follows.lender-at-none) c.in-Some.is c.get.follows.holds-at-none in
+    stands_on (g.P.Platform.history c.args.platform.now).present.readable c.args.reader.now.cache c.get.follows.lender-at-none stands
+    (keeps_used (g.P.Platform.history c.args.platform.now).present.readable c.args.reader.now.cache c.get.follows.lender-at-none c.args.want.now.addr c.args.key.now c.in-Some.node.now uses))
 
 pub returns-in-Some-clause-stands : goal.returns-in-Some-clause-stands
 returns-in-Some-clause-stands g c = λ tells stands.
-    (let uses = subst (λ (r : Option (Bor _)). Uses c.args.cache.now c.args.want.now.addr c.args.key.now (option_copied r) c.get.follows.lender-at-none) c.in-Some.is c.get.follows.holds-at-none in
-    stands_on (g.P.Platform.history c.args.platform.now).present.readable c.args.cache.now c.get.follows.lender-at-none stands
-    (keeps_used (g.P.Platform.history c.args.platform.now).present.readable c.args.cache.now c.get.follows.lender-at-none c.args.want.now.addr c.args.key.now c.in-Some.node.now uses))
+    (let uses = subst (λ (r : Option (Bor _)). Uses c.args.reader.now.cache c.args.want.now.addr c.args.key.now (option_copied r) c.get.follows.lender-at-none) c.in-Some.is c.get.follows.holds-at-none in
+    stands_on (g.P.Platform.history c.args.platform.now).present.readable c.args.reader.now.cache c.get.follows.lender-at-none stands
+    (keeps_used (g.P.Platform.history c.args.platform.now).present.readable c.args.reader.now.cache c.get.follows.lender-at-none c.args.want.now.addr c.args.key.now c.in-Some.node.now uses))
 
 pub returns-in-Ok-clause-stands : goal.returns-in-Ok-clause-stands
 returns-in-Ok-clause-stands g c = λ tells stands.
-    (let uses = subst (λ (r : Option (Bor _)). Uses c.args.cache.now c.args.want.now.addr c.args.key.now (option_copied r) c.get.follows.lender-at-none) c.in_default.is c.get.follows.holds-at-none in
+    (let uses = subst (λ (r : Option (Bor _)). Uses c.args.reader.now.cache c.args.want.now.addr c.args.key.now (option_copied r) c.get.follows.lender-at-none) c.in_default.is c.get.follows.holds-at-none in
     let kept = kept_node c.args.want.now.addr c.args.key.now (record { level = c.args.want.now.level; entries = c.fetch_node.new.entries }) in
     let pages = (g.P.Platform.history c.args.platform.now).present.readable in
     let fits = c.in-Ok.ensures.fits tells in
-    let keeps = subst (KeepsOnly pages c.args.cache.now) (sym (c.put.ensures.kept ∙ ap (λ (old : Cached). filled old kept) uses.0)) (keeps_filled pages c.args.cache.now kept (inr fits.0)) in
-    stands_on pages c.args.cache.now c.put.new.self stands keeps)
+    let keeps = subst (KeepsOnly pages c.args.reader.now.cache) (sym (c.put.ensures.kept ∙ ap (λ (old : Cached). filled old kept) uses.0)) (keeps_filled pages c.args.reader.now.cache kept (inr fits.0)) in
+    stands_on pages c.args.reader.now.cache c.put.new.self stands keeps)
 
 pub returns-in-Err-BadRecord-clause-bad : goal.returns-in-Err-BadRecord-clause-bad
 returns-in-Err-BadRecord-clause-bad g c = rw c.in-Err-BadRecord.field-0-is (λ tells stands addr is.
@@ -52,41 +52,41 @@ returns-in-Err-BadRecord-clause-bad g c = rw c.in-Err-BadRecord.field-0-is (λ t
 
 pub returns-then-not-fits-clause-capacity : goal.returns-then-not-fits-clause-capacity
 returns-then-not-fits-clause-capacity g c =
-    let uses = subst (λ (r : Option (Bor _)). Uses c.args.cache.now c.args.want.now.addr c.args.key.now (option_copied r) c.get.follows.lender-at-none) c.in-Some.is c.get.follows.holds-at-none in
+    let uses = subst (λ (r : Option (Bor _)). Uses c.args.reader.now.cache c.args.want.now.addr c.args.key.now (option_copied r) c.get.follows.lender-at-none) c.in-Some.is c.get.follows.holds-at-none in
     ap (λ (cache : Cached). cache.capacity) uses.1
 
 pub returns-in-Some-clause-capacity : goal.returns-in-Some-clause-capacity
 returns-in-Some-clause-capacity g c =
-    let uses = subst (λ (r : Option (Bor _)). Uses c.args.cache.now c.args.want.now.addr c.args.key.now (option_copied r) c.get.follows.lender-at-none) c.in-Some.is c.get.follows.holds-at-none in
+    let uses = subst (λ (r : Option (Bor _)). Uses c.args.reader.now.cache c.args.want.now.addr c.args.key.now (option_copied r) c.get.follows.lender-at-none) c.in-Some.is c.get.follows.holds-at-none in
     ap (λ (cache : Cached). cache.capacity) uses.1
 
 pub returns-in-Ok-clause-capacity : goal.returns-in-Ok-clause-capacity
 returns-in-Ok-clause-capacity g c =
-    let uses = subst (λ (r : Option (Bor _)). Uses c.args.cache.now c.args.want.now.addr c.args.key.now (option_copied r) c.get.follows.lender-at-none) c.in_default.is c.get.follows.holds-at-none in
+    let uses = subst (λ (r : Option (Bor _)). Uses c.args.reader.now.cache c.args.want.now.addr c.args.key.now (option_copied r) c.get.follows.lender-at-none) c.in_default.is c.get.follows.holds-at-none in
     ap (λ (cache : Cached). cache.capacity) c.put.ensures.kept ∙ ap (λ (cache : Cached). cache.capacity) uses.0
 
 pub returns-then-not-fits-clause-but : goal.returns-then-not-fits-clause-but
 returns-then-not-fits-clause-but g c =
-    let uses = subst (λ (r : Option (Bor _)). Uses c.args.cache.now c.args.want.now.addr c.args.key.now (option_copied r) c.get.follows.lender-at-none) c.in-Some.is c.get.follows.holds-at-none in
-    but_used c.args.cache.now c.get.follows.lender-at-none c.args.want.now.addr c.args.key.now c.in-Some.node.now uses
+    let uses = subst (λ (r : Option (Bor _)). Uses c.args.reader.now.cache c.args.want.now.addr c.args.key.now (option_copied r) c.get.follows.lender-at-none) c.in-Some.is c.get.follows.holds-at-none in
+    but_used c.args.reader.now.cache c.get.follows.lender-at-none c.args.want.now.addr c.args.key.now c.in-Some.node.now uses
 
 pub returns-in-Some-clause-but : goal.returns-in-Some-clause-but
 returns-in-Some-clause-but g c =
-    let uses = subst (λ (r : Option (Bor _)). Uses c.args.cache.now c.args.want.now.addr c.args.key.now (option_copied r) c.get.follows.lender-at-none) c.in-Some.is c.get.follows.holds-at-none in
-    but_used c.args.cache.now c.get.follows.lender-at-none c.args.want.now.addr c.args.key.now c.in-Some.node.now uses
+    let uses = subst (λ (r : Option (Bor _)). Uses c.args.reader.now.cache c.args.want.now.addr c.args.key.now (option_copied r) c.get.follows.lender-at-none) c.in-Some.is c.get.follows.holds-at-none in
+    but_used c.args.reader.now.cache c.get.follows.lender-at-none c.args.want.now.addr c.args.key.now c.in-Some.node.now uses
 
 pub returns-in-Ok-clause-but : goal.returns-in-Ok-clause-but
 returns-in-Ok-clause-but g c =
-    let uses = subst (λ (r : Option (Bor _)). Uses c.args.cache.now c.args.want.now.addr c.args.key.now (option_copied r) c.get.follows.lender-at-none) c.in_default.is c.get.follows.holds-at-none in
+    let uses = subst (λ (r : Option (Bor _)). Uses c.args.reader.now.cache c.args.want.now.addr c.args.key.now (option_copied r) c.get.follows.lender-at-none) c.in_default.is c.get.follows.holds-at-none in
     let kept = kept_node c.args.want.now.addr c.args.key.now (record { level = c.args.want.now.level; entries = c.fetch_node.new.entries }) in
-    subst (KeepsBut c.args.want.now.addr c.args.key.now c.args.cache.now) (sym (c.put.ensures.kept ∙ ap (λ (old : Cached). filled old kept) uses.0)) (but_filled c.args.cache.now kept)
+    subst (KeepsBut c.args.want.now.addr c.args.key.now c.args.reader.now.cache) (sym (c.put.ensures.kept ∙ ap (λ (old : Cached). filled old kept) uses.0)) (but_filled c.args.reader.now.cache kept)
 
 pub returns-in-Err-BadRecord-clause-but : goal.returns-in-Err-BadRecord-clause-but
 returns-in-Err-BadRecord-clause-but g c =
-    let uses = subst (λ (r : Option (Bor _)). Uses c.args.cache.now c.args.want.now.addr c.args.key.now (option_copied r) c.get.follows.lender-at-none) c.in_default.is c.get.follows.holds-at-none in
-    subst (KeepsBut c.args.want.now.addr c.args.key.now c.args.cache.now) (sym uses.0) (but_same c.args.want.now.addr c.args.key.now c.args.cache.now)
+    let uses = subst (λ (r : Option (Bor _)). Uses c.args.reader.now.cache c.args.want.now.addr c.args.key.now (option_copied r) c.get.follows.lender-at-none) c.in_default.is c.get.follows.holds-at-none in
+    subst (KeepsBut c.args.want.now.addr c.args.key.now c.args.reader.now.cache) (sym uses.0) (but_same c.args.want.now.addr c.args.key.now c.args.reader.now.cache)
 
 pub returns-in-Err-PlatformFault-clause-but : goal.returns-in-Err-PlatformFault-clause-but
 returns-in-Err-PlatformFault-clause-but g c =
-    let uses = subst (λ (r : Option (Bor _)). Uses c.args.cache.now c.args.want.now.addr c.args.key.now (option_copied r) c.get.follows.lender-at-none) c.in_default.is c.get.follows.holds-at-none in
-    subst (KeepsBut c.args.want.now.addr c.args.key.now c.args.cache.now) (sym uses.0) (but_same c.args.want.now.addr c.args.key.now c.args.cache.now)
+    let uses = subst (λ (r : Option (Bor _)). Uses c.args.reader.now.cache c.args.want.now.addr c.args.key.now (option_copied r) c.get.follows.lender-at-none) c.in_default.is c.get.follows.holds-at-none in
+    subst (KeepsBut c.args.want.now.addr c.args.key.now c.args.reader.now.cache) (sym uses.0) (but_same c.args.want.now.addr c.args.key.now c.args.reader.now.cache)

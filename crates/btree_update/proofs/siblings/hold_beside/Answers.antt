@@ -114,19 +114,19 @@ pub returns-in_err-help-in-Short-clause-caches : goal.returns-in_err-help-in-Sho
 returns-in_err-help-in-Short-clause-caches g c =
     let lt : c.beside_of-other.result < length (children_of c.args.twig.now) = omega (arith, c.beside_of-other.ensures.within, c.len.ensures) in
     let split = split_here (children_of c.args.twig.now) c.beside_of-other.result c.index.result.now lt c.index.ensures in
-    caches_fewer g.P.Platform (λ pages. HaveNodes pages (stubs_below c.args.level c.args.high c.args.twig.now)) (λ pages. HaveNodes pages (stubs c.args.level c.end_of-end.result c.index.result.now)) c.args.platform.now c.args.cache.now c.read_help.new.cache
+    caches_fewer g.P.Platform (λ pages. HaveNodes pages (stubs_below c.args.level c.args.high c.args.twig.now)) (λ pages. HaveNodes pages (stubs c.args.level c.end_of-end.result c.index.result.now)) c.args.platform.now c.args.reader.now.cache c.read_help.new.reader.cache
     (λ pages places such. beside_among pages places c.args.level c.args.high c.beside_of-other.result c.end_of-end.result c.args.twig.now c.deref.result.now c.index.result.now split c.deref.ensures.value c.end_of-end.ensures such) c.in_err-help-in-Short.ensures.caches
 
 pub returns-in_err-keep-in-Short-clause-caches : goal.returns-in_err-keep-in-Short-clause-caches
 returns-in_err-keep-in-Short-clause-caches g c =
     let lt : c.beside_of-other.result < length (children_of c.args.twig.now) = omega (arith, c.beside_of-other.ensures.within, c.len.ensures) in
     let split = split_here (children_of c.args.twig.now) c.beside_of-other.result c.index.result.now lt c.index.ensures in
-    caches_fewer g.P.Platform (λ pages. HaveNodes pages (stubs_below c.args.level c.args.high c.args.twig.now)) (λ pages. HaveNodes pages (stubs c.args.level c.end_of-end.result c.index.result.now)) c.args.platform.now c.args.cache.now c.read_help.new.cache
+    caches_fewer g.P.Platform (λ pages. HaveNodes pages (stubs_below c.args.level c.args.high c.args.twig.now)) (λ pages. HaveNodes pages (stubs c.args.level c.end_of-end.result c.index.result.now)) c.args.platform.now c.args.reader.now.cache c.read_help.new.reader.cache
     (λ pages places such. beside_among pages places c.args.level c.args.high c.beside_of-other.result c.end_of-end.result c.args.twig.now c.deref.result.now c.index.result.now split c.deref.ensures.value c.end_of-end.ensures such) c.in_ok-help-in-Short.ensures.caches
 
 pub returns-in_ok-keep-in-Short-clause-caches : goal.returns-in_ok-keep-in-Short-clause-caches
 returns-in_ok-keep-in-Short-clause-caches g c =
     let lt : c.beside_of-other.result < length (children_of c.args.twig.now) = omega (arith, c.beside_of-other.ensures.within, c.len.ensures) in
     let split = split_here (children_of c.args.twig.now) c.beside_of-other.result c.index.result.now lt c.index.ensures in
-    caches_fewer g.P.Platform (λ pages. HaveNodes pages (stubs_below c.args.level c.args.high c.args.twig.now)) (λ pages. HaveNodes pages (stubs c.args.level c.end_of-end.result c.index.result.now)) c.args.platform.now c.args.cache.now c.read_help.new.cache
+    caches_fewer g.P.Platform (λ pages. HaveNodes pages (stubs_below c.args.level c.args.high c.args.twig.now)) (λ pages. HaveNodes pages (stubs c.args.level c.end_of-end.result c.index.result.now)) c.args.platform.now c.args.reader.now.cache c.read_help.new.reader.cache
     (λ pages places such. beside_among pages places c.args.level c.args.high c.beside_of-other.result c.end_of-end.result c.args.twig.now c.deref.result.now c.index.result.now split c.deref.ensures.value c.end_of-end.ensures such) c.in_ok-help-in-Short.ensures.caches

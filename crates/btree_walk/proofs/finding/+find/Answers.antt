@@ -18,22 +18,22 @@ use Rattle.btree_walk.proofs.finding.+find.Goals as goal
 pub returns-in_err-found-clause-bad : goal.returns-in_err-found-clause-bad
 returns-in_err-found-clause-bad g t c =
     let p = err_from_is_err_and c.from_residual.result c.from_residual.ensures.1 in
-    let kept = c.args.cache.now.kept in let start = c.args.start.now in let pages = (g.P.Platform.history c.args.platform.now).present.readable in
+    let kept = c.args.reader.now.cache.kept in let start = c.args.start.now in let pages = (g.P.Platform.history c.args.platform.now).present.readable in
     rw (p.1, p.2) (λ tells addr is.
     let same : c.in_err-found.field-0.0 ≡ BadRecord addr = cc in
     stops_first (Sees kept pages) start.most c.args.block (Misses kept pages) addr (start.level - 1) start c.args.key.now (c.in_err-found.ensures.look.bad tells addr (ap Err same)))
 
 pub returns-in_err-found-clause-kept : goal.returns-in_err-found-clause-kept
 returns-in_err-found-clause-kept g t c = λ found path is.
-    (let first = first_kept c.args.start.now c.args.key.now c.args.block c.args.cache.now c.requires.asks.level found path is in
+    (let first = first_kept c.args.start.now c.args.key.now c.args.block c.args.reader.now.cache c.requires.asks.level found path is in
     absurd (c.in_err-found.ensures.kept first.0 first.1).1)
 
 pub find-requires : goal.find-requires
 find-requires g t c =
     let start = c.args.start.now in let next = c.in-Below.next in let key = c.in-Below.next_key in
-    let told = subst (UsesNode start c.args.key.now c.args.block c.args.cache.now c.look.new.cache) c.in-Below.is c.in_ok-found.ensures.look.used in
+    let told = subst (UsesNode start c.args.key.now c.args.block c.args.reader.now.cache c.look.new.reader.cache) c.in-Below.is c.in_ok-found.ensures.look.used in
     let entries = told.node.entries.items in
-    let range = used_range start c.args.key.now c.args.block c.args.cache.now c.look.new.cache _ told in
+    let range = used_range start c.args.key.now c.args.block c.args.reader.now.cache c.look.new.reader.cache _ told in
     let asks = asks_next start next key entries c.args.block c.requires.asks range told.is in
     let below = next_below start next key entries c.args.block range told.is in
     let less : next.level + 1 ≡ start.level = next_less start next key entries c.args.block told.is in
@@ -42,80 +42,80 @@ find-requires g t c =
 
 pub returns-in-Found-clause-found : goal.returns-in-Found-clause-found
 returns-in-Found-clause-found g t c = λ tells.
-    (let kept = c.args.cache.now.kept in let start = c.args.start.now in let pages = (g.P.Platform.history c.args.platform.now).present.readable in
+    (let kept = c.args.reader.now.cache.kept in let start = c.args.start.now in let pages = (g.P.Platform.history c.args.platform.now).present.readable in
     let seen = subst (λ (turn : Turn). SeesTurn kept pages start c.args.key.now c.args.block turn) c.in-Found.is (c.in_ok-found.ensures.look.seen tells) in
-    found_leaf pages start c.args.key.now c.args.block c.args.cache.now c.look.new.cache c.in-Found.found (subst (UsesNode start c.args.key.now c.args.block c.args.cache.now c.look.new.cache) c.in-Found.is c.in_ok-found.ensures.look.used) seen)
+    found_leaf pages start c.args.key.now c.args.block c.args.reader.now.cache c.look.new.reader.cache c.in-Found.found (subst (UsesNode start c.args.key.now c.args.block c.args.reader.now.cache c.look.new.reader.cache) c.in-Found.is c.in_ok-found.ensures.look.used) seen)
 
 pub returns-in-Found-clause-kept : goal.returns-in-Found-clause-kept
 returns-in-Found-clause-kept g t c = λ found path is.
     (let start = c.args.start.now in
-    let first = first_kept start c.args.key.now c.args.block c.args.cache.now c.requires.asks.level found path is in
-    let turned = λ (entries : List Entry) (fits : KeptFits c.args.cache.now.kept start c.args.key.now (NodeRecord start.level entries)). subst (λ (turn : Turn). IsTurn start entries c.args.block turn) c.in-Found.is (c.in_ok-found.ensures.kept entries fits).1 in
-    let same = same_found start c.args.key.now c.args.block c.args.cache.now c.requires.asks.level c.in-Found.found found path turned is in
+    let first = first_kept start c.args.key.now c.args.block c.args.reader.now.cache c.requires.asks.level found path is in
+    let turned = λ (entries : List Entry) (fits : KeptFits c.args.reader.now.cache.kept start c.args.key.now (NodeRecord start.level entries)). subst (λ (turn : Turn). IsTurn start entries c.args.block turn) c.in-Found.is (c.in_ok-found.ensures.kept entries fits).1 in
+    let same = same_found start c.args.key.now c.args.block c.args.reader.now.cache c.requires.asks.level c.in-Found.found found path turned is in
     ((c.in_ok-found.ensures.kept first.0 first.1).0, ap Ok same))
 
 pub returns-in-Below-clause-found : goal.returns-in-Below-clause-found
 returns-in-Below-clause-found g t c = λ tells.
-    (let kept = c.args.cache.now.kept in let start = c.args.start.now in let pages = (g.P.Platform.history c.args.platform.now).present.readable in
+    (let kept = c.args.reader.now.cache.kept in let start = c.args.start.now in let pages = (g.P.Platform.history c.args.platform.now).present.readable in
     let next = c.in-Below.next in let key = c.in-Below.next_key in
     let seen = subst (λ (turn : Turn). SeesTurn kept pages start c.args.key.now c.args.block turn) c.in-Below.is (c.in_ok-found.ensures.look.seen tells) in
     let same : (g.P.Platform.history c.look.new.platform).present.readable ≡ pages = ap (λ i. i.readable) (c.in_ok-found.ensures.look.looks.image tells) in
-    IfOk_map (IsFound (g.P.Platform.history c.look.new.platform).present.readable next key c.args.block c.look.new.cache c.find.new.cache)
-    (IsFound pages start c.args.key.now c.args.block c.args.cache.now c.find.new.cache) c.find.result
-    (λ found is. found_on pages start c.args.key.now c.args.block c.args.cache.now c.look.new.cache next key (c.in_ok-found.ensures.look.keeps tells) seen c.find.new.cache found (subst (UsesNode start c.args.key.now c.args.block c.args.cache.now c.look.new.cache) c.in-Below.is c.in_ok-found.ensures.look.used)
-    (subst (λ (p : List (List ℕ)). IsFound p next key c.args.block c.look.new.cache c.find.new.cache found) same is))
+    IfOk_map (IsFound (g.P.Platform.history c.look.new.platform).present.readable next key c.args.block c.look.new.reader.cache c.find.new.reader.cache)
+    (IsFound pages start c.args.key.now c.args.block c.args.reader.now.cache c.find.new.reader.cache) c.find.result
+    (λ found is. found_on pages start c.args.key.now c.args.block c.args.reader.now.cache c.look.new.reader.cache next key (c.in_ok-found.ensures.look.keeps tells) seen c.find.new.reader.cache found (subst (UsesNode start c.args.key.now c.args.block c.args.reader.now.cache c.look.new.reader.cache) c.in-Below.is c.in_ok-found.ensures.look.used)
+    (subst (λ (p : List (List ℕ)). IsFound p next key c.args.block c.look.new.reader.cache c.find.new.reader.cache found) same is))
     (c.find.ensures.found tells))
 
 pub returns-in-Below-clause-bad : goal.returns-in-Below-clause-bad
 returns-in-Below-clause-bad g t c = λ tells addr is.
-    (let kept = c.args.cache.now.kept in let start = c.args.start.now in let pages = (g.P.Platform.history c.args.platform.now).present.readable in
+    (let kept = c.args.reader.now.cache.kept in let start = c.args.start.now in let pages = (g.P.Platform.history c.args.platform.now).present.readable in
     let next = c.in-Below.next in let key = c.in-Below.next_key in
     let seen = subst (λ (turn : Turn). SeesTurn kept pages start c.args.key.now c.args.block turn) c.in-Below.is (c.in_ok-found.ensures.look.seen tells) in
     let same : (g.P.Platform.history c.look.new.platform).present.readable ≡ pages = ap (λ i. i.readable) (c.in_ok-found.ensures.look.looks.image tells) in
     let small : start.addr < 2 ^ 64 = omega (arith, c.requires.within, g.met.P.Platform.has_room c.args.platform.now, g.met.P.Platform.is_limited c.args.platform.now) in
-    stopped_on pages start c.args.key.now c.args.block c.args.cache.now c.look.new.cache next key (c.in_ok-found.ensures.look.keeps tells) seen addr small
-    (subst (λ (p : List (List ℕ)). Stops (Sees c.look.new.cache.kept p) next.most c.args.block (Misses c.look.new.cache.kept p) addr (next.level - 1) next key) same (c.find.ensures.bad tells addr is)))
+    stopped_on pages start c.args.key.now c.args.block c.args.reader.now.cache c.look.new.reader.cache next key (c.in_ok-found.ensures.look.keeps tells) seen addr small
+    (subst (λ (p : List (List ℕ)). Stops (Sees c.look.new.reader.cache.kept p) next.most c.args.block (Misses c.look.new.reader.cache.kept p) addr (next.level - 1) next key) same (c.find.ensures.bad tells addr is)))
 
 pub returns-in-Below-clause-entry : goal.returns-in-Below-clause-entry
 returns-in-Below-clause-entry g t c =
     let start = c.args.start.now in let next = c.in-Below.next in let key = c.in-Below.next_key in
-    let told = subst (UsesNode start c.args.key.now c.args.block c.args.cache.now c.look.new.cache) c.in-Below.is c.in_ok-found.ensures.look.used in
-    let below = next_below start next key told.node.entries.items c.args.block (used_range start c.args.key.now c.args.block c.args.cache.now c.look.new.cache _ told) told.is in
+    let told = subst (UsesNode start c.args.key.now c.args.block c.args.reader.now.cache c.look.new.reader.cache) c.in-Below.is c.in_ok-found.ensures.look.used in
+    let below = next_below start next key told.node.entries.items c.args.block (used_range start c.args.key.now c.args.block c.args.reader.now.cache c.look.new.reader.cache _ told) told.is in
     IfOk_map _ _ c.find.result (entry_below c.args.block next.addr start.addr below) c.find.ensures.entry
 
 pub returns-in-Below-clause-kept : goal.returns-in-Below-clause-kept
 returns-in-Below-clause-kept g t c = λ found path is.
     (let start = c.args.start.now in let next = c.in-Below.next in let key = c.in-Below.next_key in
-    let first = first_kept start c.args.key.now c.args.block c.args.cache.now c.requires.asks.level found path is in
-    let turned = λ (entries : List Entry) (fits : KeptFits c.args.cache.now.kept start c.args.key.now (NodeRecord start.level entries)). subst (λ (turn : Turn). IsTurn start entries c.args.block turn) c.in-Below.is (c.in_ok-found.ensures.kept entries fits).1 in
+    let first = first_kept start c.args.key.now c.args.block c.args.reader.now.cache c.requires.asks.level found path is in
+    let turned = λ (entries : List Entry) (fits : KeptFits c.args.reader.now.cache.kept start c.args.key.now (NodeRecord start.level entries)). subst (λ (turn : Turn). IsTurn start entries c.args.block turn) c.in-Below.is (c.in_ok-found.ensures.kept entries fits).1 in
     let still = c.in_ok-found.ensures.still first.1.node first.1.here in
-    let on = kept_on start c.args.key.now c.args.block c.args.cache.now c.requires.asks.level next key c.look.new.cache found path still turned is in
+    let on = kept_on start c.args.key.now c.args.block c.args.reader.now.cache c.requires.asks.level next key c.look.new.reader.cache found path still turned is in
     let rest = c.find.ensures.kept found on.0 on.1 in
     (rest.0 ∙ (c.in_ok-found.ensures.kept first.0 first.1).0, rest.1))
 
 pub returns-in_err-found-clause-among : goal.returns-in_err-found-clause-among
 returns-in_err-found-clause-among g t c = λ tells stands places such kept.
-    among_but places c.args.start.now.addr c.args.key.now c.args.cache.now c.look.new.cache such.1 c.in_err-found.ensures.look.but kept
+    among_but places c.args.start.now.addr c.args.key.now c.args.reader.now.cache c.look.new.reader.cache such.1 c.in_err-found.ensures.look.but kept
 
 pub returns-in-Found-clause-among : goal.returns-in-Found-clause-among
 returns-in-Found-clause-among g t c = λ tells stands places such kept.
-    among_but places c.args.start.now.addr c.args.key.now c.args.cache.now c.look.new.cache such.1 c.in_ok-found.ensures.look.but kept
+    among_but places c.args.start.now.addr c.args.key.now c.args.reader.now.cache c.look.new.reader.cache such.1 c.in_ok-found.ensures.look.but kept
 
 pub returns-in-Below-clause-among : goal.returns-in-Below-clause-among
 returns-in-Below-clause-among g t c = λ tells stands places such kept.
     (let start = c.args.start.now in let pages = (g.P.Platform.history c.args.platform.now).present.readable in
     let next = c.in-Below.next in let key = c.in-Below.next_key in
-    let seen = subst (λ (turn : Turn). SeesTurn c.args.cache.now.kept pages start c.args.key.now c.args.block turn) c.in-Below.is (c.in_ok-found.ensures.look.seen tells) in
+    let seen = subst (λ (turn : Turn). SeesTurn c.args.reader.now.cache.kept pages start c.args.key.now c.args.block turn) c.in-Below.is (c.in_ok-found.ensures.look.seen tells) in
     let same : (g.P.Platform.history c.look.new.platform).present.readable ≡ pages = ap (λ i. i.readable) (c.in_ok-found.ensures.look.looks.image tells) in
-    let stands' = subst (λ (p : List (List ℕ)). StandsOver p c.look.new.cache) (sym same) (stands_over_still pages c.args.cache.now c.look.new.cache stands (c.in_ok-found.ensures.look.keeps tells)) in
+    let stands' = subst (λ (p : List (List ℕ)). StandsOver p c.look.new.reader.cache) (sym same) (stands_over_still pages c.args.reader.now.cache c.look.new.reader.cache stands (c.in_ok-found.ensures.look.keeps tells)) in
     let down = subst (λ (p : List (List ℕ)). GoDown p places) (sym same) such.0 in
-    let at = goes_among pages c.args.cache.now start next c.args.key.now key seen.entries c.args.block places stands seen.sees seen.is such.0 such.1 in
-    let kept' = among_but places start.addr c.args.key.now c.args.cache.now c.look.new.cache such.1 c.in_ok-found.ensures.look.but kept in
+    let at = goes_among pages c.args.reader.now.cache start next c.args.key.now key seen.entries c.args.block places stands seen.sees seen.is such.0 such.1 in
+    let kept' = among_but places start.addr c.args.key.now c.args.reader.now.cache c.look.new.reader.cache such.1 c.in_ok-found.ensures.look.but kept in
     c.find.ensures.among tells stands' places (down, at) kept')
 
 pub returns-in-Below-clause-keeps : goal.returns-in-Below-clause-keeps
 returns-in-Below-clause-keeps g t c = λ tells.
     (let pages = (g.P.Platform.history c.args.platform.now).present.readable in
     let same : (g.P.Platform.history c.look.new.platform).present.readable ≡ pages = ap (λ i. i.readable) (c.in_ok-found.ensures.look.looks.image tells) in
-    keeps_then pages c.args.cache.now c.look.new.cache c.find.new.cache (c.in_ok-found.ensures.look.keeps tells)
-    (subst (λ (p : List (List ℕ)). KeepsOnly p c.look.new.cache c.find.new.cache) same (c.find.ensures.keeps tells)))
+    keeps_then pages c.args.reader.now.cache c.look.new.reader.cache c.find.new.reader.cache (c.in_ok-found.ensures.look.keeps tells)
+    (subst (λ (p : List (List ℕ)). KeepsOnly p c.look.new.reader.cache c.find.new.reader.cache) same (c.find.ensures.keeps tells)))

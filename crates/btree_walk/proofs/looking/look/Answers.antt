@@ -13,54 +13,54 @@ use Rattle.btree_walk.proofs.looking.look.Goals as goal
 
 pub returns-then-fits-clause-kept : goal.returns-then-fits-clause-kept
 returns-then-fits-clause-kept g c = λ entries is.
-    (let same = same_entries c.args.cache.now.kept c.args.want.now c.args.key.now c.in-Some.node.now entries c.in-Some.ensures.found is in
+    (let same = same_entries c.args.reader.now.cache.kept c.args.want.now c.args.key.now c.in-Some.node.now entries c.in-Some.ensures.found is in
     (refl, subst (λ es. IsTurn c.args.want.now es c.args.block c.turn_at.result) (sym same) c.turn_at.ensures))
 
 pub returns-then-fits-clause-look : goal.returns-then-fits-clause-look
 returns-then-fits-clause-look g c =
-    let uses = subst (λ (r : Option (Bor NodeBody)). Uses c.args.cache.now c.args.want.now.addr c.args.key.now (option_copied r) c.get.follows.lender-at-none) c.in-Some.is c.get.follows.holds-at-none in
+    let uses = subst (λ (r : Option (Bor NodeBody)). Uses c.args.reader.now.cache c.args.want.now.addr c.args.key.now (option_copied r) c.get.follows.lender-at-none) c.in-Some.is c.get.follows.holds-at-none in
     record {
       seen = search rules;
       bad = search rules;
       used = record { node = c.in-Some.node.now; fits = c.fits.ensures.0 c.if-fits.true; is = c.turn_at.ensures; first = inl uses.1 };
       capacity = ap (λ (c : Cached). c.capacity) uses.1;
-      keeps = λ tells. keeps_used (g.P.Platform.history c.args.platform.now).present.readable c.args.cache.now c.get.follows.lender-at-none c.args.want.now.addr c.args.key.now c.in-Some.node.now uses;
-      but = but_used c.args.cache.now c.get.follows.lender-at-none c.args.want.now.addr c.args.key.now c.in-Some.node.now uses;
+      keeps = λ tells. keeps_used (g.P.Platform.history c.args.platform.now).present.readable c.args.reader.now.cache c.get.follows.lender-at-none c.args.want.now.addr c.args.key.now c.in-Some.node.now uses;
+      but = but_used c.args.reader.now.cache c.get.follows.lender-at-none c.args.want.now.addr c.args.key.now c.in-Some.node.now uses;
       looks = looks_still g.P.Platform c.args.platform.now;
       cause = search rules;
     }
 
 pub returns-else-fits-clause-kept : goal.returns-else-fits-clause-kept
-returns-else-fits-clause-kept g c = λ entries is. absurd (let no_fit : c.fits.result ≡ true = c.fits.ensures.1 (fits_too c.args.cache.now.kept c.args.want.now c.args.key.now c.in-Some.node.now entries c.in-Some.ensures.found is) in cc)
+returns-else-fits-clause-kept g c = λ entries is. absurd (let no_fit : c.fits.result ≡ true = c.fits.ensures.1 (fits_too c.args.reader.now.cache.kept c.args.want.now c.args.key.now c.in-Some.node.now entries c.in-Some.ensures.found is) in cc)
 
 pub returns-else-fits-clause-look : goal.returns-else-fits-clause-look
 returns-else-fits-clause-look g c =
-    let uses = subst (λ (r : Option (Bor NodeBody)). Uses c.args.cache.now c.args.want.now.addr c.args.key.now (option_copied r) c.get.follows.lender-at-none) c.in-Some.is c.get.follows.holds-at-none in
+    let uses = subst (λ (r : Option (Bor NodeBody)). Uses c.args.reader.now.cache c.args.want.now.addr c.args.key.now (option_copied r) c.get.follows.lender-at-none) c.in-Some.is c.get.follows.holds-at-none in
     record {
       seen = search rules;
       bad = search rules;
       used = tt;
       capacity = ap (λ (c : Cached). c.capacity) uses.1;
-      keeps = λ tells. keeps_used (g.P.Platform.history c.args.platform.now).present.readable c.args.cache.now c.get.follows.lender-at-none c.args.want.now.addr c.args.key.now c.in-Some.node.now uses;
-      but = but_used c.args.cache.now c.get.follows.lender-at-none c.args.want.now.addr c.args.key.now c.in-Some.node.now uses;
+      keeps = λ tells. keeps_used (g.P.Platform.history c.args.platform.now).present.readable c.args.reader.now.cache c.get.follows.lender-at-none c.args.want.now.addr c.args.key.now c.in-Some.node.now uses;
+      but = but_used c.args.reader.now.cache c.get.follows.lender-at-none c.args.want.now.addr c.args.key.now c.in-Some.node.now uses;
       looks = looks_still g.P.Platform c.args.platform.now;
       cause = search rules;
     }
 
 pub returns-then-fits-clause-still : goal.returns-then-fits-clause-still
 returns-then-fits-clause-still g c = λ node kept.
-    (let uses = subst (λ (r : Option (Bor NodeBody)). Uses c.args.cache.now c.args.want.now.addr c.args.key.now (option_copied r) c.get.follows.lender-at-none) c.in-Some.is c.get.follows.holds-at-none in
-    still_used c.args.cache.now c.get.follows.lender-at-none c.args.want.now.addr c.args.key.now c.in-Some.node.now uses)
+    (let uses = subst (λ (r : Option (Bor NodeBody)). Uses c.args.reader.now.cache c.args.want.now.addr c.args.key.now (option_copied r) c.get.follows.lender-at-none) c.in-Some.is c.get.follows.holds-at-none in
+    still_used c.args.reader.now.cache c.get.follows.lender-at-none c.args.want.now.addr c.args.key.now c.in-Some.node.now uses)
 
 pub returns-else-fits-clause-still : goal.returns-else-fits-clause-still
 returns-else-fits-clause-still g c = λ node kept.
-    (let uses = subst (λ (r : Option (Bor NodeBody)). Uses c.args.cache.now c.args.want.now.addr c.args.key.now (option_copied r) c.get.follows.lender-at-none) c.in-Some.is c.get.follows.holds-at-none in
-    still_used c.args.cache.now c.get.follows.lender-at-none c.args.want.now.addr c.args.key.now c.in-Some.node.now uses)
+    (let uses = subst (λ (r : Option (Bor NodeBody)). Uses c.args.reader.now.cache c.args.want.now.addr c.args.key.now (option_copied r) c.get.follows.lender-at-none) c.in-Some.is c.get.follows.holds-at-none in
+    still_used c.args.reader.now.cache c.get.follows.lender-at-none c.args.want.now.addr c.args.key.now c.in-Some.node.now uses)
 
 pub returns-clause-look : goal.returns-clause-look
 returns-clause-look g c =
-    let uses = subst (λ (r : Option (Bor NodeBody)). Uses c.args.cache.now c.args.want.now.addr c.args.key.now (option_copied r) c.get.follows.lender-at-none) c.in_default.is c.get.follows.holds-at-none in
-    subst (λ (old : Cached). LooksFor g.P.Platform c.args.want.now c.args.key.now c.args.block c.args.platform.now c.look_at_page.new.platform old c.look_at_page.new.cache c.look_at_page.result) uses.0 c.look_at_page.ensures
+    let uses = subst (λ (r : Option (Bor NodeBody)). Uses c.args.reader.now.cache c.args.want.now.addr c.args.key.now (option_copied r) c.get.follows.lender-at-none) c.in_default.is c.get.follows.holds-at-none in
+    subst (λ (old : Cached). LooksFor g.P.Platform c.args.want.now c.args.key.now c.args.block c.args.platform.now c.look_at_page.new.platform old c.look_at_page.new.reader.cache c.look_at_page.result) uses.0 c.look_at_page.ensures
 
 pub returns-clause-still : goal.returns-clause-still
 returns-clause-still g c = λ node kept. absurd (c.in_default.ensures.none node kept)

@@ -20,7 +20,7 @@ returns-in_err-fetch_node g c =
       used = tt;
       capacity = search rules;
       keeps = search rules;
-      but = but_same c.args.want.now.addr c.args.key.now c.args.cache.now;
+      but = but_same c.args.want.now.addr c.args.key.now c.args.reader.now.cache;
       looks = search rules;
       cause = λ is. c.in_err-fetch_node.ensures.cause (cc);
     }
@@ -35,8 +35,8 @@ returns g c =
       bad = search rules;
       used = record { node = node; fits = search rules; is = c.turn_at-turn.ensures; first = inr c.put.ensures.kept };
       capacity = ap (λ (c : Cached). c.capacity) c.put.ensures.kept;
-      keeps = λ tells. subst (KeepsOnly pages c.args.cache.now) (sym c.put.ensures.kept) (keeps_filled pages c.args.cache.now kept (inr (c.in_ok-fetch_node.ensures.fits tells).0));
-      but = subst (KeepsBut c.args.want.now.addr c.args.key.now c.args.cache.now) (sym c.put.ensures.kept) (but_filled c.args.cache.now kept);
+      keeps = λ tells. subst (KeepsOnly pages c.args.reader.now.cache) (sym c.put.ensures.kept) (keeps_filled pages c.args.reader.now.cache kept (inr (c.in_ok-fetch_node.ensures.fits tells).0));
+      but = subst (KeepsBut c.args.want.now.addr c.args.key.now c.args.reader.now.cache) (sym c.put.ensures.kept) (but_filled c.args.reader.now.cache kept);
       looks = search rules;
       cause = search rules;
     }

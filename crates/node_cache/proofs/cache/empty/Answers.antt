@@ -1,13 +1,15 @@
-use Rattle.std.proofs.Common.{ap, arith, length, ◌∙◌}
+use Rattle.std.proofs.Common.{◌∷◌, ap, arith, length, nat_eq, ◌∙◌}
+use Rattle.std.specs.Map.{remove_entry}
 use Rattle.lru.specs.LruCache.{lru_cache}
-use Rattle.node_cache.specs.declared.slots.Slot.TheVariants.{Empty}
 use Rattle.node_cache.proofs.SlotLaws.{written_at_slot}
 use Rattle.node_cache.proofs.cache.empty.Goals as goal
 
 pub prove-unreachable-requires : goal.prove-unreachable-requires
 prove-unreachable-requires c =
-    let some = c.len-count.ensures.len ∙ ap length (written_at_slot c.args.number Empty c.args.slots.now.entries c.requires) in
+    let some = c.len-count.ensures.len ∙ ap length (written_at_slot c.args.number c.clear.new.self c.args.slots.now.entries c.requires) in
     omega (arith, some, c.if-prove.true)
 
 pub returns-clause-written : goal.returns-clause-written
-returns-clause-written c = ap (λ es. lru_cache es c.args.slots.now.cap) (written_at_slot c.args.number Empty c.args.slots.now.entries c.requires)
+returns-clause-written c =
+    let written = written_at_slot c.args.number c.clear.new.self c.args.slots.now.entries c.requires in
+    ap (λ es. lru_cache es c.args.slots.now.cap) (written ∙ ap (λ content. (c.args.number, content) ∷ remove_entry (nat_eq c.args.number) c.args.slots.now.entries) c.clear.ensures)

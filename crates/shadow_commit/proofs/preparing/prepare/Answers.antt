@@ -30,6 +30,15 @@ returns-in_default-certify-clause-keeps g c =
     let now = g.P.Platform.history c.args.platform.now in
     keeps_idle g.P.Platform.tells (g.T.Tape.drawn c.args.tape.now) (g.T.Tape.drawn c.args.tape.now) now now _ _ refl (λ told. During-start now (λ image. image ≡ now.present) refl) (λ told keys kept ready. tt)
 
+pub returns-in_default-with_capacity-clause-stops : goal.returns-in_default-with_capacity-clause-stops
+returns-in_default-with_capacity-clause-stops g c = λ err.
+    stops_before (g.P.Platform.head c.args.platform.now) (places_of c.args.grove.now) g.P.Platform.tells (g.P.Platform.history c.args.platform.now).present (g.T.Tape.drawn c.args.tape.now)
+
+pub returns-in_default-with_capacity-clause-keeps : goal.returns-in_default-with_capacity-clause-keeps
+returns-in_default-with_capacity-clause-keeps g c =
+    let now = g.P.Platform.history c.args.platform.now in
+    keeps_idle g.P.Platform.tells (g.T.Tape.drawn c.args.tape.now) (g.T.Tape.drawn c.args.tape.now) now now _ _ refl (λ told. During-start now (λ image. image ≡ now.present) refl) (λ told keys kept ready. tt)
+
 pub certify-requires-clause-can : goal.certify-requires-clause-can
 certify-requires-clause-can g c =
     let can = c.requires.can in
@@ -38,12 +47,12 @@ certify-requires-clause-can g c =
     can_twig head c.head-head.result 4294967296 c.args.root.now c.args.mapped c.args.grove.now c.top.result.now c.in-Grown.twig c.head-head.ensures.value c.top.ensures can
     (grove_twig head c.head-head.result c.args.root.now c.args.mapped c.args.grove.now c.top.result.now c.in-Grown.low c.in-Grown.twig c.head-head.ensures.value can c.top.ensures c.in-Grown.is) room
 
-pub seal_all-requires : goal.seal_all-requires
-seal_all-requires g c =
+pub seal_all-requires-clause-can : goal.seal_all-requires-clause-can
+seal_all-requires-clause-can g c =
     let head = g.P.Platform.head c.args.platform.now in
     let capacity = g.P.Platform.capacity c.args.platform.now in
     let room : head + grown_in c.args.grove.now ≤ capacity = omega (arith, c.if-needed-free.false, c.grown-needed.ensures, c.head-head.ensures.value, c.head-head.ensures.room, c.capacity.ensures.value) in
-    record { can = can_top head capacity c.args.root.now c.args.mapped c.args.grove.now c.top-2.result.now c.top-2.ensures c.requires.can room }
+    can_top head capacity c.args.root.now c.args.mapped c.args.grove.now c.top-2.result.now c.top-2.ensures c.requires.can room
 
 pub returns-in-Ok-seal_all-clause-ready : goal.returns-in-Ok-seal_all-clause-ready
 returns-in-Ok-seal_all-clause-ready g c =

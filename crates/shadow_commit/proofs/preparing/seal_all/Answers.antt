@@ -11,15 +11,18 @@ use Rattle.shadow_commit.proofs.SealLaws.{child_count}
 use Rattle.shadow_commit.specs.Ready.{IsNextRoot}
 use Rattle.shadow_commit.proofs.KeyLaws.{node_keys}
 use Rattle.shadow_commit.proofs.OrderLaws.{node_in_order}
-use Rattle.shadow_commit.proofs.StepLaws.{seals_grown, beside_call, beside_then, adds_stops, stops_none, stops_as}
+use Rattle.shadow_commit.proofs.StepLaws.{grown_level, seals_grown, beside_call, beside_then, adds_stops, stops_none, stops_as}
 use Rattle.shadow_commit.proofs.ReadyLaws.{root_twig, can_root, top_low, stands_with, next_fits, one_more}
 use Rattle.shadow_commit.proofs.preparing.seal_all.Goals as goal
 
-pub seal_twig-requires : goal.seal_twig-requires
-seal_twig-requires g c =
+pub seal_twig-requires-clause-can : goal.seal_twig-requires-clause-can
+seal_twig-requires-clause-can g c =
     let at = c.requires.can in
     let head = g.P.Platform.head c.args.platform.now in
-    record { can = can_root head (g.P.Platform.capacity c.args.platform.now) c.args.root.now c.args.mapped c.args.top.now c.in-Grown.twig at (root_twig c.args.root.now.order c.args.root.now.blocks at.level head c.in-Grown.low c.args.top.now c.in-Grown.twig c.in-Grown.is at.shaped at.below) }
+    can_root head (g.P.Platform.capacity c.args.platform.now) c.args.root.now c.args.mapped c.args.top.now c.in-Grown.twig at (root_twig c.args.root.now.order c.args.root.now.blocks at.level head c.in-Grown.low c.args.top.now c.in-Grown.twig c.in-Grown.is at.shaped at.below)
+
+pub seal_twig-requires-clause-room : goal.seal_twig-requires-clause-room
+seal_twig-requires-clause-room g c = omega (arith, c.requires.room, grown_level c.args.top.now c.in-Grown.low c.in-Grown.twig c.in-Grown.is)
 
 pub returns-in_err-placed-clause-within : goal.returns-in_err-placed-clause-within
 returns-in_err-placed-clause-within g c at =

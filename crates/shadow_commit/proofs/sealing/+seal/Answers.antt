@@ -1,4 +1,6 @@
-use Rattle.std.proofs.Common.{◌≡◌, suc, ◌+◌, List, [], ◌∷◌, ◌++◌, take, refl, sym, ap, subst, ◌∙◌, arith, append-nil}
+use Rattle.std.specs.Vec.{vec_len, vec_capacity}
+use Rattle.btree_twigs.specs.Top.{child_level}
+use Rattle.std.proofs.Common.{◌≡◌, ◌≤◌, ◌*◌, suc, ◌+◌, List, [], ◌∷◌, ◌++◌, take, drop, length, refl, sym, ap, subst, ◌∙◌, arith, append-nil, length-append}
 use Rattle.std.proofs.lemmas.List.{take_all}
 use Rattle.std.proofs.lemmas.List.Elements.{All-from_recursion}
 use Rattle.node_codec.specs.declared.body.Entry.{Entry}
@@ -14,7 +16,7 @@ use Rattle.shadow_commit.proofs.OrderLaws.{over_append, over_node, so_far_over}
 use Rattle.shadow_commit.specs.Sealed.{Sealed, SealsEach, SealsNode, Seals}
 use Rattle.shadow_commit.specs.Handing.{Adds, Stops}
 use Rattle.btree_update.specs.Held.{AreBelow}
-use Rattle.shadow_commit.proofs.SealLaws.{entries_are, children_count, each_snoc, node_fits}
+use Rattle.shadow_commit.proofs.SealLaws.{grows_by, keeps_front, entries_are, children_count, each_snoc, node_fits}
 use Rattle.shadow_commit.proofs.StepLaws.{adds_none, adds_as, adds_then, adds_page, grown_at, can_below, seals_grown, seals_kept, loop_child, can_child, end_at, beside_start, beside_call, beside_then, if_ok, fits_as, body_as, adds_stops, stops_as, stops_none, stops_one, fault_cases, grown_level, level_within}
 use Rattle.shadow_commit.proofs.sealing.+seal.Goals as goal
 
@@ -22,7 +24,7 @@ pub seal_child-seal_twig-requires : goal.seal_child-seal_twig-requires
 seal_child-seal_twig-requires g t c =
     let at = c.requires.can in
     let head = g.P.Platform.head c.args.platform.now in
-    λ κs h. (omega (arith, c.decreases, grown_level c.args.child.now c.in-Grown.low c.in-Grown.twig c.in-Grown.is), (h.0, (h.1, can_below head (g.P.Platform.capacity c.args.platform.now) c.args.child.now c.in-Grown.low c.in-Grown.twig at (grown_at at.order at.level at.high head c.args.child.now c.in-Grown.low c.in-Grown.twig c.in-Grown.is at.shaped at.below))))
+    λ κs h. (omega (arith, c.decreases, grown_level c.args.child.now c.in-Grown.low c.in-Grown.twig c.in-Grown.is), (h.0, (h.1, (can_below head (g.P.Platform.capacity c.args.platform.now) c.args.child.now c.in-Grown.low c.in-Grown.twig at (grown_at at.order at.level at.high head c.args.child.now c.in-Grown.low c.in-Grown.twig c.in-Grown.is at.shaped at.below), omega (arith, c.requires.room, grown_level c.args.child.now c.in-Grown.low c.in-Grown.twig c.in-Grown.is)))))
 
 pub seal_child-returns-in_err-placed-in-Grown-clause-within : goal.seal_child-returns-in_err-placed-in-Grown-clause-within
 seal_child-returns-in_err-placed-in-Grown-clause-within g t c at =
@@ -61,10 +63,14 @@ seal_twig-seal_child-requires g t c =
     let i = c.loop-child.child-index in
     let inv = c.loop-child.invariant in
     let so_far = inv.sealed at in
-    let count = children_count at.level head (take i cs) so_far.nodes c.loop-child.entries.items so_far.is in
+    let count = children_count at.level head (take i cs) so_far.nodes (drop (length c.args.entries.now.items) c.loop-child.entries.items) so_far.is in
     let s = loop_child head (g.P.Platform.capacity c.args.platform.now) c.args.twig.now cs i c.child-item.result at inv.same c.loop-child-test.true c.child-item.is in
     let can = can_child head (g.P.Platform.capacity c.args.platform.now) now (g.P.Platform.capacity c.loop-child.platform) c.args.twig.now cs i c.child-item.result at s inv.same inv.beside.head (omega (arith, so_far.head, count)) inv.beside.capacity in
-    λ κs h. (omega (arith, c.decreases, at.shaped.level_is, level_within at.order at.level _ c.child-item.result s.shaped), (h.0, (h.1, can)))
+    let within = level_within at.order at.level _ c.child-item.result s.shaped in
+    let few : i + 1 ≤ 64 = omega (arith, c.loop-child-test.true, ap length inv.same, at.shaped.node.within, at.order_most) in
+    let room : vec_len c.loop-child.entries + 64 * child_level c.child-item.result ≤ vec_capacity c.loop-child.entries
+    = omega (arith, c.requires.room, inv.room, inv.count, few, within, at.shaped.level_is, c.loop-child.entries.ok.0, c.args.entries.now.ok.0) in
+    λ κs h. (omega (arith, c.decreases, at.shaped.level_is, within), (h.0, (h.1, (can, room))))
 
 pub seal_twig-returns-in_err-entry-clause-within : goal.seal_twig-returns-in_err-entry-clause-within
 seal_twig-returns-in_err-entry-clause-within g t c at =
@@ -74,7 +80,7 @@ seal_twig-returns-in_err-entry-clause-within g t c at =
     let i = c.loop-child.child-index in
     let inv = c.loop-child.invariant in
     let so_far = inv.sealed at in
-    let count = children_count at.level head (take i cs) so_far.nodes c.loop-child.entries.items so_far.is in
+    let count = children_count at.level head (take i cs) so_far.nodes (drop (length c.args.entries.now.items) c.loop-child.entries.items) so_far.is in
     let s = loop_child head (g.P.Platform.capacity c.args.platform.now) c.args.twig.now cs i c.child-item.result at inv.same c.loop-child-test.true c.child-item.is in
     let can = can_child head (g.P.Platform.capacity c.args.platform.now) now (g.P.Platform.capacity c.loop-child.platform) c.args.twig.now cs i c.child-item.result at s inv.same inv.beside.head (omega (arith, so_far.head, count)) inv.beside.capacity in
     omega (arith, c.seal_child.ensures.within can, so_far.head, count, s.count, ap (sum_by (nodes at.level)) inv.same)
@@ -91,22 +97,25 @@ seal_twig-loop-child-preserved g t c =
           let i = c.loop-child.child-index in
           let inv = c.loop-child.invariant in
           let so_far = inv.sealed at in
-          let count = children_count at.level head (take i cs) so_far.nodes c.loop-child.entries.items so_far.is in
+          let count = children_count at.level head (take i cs) so_far.nodes (drop (length c.args.entries.now.items) c.loop-child.entries.items) so_far.is in
           let s = loop_child head (g.P.Platform.capacity c.args.platform.now) c.args.twig.now cs i c.child-item.result at inv.same c.loop-child-test.true c.child-item.is in
           let can = can_child head (g.P.Platform.capacity c.args.platform.now) now (g.P.Platform.capacity c.loop-child.platform) c.args.twig.now cs i c.child-item.result at s inv.same inv.beside.head (omega (arith, so_far.head, count)) inv.beside.capacity in
-          let es = c.loop-child.entries.items in
+          let es = (drop (length c.args.entries.now.items) c.loop-child.entries.items) in
           let entry = c.in_ok-entry.entry in
           let history = g.P.Platform.history in
           let drawn = g.T.Tape.drawn in
-          adds_then (λ ns. SealsEach (Seals at.level) head (take i cs) ns es) (λ ms. Seals at.level now c.child-item.result ms entry) (λ ns. SealsEach (Seals at.level) head (take (i + 1) cs) ns c.push.new.self.items)
+          let more = grows_by c.args.entries.now.items c.loop-child.entries.items c.seal_child.new.entries.items c.add.new.entries.items entry (omega (arith, inv.count)) c.in_ok-entry.ensures.entries c.add.ensures.items in
+          adds_then (λ ns. SealsEach (Seals at.level) head (take i cs) ns es) (λ ms. Seals at.level now c.child-item.result ms entry) (λ ns. SealsEach (Seals at.level) head (take (i + 1) cs) ns (drop (length c.args.entries.now.items) c.add.new.entries.items))
           g.P.Platform.tells (history c.args.platform.now).present (history c.loop-child.platform).present (history c.seal_child.new.platform).present head now (g.P.Platform.head c.seal_child.new.platform)
           (drawn c.args.tape.now) (drawn c.loop-child.tape) (drawn c.seal_child.new.tape)
           (λ ns ms up is one.
-          subst (λ xs. SealsEach (Seals at.level) head (take (i + 1) cs) (ns ++ ms) xs) (sym c.push.ensures.items)
+          subst (λ xs. SealsEach (Seals at.level) head (take (i + 1) cs) (ns ++ ms) xs) (sym more)
           (subst (λ ds. SealsEach (Seals at.level) head ds (ns ++ ms) (es ++ entry ∷ [])) (sym s.more)
           (each_snoc (Seals at.level) head (take i cs) c.child-item.result ns ms es entry is (subst (λ n. Seals at.level n c.child-item.result ms entry) up one))))
           so_far (c.in_ok-entry.ensures.sealed can);
-      count = omega (arith, inv.count, c.push.ensures.len);
+      front = keeps_front c.args.entries.now.items c.loop-child.entries.items c.seal_child.new.entries.items c.add.new.entries.items c.in_ok-entry.entry (omega (arith, inv.count)) inv.front c.in_ok-entry.ensures.entries c.add.ensures.items;
+      count = omega (arith, inv.count, ap length c.in_ok-entry.ensures.entries, ap length c.add.ensures.items, length-append c.seal_child.new.entries.items (c.in_ok-entry.entry ∷ []));
+      room = omega (arith, inv.room, c.seal_child.ensures.room, c.add.ensures.capacity);
       beside = beside_then g.P.Platform g.T.Tape c.args.platform.now c.loop-child.platform c.seal_child.new.platform c.args.tape.now c.loop-child.tape c.seal_child.new.tape inv.beside c.seal_child.ensures.beside;
     }
 
@@ -119,11 +128,11 @@ seal_twig-put_node-requires g t c =
     let i = c.loop-child.child-index in
     let inv = c.loop-child.invariant in
     let so_far = inv.sealed at in
-    let count = children_count at.level head (take i cs) so_far.nodes c.loop-child.entries.items so_far.is in
+    let count = children_count at.level head (take i cs) so_far.nodes (drop (length c.args.entries.now.items) c.loop-child.entries.items) so_far.is in
     let all : take i cs ≡ children_of c.args.twig.now = take_all i cs (omega (arith, c.loop-child-test.false)) ∙ inv.same in
-    let each = subst (λ xs. SealsEach (Seals at.level) head xs so_far.nodes c.loop-child.entries.items) all so_far.is in
-    let fits = node_fits at.order at.level at.least at.low at.high head head c.args.twig.now so_far.nodes c.loop-child.entries.items at.shaped at.order_most at.level_most at.blocks at.below (omega arith) each in
-    fits_as _ _ _ _ _ _ (sym (c.head.ensures.value ∙ so_far.head)) (sym at.shaped.level_is) (sym c.deref.ensures.0) fits
+    let each = subst (λ xs. SealsEach (Seals at.level) head xs so_far.nodes (drop (length c.args.entries.now.items) c.loop-child.entries.items)) all so_far.is in
+    let fits = node_fits at.order at.level at.least at.low at.high head head c.args.twig.now so_far.nodes (drop (length c.args.entries.now.items) c.loop-child.entries.items) at.shaped at.order_most at.level_most at.blocks at.below (omega arith) each in
+    fits_as _ _ _ _ _ _ (sym (c.head.ensures.value ∙ so_far.head)) (sym at.shaped.level_is) (sym (c.split_at.ensures.back ∙ (λ i. drop ((c.len-begin.ensures ∙ c.args.entries.now.ok.0) i) (c.deref.ensures.value i)))) fits
 
 pub seal_twig-append-requires : goal.seal_twig-append-requires
 seal_twig-append-requires g t c =
@@ -134,7 +143,7 @@ seal_twig-append-requires g t c =
     let i = c.loop-child.child-index in
     let inv = c.loop-child.invariant in
     let so_far = inv.sealed at in
-    let count = children_count at.level head (take i cs) so_far.nodes c.loop-child.entries.items so_far.is in
+    let count = children_count at.level head (take i cs) so_far.nodes (drop (length c.args.entries.now.items) c.loop-child.entries.items) so_far.is in
     let all : take i cs ≡ children_of c.args.twig.now = take_all i cs (omega (arith, c.loop-child-test.false)) ∙ inv.same in
     omega (arith, at.room, inv.beside.capacity, so_far.head, count, ap (sum_by (nodes at.level)) all)
 
@@ -146,9 +155,9 @@ seal_twig-returns-clause-sealed g t c at =
     let i = c.loop-child.child-index in
     let inv = c.loop-child.invariant in
     let so_far = inv.sealed at in
-    let count = children_count at.level head (take i cs) so_far.nodes c.loop-child.entries.items so_far.is in
+    let count = children_count at.level head (take i cs) so_far.nodes (drop (length c.args.entries.now.items) c.loop-child.entries.items) so_far.is in
     let all : take i cs ≡ children_of c.args.twig.now = take_all i cs (omega (arith, c.loop-child-test.false)) ∙ inv.same in
-    let es = c.loop-child.entries.items in
+    let es = (drop (length c.args.entries.now.items) c.loop-child.entries.items) in
     let history = g.P.Platform.history in
     let drawn = g.T.Tape.drawn in
     let tells = g.P.Platform.tells in
@@ -162,7 +171,7 @@ seal_twig-returns-clause-sealed g t c at =
     let address : placed.addr ≡ now = at_head.address in
     let body = c.put_node.new.self.body in
     let node : Sealed = record { addr = placed.addr; key = placed.key; level = suc at.level; entries = es } in
-    let body_is : body ≡ record_bytes placed.addr (NodeRecord (suc at.level) es) = ap (λ (b : Held). b.body) c.put_node.ensures ∙ body_as _ _ _ _ _ _ (c.head.ensures.value ∙ sym address) at.shaped.level_is c.deref.ensures.0 in
+    let body_is : body ≡ record_bytes placed.addr (NodeRecord (suc at.level) es) = ap (λ (b : Held). b.body) c.put_node.ensures ∙ body_as _ _ _ _ _ _ (c.head.ensures.value ∙ sym address) at.shaped.level_is (c.split_at.ensures.back ∙ (λ i. drop ((c.len-begin.ensures ∙ c.args.entries.now.ok.0) i) (c.deref.ensures.value i))) in
     let each : Adds (λ ns. SealsEach (Seals at.level) head (children_of c.args.twig.now) ns es) tells old mid head now (drawn c.args.tape.now) (drawn c.loop-child.tape)
     = adds_as (λ ns. SealsEach (Seals at.level) head (take i cs) ns es) (λ ns. SealsEach (Seals at.level) head (children_of c.args.twig.now) ns es) tells old mid head now (drawn c.args.tape.now) (drawn c.loop-child.tape)
     (λ ns h. subst (λ xs. SealsEach (Seals at.level) head xs ns es) all h) so_far in
@@ -179,7 +188,7 @@ seal_twig-returns-clause-within g t c at =
     let i = c.loop-child.child-index in
     let inv = c.loop-child.invariant in
     let so_far = inv.sealed at in
-    let count = children_count at.level head (take i cs) so_far.nodes c.loop-child.entries.items so_far.is in
+    let count = children_count at.level head (take i cs) so_far.nodes (drop (length c.args.entries.now.items) c.loop-child.entries.items) so_far.is in
     let all : take i cs ≡ children_of c.args.twig.now = take_all i cs (omega (arith, c.loop-child-test.false)) ∙ inv.same in
     omega (arith, c.append.ensures.adds.grows.by_one, so_far.head, count, ap (sum_by (nodes at.level)) all)
 
@@ -212,7 +221,7 @@ seal_twig-returns-in_err-entry-clause-stops g t c at = λ err.
     let i = c.loop-child.child-index in
     let inv = c.loop-child.invariant in
     let so_far = inv.sealed at in
-    let es = c.loop-child.entries.items in
+    let es = (drop (length c.args.entries.now.items) c.loop-child.entries.items) in
     let history = g.P.Platform.history in
     let drawn = g.T.Tape.drawn in
     let tells = g.P.Platform.tells in
@@ -238,7 +247,7 @@ seal_twig-returns-clause-stops g t c at = λ err.
     let i = c.loop-child.child-index in
     let inv = c.loop-child.invariant in
     let so_far = inv.sealed at in
-    let es = c.loop-child.entries.items in
+    let es = (drop (length c.args.entries.now.items) c.loop-child.entries.items) in
     let history = g.P.Platform.history in
     let drawn = g.T.Tape.drawn in
     let tells = g.P.Platform.tells in
@@ -262,7 +271,7 @@ seal_twig-returns-clause-stops g t c at = λ err.
     (λ is.
     let spent = c.append.ensures.spent is in
     let node : Sealed = record { addr = now; key = spent.key; level = suc at.level; entries = es } in
-    let body_is : c.put_node.new.self.body ≡ record_bytes now (NodeRecord (suc at.level) es) = ap (λ (b : Held). b.body) c.put_node.ensures ∙ body_as _ _ _ _ _ _ c.head.ensures.value at.shaped.level_is c.deref.ensures.0 in
+    let body_is : c.put_node.new.self.body ≡ record_bytes now (NodeRecord (suc at.level) es) = ap (λ (b : Held). b.body) c.put_node.ensures ∙ body_as _ _ _ _ _ _ c.head.ensures.value at.shaped.level_is (c.split_at.ensures.back ∙ (λ i. drop ((c.len-begin.ensures ∙ c.args.entries.now.ok.0) i) (c.deref.ensures.value i))) in
     stops_one Are tells mid new (drawn c.loop-child.tape) (drawn c.append.new.tape) node c.put_node.new.self.body
     (subst (λ ss. AreNodesOver head ss (so_far.nodes ++ node ∷ [])) same (over_node head places so_far.nodes node done.over so_far.head (fits, All-from_recursion (λ (e : Entry). IsBytes 32 e.key) es keys) done.listed)) body_is spent.image spent.drew)
     in

@@ -1,4 +1,5 @@
-use Rattle.std.proofs.Common.{◌≡◌, ◌+◌, ◌*◌, length, take}
+use Rattle.std.proofs.Common.{◌≡◌, ◌+◌, ◌*◌, ◌≤◌, length, take, drop}
+use Rattle.std.specs.Vec.{vec_capacity}
 use Rattle.btree_twigs.specs.Stubs.{children_of, level_of}
 use Rattle.btree_twigs.specs.Top.{child_level}
 use Rattle.shadow_commit.specs.Sealed.{Seals, SealsEach}
@@ -10,10 +11,12 @@ abbrev pub invariant-seal_twig-loop-child : goal.invariant-seal_twig-loop-child
 invariant-seal_twig-loop-child g l = record {
   same : l.child-items ≡ children_of l.fn.twig;
   sealed : (at : CanSeal (g.P.Platform.head l.fn.platform) (g.P.Platform.capacity l.fn.platform) l.fn.twig) →
-      Adds (λ nodes. SealsEach (Seals at.level) (g.P.Platform.head l.fn.platform) (take l.child-index l.child-items) nodes l.entries.items)
+      Adds (λ nodes. SealsEach (Seals at.level) (g.P.Platform.head l.fn.platform) (take l.child-index l.child-items) nodes (drop (length l.fn.entries.items) l.entries.items))
       g.P.Platform.tells (g.P.Platform.history l.fn.platform).present (g.P.Platform.history l.platform).present
       (g.P.Platform.head l.fn.platform) (g.P.Platform.head l.platform) (g.T.Tape.drawn l.fn.tape) (g.T.Tape.drawn l.tape);
-  count : length l.entries.items ≡ l.child-index;
+  front : take (length l.fn.entries.items) l.entries.items ≡ l.fn.entries.items;
+  count : length l.entries.items ≡ length l.fn.entries.items + l.child-index;
+  room : vec_capacity l.fn.entries ≤ vec_capacity l.entries;
   beside : OnlyAdds g.P.Platform g.T.Tape l.fn.platform l.platform l.fn.tape l.tape;
 }
 

@@ -1,5 +1,5 @@
 use Rattle.std.proofs.Common.{◌≡◌, ◌∙◌, ◌<◌, ℕ, None, Some, inl, inr, ap, sym, subst, arith}
-use Rattle.std.specs.Prelude.{replicate}
+use Rattle.std.specs.Prelude.{box_value, replicate}
 use Rattle.sdbt_base.specs.Arrays.{Device, Blocks}
 use Rattle.platform.specs.Image.{Image}
 use Rattle.node_codec.specs.Record.{DataRecord}
@@ -31,13 +31,13 @@ cached g c h = subst (λ (s : Session). StandsOver (g.P.Platform.history c.args.
 
 -- what a look leaves
 goes : (g : Over) (c : After-find g) (buffers : Held) (after : Image) (pages : ℕ) → (g.P.Platform.tells → after ≡ (g.P.Platform.history c.args.platform.now).present) → pages ≡ g.P.Platform.head c.args.platform.now →
-    GoesOn g.P.Platform.tells (g.P.Platform.history c.args.platform.now).present after pages c.args.self.now (record (the_view c.self.inside) { cache = c.find.new.cache; buffers = buffers })
+    GoesOn g.P.Platform.tells (g.P.Platform.history c.args.platform.now).present after pages c.args.self.now (record (the_view c.self.inside) { cache = c.find.new.reader.cache; buffers = buffers; node = box_value c.find.new.reader.node })
 goes g c buffers after pages still head =
-    goes_looked g.P.Platform.tells (g.P.Platform.history c.args.platform.now).present after (g.P.Platform.head c.args.platform.now) pages c.args.self.now (the_view c.self.inside) c.find.new.cache buffers c.self.view_is still head c.find.ensures.caches.stands c.find.ensures.caches.capacity c.requires.open
+    goes_looked g.P.Platform.tells (g.P.Platform.history c.args.platform.now).present after (g.P.Platform.head c.args.platform.now) pages c.args.self.now (the_view c.self.inside) c.find.new.reader.cache buffers (box_value c.find.new.reader.node) c.self.view_is still head c.find.ensures.caches.stands c.find.ensures.caches.capacity c.requires.open
 
 listed : (g : Over) (c : After-find g) (buffers : Held) (after : Image) → g.P.Platform.tells → after ≡ (g.P.Platform.history c.args.platform.now).present →
-    StaysListed (g.P.Platform.history c.args.platform.now).present after c.args.self.now (record (the_view c.self.inside) { cache = c.find.new.cache; buffers = buffers })
-listed g c buffers after told still = listed_looked c.args.self.now (the_view c.self.inside) c.find.new.cache buffers (g.P.Platform.history c.args.platform.now).present after c.self.view_is still (c.find.ensures.caches.stands told) (c.find.ensures.caches.among told)
+    StaysListed (g.P.Platform.history c.args.platform.now).present after c.args.self.now (record (the_view c.self.inside) { cache = c.find.new.reader.cache; buffers = buffers; node = box_value c.find.new.reader.node })
+listed g c buffers after told still = listed_looked c.args.self.now (the_view c.self.inside) c.find.new.reader.cache buffers (box_value c.find.new.reader.node) (g.P.Platform.history c.args.platform.now).present after c.self.view_is still (c.find.ensures.caches.stands told) (c.find.ensures.caches.among told)
 
 pub returns-in-Err-BadRecord-clause-array : goal.returns-in-Err-BadRecord-clause-array
 returns-in-Err-BadRecord-clause-array g c = λ told device contents h.
@@ -47,7 +47,7 @@ returns-in-Err-BadRecord-clause-array g c = λ told device contents h.
 
 pub returns-in-Err-PlatformFault-clause-array : goal.returns-in-Err-PlatformFault-clause-array
 returns-in-Err-PlatformFault-clause-array g c = λ told device contents h.
-    (holds_looked (the_view c.self.inside) c.find.new.cache c.find.new.buf _ _ device contents (c.find.ensures.looks.image told) (c.find.ensures.caches.stands told) (c.find.ensures.caches.among told) (held g (goal.at.returns-in-Err-PlatformFault-clause-array g c).After-find device contents h), tt)
+    (holds_looked (the_view c.self.inside) c.find.new.reader.cache c.find.new.reader.buffers (box_value c.find.new.reader.node) _ _ device contents (c.find.ensures.looks.image told) (c.find.ensures.caches.stands told) (c.find.ensures.caches.among told) (held g (goal.at.returns-in-Err-PlatformFault-clause-array g c).After-find device contents h), tt)
 
 pub returns-in-Err-BadRecord-clause-misfit : goal.returns-in-Err-BadRecord-clause-misfit
 returns-in-Err-BadRecord-clause-misfit g c = λ told h addr is.
@@ -60,7 +60,7 @@ returns-in_default-clause-array g c = λ told device contents h.
     let k = held g (goal.at.returns-in_default-clause-array g c).After-find device contents h in
     let a = held_array (the_view c.self.inside) (g.P.Platform.history c.args.platform.now).present device contents k in
     let none = subst (IsMappedAs a.mapped c.args.block) c.in_default.is (c.in-Ok.ensures.maps told k.cached a.mapped a.maps_are) in (
-      holds_looked (the_view c.self.inside) c.find.new.cache c.find.new.buf _ _ device contents (c.find.ensures.looks.image told) (c.find.ensures.caches.stands told) (c.find.ensures.caches.among told) k,
+      holds_looked (the_view c.self.inside) c.find.new.reader.cache c.find.new.reader.buffers (box_value c.find.new.reader.node) _ _ device contents (c.find.ensures.looks.image told) (c.find.ensures.caches.stands told) (c.find.ensures.caches.among told) k,
       c.fill.ensures.after (λ y same. same) ∙ ap (λ (n : ℕ). replicate n 0) c.requires.size ∙ sym (content_none a.mapped contents c.args.block a.contents_are none),
     )
 
@@ -94,7 +94,7 @@ returns-clause-array g c = λ told device contents h.
     let some = subst (IsMappedAs a.mapped c.args.block) c.in-Some.is (c.in-Ok.ensures.maps told k.cached a.mapped a.maps_are) in
     let small = (rw c.in-Some.is at c.in-Ok.ensures.entry).1 in
     let there = subst (λ (i : Image). FitsAt i.readable (block_want c.in-Some.entry.addr c.args.block) c.in-Some.entry.key (DataRecord c.args.block c.read_block.new.out)) (c.find.ensures.looks.image told) (c.in-Ok-read_block.ensures.fits told) in (
-      holds_looked (the_view c.self.inside) c.find.new.cache c.read_block.new.buffers old.present (g.P.Platform.history c.read_block.new.platform).present device contents (c.read_block.ensures.looks.image told ∙ c.find.ensures.looks.image told) (c.find.ensures.caches.stands told) (c.find.ensures.caches.among told) k,
+      holds_looked (the_view c.self.inside) c.find.new.reader.cache c.read_block.new.buffers (box_value c.find.new.reader.node) old.present (g.P.Platform.history c.read_block.new.platform).present device contents (c.read_block.ensures.looks.image told ∙ c.find.ensures.looks.image told) (c.find.ensures.caches.stands told) (c.find.ensures.caches.among told) k,
       entry_read old.present (the_view c.self.inside).grove contents c.args.block c.in-Some.entry c.read_block.new.out a some (omega (arith, small, g.met.P.Platform.has_room c.args.platform.now, g.met.P.Platform.is_limited c.args.platform.now)) there.0,
     )
 
@@ -124,7 +124,7 @@ returns-in-Err-BadRecord-read_block-clause-misfit g c = λ told h addr is.
 pub returns-in-Err-PlatformFault-read_block-clause-array : goal.returns-in-Err-PlatformFault-read_block-clause-array
 returns-in-Err-PlatformFault-read_block-clause-array g c = λ told device contents h.
     let k = held g (goal.at.returns-in-Err-PlatformFault-read_block-clause-array g c).After-find device contents h in
-    (holds_looked (the_view c.self.inside) c.find.new.cache c.read_block.new.buffers _ _ device contents (c.read_block.ensures.looks.image told ∙ c.find.ensures.looks.image told) (c.find.ensures.caches.stands told) (c.find.ensures.caches.among told) k, tt)
+    (holds_looked (the_view c.self.inside) c.find.new.reader.cache c.read_block.new.buffers (box_value c.find.new.reader.node) _ _ device contents (c.read_block.ensures.looks.image told ∙ c.find.ensures.looks.image told) (c.find.ensures.caches.stands told) (c.find.ensures.caches.among told) k, tt)
 
 -- what is named is a wrong place
 pub returns-in-Err-BadRecord-clause-damaged : goal.returns-in-Err-BadRecord-clause-damaged
@@ -188,30 +188,30 @@ returns-then-block-self-clause-reads g c = few_none g.P.Platform c.args.block c.
 
 pub returns-in-Err-BadRecord-clause-reads : goal.returns-in-Err-BadRecord-clause-reads
 returns-in-Err-BadRecord-clause-reads g c =
-    few_found g.P.Platform c.args.block c.args.platform.now c.find.new.platform _ c.args.self.now (the_view c.self.inside) c.find.new.cache c.find.new.buf c.find.result _ c.self.view_is c.if-block-self.false c.find.ensures.looks c.find.ensures.uses
+    few_found g.P.Platform c.args.block c.args.platform.now c.find.new.platform _ c.args.self.now (the_view c.self.inside) c.find.new.reader.cache c.find.new.reader.buffers (box_value c.find.new.reader.node) c.find.result _ c.self.view_is c.if-block-self.false c.find.ensures.looks c.find.ensures.uses
     (λ told. omega arith) (λ told. tt)
 
 pub returns-in-Err-PlatformFault-clause-reads : goal.returns-in-Err-PlatformFault-clause-reads
 returns-in-Err-PlatformFault-clause-reads g c =
-    few_found g.P.Platform c.args.block c.args.platform.now c.find.new.platform _ c.args.self.now (the_view c.self.inside) c.find.new.cache c.find.new.buf c.find.result _ c.self.view_is c.if-block-self.false c.find.ensures.looks c.find.ensures.uses
+    few_found g.P.Platform c.args.block c.args.platform.now c.find.new.platform _ c.args.self.now (the_view c.self.inside) c.find.new.reader.cache c.find.new.reader.buffers (box_value c.find.new.reader.node) c.find.result _ c.self.view_is c.if-block-self.false c.find.ensures.looks c.find.ensures.uses
     (λ told. omega arith) (λ told. tt)
 
 pub returns-in_default-clause-reads : goal.returns-in_default-clause-reads
 returns-in_default-clause-reads g c =
-    few_found g.P.Platform c.args.block c.args.platform.now c.find.new.platform _ c.args.self.now (the_view c.self.inside) c.find.new.cache c.find.new.buf c.find.result _ c.self.view_is c.if-block-self.false c.find.ensures.looks c.find.ensures.uses
+    few_found g.P.Platform c.args.block c.args.platform.now c.find.new.platform _ c.args.self.now (the_view c.self.inside) c.find.new.reader.cache c.find.new.reader.buffers (box_value c.find.new.reader.node) c.find.result _ c.self.view_is c.if-block-self.false c.find.ensures.looks c.find.ensures.uses
     (λ told. omega arith) (λ told. c.in-Ok.ensures.uses.fills told)
 
 pub returns-in-Err-BadRecord-read_block-clause-reads : goal.returns-in-Err-BadRecord-read_block-clause-reads
 returns-in-Err-BadRecord-read_block-clause-reads g c =
-    few_found g.P.Platform c.args.block c.args.platform.now c.find.new.platform _ c.args.self.now (the_view c.self.inside) c.find.new.cache c.read_block.new.buffers c.find.result _ c.self.view_is c.if-block-self.false c.find.ensures.looks c.find.ensures.uses
+    few_found g.P.Platform c.args.block c.args.platform.now c.find.new.platform _ c.args.self.now (the_view c.self.inside) c.find.new.reader.cache c.read_block.new.buffers (box_value c.find.new.reader.node) c.find.result _ c.self.view_is c.if-block-self.false c.find.ensures.looks c.find.ensures.uses
     c.read_block.ensures.reads (λ told. tt)
 
 pub returns-in-Err-PlatformFault-read_block-clause-reads : goal.returns-in-Err-PlatformFault-read_block-clause-reads
 returns-in-Err-PlatformFault-read_block-clause-reads g c =
-    few_found g.P.Platform c.args.block c.args.platform.now c.find.new.platform _ c.args.self.now (the_view c.self.inside) c.find.new.cache c.read_block.new.buffers c.find.result _ c.self.view_is c.if-block-self.false c.find.ensures.looks c.find.ensures.uses
+    few_found g.P.Platform c.args.block c.args.platform.now c.find.new.platform _ c.args.self.now (the_view c.self.inside) c.find.new.reader.cache c.read_block.new.buffers (box_value c.find.new.reader.node) c.find.result _ c.self.view_is c.if-block-self.false c.find.ensures.looks c.find.ensures.uses
     c.read_block.ensures.reads (λ told. tt)
 
 pub returns-clause-reads : goal.returns-clause-reads
 returns-clause-reads g c =
-    few_found g.P.Platform c.args.block c.args.platform.now c.find.new.platform _ c.args.self.now (the_view c.self.inside) c.find.new.cache c.read_block.new.buffers c.find.result _ c.self.view_is c.if-block-self.false c.find.ensures.looks c.find.ensures.uses
+    few_found g.P.Platform c.args.block c.args.platform.now c.find.new.platform _ c.args.self.now (the_view c.self.inside) c.find.new.reader.cache c.read_block.new.buffers (box_value c.find.new.reader.node) c.find.result _ c.self.view_is c.if-block-self.false c.find.ensures.looks c.find.ensures.uses
     c.read_block.ensures.reads (λ told. c.in-Ok.ensures.uses.fills told)

@@ -1,5 +1,5 @@
 use Rattle.std.proofs.Common.{List, IsTrue, sym, subst}
-use Rattle.std.specs.Prelude.{IfOk}
+use Rattle.std.specs.Prelude.{IfOk, box_value}
 use Rattle.std.specs.Bool.{OnTrue, OnFalse}
 use Rattle.platform.specs.Image.{Image}
 use Rattle.page_store.specs.Tree.{Mapped}
@@ -23,7 +23,7 @@ returns-clause-holds g c = λ told device contents h.
     let image = (g.P.Platform.history c.args.platform.now).present in
     let k = subst (λ (s : Session). Holds s image device contents) (sym c.self.view_is) h in
     let a = held_array (the_view c.self.inside) image device contents k in (
-      ready_holds (the_view c.self.inside) c.ready.new.self c.ready.new.cache c.ready.new.buf image _ device contents (c.ready.ensures.looks.image told) c.ready.ensures.tree c.ready.ensures.sound (c.ready.ensures.caches.stands told) (c.ready.ensures.caches.among told) k,
+      ready_holds (the_view c.self.inside) c.ready.new.self c.ready.new.reader.cache c.ready.new.reader.buffers (box_value c.ready.new.reader.node) image _ device contents (c.ready.ensures.looks.image told) c.ready.ensures.tree c.ready.ensures.sound (c.ready.ensures.caches.stands told) (c.ready.ensures.caches.among told) k,
       λ addr. (c.ready.ensures.bad told k.cached).never a.mapped a.maps_are addr,
     )
 
@@ -31,12 +31,12 @@ pub returns-clause-listed : goal.returns-clause-listed
 returns-clause-listed g c = λ told keys h.
     let image = (g.P.Platform.history c.args.platform.now).present in
     let k = subst (λ (s : Session). HoldsListed s image keys) (sym c.self.view_is) h in
-    ready_listed (the_view c.self.inside) c.ready.new.self c.ready.new.cache c.ready.new.buf image _ keys (c.ready.ensures.looks.image told) c.ready.ensures.tree c.ready.ensures.sound (c.ready.ensures.caches.stands told) (c.ready.ensures.caches.among told) k
+    ready_listed (the_view c.self.inside) c.ready.new.self c.ready.new.reader.cache c.ready.new.reader.buffers (box_value c.ready.new.reader.node) image _ keys (c.ready.ensures.looks.image told) c.ready.ensures.tree c.ready.ensures.sound (c.ready.ensures.caches.stands told) (c.ready.ensures.caches.among told) k
 
 pub returns-clause-goes_on : goal.returns-clause-goes_on
 returns-clause-goes_on g c =
     let P = g.P.Platform in
-    goes_ready P.tells (P.history c.args.platform.now).present _ (P.head c.args.platform.now) _ c.args.self.now (the_view c.self.inside) c.ready.new.self c.ready.new.cache c.ready.new.buf c.self.view_is c.ready.ensures.looks.image c.ready.ensures.looks.head c.ready.ensures.tree c.ready.ensures.sound c.ready.ensures.caches.stands c.ready.ensures.caches.capacity c.requires.open
+    goes_ready P.tells (P.history c.args.platform.now).present _ (P.head c.args.platform.now) _ c.args.self.now (the_view c.self.inside) c.ready.new.self c.ready.new.reader.cache c.ready.new.reader.buffers (box_value c.ready.new.reader.node) c.self.view_is c.ready.ensures.looks.image c.ready.ensures.looks.head c.ready.ensures.tree c.ready.ensures.sound c.ready.ensures.caches.stands c.ready.ensures.caches.capacity c.requires.open
 
 pub returns-clause-ready : goal.returns-clause-ready
 returns-clause-ready g c = λ told h.
@@ -49,7 +49,7 @@ returns-clause-ready g c = λ told h.
     (λ b reads mapped. record { way = reads.0; beside = reads.1; mapped = λ map m. mapped map (ready_maps image.readable (the_view c.self.inside).grove grove map c.ready.ensures.tree m) })
     c.ready.result (c.ready.ensures.reads told over) (c.ready.ensures.mapped told over) in
     record {
-      cached = cached_looked image _ (the_view c.self.inside).cache c.ready.new.cache (c.ready.ensures.looks.image told) (c.ready.ensures.caches.stands told) over;
+      cached = cached_looked image _ (the_view c.self.inside).cache c.ready.new.reader.cache (c.ready.ensures.looks.image told) (c.ready.ensures.caches.stands told) over;
       ready = subst (λ (i : Image). IfOk c.ready.result (IsReadyFor i.readable c.args.block grove)) (sym (c.ready.ensures.looks.image told)) all;
       found = subst (λ (s : Session). IfOk c.ready.result (λ mapped. IsFound mapped image.readable s c.args.block)) c.self.view_is (found_by image.readable c.args.block (the_view c.self.inside) c.ready.result (c.ready.ensures.finds told over));
       bad = λ addr is. subst (λ (s : Session). IsWrongOnWay image.readable c.args.block s.grove addr) c.self.view_is ((c.ready.ensures.bad told over).wrong addr is);

@@ -8,12 +8,12 @@ loop-slot-init c = rw (← c.self.view_is, c.new-addrs.ensures, c.into_iter-slot
 
 pub loop-slot-preserved-in-Continue-1 : goal.loop-slot-preserved-in-Continue-1
 loop-slot-preserved-in-Continue-1 c =
-    let left = rw c.in-Full.is at c.in-Some.ensures.steps in
-    c.loop-slot.invariant ∙ ap (λ es. c.loop-slot.addrs ++ map (λ (k : Kept). k.addr) (kept_in es)) left ∙ rw c.in_ok-push.ensures (sym (append_assoc c.loop-slot.addrs (c.in-Full.kept.addr ∷ []) (map (λ (k : Kept). k.addr) (kept_in c.next.new.self))))
+    let left = rw (← c.in-Some-kept.ensures) at c.in-Some.ensures.steps in
+    c.loop-slot.invariant ∙ ap (λ es. c.loop-slot.addrs ++ map (λ (k : Kept). k.addr) (kept_in es)) left ∙ rw c.in_ok-push.ensures (sym (append_assoc c.loop-slot.addrs (c.in-Some-kept.kept.now.addr ∷ []) (map (λ (k : Kept). k.addr) (kept_in c.next.new.self))))
 
 pub loop-slot-preserved : goal.loop-slot-preserved
 loop-slot-preserved c =
-    let left = rw c.in_default.is at c.in-Some.ensures.steps in
+    let left = rw (← c.in_default.ensures) at c.in-Some.ensures.steps in
     c.loop-slot.invariant ∙ ap (λ es. c.loop-slot.addrs ++ map (λ (k : Kept). k.addr) (kept_in es)) left
 
 pub returns : goal.returns

@@ -1,3 +1,4 @@
+use Rattle.node_cache.proofs.BucketLaws.{covers_blank}
 use Rattle.std.proofs.Common.{◌≡◌, arith, length}
 use Rattle.node_cache.specs.Kept.{cached}
 use Rattle.node_cache.proofs.SlotLaws.{filled_more, filled_tied, filled_kept}
@@ -6,10 +7,16 @@ use Rattle.node_cache.proofs.cache.NodeCache.new.Goals as goal
 pub loop-number-preserved : goal.loop-number-preserved
 loop-number-preserved c =
     let more = filled_more c.loop-number.slots.entries c.loop-number.addrs.items c.loop-number.number c.loop-number.slots.cap (omega (arith, c.loop-number-test.true, c.loop-number.invariant.1)) c.loop-number.invariant.0 in
-    rw (c.in_ok-put.ensures.entries, c.in_ok-push.ensures.items) (more, c.loop-number.invariant.1)
+    rw (c.in_ok-put.ensures.entries, c.in_ok-push.ensures.items, c.in_ok-new.ensures) (more, c.loop-number.invariant.1)
 
 pub invariant_of-result : goal.invariant_of-result
-invariant_of-result c = filled_tied c.loop-number.slots.entries c.loop-number.addrs.items c.loop-number.number c.loop-number.invariant.0
+invariant_of-result c =
+    let filled = c.loop-number.invariant.0 in
+    record {
+      tied = filled_tied c.loop-number.slots.entries c.loop-number.addrs.items c.loop-number.number filled;
+      covers = covers_blank c.in_ok-buckets.buckets.items c.loop-number.addrs.items (λ slot within. filled.nones slot (omega (arith, within, filled.as_many)));
+      some = λ some. omega (arith, some, c.in_ok-buckets.ensures.len, c.in_ok-buckets.buckets.ok.0, filled.as_many, c.loop-number.auto.number-end);
+    }
 
 pub returns : goal.returns
 returns c =
