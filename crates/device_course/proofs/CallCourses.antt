@@ -4,7 +4,7 @@ use Rattle.platform.specs.Image.{Image}
 use Rattle.platform.specs.History.{History, Extends, During, Turns}
 use Rattle.platform.proofs.Moments.{During-now, LeavesOnly-now, Extends-earlier}
 use Rattle.platform.proofs.RunLaws.{Turns-cases}
-use Rattle.sdbt_base.specs.Arrays.{State, closed, session_on, Device, Blocks, committed_with}
+use Rattle.sdbt_base.specs.Arrays.{State, closed, session_on, Device, Blocks, committed_with, mounted, committed_if}
 use Rattle.page_store.specs.Stands.{Stands, IsSound}
 use Rattle.page_store.specs.Kept.{Kept}
 use Rattle.page_store.specs.Keeping.{KeepsKeys}
@@ -26,7 +26,7 @@ use Rattle.device_terms.proofs.ServedLaws.{serves_still}
 use Rattle.device_course.specs.Certified.{Certified}
 use Rattle.device_course.specs.Fitting.{KeepsFitting}
 use Rattle.device_course.specs.Marks.{Leaves}
-use Rattle.device_course.specs.States.{Outside, Represents, IsAt, IsListed, IsLater, mounted, committed_if}
+use Rattle.device_course.specs.States.{Outside, Represents, IsAt, IsListed, IsLater}
 use Rattle.device_course.specs.Course.{Made, Course, Part, Stopped}
 use Rattle.device_course.proofs.CertifiedLaws.{certified_stays}
 use Rattle.device_course.proofs.FitsLaws.{fitting_still}
