@@ -1,6 +1,6 @@
 -- What a session and the platform stand for.
-use Rattle.std.specs.Prelude.{◌≡◌, ◌≤◌, ℕ, Bool, true, false, List, Option, None, Some}
-use Rattle.sdbt_base.specs.Arrays.{Device, Session as OpenSession, State, committed}
+use Rattle.std.specs.Prelude.{◌≡◌, ◌≤◌, ℕ, List, Option, None, Some}
+use Rattle.sdbt_base.specs.Arrays.{Device, Session as OpenSession, State}
 use Rattle.sdbt_base.specs.declared.sinks.Sink.{Ghosts as SinkGhosts}
 use Rattle.sdbt_base.specs.declared.tapes.Tape.{Ghosts as TapeGhosts}
 use Rattle.platform.specs.declared.platforms.Platform.{Ghosts as PlatformGhosts}
@@ -34,10 +34,6 @@ pub record IsLater (old new : Outside) : Type 0 where
   pub rises : old.head ≤ new.head
   pub within : new.head ≤ new.capacity
 
--- a device with a session on it
-abbrev pub mounted : Device → OpenSession → State
-mounted device session = record { device = Some device; session = Some session }
-
 -- the session, if there is one, has over the image the array of the state's session; below it is the state's device
 abbrev pub IsSessionOf : Option Session → Image → Option Device → Option OpenSession → Type 0
 IsSessionOf None image device None = Unit {0}
@@ -60,8 +56,3 @@ pub record IsAt (image : Image) (held : Option Session) (state : State) : Type 0
 abbrev pub IsListed : Option Session → Image → List (List ℕ) → Type 0
 IsListed None image keys = IsSound image
 IsListed (Some session) image keys = HoldsListed session image keys
-
--- the device after a commit that was answered: with the session's array and the next number, where that was touched
-abbrev pub committed_if : Bool → Device → OpenSession → Device
-committed_if true device session = committed device session
-committed_if false device session = device

@@ -1,5 +1,5 @@
 -- Devices as those who use them see them: arrays of blocks, with sessions on them.
-use Rattle.std.specs.Prelude.{ℕ, ◌+◌, ◌-◌, Bool, true, false, ◌||◌, List, ◌++◌, length, replicate, Option, None, unwrap_or}
+use Rattle.std.specs.Prelude.{ℕ, ◌+◌, ◌-◌, Bool, true, false, ◌||◌, List, ◌++◌, length, replicate, Option, None, Some, unwrap_or}
 use Rattle.std.specs.Ordering.{nat_cmp}
 use Rattle.std.specs.FinMap as map
 
@@ -48,6 +48,11 @@ committed_with device contents = record device { number = device.number + 1; con
 abbrev pub committed : Device → Session → Device
 committed device session = committed_with device session.contents
 
+-- the same, where the session has changes that aren't committed
+abbrev pub committed_if : Bool → Device → Session → Device
+committed_if true device session = committed device session
+committed_if false device session = device
+
 -- the session after a write, and after a trim
 abbrev pub written : Session → ℕ → List ℕ → Session
 written session block bytes = record { contents = map.insert session.contents block (padded bytes); touched = true }
@@ -58,3 +63,7 @@ unmapped session block = record { contents = map.remove session.contents block; 
 -- the device, without a session on it
 abbrev pub closed : Option Device → State
 closed device = record { device = device; session = None }
+
+-- the device, with a session on it
+abbrev pub mounted : Device → Session → State
+mounted device session = record { device = Some device; session = Some session }

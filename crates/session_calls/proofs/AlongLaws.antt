@@ -1,11 +1,11 @@
 -- How parts of a run compose in which a session goes on.
 use Rattle.std.proofs.Common.{◌≡◌, ◌<◌, ◌≤◌, ◌+◌, ℕ, List, [], ◌∷◌, ◌++◌, Some, Result, Ok, Err, inl, inr, get_or, length, take, refl, sym, subst, ◌∙◌, arith}
 use Rattle.std.proofs.lemmas.List.{take_more}
-use Rattle.sdbt_base.specs.Arrays.{Device, Session as OpenSession, written}
+use Rattle.sdbt_base.specs.Arrays.{Device, Session as OpenSession, written, mounted}
 use Rattle.platform.specs.declared.platforms.Platform.{Ghosts as PlatformGhosts}
 use Rattle.platform.specs.Image.{Image}
 use Rattle.device_terms.proofs.MomentLaws.{still, stays_then}
-use Rattle.device_course.specs.States.{IsAt, IsListed, mounted}
+use Rattle.device_course.specs.States.{IsAt, IsListed}
 use Rattle.device_course.proofs.KeysLaws.{on_start, on_then}
 use Rattle.device_session.specs.Open.{IsOpen}
 use Rattle.device_session.specs.Sessions.{Session}

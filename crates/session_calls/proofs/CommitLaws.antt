@@ -2,7 +2,7 @@
 use Rattle.std.proofs.Common.{◌≡◌, ◌+◌, ◌-◌, ◌<◌, ◌≤◌, ℕ, [], ◌∷◌, Bool, true, false, None, Some, Err, inl, inr, refl, sym, ◌∙◌, subst, ap, arith}
 use Rattle.std.specs.Prelude.{◌⊎◌}
 use Rattle.std.proofs.lemmas.Bool.{cases_Bool, cases_lt}
-use Rattle.sdbt_base.specs.Arrays.{Blocks, Device, Session as OpenSession, State, closed, committed}
+use Rattle.sdbt_base.specs.Arrays.{Blocks, Device, Session as OpenSession, State, closed, committed, committed_if, mounted}
 use Rattle.sdbt_base.specs.Faults.{Rose}
 use Rattle.sdbt_base.specs.declared.tapes.Tape.{Ghosts as TapeGhosts}
 use Rattle.platform.specs.declared.platforms.Platform.{Ghosts as PlatformGhosts}
@@ -14,7 +14,7 @@ use Rattle.page_store.proofs.StandsLaws.{stands_during}
 use Rattle.device_terms.specs.Served.{IsServedImage}
 use Rattle.device_course.specs.Course.{Made}
 use Rattle.device_course.specs.Marks.{Leaves}
-use Rattle.device_course.specs.States.{IsAt, committed_if, mounted}
+use Rattle.device_course.specs.States.{IsAt}
 use Rattle.device_course.proofs.MadeLaws.{made_none, made_one, made_same, made_stopped, shut, stayed}
 use Rattle.device_session.specs.Holds.{Holds}
 use Rattle.device_session.specs.Open.{IsOpen, is_touched, needed_by, number_of}

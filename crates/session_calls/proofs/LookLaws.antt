@@ -2,14 +2,14 @@
 use Rattle.std.proofs.Common.{◌≡◌, ◌+◌, ◌*◌, ◌<◌, ◌≤◌, ℕ, Bool, List, Some, Result, Ok, Err, refl, sym, ◌∙◌, subst, ap, arith}
 use Rattle.std.specs.Prelude.{◌≢◌, ◌||◌}
 use Rattle.std.specs.FinMap.{contains_key}
-use Rattle.sdbt_base.specs.Arrays.{Device, Session as OpenSession, State, unmapped}
+use Rattle.sdbt_base.specs.Arrays.{Device, Session as OpenSession, State, unmapped, mounted}
 use Rattle.sdbt_base.specs.Faults.{Rose}
 use Rattle.platform.specs.declared.platforms.Platform.{Ghosts as PlatformGhosts}
 use Rattle.platform.specs.Calls.{Looks}
 use Rattle.platform.specs.Image.{Image}
 use Rattle.root_codec.specs.declared.root.Root.{Root}
 use Rattle.device_terms.specs.Served.{IsServedImage}
-use Rattle.device_course.specs.States.{IsAt, mounted}
+use Rattle.device_course.specs.States.{IsAt}
 use Rattle.device_course.proofs.KeysLaws.{on_look}
 use Rattle.device_session.specs.Causes.{IsReadCause, IsTrimCause}
 use Rattle.device_session.specs.Changes.{TrimsArray}

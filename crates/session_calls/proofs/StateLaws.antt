@@ -1,12 +1,12 @@
 -- What a session and an image stand for.
 use Rattle.std.proofs.Common.{◌≡◌, Option, None, Some}
-use Rattle.sdbt_base.specs.Arrays.{Device, Session as OpenSession, State}
+use Rattle.sdbt_base.specs.Arrays.{Device, Session as OpenSession, State, mounted}
 use Rattle.platform.specs.Image.{Image}
 use Rattle.platform.specs.History.{History, CellStays}
 use Rattle.platform.proofs.Moments.{During-now}
 use Rattle.device_terms.specs.Served.{IsServedImage}
 use Rattle.device_terms.proofs.ServedLaws.{serves_still}
-use Rattle.device_course.specs.States.{IsAt, mounted}
+use Rattle.device_course.specs.States.{IsAt}
 use Rattle.device_session.specs.Holds.{Holds}
 use Rattle.device_session.specs.Open.{is_touched}
 use Rattle.device_session.specs.Sessions.{Session}

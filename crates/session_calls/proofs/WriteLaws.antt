@@ -1,7 +1,7 @@
 -- What a written block says, by what the session's write says.
 use Rattle.std.proofs.Common.{◌≡◌, ◌+◌, ◌<◌, ◌≤◌, ℕ, List, Some, Result, Ok, Err, refl, sym, ◌∙◌, subst, ap, arith}
 use Rattle.std.specs.Prelude.{◌≢◌}
-use Rattle.sdbt_base.specs.Arrays.{Device, Session as OpenSession, State, written}
+use Rattle.sdbt_base.specs.Arrays.{Device, Session as OpenSession, State, written, mounted}
 use Rattle.sdbt_base.specs.Faults.{Rose}
 use Rattle.sdbt_base.specs.declared.tapes.Tape.{Ghosts as TapeGhosts}
 use Rattle.platform.specs.declared.platforms.Platform.{Ghosts as PlatformGhosts}
@@ -10,7 +10,7 @@ use Rattle.root_codec.specs.declared.root.Root.{Root}
 use Rattle.page_store.specs.Keeping.{KeepsKeys}
 use Rattle.btree_twigs.specs.Stubs.{Stub}
 use Rattle.device_terms.specs.Served.{IsServedImage}
-use Rattle.device_course.specs.States.{IsAt, mounted}
+use Rattle.device_course.specs.States.{IsAt}
 use Rattle.device_course.proofs.KeysLaws.{on_update}
 use Rattle.device_session.specs.Causes.{IsWriteCause}
 use Rattle.device_session.specs.Changes.{WriteAdds, WriteGrows, WritesArray}

@@ -1,6 +1,6 @@
 -- What a commit of a session says, by its answer.
 use Rattle.std.specs.Prelude.{◌≡◌, ◌+◌, ◌-◌, ◌<◌, ◌≤◌, ℕ, true, false, Some, Result, Ok, Err, IfOk, IsOk}
-use Rattle.sdbt_base.specs.Arrays.{Device, Session as OpenSession, committed}
+use Rattle.sdbt_base.specs.Arrays.{Device, Session as OpenSession, committed, committed_if, mounted}
 use Rattle.sdbt_base.specs.declared.sinks.Sink.{Ghosts as SinkGhosts}
 use Rattle.sdbt_base.specs.declared.tapes.Tape.{Ghosts as TapeGhosts}
 use Rattle.platform.specs.declared.platforms.Platform.{Ghosts as PlatformGhosts}
@@ -8,7 +8,7 @@ use Rattle.platform.specs.History.{CellStays, During, History, Turns}
 use Rattle.device_terms.specs.Effects.{AddsNothing}
 use Rattle.device_course.specs.Keys.{KeepsOn}
 use Rattle.device_course.specs.Marks.{Leaves}
-use Rattle.device_course.specs.States.{IsAt, IsListed, committed_if, mounted}
+use Rattle.device_course.specs.States.{IsAt, IsListed}
 use Rattle.device_session.specs.Open.{IsOpen, blocks_of, is_touched, needed_by, number_of}
 use Rattle.device_session.specs.Reading.{room_of}
 use Rattle.device_session.specs.Sessions.{Session}

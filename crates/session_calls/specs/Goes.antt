@@ -1,10 +1,10 @@
 -- What one call of a session says, by its answer.
 use Rattle.std.specs.Prelude.{◌≡◌, ◌≤◌, ◌+◌, ◌⊎◌, ℕ, List, [], ◌∷◌, Some, Result, Ok, Err, IfErr, OnErr, OnOk}
-use Rattle.sdbt_base.specs.Arrays.{Device, Session as OpenSession, content_of, unmapped, written}
+use Rattle.sdbt_base.specs.Arrays.{Device, Session as OpenSession, content_of, unmapped, written, mounted}
 use Rattle.sdbt_base.specs.declared.tapes.Tape.{Ghosts as TapeGhosts}
 use Rattle.platform.specs.declared.platforms.Platform.{Ghosts as PlatformGhosts}
 use Rattle.platform.specs.Image.{Image}
-use Rattle.device_course.specs.States.{IsAt, mounted}
+use Rattle.device_course.specs.States.{IsAt}
 use Rattle.device_session.specs.Open.{needed_by}
 use Rattle.device_session.specs.Reading.{KeepsWayTo, room_of}
 use Rattle.device_session.specs.Sessions.{Session}

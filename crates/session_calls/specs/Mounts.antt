@@ -1,10 +1,10 @@
 -- What a mount says, by its answer.
 use Rattle.std.specs.Prelude.{◌≡◌, ℕ, List, Option, None, Some, Result, Ok, Err}
-use Rattle.sdbt_base.specs.Arrays.{Device, State, closed, session_on}
+use Rattle.sdbt_base.specs.Arrays.{Device, State, closed, session_on, mounted}
 use Rattle.platform.specs.declared.platforms.Platform.{Ghosts as PlatformGhosts}
 use Rattle.platform.specs.Image.{Image}
 use Rattle.page_store.specs.Roots.{IsBadCell}
-use Rattle.device_course.specs.States.{IsAt, mounted}
+use Rattle.device_course.specs.States.{IsAt}
 use Rattle.device_session.specs.Mounting.{Mounts}
 use Rattle.device_session.specs.Open.{number_of}
 use Rattle.device_session.specs.Sessions.{Session}

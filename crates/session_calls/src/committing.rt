@@ -1,7 +1,7 @@
 ghost use Rattle.std.specs.Prelude.{◌≡◌, Some};
-ghost use Rattle.sdbt_base.specs.Arrays.{Device, Session as OpenSession};
+ghost use Rattle.sdbt_base.specs.Arrays.{Device, Session as OpenSession, mounted};
 ghost use Rattle.device_session.specs.Open.{IsOpen};
-ghost use Rattle.device_course.specs.States.{IsAt, mounted};
+ghost use Rattle.device_course.specs.States.{IsAt};
 ghost use Rattle.session_calls.specs.Commits.{AnswersCommit, CommitGoes, CommitLeads, stop_of_fault};
 ghost use Rattle.session_calls.specs.Damage.{IsMounted};
 

@@ -1,7 +1,7 @@
 ghost use Rattle.std.specs.Prelude.{◌≡◌, ◌<◌, ◌≤◌, ◌≢◌, ◌+◌, All, Some, length};
-ghost use Rattle.sdbt_base.specs.Arrays.{Device, Session as OpenSession};
+ghost use Rattle.sdbt_base.specs.Arrays.{Device, Session as OpenSession, mounted};
 ghost use Rattle.device_session.specs.Open.{IsOpen, blocks_of};
-ghost use Rattle.device_course.specs.States.{IsAt, mounted};
+ghost use Rattle.device_course.specs.States.{IsAt};
 ghost use Rattle.session_calls.specs.Along.{Along, drawn_by};
 ghost use Rattle.session_calls.specs.Damage.{IsMounted, MeetsDamage};
 ghost use Rattle.session_calls.specs.Goes.{AddsBlock, Goes, IsWriteStop, WritesBlock, WritesSome, many_of};

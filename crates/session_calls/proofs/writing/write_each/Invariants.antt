@@ -1,6 +1,6 @@
 use Rattle.std.proofs.Common.{◌≤◌, take, Some}
-use Rattle.sdbt_base.specs.Arrays.{Device, Session as OpenSession}
-use Rattle.device_course.specs.States.{IsAt, mounted}
+use Rattle.sdbt_base.specs.Arrays.{Device, Session as OpenSession, mounted}
+use Rattle.device_course.specs.States.{IsAt}
 use Rattle.session_calls.specs.Along.{Along, drawn_by}
 use Rattle.session_calls.specs.Goes.{WritesSome}
 use Rattle.session_calls.proofs.writing.write_each.Given as goal

@@ -1,0 +1,3 @@
+pub mod LeadingLaws
+pub mod WritingLaws
+pub mod ArrayOfLaws
