@@ -1,7 +1,6 @@
-use Rattle.std.proofs.Common.{◌≡◌, ℕ, List, inl, inr, ◌∙◌, subst}
+use Rattle.std.proofs.Common.{◌≡◌, ℕ, List, ◌∙◌, subst}
 use Rattle.std.specs.Prelude.{map, string_bytes}
 use Rattle.device_cli.specs.Given.{AreGiven}
-use Rattle.device_cli.specs.Seizing.{IsRefused}
 use Rattle.device_cli.proofs.SeizeWordLaws.{not_refused, few_for}
 use Rattle.device_cli.proofs.seizing.find.Goals as goal
 
