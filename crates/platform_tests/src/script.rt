@@ -1,5 +1,4 @@
-//! Scripts of calls on a platform: lines that say which call is made, what it answers, and which calls it makes on files.
-use crate::doubles::CallLog;
+//! Scripts of calls on a platform: lines that say which call is made, and what it answers.
 use platform::Platform;
 use sdbt_base::{PlatformFault, RECORD, ROOT};
 use std::alloc::Global;
@@ -58,28 +57,21 @@ fn answer<P: Platform>(platform: &mut P, alloc: Global, call: &str) -> Option<St
     }
 }
 
-/// Whether a line comes true: `CALL: ANSWER`, `CALL: ANSWER by CALLS ON FILES`, or either with ` failing NUMBER` behind the call:
-/// the call on a file of that number fails then.
-fn is_so<P: Platform>(platform: &mut P, alloc: Global, log: &CallLog, line: &str) -> Option<bool> {
-    let (words, wanted) = line.split_once(": ")?;
-    let (call, failing) = words.split_once(" failing ").unwrap_or((words, ""));
-    log.begin(failing.parse().ok());
+/// Whether a line comes true: `CALL: ANSWER`.
+fn is_so<P: Platform>(platform: &mut P, alloc: Global, line: &str) -> Option<bool> {
+    let (call, wanted) = line.split_once(": ")?;
     let came = answer(platform, alloc, call)?;
-    match wanted.split_once(" by ") {
-        Some((wanted, calls)) => Some(came.as_str() == wanted && log.is(calls)),
-        None => Some(came.as_str() == wanted),
-    }
+    Some(came.as_str() == wanted)
 }
 
 /// The place of the first line of a script that does not come true, or `None`.
 pub(crate) fn first_unlike<P: Platform>(
     platform: &mut P,
     alloc: Global,
-    log: &CallLog,
     script: &str,
 ) -> Option<usize> {
     for (i, line) in script.lines().enumerate() {
-        if is_so(platform, alloc, log, line) != Some(true) {
+        if is_so(platform, alloc, line) != Some(true) {
             return Some(i);
         }
     }

@@ -1,6 +1,8 @@
 use Rattle.std.proofs.Common.{◌≡◌, ◌⊎◌, inl, inr, None, Ok, Err, refl, sym, subst, arith}
 use Rattle.sdbt_base.specs.Faults.{Rose}
 use Rattle.line_run.specs.Puts.{no_line}
+use Rattle.line_run.specs.Stops.{status_of}
+use Rattle.line_run.specs.declared.stop.Stop.{Stop}
 use Rattle.device_cli.specs.World.{World, IsLater, world_of}
 use Rattle.session_calls.specs.declared.stops.DeviceStop.{DeviceStop}
 use Rattle.session_calls.specs.declared.stops.DeviceStop.TheVariants as device
@@ -121,3 +123,13 @@ returns-in_default-clause-keeps g c =
     c.check_cell.ensures.image (λ told. one_look _ _ (c.check_cell.ensures.time told) (c.check_cell.ensures.image told))
     (λ told keys kept h. listed_none None c.new-desk.result.session _ keys none (listed_image None _ _ keys (c.check_cell.ensures.image told) h)) in
     on_then _ _ _ _ _ _ _ None c.new-desk.result.session _ _ _ _ _ _ tt looked (on_done _ _ _ _ _ c.new-desk.result.session _ _ _ _ _ _ c.in_default.ensures.keeps (λ ok. refl) (λ keys h. tt)) (λ told entry at. (entry, at_looked _ _ c.new-desk.result.session entry none (c.check_cell.ensures.image told) at))
+
+-- a stop that is none of the device's has another status
+not_eight : (stop : Stop) → ((device_stop : DeviceStop) → stop ≡ stops.Device device_stop → ⊥) → status_of stop ≡ 8 → ⊥
+not_eight stops.Source other is = omega (arith, is)
+not_eight stops.Sink other is = omega (arith, is)
+not_eight stops.Limit other is = omega (arith, is)
+not_eight (stops.Device device_stop) other is = other device_stop refl
+
+pub returns-clause-unserved : goal.returns-clause-unserved
+returns-clause-unserved g c = λ told is. absurd (not_eight c.in-Err-serve_input.stop c.in_default-stop.not-Device is)
