@@ -9,10 +9,11 @@ ghost use Rattle.btree_twigs.specs.Top.{child_level, CanPutTop, IsTopPut, CanRai
 
 use crate::lists::{insert, move_tail, push, take_spare};
 use crate::twigs::{Child, Twig, level_of, low_of, place};
+use sdbt_base::Key;
 use std::mem;
 
 /// Puts the data record of a block into a leaf, in the place of the one that was there.
-fn put_datum(children: &mut Vec<Child>, block: u64, addr: u64, key: [u8; 32])
+fn put_datum(children: &mut Vec<Child>, block: u64, addr: u64, key: Key)
     requires { vec_len children.old < vec_capacity children.old }
     ensures put { (order least most low high : ℕ) → IsNode order 0 least most low high children.old.items → low ≤ block → block < high
         → IsPut order 0 least (most + 1) low high (datum block addr key) children.old.items children.new.items }
@@ -69,7 +70,7 @@ pub fn put(
     order: usize,
     block: u64,
     addr: u64,
-    key: [u8; 32],
+    key: Key,
     spares: &mut Vec<Vec<Child>>,
 )
     requires four { 4 ≤ order }
@@ -103,7 +104,7 @@ fn put_below(
     order: usize,
     block: u64,
     addr: u64,
-    key: [u8; 32],
+    key: Key,
     spares: &mut Vec<Vec<Child>>,
 ) -> Option<Child>
     requires four { 4 ≤ order }
@@ -137,7 +138,7 @@ pub fn put_top(
     order: usize,
     block: u64,
     addr: u64,
-    key: [u8; 32],
+    key: Key,
     spares: &mut Vec<Vec<Child>>,
 )
     requires four { 4 ≤ order }
@@ -170,7 +171,7 @@ fn raise(top: &mut Child, part: Child, spares: &mut Vec<Vec<Child>>)
     let blank = Child::Kept {
         low: 0,
         addr: 0,
-        key: [0; 32],
+        key: Key::from_bytes([0; 32]),
     };
     let old = mem::replace(top, blank);
     let level = level_of(&old) + 1;

@@ -3,11 +3,13 @@ ghost use Rattle.std.specs.List.{AllByRecursion};
 ghost use Rattle.btree_twigs.specs.Stubs.{start_by, low_of as low_in, addr_of as addr_in};
 ghost use Rattle.btree_twigs.specs.Top.{child_level};
 
+use sdbt_base::Key;
+
 /// A child.
 #[cycle(twig)]
 #[derive(Drop)]
 pub enum Child {
-    Kept { low: u64, addr: u64, key: [u8; 32] },
+    Kept { low: u64, addr: u64, key: Key },
     Grown { low: u64, twig: Twig },
 }
 
@@ -25,7 +27,7 @@ pub enum Spot {
     /// At the data record of the block.
     Found {
         addr: u64,
-        key: [u8; 32],
+        key: Key,
     },
     /// In a node in memory that has no record of the block.
     Absent,
@@ -35,7 +37,7 @@ pub enum Spot {
         low: u64,
         high: u64,
         addr: u64,
-        key: [u8; 32],
+        key: Key,
     },
 }
 

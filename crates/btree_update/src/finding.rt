@@ -14,7 +14,6 @@ use btree_walk::NodeReader;
 use node_codec::Entry;
 use page_store::{FetchRefusal, Want};
 use platform::Platform;
-use sdbt_base::Key;
 
 /// The entry of a block below a root, or `None`: through the nodes in memory, and then on the medium, through the cache.
 pub(crate) fn find_root<P: Platform>(
@@ -51,8 +50,7 @@ pub(crate) fn find_root<P: Platform>(
                 least: least_of_root(level),
                 most: order,
             };
-            let key = Key::from_bytes(*key);
-            btree_walk::find(platform, reader, &want, &key, block)
+            btree_walk::find(platform, reader, &want, key, block)
         }
     }
 }
@@ -81,7 +79,7 @@ fn find_from<P: Platform>(
             let entry = Entry {
                 low: block,
                 addr,
-                key: Key::from_bytes(key),
+                key,
             };
             Ok(Some(entry))
         }
@@ -101,7 +99,6 @@ fn find_from<P: Platform>(
                 least: order / 2,
                 most: order,
             };
-            let key = Key::from_bytes(key);
             btree_walk::find(platform, reader, &start, &key, block)
         }
     }

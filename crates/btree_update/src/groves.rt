@@ -77,7 +77,7 @@ impl Grove {
             top: Child::Kept {
                 low: 0,
                 addr: root.addr,
-                key: root.key.bytes(),
+                key: root.key,
             },
             gone: Vec::new(alloc),
             never: Vec::new(alloc),
@@ -254,7 +254,7 @@ impl Grove {
             self.order as usize,
             block,
             addr,
-            key.bytes(),
+            key,
             &mut self.spares,
         );
         self.level = level_of(&self.top);

@@ -27,7 +27,7 @@ pub(crate) fn read_kept<P: Platform>(
     low: u64,
     high: u64,
     addr: u64,
-    key: [u8; 32],
+    key: Key,
 ) -> Result<Twig, ReadyRefusal>
     requires within { addr < P.head platform.old }
     requires inner { 1 ≤ level }
@@ -50,6 +50,5 @@ pub(crate) fn read_kept<P: Platform>(
         least,
         most: order,
     };
-    let key = Key::from_bytes(key);
     read_node(alloc, platform, reader, &want, &key)
 }

@@ -79,7 +79,7 @@ fn read_twig(alloc: Global, node: &NodeBody) -> Result<Twig, AllocError>
         children.push(Child::Kept {
             low: entry.low,
             addr: entry.addr,
-            key: entry.key.bytes(),
+            key: entry.key,
         })?;
     }
     Ok(Twig {

@@ -96,15 +96,15 @@ fn add(entries: &mut Vec<Entry>, entry: Entry)
 }
 
 /// The entry of a child on the medium.
-fn kept_entry(low: u64, addr: u64, key: &[u8; 32]) -> Entry
+fn kept_entry(low: u64, addr: u64, key: &Key) -> Entry
     ensures entry { result ≡ record { low = low; addr = addr; key = key.now } }
     ensures key { IsBytes 32 key.now }
 {
-    are_bytes(key);
+    are_bytes(&key.bytes());
     Entry {
         low,
         addr,
-        key: Key::from_bytes(*key),
+        key: *key,
     }
 }
 

@@ -82,7 +82,7 @@ impl Device {
             Child::Kept { low, addr, key } => Some(Entry {
                 low: *low,
                 addr: *addr,
-                key: Key::from_bytes(*key),
+                key: *key,
             }),
             Child::Grown { low, twig } => self.seal_twig(alloc, *low, twig),
         }

@@ -19,8 +19,7 @@ returns-in-Below-clause-found g c = λ tells stands.
     let want = want_of c.args.order (stub_at c.in-Below.level c.in-Below.low c.in-Below.high c.in-Below.addr c.in-Below.key) in
     subst (λ s. IfOk c.find.result (FindsFrom (FitsAt pages) c.args.order c.args.block s)) (sym c.in-Below.is)
     (IfOk_map _ _ c.find.result
-    (λ found h. subst (λ k. FindsBelow (FitsAt pages) c.args.block want k found) c.from_bytes-key.ensures
-    (h.path, finds_page pages c.args.reader.now.cache c.args.order (c.in-Below.level - 1) c.args.block want c.from_bytes-key.result h.path found stands h.finds))
+    (λ found h. (h.path, finds_page pages c.args.reader.now.cache c.args.order (c.in-Below.level - 1) c.args.block want c.in-Below.key h.path found stands h.finds))
     (c.find.ensures.found tells)))
 
 pub returns-in-Below-clause-bad : goal.returns-in-Below-clause-bad
@@ -30,8 +29,7 @@ returns-in-Below-clause-bad g c = λ tells stands addr is.
     let can = subst (CanGoOn c.args.order c.args.block (g.P.Platform.head c.args.platform.now)) c.in-Below.is c.requires.can in
     let small : c.in-Below.addr < 2 ^ 64 = omega (arith, can.4, g.met.P.Platform.has_room c.args.platform.now, g.met.P.Platform.is_limited c.args.platform.now) in
     subst (StopsFrom pages c.args.order c.args.block addr) (sym c.in-Below.is)
-    (subst (λ k. ComesToWrong pages c.args.block addr want k) c.from_bytes-key.ensures
-    (stops_page pages c.args.reader.now.cache c.args.order (c.in-Below.level - 1) c.args.block addr want c.from_bytes-key.result small stands (c.find.ensures.bad tells addr is))))
+    (stops_page pages c.args.reader.now.cache c.args.order (c.in-Below.level - 1) c.args.block addr want c.in-Below.key small stands (c.find.ensures.bad tells addr is)))
 
 -- ---- what the cache keeps
 
@@ -55,12 +53,12 @@ returns-in-Below-clause-uses g c =
     record {
       warm = λ keeps.
           (let at = subst (KeepsFrom old c.args.order c.args.block) c.in-Below.is keeps in
-          (c.find.ensures.kept at.0 at.1.0 (subst (λ k. Finds (KeptFits old) c.args.order c.args.block at.0 (c.in-Below.level - 1) want k at.1.0) (sym c.from_bytes-key.ensures) at.1.1)).0);
+          (c.find.ensures.kept at.0 at.1.0 at.1.1).0);
       fills = λ tells. OnOk_from _ _ c.find.result
           (λ found h room.
           let level = subst (λ s. level_from s ≤ c.find.new.reader.cache.capacity) c.in-Below.is room in
           subst (KeepsFrom new c.args.order c.args.block) (sym c.in-Below.is)
-          (found, subst (λ k. FindsBelow (KeptFits new) c.args.block want k found) c.from_bytes-key.ensures (h.path, h.warm (omega (arith, level, c.find.ensures.capacity)))))
+          (found, (h.path, h.warm (omega (arith, level, c.find.ensures.capacity)))))
           (c.find.ensures.found tells);
     }
 
@@ -70,5 +68,5 @@ returns-in-Below-clause-caches g c = record {
   stands = λ tells stands. stands_on _ _ _ stands (c.find.ensures.keeps tells);
   among = λ tells stands places such kept.
       (let has = subst (λ s. HaveSpot (g.P.Platform.history c.args.platform.now).present.readable s places) c.in-Below.is such in
-      c.find.ensures.among tells stands places (has.0, subst (IsAmong places c.in-Below.addr) (sym c.from_bytes-key.ensures) has.1) kept);
+      c.find.ensures.among tells stands places (has.0, has.1) kept);
 }

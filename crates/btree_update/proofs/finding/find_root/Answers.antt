@@ -89,8 +89,7 @@ returns-in-Kept-clause-found g c = λ tells stands.
     (IfOk_map _ _ c.find.result
     (λ found h. subst (λ y. RootFindsBy (FitsAt pages) c.args.order c.args.block (c.args.level - 1) c.args.high y found) (sym (made.outs-Kept c.in-Kept.low c.in-Kept.addr c.in-Kept.key))
     (subst (λ w. FindsBelow (FitsAt pages) c.args.block w c.in-Kept.key found) same
-    (subst (λ k. FindsBelow (FitsAt pages) c.args.block want k found) c.from_bytes-key.ensures
-    (h.path, finds_page pages c.args.reader.now.cache c.args.order (c.args.level - 1) c.args.block want c.from_bytes-key.result h.path found stands h.finds))))
+    (h.path, finds_page pages c.args.reader.now.cache c.args.order (c.args.level - 1) c.args.block want c.in-Kept.key h.path found stands h.finds)))
     (c.find.ensures.found tells)))
 
 pub returns-in-Kept-clause-bad : goal.returns-in-Kept-clause-bad
@@ -104,8 +103,7 @@ returns-in-Kept-clause-bad g c = λ tells stands addr is.
     subst (RootStops pages c.args.order c.args.block addr (c.args.level - 1) c.args.high) (sym c.in-Kept.is)
     (subst (RootStopsBy pages c.args.order c.args.block addr (c.args.level - 1) c.args.high) (sym (made.outs-Kept c.in-Kept.low c.in-Kept.addr c.in-Kept.key))
     (subst (λ w. ComesToWrong pages c.args.block addr w c.in-Kept.key) same
-    (subst (λ k. ComesToWrong pages c.args.block addr want k) c.from_bytes-key.ensures
-    (stops_page pages c.args.reader.now.cache c.args.order (c.args.level - 1) c.args.block addr want c.from_bytes-key.result small stands (c.find.ensures.bad tells addr is))))))
+    (stops_page pages c.args.reader.now.cache c.args.order (c.args.level - 1) c.args.block addr want c.in-Kept.key small stands (c.find.ensures.bad tells addr is)))))
 
 pub returns-in-Kept-clause-entry : goal.returns-in-Kept-clause-entry
 returns-in-Kept-clause-entry g c =
@@ -148,10 +146,10 @@ returns-in-Kept-clause-uses g c =
           (let at = subst (RootKeeps old order block below high) c.in-Kept.is keeps in
           let by = subst (λ y. RootFindsBy (KeptFits old) order block below high y at.0) (made.outs-Kept c.in-Kept.low c.in-Kept.addr c.in-Kept.key) at.1 in
           let from = subst (λ w. FindsBelow (KeptFits old) block w c.in-Kept.key at.0) (sym same) by in
-          (c.find.ensures.kept at.0 from.0 (subst (λ k. Finds (KeptFits old) order block at.0 below want k from.0) (sym c.from_bytes-key.ensures) from.1)).0);
+          (c.find.ensures.kept at.0 from.0 from.1).0);
       fills = λ tells. OnOk_from _ _ c.find.result
           (λ found h room.
-          let from = subst (λ k. FindsBelow (KeptFits new) block want k found) c.from_bytes-key.ensures (h.path, h.warm (omega (arith, room, c.find.ensures.capacity))) in
+          let from : FindsBelow (KeptFits new) block want c.in-Kept.key found = (h.path, h.warm (omega (arith, room, c.find.ensures.capacity))) in
           subst (RootKeeps new order block below high) (sym c.in-Kept.is)
           (found, subst (λ y. RootFindsBy (KeptFits new) order block below high y found) (sym (made.outs-Kept c.in-Kept.low c.in-Kept.addr c.in-Kept.key)) (subst (λ w. FindsBelow (KeptFits new) block w c.in-Kept.key found) same from)))
           (c.find.ensures.found tells);
@@ -171,5 +169,5 @@ returns-in-Kept-clause-caches g c = record {
   stands = λ tells stands. stands_on _ _ _ stands (c.find.ensures.keeps tells);
   among = λ tells stands places such kept.
       (let at = kept_among places c.args.level c.args.high c.in-Kept.low c.in-Kept.addr c.in-Kept.key c.args.top.now c.in-Kept.is c.requires.can.one such.1 in
-      c.find.ensures.among tells stands places (such.0, subst (IsAmong places c.in-Kept.addr) (sym c.from_bytes-key.ensures) at) kept);
+      c.find.ensures.among tells stands places (such.0, at) kept);
 }

@@ -100,10 +100,9 @@ returns-clause-has c =
     let new = c.put_top.new.top in
     let p = c.put_top.ensures.put (can_put c.args.block c.args.self.now c.open_root.new.top c.requires.can c.requires.small (c.open_root.ensures.opened can)) in
     let l = c.level_of-self.ensures ∙ top_level c.args.self.now.order p.new_level blocks new p.shaped in
-    let stub = datum c.args.block c.args.addr c.bytes.result in
+    let stub = datum c.args.block c.args.addr c.args.key in
     let has : Contains (stubs (suc p.new_level) blocks new) stub = subst (λ ss. Contains ss stub) (sym p.puts.now) (Contains-append_right p.puts.front (stub ∷ p.puts.back) stub (0, omega arith, refl)) in
-    let at = subst (λ k. Contains (stubs k blocks new) stub) (sym l) has in
-    subst (λ k. Contains (stubs c.level_of-self.result blocks new) (datum c.args.block c.args.addr k)) c.bytes.ensures.value at
+    subst (λ k. Contains (stubs k blocks new) stub) (sym l) has
 
 pub returns-clause-maps : goal.returns-clause-maps
 returns-clause-maps c pages mapped content held m there =
@@ -111,9 +110,9 @@ returns-clause-maps c pages mapped content held m there =
     let p = c.put_top.ensures.put (can_put c.args.block c.args.self.now c.open_root.new.top c.requires.can c.requires.small (c.open_root.ensures.opened can)) in
     let l = c.level_of-self.ensures ∙ top_level c.args.self.now.order p.new_level c.args.self.now.blocks c.put_top.new.top p.shaped in
     let opened = subst (λ k. Maps pages c.args.self.now.order (stubs k c.args.self.now.blocks c.open_root.new.top) mapped) can.level_is (c.open_root.ensures.maps pages can held mapped m) in
-    let r = puts_maps pages c.args.self.now.order 0 c.args.self.now.blocks c.args.block c.args.addr c.bytes.result content _ _ mapped p.puts opened (subst (λ k. IsRecordAt pages c.args.addr k (DataRecord c.args.block content)) (sym c.bytes.ensures.value) there) in
+    let r = puts_maps pages c.args.self.now.order 0 c.args.self.now.blocks c.args.block c.args.addr c.args.key content _ _ mapped p.puts opened there in
     let root = top_maps pages c.args.self.now.order p.new_level c.args.self.now.blocks c.put_top.new.top r.0 p.shaped r.1 in
-    (r.0, subst (λ k. RootMaps pages c.args.self.now.order k c.args.self.now.blocks c.put_top.new.top r.0) (sym (one_less c.level_of-self.result p.new_level l)) root, rw (sym c.bytes.ensures.value) r.2)
+    (r.0, subst (λ k. RootMaps pages c.args.self.now.order k c.args.self.now.blocks c.put_top.new.top r.0) (sym (one_less c.level_of-self.result p.new_level l)) root, r.2)
 
 pub returns-clause-goes : goal.returns-clause-goes
 returns-clause-goes c pages held =
@@ -125,8 +124,8 @@ returns-clause-goes c pages held =
     let mid = c.open_root.new.top in
     let p = c.put_top.ensures.put (can_put c.args.block c.args.self.now mid c.requires.can c.requires.small o) in
     let l = c.level_of-self.ensures ∙ top_level c.args.self.now.order p.new_level blocks c.put_top.new.top p.shaped in
-    let there = subst (λ k. Puts 0 blocks (datum c.args.block c.args.addr c.bytes.result) (stubs (suc (c.args.self.now.level - 1)) blocks mid) (stubs k blocks c.put_top.new.top)) (sym l) p.puts in
-    let here = subst (λ k. Puts 0 blocks (datum c.args.block c.args.addr c.bytes.result) (stubs k blocks mid) (stubs c.level_of-self.result blocks c.put_top.new.top)) (sym can.level_is) there in
+    let there = subst (λ k. Puts 0 blocks (datum c.args.block c.args.addr c.args.key) (stubs (suc (c.args.self.now.level - 1)) blocks mid) (stubs k blocks c.put_top.new.top)) (sym l) p.puts in
+    let makes = subst (λ k. Puts 0 blocks (datum c.args.block c.args.addr c.args.key) (stubs k blocks mid) (stubs c.level_of-self.result blocks c.put_top.new.top)) (sym can.level_is) there in
     record {
       opened = stubs c.args.self.now.level c.args.self.now.blocks c.open_root.new.top;
       places = g.places.places;
@@ -134,7 +133,7 @@ returns-clause-goes c pages held =
       may = all_weaker (Fitting pages want (HasWay c.args.block)) (HasWay c.args.block) (λ s k. k.0) g.places.places g.places.may;
       fit = all_weaker (Fitting pages want (HasWay c.args.block)) (λ s. IsThere pages (want s) s.key) (λ s k. k.1) g.places.places g.places.may;
       is_open = subst (λ k. IsOpen c.args.block (stubs k c.args.self.now.blocks c.open_root.new.top)) (sym can.level_is) o.is_open;
-      makes = subst (λ k. Puts 0 blocks (datum c.args.block c.args.addr k) (stubs c.args.self.now.level blocks mid) (stubs c.level_of-self.result blocks c.put_top.new.top)) c.bytes.ensures.value here;
+      makes = makes;
       replaced = c.address_of-old.result;
       was = subst (λ k. IsAddressOf c.args.block (stubs k c.args.self.now.blocks c.open_root.new.top) c.address_of-old.result) (sym can.level_is)
           (c.address_of-old.ensures c.args.self.now.order (c.args.self.now.level - 1) o.shaped c.requires.can.to o.is_open);
@@ -151,7 +150,7 @@ returns-clause-levels c pages levels held has =
     let p = c.put_top.ensures.put put_at in
     let g = c.open_root.ensures.gives pages can held in
     let tells = tells_opened pages has.medium c.args.self.now.order g.places.places _ _ g.places.opens has.told in
-    let told = tells_puts pages has.medium 0 blocks c.args.block c.args.addr c.bytes.result _ _ p.puts (subst (λ k. Tells pages has.medium (stubs k blocks mid)) can.level_is tells) in
+    let told = tells_puts pages has.medium 0 blocks c.args.block c.args.addr c.args.key _ _ p.puts (subst (λ k. Tells pages has.medium (stubs k blocks mid)) can.level_is tells) in
     let l = c.level_of-self.ensures ∙ top_level c.args.self.now.order p.new_level blocks new p.shaped in
     let was : (j : ℕ) → levels j ≡ rows_at has.medium c.args.self.now.level blocks mid j = λ j. has.are j ∙ sym (g.rows has.medium has.told j) in
     let r = subst (λ k. Reshape c.args.self.now.order c.args.block k (child_level new) (rows_at has.medium k blocks mid) (rows_at has.medium (child_level new) blocks new)) (sym can.level_is) (c.put_top.ensures.levels has.medium has.bounds put_at) in
