@@ -6,6 +6,7 @@ use Rattle.btree_update.specs.Groves.{places_of, grown_in}
 use Rattle.shadow_commit.specs.Sealed.{SealsNode, Seals}
 use Rattle.shadow_commit.specs.Handing.{KnowsPlaces}
 use Rattle.shadow_commit.specs.Planned.{added_by}
+use Rattle.node_cache.specs.Kept.{forgotten}
 use Rattle.shadow_commit.specs.Ready.{ListsNewTree}
 use Rattle.shadow_commit.proofs.KeyLaws.{AreKnown, keeps_sealed, keeps_stopped, places_more_keys}
 use Rattle.shadow_commit.proofs.PlanLaws.{grown_is}
@@ -75,7 +76,7 @@ returns-in-Ok-seal_all-clause-ready g c =
     let C = c.in-Ok.ensures.cert at ns next.addr next.key (subst (λ n. SealsNode (Seals level) level n (children_of twig) ns next.addr next.key) (sym c.head-head.ensures.value) node) in
     let places = sym s.places ∙ same_places head root c.args.mapped grove c.top.result.now can c.top.ensures in
     record {
-      is = sealed_as _ _ _ _ _ _ _ root c.args.mapped grove c.top-2.result.now next can c.top-2.ensures S;
+      is = sealed_as _ _ _ _ _ _ _ _ (forgotten grove.gone.items c.args.reader.now.cache) _ root c.args.mapped grove c.top-2.result.now next can c.top-2.ensures (c.forget_all.ensures ∙ ap (λ gone. forgotten gone c.args.reader.now.cache) c.gone-2.ensures) S;
       cert = certifies_same (root.commit + 1) next.commit root.head (next.addr + 1) next.head next.addr _ (added_by root.head (places_of grove) ns) c.gone.result.now grove.gone.items c.never.result.now grove.never.items c.in-Ok.made.cert
           (sym S.next_is.commit) (S.next_is.addr ∙ sym S.next_is.head_is) (ap (λ ss. added_by root.head ss ns) places) c.gone.ensures c.never.ensures C;
       in_text = c.in-Ok.ensures.line.1;
@@ -105,14 +106,14 @@ returns-in-Ok-seal_all-clause-keeps g c =
     let capacity = g.P.Platform.capacity c.args.platform.now in
     let next = c.in-Ok-seal_all.root in
     let room : head + grown_in grove ≤ capacity = omega (arith, c.if-needed-free.false, c.grown-needed.ensures, c.head-head.ensures.value, c.head-head.ensures.room, c.capacity.ensures.value) in
-    let S = sealed_as _ _ _ _ _ _ _ root c.args.mapped grove c.top-2.result.now next can c.top-2.ensures
+    let S = sealed_as _ _ _ _ _ _ _ _ _ _ root c.args.mapped grove c.top-2.result.now next can c.top-2.ensures refl
     (c.in-Ok-seal_all.ensures.sealed (can_top head capacity root c.args.mapped grove c.top-2.result.now c.top-2.ensures can room)) in
     let ns = S.adds.nodes in
     let places = places_of grove in
     let counts : tells → length new.present.recorded ≤ 2 ^ 32 = λ told. omega (arith, g.met.P.Platform.counts_pages told c.seal_all.new.platform, g.met.P.Platform.has_room c.seal_all.new.platform, g.met.P.Platform.is_limited c.seal_all.new.platform) in
     let K = keeps_sealed tells drawn drawn_now old new head places ns c.seal_all.ensures.beside.cell (λ told. pages_sealed old.present S.written new.present ns (S.synced told) (S.adds.image told)) (λ told. g.met.P.Platform.counts_pages told c.args.platform.now) counts S.over S.adds.drew in
     keeps_from tells drawn drawn_now old new (KnowsPlaces old.present places) (KnowsPlaces old.present places) (AreKnown ns) (ListsNewTree old.present new.present root.order places c.args.mapped next) K (λ told keys ready. ready)
-    (λ told keys more ready done. knows_new_tree tells old.present new.present head (g.P.Platform.head c.seal_all.new.platform) drawn drawn_now root c.args.mapped grove.level grove.top next _ S (keys ++ more) told
+    (λ told keys more ready done. knows_new_tree tells old.present new.present head (g.P.Platform.head c.seal_all.new.platform) drawn drawn_now _ _ root c.args.mapped grove.level grove.top next _ S (keys ++ more) told
     (places_more_keys keys more places ready.listed) done)
 
 pub returns-in-Err-TapeFault-clause-stops : goal.returns-in-Err-TapeFault-clause-stops
