@@ -1,5 +1,5 @@
 ghost use Rattle.std.specs.Prelude.{◌≡◌, ◌<◌, ◌-◌, ℕ, IfOk, IfSome, IsErrOf};
-ghost use Rattle.sdbt_base.specs.Faults.{Rose};
+ghost use Rattle.sdbt_base.specs.Faults.{TellsOf};
 ghost use Rattle.page_store.specs.Places.{FitsAt};
 ghost use Rattle.btree_walk.specs.Looks.{Looks};
 ghost use Rattle.btree_walk.specs.Sights.{StandsOver};
@@ -33,7 +33,7 @@ pub(crate) fn find_root<P: Platform>(
     ensures entry { IfOk result (λ found. IfSome found (λ e. (e.low ≡ block) × (e.addr < P.head platform.old))) }
     ensures caches { CachesAmong P.Platform (λ pages. HaveNodes pages (stubs level high top.now)) platform.old reader.old.cache reader.new.cache }
     ensures looks { Looks P.Platform level platform.old platform.new }
-    ensures cause { IsErrOf result FetchRefusal.PlatformFault → Rose (P.faults platform.old) (P.faults platform.new) }
+    ensures cause { TellsOf FetchRefusal.PlatformFault result (P.faults platform.old) (P.faults platform.new) }
     ensures uses { UsesCache P.Platform (λ kept. RootKeeps kept order block (level - 1) high top.now) level platform.old platform.new reader.old.cache reader.new.cache result }
 {
     match top {
@@ -71,7 +71,7 @@ fn find_from<P: Platform>(
     ensures entry { IfOk result (λ found. IfSome found (λ e. (e.low ≡ block) × (e.addr < P.head platform.old))) }
     ensures caches { CachesAmong P.Platform (λ pages. HaveSpot pages spot) platform.old reader.old.cache reader.new.cache }
     ensures looks { Looks P.Platform (level_from spot) platform.old platform.new }
-    ensures cause { IsErrOf result FetchRefusal.PlatformFault → Rose (P.faults platform.old) (P.faults platform.new) }
+    ensures cause { TellsOf FetchRefusal.PlatformFault result (P.faults platform.old) (P.faults platform.new) }
     ensures uses { UsesCache P.Platform (λ kept. KeepsFrom kept order block spot) (level_from spot) platform.old platform.new reader.old.cache reader.new.cache result }
 {
     match spot {

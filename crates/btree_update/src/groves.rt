@@ -11,7 +11,7 @@ ghost use Rattle.btree_update.specs.Opens.{HasWay};
 ghost use Rattle.btree_twigs.specs.Updates.{IsOpen, HasSpares};
 ghost use Rattle.btree_twigs.specs.Top.{IsTop};
 ghost use Rattle.btree_update.specs.Maps.{MapPuts, MapTakes, HasBlock, LacksBlock};
-ghost use Rattle.sdbt_base.specs.Faults.{Rose};
+ghost use Rattle.sdbt_base.specs.Faults.{TellsOf};
 ghost use Rattle.std.specs.Bool.{OnTrue, OnFalse};
 ghost use Rattle.std.specs.declared.vec.Vec.{Vec};
 ghost use Rattle.std.specs.declared.alloc.Global.{Global};
@@ -149,7 +149,7 @@ impl Grove {
         // What is kept is of the places that lead down from the nodes that the tree names.
         ensures caches { CachesAmong P.Platform (λ pages. HaveNodes pages (places_of self.now)) platform.old reader.old.cache reader.new.cache }
         ensures looks { Looks P.Platform self.now.level platform.old platform.new }
-        ensures cause { IsErrOf result FetchRefusal.PlatformFault → Rose (P.faults platform.old) (P.faults platform.new) }
+        ensures cause { TellsOf FetchRefusal.PlatformFault result (P.faults platform.old) (P.faults platform.new) }
         ensures uses { UsesCache P.Platform (λ kept. KeepsWay kept block self.now) self.now.level platform.old platform.new reader.old.cache reader.new.cache result }
     {
         find_root(
@@ -191,7 +191,7 @@ impl Grove {
         // What is kept is of the places that lead down from the nodes that the tree names.
         ensures caches { CachesAmong P.Platform (λ pages. HaveNodes pages (places_of self.old)) platform.old reader.old.cache reader.new.cache }
         ensures looks { Looks P.Platform (2 * self.old.level) platform.old platform.new }
-        ensures cause { IsErrOf result ReadyRefusal.PlatformFault → Rose (P.faults platform.old) (P.faults platform.new) }
+        ensures cause { TellsOf ReadyRefusal.PlatformFault result (P.faults platform.old) (P.faults platform.new) }
     {
         self.held.clear();
         self.beside.clear();

@@ -1,6 +1,6 @@
 ghost use Rattle.std.specs.Prelude.{◌≡◌, ◌<◌, ◌≤◌, ◌+◌, ◌-◌, ◌*◌, length, ℕ, List, [], ◌∷◌, ◌++◌, IfOk, IsErrOf};
 ghost use Rattle.btree_update.specs.declared.refusals.ReadyRefusal.{ReadyRefusal};
-ghost use Rattle.sdbt_base.specs.Faults.{Rose};
+ghost use Rattle.sdbt_base.specs.Faults.{TellsOf};
 ghost use Rattle.btree_walk.specs.Looks.{Looks};
 ghost use Rattle.btree_walk.specs.Sights.{StandsOver};
 ghost use Rattle.btree_update.specs.Among.{HaveNodes, CachesAmong};
@@ -55,7 +55,7 @@ pub(crate) fn hold_way<P: Platform>(
         IfOk result (IsFoundBy (ChildFinds (FitsAt (P.history platform.old).present.readable) order least block (level - 1) high child.now)) }
     ensures caches { CachesAmong P.Platform (λ pages. HaveNodes pages (stubs level high child.now)) platform.old reader.old.cache reader.new.cache }
     ensures looks { Looks P.Platform (2 * level - 1) platform.old platform.new }
-    ensures cause { IsErrOf result ReadyRefusal.PlatformFault → Rose (P.faults platform.old) (P.faults platform.new) }
+    ensures cause { TellsOf ReadyRefusal.PlatformFault result (P.faults platform.old) (P.faults platform.new) }
 {
     match child {
         Child::Grown { twig, .. } => hold_below(
@@ -122,7 +122,7 @@ pub(crate) fn hold_below<P: Platform>(
         IfOk result (IsFoundBy (FindsAmong (FitsAt (P.history platform.old).present.readable) order block (stubs_below level high twig.now))) }
     ensures caches { CachesAmong P.Platform (λ pages. HaveNodes pages (stubs_below level high twig.now)) platform.old reader.old.cache reader.new.cache }
     ensures looks { Looks P.Platform (2 * level) platform.old platform.new }
-    ensures cause { IsErrOf result ReadyRefusal.PlatformFault → Rose (P.faults platform.old) (P.faults platform.new) }
+    ensures cause { TellsOf ReadyRefusal.PlatformFault result (P.faults platform.old) (P.faults platform.new) }
 {
     let at = place(&twig.children, block);
     if at == 0 {

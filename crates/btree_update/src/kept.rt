@@ -1,5 +1,5 @@
 ghost use Rattle.std.specs.Prelude.{◌≡◌, ◌<◌, ◌≤◌, ℕ, IfOk, IsErrOf};
-ghost use Rattle.sdbt_base.specs.Faults.{Rose};
+ghost use Rattle.sdbt_base.specs.Faults.{TellsOf};
 ghost use Rattle.page_store.specs.Places.{NothingFits};
 ghost use Rattle.btree_walk.specs.Looks.{Looks};
 ghost use Rattle.btree_walk.specs.Sights.{StandsOver};
@@ -39,7 +39,7 @@ pub(crate) fn read_kept<P: Platform>(
     ensures stands { P.tells → StandsOver (P.history platform.old).present.readable reader.old.cache → StandsOver (P.history platform.old).present.readable reader.new.cache }
     ensures but { KeepsBut addr key reader.old.cache reader.new.cache }
     ensures looks { Looks P.Platform 1 platform.old platform.new }
-    ensures cause { IsErrOf result ReadyRefusal.PlatformFault → Rose (P.faults platform.old) (P.faults platform.new) }
+    ensures cause { TellsOf ReadyRefusal.PlatformFault result (P.faults platform.old) (P.faults platform.new) }
     ensures capacity { reader.new.cache.capacity ≡ reader.old.cache.capacity }
 {
     let want = Want {

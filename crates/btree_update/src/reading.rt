@@ -1,6 +1,6 @@
 ghost use Rattle.btree_update.specs.declared.refusals.ReadyRefusal.{ReadyRefusal};
 ghost use Rattle.std.specs.Prelude.{◌≡◌, ◌<◌, ◌≤◌, ◌^◌, ℕ, IfOk, IsErrOf, vec_capacity};
-ghost use Rattle.sdbt_base.specs.Faults.{Rose};
+ghost use Rattle.sdbt_base.specs.Faults.{TellsOf};
 ghost use Rattle.page_store.specs.Places.{NothingFits};
 ghost use Rattle.btree_walk.specs.Looks.{Looks};
 ghost use Rattle.btree_walk.specs.Sights.{StandsOver};
@@ -38,7 +38,7 @@ pub(crate) fn read_node<P: Platform>(
     ensures stands { P.tells → StandsOver (P.history platform.old).present.readable reader.old.cache → StandsOver (P.history platform.old).present.readable reader.new.cache }
     ensures but { KeepsBut want.now.addr key.now reader.old.cache reader.new.cache }
     ensures looks { Looks P.Platform 1 platform.old platform.new }
-    ensures cause { IsErrOf result ReadyRefusal.PlatformFault → Rose (P.faults platform.old) (P.faults platform.new) }
+    ensures cause { TellsOf ReadyRefusal.PlatformFault result (P.faults platform.old) (P.faults platform.new) }
     ensures capacity { reader.new.cache.capacity ≡ reader.old.cache.capacity }
 {
     if let Some(node) = reader.cache.get(want.addr, key) {

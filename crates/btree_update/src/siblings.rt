@@ -5,7 +5,7 @@ ghost use Rattle.btree_update.specs.declared.siblings.Left.TheVariants.{Unmapped
 ghost use Rattle.btree_twigs.specs.declared.twigs.Child.{Child, out-Child};
 ghost use Rattle.btree_twigs.specs.declared.twigs.Twig.{Twig};
 ghost use Rattle.btree_twigs.specs.Stubs.{low_of as low_in, children_of, stubs, stubs_below};
-ghost use Rattle.sdbt_base.specs.Faults.{Rose};
+ghost use Rattle.sdbt_base.specs.Faults.{TellsOf};
 ghost use Rattle.btree_walk.specs.Looks.{Looks};
 ghost use Rattle.btree_walk.specs.Sights.{StandsOver};
 ghost use Rattle.btree_update.specs.Among.{HaveNodes, CachesAmong};
@@ -68,7 +68,7 @@ pub(crate) fn hold_beside<P: Platform>(
         → IsWrongBeside low_in (IsWrongChild (P.history platform.old).present.readable order addr level) high front c back }
     ensures caches { CachesAmong P.Platform (λ pages. HaveNodes pages (stubs_below level high twig.now)) platform.old reader.old.cache reader.new.cache }
     ensures looks { Looks P.Platform 1 platform.old platform.new }
-    ensures cause { IsErrOf result ReadyRefusal.PlatformFault → Rose (P.faults platform.old) (P.faults platform.new) }
+    ensures cause { TellsOf ReadyRefusal.PlatformFault result (P.faults platform.old) (P.faults platform.new) }
 {
     match left {
         Left::Unmapped => Ok(Left::Unmapped),
@@ -164,7 +164,7 @@ fn read_help<P: Platform>(
         IsWrongChild (P.history platform.old).present.readable order addr level high child.now }
     ensures caches { CachesAmong P.Platform (λ pages. HaveNodes pages (stubs level high child.now)) platform.old reader.old.cache reader.new.cache }
     ensures looks { Looks P.Platform 1 platform.old platform.new }
-    ensures cause { IsErrOf result ReadyRefusal.PlatformFault → Rose (P.faults platform.old) (P.faults platform.new) }
+    ensures cause { TellsOf ReadyRefusal.PlatformFault result (P.faults platform.old) (P.faults platform.new) }
 {
     match child {
         Child::Grown { twig, .. } => Ok(Help {

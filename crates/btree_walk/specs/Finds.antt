@@ -1,6 +1,6 @@
 -- How a block is found below a place: through nodes that fit, to its leaf, or to the first place where nothing fits.
 use Rattle.std.specs.Prelude.{◌≡◌, ◌⊎◌, ◌<◌, ◌≤◌, ◌+◌, ◌-◌, ℕ, zero, suc, List, [], ◌∷◌, ◌++◌, Option, Result, All, Contains, IfOk, IsErrOf, length, map, take}
-use Rattle.sdbt_base.specs.Faults.{Rose}
+use Rattle.sdbt_base.specs.Faults.{TellsOf}
 use Rattle.platform.specs.declared.platforms.Platform.{Ghosts}
 use Rattle.node_codec.specs.declared.body.Entry.{Entry}
 use Rattle.node_codec.specs.declared.body.NodeBody.{NodeBody}
@@ -107,7 +107,7 @@ pub record LooksFor {S : Type 0} (P : Ghosts S) (want : Want) (key : List ℕ) (
   pub keeps : P.tells → KeepsOnly (P.history platform).present.readable old new
   pub but : KeepsBut want.addr key old new
   pub looks : Looks P 1 platform after
-  pub cause : IsErrOf told refusals.PlatformFault → Rose (P.faults platform) (P.faults after)
+  pub cause : TellsOf refusals.PlatformFault told (P.faults platform) (P.faults after)
 
 -- what a look-up found below a place: where the cache and the pages lead, and that the path is what was used last. Where there is room for a node of each
 -- level, the cache keeps each node of the way then

@@ -1,5 +1,5 @@
 ghost use Rattle.std.specs.Prelude.{◌≡◌, ◌<◌, ◌-◌, ℕ, List, Option, Ok, IfOk, IfSome, IsErrOf};
-ghost use Rattle.sdbt_base.specs.Faults.{Rose};
+ghost use Rattle.sdbt_base.specs.Faults.{TellsOf};
 ghost use Rattle.node_codec.specs.declared.body.Entry.{Entry};
 ghost use Rattle.btree_walk.specs.Sights.{KeptFits, Sees, Misses, StandsOver, KeepsOnly};
 ghost use Rattle.btree_walk.specs.Among.{IsAmong, GoDown, StaysAmong};
@@ -47,7 +47,7 @@ pub fn find<P: Platform>(
     ensures among { P.tells → StandsOver (P.history platform.old).present.readable reader.old.cache →
         StaysAmong (λ places. GoDown (P.history platform.old).present.readable places × IsAmong places start.now.addr key.now) reader.old.cache reader.new.cache }
     ensures looks { Looks P.Platform start.now.level platform.old platform.new }
-    ensures cause { IsErrOf result FetchRefusal.PlatformFault → Rose (P.faults platform.old) (P.faults platform.new) }
+    ensures cause { TellsOf FetchRefusal.PlatformFault result (P.faults platform.old) (P.faults platform.new) }
 {
     match look(platform, reader, start, key, block)? {
         Turn::Found(found) => Ok(found),

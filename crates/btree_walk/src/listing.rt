@@ -1,5 +1,5 @@
 ghost use Rattle.std.specs.Prelude.{◌≤◌, ℕ, IfOk, IsErrOf, map};
-ghost use Rattle.sdbt_base.specs.Faults.{Rose};
+ghost use Rattle.sdbt_base.specs.Faults.{TellsOf};
 ghost use Rattle.root_codec.specs.RootRecord.{FitsRoot};
 ghost use Rattle.btree_walk.specs.Nodes.{Lists, FirstWrongOf, listed};
 ghost use Rattle.btree_walk.specs.Looks.{OnlyLooks};
@@ -30,7 +30,7 @@ pub fn entries<P: Platform>(
     ensures wrong { P.tells → (addr : ℕ) → IsErrOf result (WalkRefusal.BadRecord addr) →
         FirstWrongOf (P.history platform.old).present.readable root.now addr }
     ensures looks { OnlyLooks P.Platform platform.old platform.new }
-    ensures cause { IsErrOf result WalkRefusal.PlatformFault → Rose (P.faults platform.old) (P.faults platform.new) }
+    ensures cause { TellsOf WalkRefusal.PlatformFault result (P.faults platform.old) (P.faults platform.new) }
 {
     let mut list = Entries::new(alloc);
     walk(platform, &Want::of_root(root), &root.key, buf, &mut list)?;
@@ -53,7 +53,7 @@ pub fn addresses<P: Platform>(
     ensures wrong { P.tells → (addr : ℕ) → IsErrOf result (WalkRefusal.BadRecord addr) →
         FirstWrongOf (P.history platform.old).present.readable root.now addr }
     ensures looks { OnlyLooks P.Platform platform.old platform.new }
-    ensures cause { IsErrOf result WalkRefusal.PlatformFault → Rose (P.faults platform.old) (P.faults platform.new) }
+    ensures cause { TellsOf WalkRefusal.PlatformFault result (P.faults platform.old) (P.faults platform.new) }
 {
     let mut list = Addrs::new(alloc);
     walk(platform, &Want::of_root(root), &root.key, buf, &mut list)?;

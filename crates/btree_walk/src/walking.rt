@@ -1,5 +1,5 @@
 ghost use Rattle.std.specs.Prelude.{◌≡◌, ◌<◌, ◌≤◌, ◌+◌, ℕ, OnOk, IsErrOf};
-ghost use Rattle.sdbt_base.specs.Faults.{Rose};
+ghost use Rattle.sdbt_base.specs.Faults.{TellsOf};
 ghost use Rattle.node_codec.specs.Record.{NodeRecord, FitsNode};
 ghost use Rattle.page_store.specs.Places.{FitsAt};
 ghost use Rattle.page_store.specs.Tree.{IsMisfit};
@@ -32,7 +32,7 @@ pub(crate) fn walk<P: Platform, G: Gather>(
     ensures wrong { P.tells → (addr : ℕ) → IsErrOf result (WalkRefusal.BadRecord addr) →
         FirstWrong (P.history platform.old).present.readable addr want.now.most want.now.level want.now key.now }
     ensures looks { OnlyLooks P.Platform platform.old platform.new }
-    ensures cause { IsErrOf result WalkRefusal.PlatformFault → Rose (P.faults platform.old) (P.faults platform.new) }
+    ensures cause { TellsOf WalkRefusal.PlatformFault result (P.faults platform.old) (P.faults platform.new) }
 {
     let mut node = NodeBody {
         level: want.level,
@@ -67,7 +67,7 @@ fn read_node<P: Platform>(
         IsMisfit (P.history platform.old).present.readable addr want.now key.now }
     ensures reads { P.tells → OnOk result (P.reads platform.new ≡ P.reads platform.old + 1) }
     ensures looks { OnlyLooks P.Platform platform.old platform.new }
-    ensures cause { IsErrOf result WalkRefusal.PlatformFault → Rose (P.faults platform.old) (P.faults platform.new) }
+    ensures cause { TellsOf WalkRefusal.PlatformFault result (P.faults platform.old) (P.faults platform.new) }
 {
     fetch_node(platform, want, key, buf, entries)?;
     Ok(())

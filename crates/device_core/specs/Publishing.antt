@@ -1,5 +1,7 @@
 -- The cause of each answer of a format and of an erasure: which comes where, and that a fault comes only where the count of that object rose.
 use Rattle.std.specs.Prelude.{◌≡◌, ◌≢◌, ◌+◌, None, Result, Ok, Err}
+use Rattle.sdbt_base.specs.Counts.{Counts, PlatformRose, TapeRose, LedgerRose}
+use Rattle.sdbt_base.specs.Faults.{Rose}
 use Rattle.sdbt_base.specs.declared.tapes.Tape.{Ghosts as TapeGhosts}
 use Rattle.platform.specs.declared.platforms.Platform.{Ghosts as PlatformGhosts}
 use Rattle.platform.specs.History.{CellStays}
@@ -12,10 +14,11 @@ use Rattle.device_core.specs.declared.refusals.FormatRefusal.TheVariants as form
 use Rattle.device_core.specs.declared.refusals.EraseRefusal.{EraseRefusal}
 use Rattle.device_core.specs.declared.refusals.EraseRefusal.TheVariants as erase
 
--- a root record was not published since the platform failed, or the ledger
-abbrev pub IsPublishCause : Type 0 → Type 0 → PublishFault → Type 0
-IsPublishCause Failed Unput publish.Platform = Failed
-IsPublishCause Failed Unput publish.Ledger = Unput
+-- a root record was published and nothing failed; or it was not since the platform failed, or the ledger, and the cell is as it was then
+abbrev pub IsPublishCause : Type 0 → Counts → Counts → Result (Unit {0}) PublishFault → Type 0
+IsPublishCause Still before now (Ok done) = now ≡ before
+IsPublishCause Still before now (Err publish.Platform) = PlatformRose before now
+IsPublishCause Still before now (Err publish.Ledger) = LedgerRose before now × Still
 
 -- nothing came of a format: no page, no key, and at each moment the cell as it was
 abbrev pub IsUnmade : {S R : Type 0} → PlatformGhosts S → TapeGhosts R → S → S → R → R → Type 0
@@ -23,27 +26,27 @@ IsUnmade P T platform platform_now tape tape_now =
     AddsNothing P T platform platform_now tape tape_now × (P.tells → CellStays (P.history platform) (P.history platform_now))
 
 -- a device is made where the cell is empty and a page is free, and one page is added then. There is a device already exactly where the cell is full, and
--- else the medium is full exactly where no page is free
-abbrev pub IsFormatCause : {S R : Type 0} → PlatformGhosts S → TapeGhosts R → S → S → R → R → Type 0 → Type 0 → Type 0 → Result (Unit {0}) FormatRefusal → Type 0
-IsFormatCause P T platform platform_now tape tape_now Failed Undrawn Unput (Ok done) =
-    (P.tells → (P.history platform).present.cell ≡ None) × (P.head platform ≢ P.capacity platform) × (P.head platform_now ≡ P.head platform + 1)
-IsFormatCause P T platform platform_now tape tape_now Failed Undrawn Unput (Err format.NotEmpty) =
-    (P.tells → (P.history platform).present.cell ≢ None) × IsUnmade P T platform platform_now tape tape_now
-IsFormatCause P T platform platform_now tape tape_now Failed Undrawn Unput (Err format.Full) =
-    (P.tells → (P.history platform).present.cell ≡ None) × (P.head platform ≡ P.capacity platform) × IsUnmade P T platform platform_now tape tape_now
-IsFormatCause P T platform platform_now tape tape_now Failed Undrawn Unput (Err format.Memory) =
-    (P.head platform ≢ P.capacity platform) × IsUnmade P T platform platform_now tape tape_now
-IsFormatCause P T platform platform_now tape tape_now Failed Undrawn Unput (Err format.TapeFault) =
-    Undrawn × (P.head platform ≢ P.capacity platform) × IsUnmade P T platform platform_now tape tape_now
-IsFormatCause P T platform platform_now tape tape_now Failed Undrawn Unput (Err format.LedgerFault) =
-    Unput × (P.head platform ≢ P.capacity platform) × (P.tells → CellStays (P.history platform) (P.history platform_now))
-IsFormatCause P T platform platform_now tape tape_now Failed Undrawn Unput (Err format.PlatformFault) = Failed
+-- else the medium is full exactly where no page is free; memory is asked for behind that. But for the object that an answer names none failed
+abbrev pub IsFormatCause : {S R : Type 0} → PlatformGhosts S → TapeGhosts R → S → S → R → R → Counts → Counts → Result (Unit {0}) FormatRefusal → Type 0
+IsFormatCause P T platform platform_now tape tape_now before now (Ok done) =
+    (P.tells → (P.history platform).present.cell ≡ None) × (P.head platform ≢ P.capacity platform) × (P.head platform_now ≡ P.head platform + 1) × (now ≡ before)
+IsFormatCause P T platform platform_now tape tape_now before now (Err format.NotEmpty) =
+    (P.tells → (P.history platform).present.cell ≢ None) × IsUnmade P T platform platform_now tape tape_now × (now ≡ before)
+IsFormatCause P T platform platform_now tape tape_now before now (Err format.Full) =
+    (P.tells → (P.history platform).present.cell ≡ None) × (P.head platform ≡ P.capacity platform) × IsUnmade P T platform platform_now tape tape_now × (now ≡ before)
+IsFormatCause P T platform platform_now tape tape_now before now (Err format.Memory) =
+    (P.tells → (P.history platform).present.cell ≡ None) × (P.head platform ≢ P.capacity platform) × IsUnmade P T platform platform_now tape tape_now × (now ≡ before)
+IsFormatCause P T platform platform_now tape tape_now before now (Err format.TapeFault) =
+    TapeRose before now × (P.head platform ≢ P.capacity platform) × IsUnmade P T platform platform_now tape tape_now
+IsFormatCause P T platform platform_now tape tape_now before now (Err format.LedgerFault) =
+    LedgerRose before now × (P.head platform ≢ P.capacity platform) × (P.tells → CellStays (P.history platform) (P.history platform_now))
+IsFormatCause P T platform platform_now tape tape_now before now (Err format.PlatformFault) = PlatformRose before now
 
--- an erasure empties a full cell; there is no device exactly where the cell is empty, and then all is as it was
-abbrev pub IsEraseCause : {S : Type 0} → PlatformGhosts S → S → S → Type 0 → Result (Unit {0}) EraseRefusal → Type 0
-IsEraseCause P platform platform_now Failed (Ok done) =
-    P.tells → ((P.history platform).present.cell ≢ None) × Stands (P.history platform_now).present None
-IsEraseCause P platform platform_now Failed (Err erase.NoDevice) =
-    P.tells → ((P.history platform).present.cell ≡ None) × ((P.history platform_now).present ≡ (P.history platform).present)
-    × CellStays (P.history platform) (P.history platform_now)
-IsEraseCause P platform platform_now Failed (Err erase.PlatformFault) = Failed
+-- an erasure empties a full cell; there is no device exactly where the cell is empty, and then all is as it was. It fails exactly where the platform does
+abbrev pub IsEraseCause : {S : Type 0} → PlatformGhosts S → S → S → Result (Unit {0}) EraseRefusal → Type 0
+IsEraseCause P platform platform_now (Ok done) =
+    (P.tells → ((P.history platform).present.cell ≢ None) × Stands (P.history platform_now).present None) × (P.faults platform_now ≡ P.faults platform)
+IsEraseCause P platform platform_now (Err erase.NoDevice) =
+    (P.tells → ((P.history platform).present.cell ≡ None) × ((P.history platform_now).present ≡ (P.history platform).present)
+    × CellStays (P.history platform) (P.history platform_now)) × (P.faults platform_now ≡ P.faults platform)
+IsEraseCause P platform platform_now (Err erase.PlatformFault) = Rose (P.faults platform) (P.faults platform_now)

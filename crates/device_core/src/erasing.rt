@@ -1,5 +1,4 @@
 ghost use Rattle.std.specs.Prelude.{◌≡◌, ◌≤◌, ℕ, List, Option, None};
-ghost use Rattle.sdbt_base.specs.Faults.{Rose};
 ghost use Rattle.platform.specs.Image.{LeavesOnly};
 ghost use Rattle.platform.specs.History.{During, Turns};
 ghost use Rattle.sdbt_base.specs.Arrays.{Device};
@@ -18,7 +17,7 @@ use sdbt_base::ROOT;
 ///
 /// `NoDevice` comes exactly where the cell is empty.
 pub fn erase<P: Platform>(platform: &mut P) -> Result<(), EraseRefusal>
-    ensures cause { IsEraseCause P.Platform platform.old platform.new (Rose (P.faults platform.old) (P.faults platform.new)) result }
+    ensures cause { IsEraseCause P.Platform platform.old platform.new result }
     // At each moment a loss of power leaves the device, until one from which on it leaves none.
     ensures time { P.tells → (device : Option Device) → Stands (P.history platform.old).present device
         → Turns (P.history platform.old) (P.history platform.new)

@@ -1,5 +1,5 @@
 ghost use Rattle.std.specs.Prelude.{◌≡◌, ◌≢◌, ◌≤◌, ◌⊎◌, ◌%◌, Option, None, Some, OnOk, OnErr, IsOk, IsErrOf, ⊤};
-ghost use Rattle.sdbt_base.specs.Faults.{Rose};
+ghost use Rattle.sdbt_base.specs.Counts.{counts};
 ghost use Rattle.platform.specs.Image.{LeavesOnly};
 ghost use Rattle.platform.specs.Calls.{Grows};
 ghost use Rattle.platform.specs.History.{Turns, CellStays};
@@ -44,8 +44,8 @@ pub fn format<P: Platform, T: Tape, L: Sink>(
         × ((root : Root) × ((P.history platform.new).present.cell ≡ Some (root_bytes root))
         × NamesLast (T.drawn tape.old) (T.drawn tape.new) (P.head platform.new) root)) }
     ensures cause { IsFormatCause P.Platform T.Tape platform.old platform.new tape.old tape.new
-        (Rose (P.faults platform.old) (P.faults platform.new)) (Rose (T.faults tape.old) (T.faults tape.new))
-        (Rose (L.faults ledger.old) (L.faults ledger.new)) result }
+        (counts (P.faults platform.old) (T.faults tape.old) 0 0 (L.faults ledger.old))
+        (counts (P.faults platform.new) (T.faults tape.new) 0 0 (L.faults ledger.new)) result }
     // Where there is a device already, or no page is free, nothing is drawn and the cell is as it was at each moment, whatever the answer.
     ensures kept { P.tells → ((P.history platform.old).present.cell ≢ None) ⊎ (P.head platform.old ≡ P.capacity platform.old)
         → (tape.new ≡ tape.old) × CellStays (P.history platform.old) (P.history platform.new) }

@@ -1,6 +1,6 @@
 //! The last three steps of a format.
-ghost use Rattle.std.specs.Prelude.{◌≡◌, ◌≤◌, ◌⊎◌, Some, OnOk, IfErr, IsOk};
-ghost use Rattle.sdbt_base.specs.Faults.{Rose};
+ghost use Rattle.std.specs.Prelude.{◌≡◌, ◌≤◌, ◌⊎◌, Some, OnOk, IsOk};
+ghost use Rattle.sdbt_base.specs.Counts.{counts};
 ghost use Rattle.sdbt_base.specs.Told.{Got, GotPart};
 ghost use Rattle.platform.specs.Image.{with_cell, all_synced};
 ghost use Rattle.platform.specs.History.{Turns, CellStays};
@@ -46,9 +46,8 @@ pub(crate) fn publish<P: Platform, L: Sink>(
     ensures reads { P.tells → P.reads platform.new ≡ P.reads platform.old }
     ensures faults { P.faults platform.old ≤ P.faults platform.new }
     ensures ledger_faults { L.faults ledger.old ≤ L.faults ledger.new }
-    ensures cause { IfErr result (IsPublishCause (Rose (P.faults platform.old) (P.faults platform.new))
-        (Rose (L.faults ledger.old) (L.faults ledger.new)
-        × (P.tells → CellStays (P.history platform.old) (P.history platform.new)))) }
+    ensures cause { IsPublishCause (P.tells → CellStays (P.history platform.old) (P.history platform.new))
+        (counts (P.faults platform.old) 0 0 0 (L.faults ledger.old)) (counts (P.faults platform.new) 0 0 0 (L.faults ledger.new)) result }
 {
     let mut bytes = [0; ROOT];
     encode_root(root, &mut bytes);

@@ -2,8 +2,8 @@
 use Rattle.std.proofs.Common.{◌≡◌, ◌≢◌, ◌∙◌, inl, ℕ, ◌+◌, ◌≤◌, ◌^◌, false, List, All, length, map, ◌++◌, Result, Ok, Err, refl, sym, ap, subst, arith}
 use Rattle.std.specs.Prelude.{Some, IfOk, IfErr, OnOk, IsOk}
 use Rattle.sdbt_base.specs.Arrays.{Device, Blocks, committed_with}
+use Rattle.sdbt_base.specs.Counts.{Counts, counts}
 use Rattle.sdbt_base.specs.Faults.{Rose}
-use Rattle.sdbt_base.proofs.FaultLaws.{Rose-within}
 use Rattle.sdbt_base.specs.declared.sinks.Sink.{Ghosts as SinkGhosts}
 use Rattle.sdbt_base.specs.declared.tapes.Tape.{Ghosts as TapeGhosts}
 use Rattle.platform.specs.declared.platforms.Platform.{Ghosts as PlatformGhosts}
@@ -41,7 +41,7 @@ use Rattle.device_session.specs.Keys.{HoldsListed}
 use Rattle.device_session.specs.Finishing.{PutsLine, IsPublishCause, TakesUp}
 use Rattle.device_terms.specs.Effects.{NamesLast}
 use Rattle.device_terms.specs.Effects.{Discloses, GrowsBy}
-use Rattle.device_session.specs.Publishing.{Commits, HasRaised, IsCommitCause}
+use Rattle.device_session.specs.Publishing.{Commits, HasRaised, IsCommitCause, commit_counts}
 use Rattle.device_session.specs.Replies.{device_after}
 use Rattle.device_terms.proofs.MomentLaws.{still, then_published, once, stays_once, stays_then}
 use Rattle.device_terms.proofs.ServedLaws.{serves_still, serves_turned, served_published}
@@ -56,6 +56,9 @@ use Rattle.device_session.proofs.TakingLaws.{taken_open, taken_pages, taken_hold
 -- a commit was done
 abbrev done : Result CommitReply CommitFault → Type 0
 done result = IsOk result
+
+abbrev refused : CommitFault → Result (Unit {0}) CommitFault
+refused fault = Err fault
 
 -- what holds holds of each answer
 on_any : (result : Result CommitReply CommitFault) (X : Type 0) → X → OnOk result X
@@ -75,7 +78,7 @@ untouched_after session image device contents number off is h =
 pub commits_nothing : {S R W : Type 0} (P : PlatformGhosts S) (T : TapeGhosts R) (L : SinkGhosts W) (platform : S) (tape : R) (ledger : W) (session : Session) (result : Result CommitReply CommitFault)
     → IsOpen session (P.head platform)
     → (P.tells → (device : Device) (contents : Blocks) → Holds session (P.history platform).present device contents → IfOk result (λ reply. Holds session (P.history platform).present (device_after reply device contents) contents))
-    → IfErr result (IsCommitCause P T platform platform tape tape (Rose (P.faults platform) (P.faults platform)) (Rose (T.faults tape) (T.faults tape)) (Rose (L.faults ledger) (L.faults ledger)))
+    → IfErr result (IsCommitCause P T platform platform tape tape (commit_counts P T L platform tape ledger) (commit_counts P T L platform tape ledger))
     → Commits P T L platform platform tape tape ledger ledger session session result
 commits_nothing P T L platform tape ledger session result opened array cause =
     let old = P.history platform in
@@ -91,6 +94,7 @@ commits_nothing P T L platform tape ledger session result opened array cause =
       };
       certifies = inl (refl, λ told. still old);
       cause = cause;
+      quiet = on_any result _ refl;
       grows = record { rises = omega arith; at_most = omega arith; capacity = refl; platform_faults = omega arith; tape_faults = omega arith; ledger_faults = omega arith };
     }
 
@@ -105,10 +109,15 @@ commits_full P T L platform platform_now tape tape_now ledger session now needed
 
 -- ---- a commit that ended before its root record
 
+-- of the same platform and tape the counts are the same
+pub same_counts : {S R W : Type 0} (P : PlatformGhosts S) (T : TapeGhosts R) (L : SinkGhosts W) (platform platform_now : S) (tape tape_now : R) (ledger : W) → platform_now ≡ platform → tape_now ≡ tape
+    → commit_counts P T L platform_now tape_now ledger ≡ commit_counts P T L platform tape ledger
+same_counts P T L platform platform_now tape tape_now ledger same_platform same_tape = λ k. commit_counts P T L (same_platform k) (same_tape k) ledger
+
 pub commits_stopped : {S R W : Type 0} (P : PlatformGhosts S) (T : TapeGhosts R) (L : SinkGhosts W) (platform platform_now : S) (tape tape_now : R) (ledger : W) (session now : Session) (fault : CommitFault)
     → OnlyAdds P T platform platform_now tape tape_now → P.head platform_now ≤ P.head platform + needed_by session
     → KeepsKeys P.tells (T.drawn tape) (T.drawn tape_now) (P.history platform) (P.history platform_now) (KnowsPlaces (P.history platform).present (places_of session.grove)) (λ keys. Unit {0})
-    → IsCommitCause P T platform platform_now tape tape_now (Rose (P.faults platform) (P.faults platform_now)) (Rose (T.faults tape) (T.faults tape_now)) (Rose (L.faults ledger) (L.faults ledger)) fault
+    → IsCommitCause P T platform platform_now tape tape_now (commit_counts P T L platform tape ledger) (commit_counts P T L platform_now tape_now ledger) fault
     → Commits P T L platform platform_now tape tape_now ledger ledger session now (Err fault)
 commits_stopped P T L platform platform_now tape tape_now ledger session now fault adds within keeps cause =
     let old = P.history platform in
@@ -125,6 +134,7 @@ commits_stopped P T L platform platform_now tape tape_now ledger session now fau
       };
       certifies = inl (refl, adds.cell);
       cause = cause;
+      quiet = tt;
       grows = record { rises = adds.head; at_most = within; capacity = adds.capacity; platform_faults = adds.platform_faults; tape_faults = adds.tape_faults; ledger_faults = omega arith };
     }
 
@@ -141,6 +151,7 @@ pub record IsCommitting {S R W : Type 0} (P : PlatformGhosts S) (T : TapeGhosts 
   pub turns : P.tells → Publishes (P.history mid) (P.history new) prepared
   pub put : PutsLine P.tells (L.written ledger) (L.written ledger_now) (P.history mid) (P.history new) prepared.line prepared.root Was
   pub count : L.faults ledger ≤ L.faults ledger_now
+  pub quiet : (P.faults mid ≡ P.faults platform) × (T.faults tape_now ≡ T.faults tape)
 
 -- what it discloses
 commit_discloses : {S R W : Type 0} (P : PlatformGhosts S) (T : TapeGhosts R) (L : SinkGhosts W) (platform mid new : S) (tape tape_now : R) (ledger ledger_now : W) (session : Session) (prepared : Prepared) (Was : Type 0) (Done : List (List ℕ) → Type 0)
@@ -176,19 +187,24 @@ commit_grows P T L platform mid new tape tape_now ledger ledger_now session prep
 -- why the last steps failed
 failed_cause : {S R W : Type 0} (P : PlatformGhosts S) (T : TapeGhosts R) (L : SinkGhosts W) (platform mid new : S) (tape tape_now : R) (ledger ledger_now : W) (session : Session) (prepared : Prepared) (Was : Type 0) (fault : CommitFault)
     → IsCommitting P T L platform mid new tape tape_now ledger ledger_now session prepared Was
-    → IsPublishCause (Rose (P.faults mid) (P.faults new)) (Rose (L.faults ledger) (L.faults ledger_now) × (P.tells → CellStays (P.history mid) (P.history new))) fault
-    → IsCommitCause P T platform new tape tape_now (Rose (P.faults platform) (P.faults new)) (Rose (T.faults tape) (T.faults tape_now)) (Rose (L.faults ledger) (L.faults ledger_now)) fault
-failed_cause P T L platform mid new tape tape_now ledger ledger_now session prepared Was fault.PlatformFault all cause =
-    Rose-within (P.faults platform) (P.faults mid) (P.faults new) (P.faults new) all.adds.platform_faults all.swaps.faults cause (omega arith)
+    → IsPublishCause (P.tells → CellStays (P.history mid) (P.history new)) (counts (P.faults mid) 0 0 0 (L.faults ledger)) (counts (P.faults new) 0 0 0 (L.faults ledger_now)) (refused fault)
+    → IsCommitCause P T platform new tape tape_now (commit_counts P T L platform tape ledger) (commit_counts P T L new tape_now ledger_now) fault
+failed_cause P T L platform mid new tape tape_now ledger ledger_now session prepared Was fault.PlatformFault all cause = (
+  subst (λ (n : ℕ). Rose n (P.faults new)) all.quiet.0 cause.0,
+  λ k. counts (P.faults new) (all.quiet.1 k) 0 0 (cause.1 k).ledger,
+)
 failed_cause P T L platform mid new tape tape_now ledger ledger_now session prepared Was fault.LedgerFault all cause =
-    (cause.0, λ told. stays_then (P.history platform) (P.history mid) (P.history new) (all.adds.cell told) (cause.1 told))
+    let before_put : P.faults new ≡ P.faults platform = ap (λ (c : Counts). c.platform) cause.0.1 ∙ all.quiet.0 in (
+      (cause.0.0, λ k. counts (before_put k) (all.quiet.1 k) 0 0 (L.faults ledger_now)),
+      λ told. stays_then (P.history platform) (P.history mid) (P.history new) (all.adds.cell told) (cause.1 told),
+    )
 failed_cause P T L platform mid new tape tape_now ledger ledger_now session prepared Was fault.TapeFault all cause = absurd cause
 failed_cause P T L platform mid new tape tape_now ledger ledger_now session prepared Was fault.Memory all cause = absurd cause
 
 -- where the last step failed
 pub commits_failed : {S R W : Type 0} (P : PlatformGhosts S) (T : TapeGhosts R) (L : SinkGhosts W) (platform mid new : S) (tape tape_now : R) (ledger ledger_now : W) (session now : Session) (prepared : Prepared) (Was : Type 0) (fault : CommitFault)
     → IsCommitting P T L platform mid new tape tape_now ledger ledger_now session prepared Was
-    → IsPublishCause (Rose (P.faults mid) (P.faults new)) (Rose (L.faults ledger) (L.faults ledger_now) × (P.tells → CellStays (P.history mid) (P.history new))) fault
+    → IsPublishCause (P.tells → CellStays (P.history mid) (P.history new)) (counts (P.faults mid) 0 0 0 (L.faults ledger)) (counts (P.faults new) 0 0 0 (L.faults ledger_now)) (refused fault)
     → Commits P T L platform new tape tape_now ledger ledger_now session now (Err fault)
 commits_failed P T L platform mid new tape tape_now ledger ledger_now session now prepared Was fault all cause = record {
   array = λ told device contents h. tt;
@@ -198,6 +214,7 @@ commits_failed P T L platform mid new tape tape_now ledger ledger_now session no
   certifies = commit_certifies P.tells (L.written ledger) (L.written ledger_now) (P.history platform) (P.history mid) (P.history new) (T.drawn tape) (T.drawn tape_now) session (P.head platform) (P.head mid) prepared Was (done (Err fault)) all.readied
       (λ was ok. absurd cc) all.turns all.put;
   cause = failed_cause P T L platform mid new tape tape_now ledger ledger_now session prepared Was fault all cause;
+  quiet = tt;
   grows = commit_grows P T L platform mid new tape tape_now ledger ledger_now session prepared Was all;
 }
 
@@ -240,8 +257,9 @@ committed_holds P T L platform mid new tape tape_now ledger ledger_now session n
 
 pub commits_done : {S R W : Type 0} (P : PlatformGhosts S) (T : TapeGhosts R) (L : SinkGhosts W) (platform mid new : S) (tape tape_now : R) (ledger ledger_now : W) (session now : Session) (prepared : Prepared) (Was : Type 0) (number : ℕ)
     → (all : IsCommitting P T L platform mid new tape tape_now ledger ledger_now session prepared Was) → ((Was → ⊥) → ⊥) → TakesUp session all.readied.cache prepared.root now → (P.tells → (P.history new).present ≡ with_next (P.history mid) prepared) → number ≡ prepared.root.commit
+    → counts (P.faults new) 0 0 0 (L.faults ledger_now) ≡ counts (P.faults mid) 0 0 0 (L.faults ledger)
     → Commits P T L platform new tape tape_now ledger ledger_now session now (Ok (Committed number))
-commits_done P T L platform mid new tape tape_now ledger ledger_now session now prepared Was number all was taken published number_is =
+commits_done P T L platform mid new tape tape_now ledger ledger_now session now prepared Was number all was taken published number_is quiet =
     let r = all.readied in
     let next = prepared.root in
     let within = next_within P.tells (P.history platform) (P.history mid) (T.drawn tape) (T.drawn tape_now) session (P.head platform) (P.head mid) prepared r in
@@ -263,6 +281,9 @@ commits_done P T L platform mid new tape tape_now ledger ledger_now session now 
       certifies = commit_certifies P.tells (L.written ledger) (L.written ledger_now) (P.history platform) (P.history mid) (P.history new) (T.drawn tape) (T.drawn tape_now) session (P.head platform) (P.head mid) prepared Was (done (Ok (Committed number))) r
           (λ never ok. was never) all.turns all.put;
       cause = tt;
+      quiet =
+          let same : P.faults new ≡ P.faults platform = ap (λ (c : Counts). c.platform) quiet ∙ all.quiet.0 in
+          λ k. counts (same k) (all.quiet.1 k) 0 0 (quiet k).ledger;
       grows = commit_grows P T L platform mid new tape tape_now ledger ledger_now session prepared Was all;
     }
 

@@ -1,5 +1,6 @@
 -- What the steps of a commit say that follow the sealing of its tree.
-use Rattle.std.specs.Prelude.{◌≡◌, ◌⊎◌, ℕ, false, List, [], Option, Some}
+use Rattle.std.specs.Prelude.{◌≡◌, ◌⊎◌, ℕ, false, List, [], Option, Some, Result, Ok, Err}
+use Rattle.sdbt_base.specs.Counts.{Counts, PlatformRose, LedgerRose}
 use Rattle.sdbt_base.specs.Told.{Got, GotPart}
 use Rattle.platform.specs.History.{History, CellStays}
 use Rattle.root_codec.specs.declared.root.Root.{Root}
@@ -19,12 +20,13 @@ PutsLine tells written written_now old new line root Done =
     (Got written line written_now × (tells → (new.present.cell ≡ Some (root_bytes root)) ⊎ (CellStays old new × (Done → ⊥))))
     ⊎ (GotPart written line written_now × (tells → CellStays old new) × (Done → ⊥))
 
--- a root record was not published since the platform failed, or the ledger
-abbrev pub IsPublishCause : Type 0 → Type 0 → CommitFault → Type 0
-IsPublishCause Failed Unput commit.PlatformFault = Failed
-IsPublishCause Failed Unput commit.LedgerFault = Unput
-IsPublishCause Failed Unput commit.TapeFault = ⊥
-IsPublishCause Failed Unput commit.Memory = ⊥
+-- a root record was published and nothing failed; or it was not since the platform failed, or the ledger, and the cell is as it was then
+abbrev pub IsPublishCause : {T : Type 0} → Type 0 → Counts → Counts → Result T CommitFault → Type 0
+IsPublishCause Still before now (Ok done) = now ≡ before
+IsPublishCause Still before now (Err commit.PlatformFault) = PlatformRose before now
+IsPublishCause Still before now (Err commit.LedgerFault) = LedgerRose before now × Still
+IsPublishCause Still before now (Err commit.TapeFault) = ⊥
+IsPublishCause Still before now (Err commit.Memory) = ⊥
 
 -- no node is held beside a tree
 abbrev pub HoldsNone : Grove → Type 0

@@ -1,6 +1,6 @@
 -- What a commit says: how it makes a session's changes the device's.
 use Rattle.std.specs.Prelude.{◌≡◌, ◌≢◌, ◌+◌, ℕ, false, [], List, Some, Result, IfOk, OnOk, IfErr, IsOk, All, length}
-use Rattle.sdbt_base.specs.Faults.{Rose}
+use Rattle.sdbt_base.specs.Counts.{Counts, counts, PlatformRose, TapeRose, LedgerRose}
 use Rattle.sdbt_base.specs.Arrays.{Device, Blocks, committed_with}
 use Rattle.sdbt_base.specs.declared.sinks.Sink.{Ghosts as SinkGhosts}
 use Rattle.sdbt_base.specs.declared.tapes.Tape.{Ghosts as TapeGhosts}
@@ -67,16 +67,20 @@ pub record HasRaised {S R : Type 0} (P : PlatformGhosts S) (T : TapeGhosts R) (p
   pub cell : P.tells → (P.history platform_now).present.cell ≡ Some (root_bytes (root_of now))
   pub keys : P.tells → (device : Device) (contents : Blocks) → Holds session (P.history platform).present device contents → HasTreeKeys now (P.history platform_now).present.readable
 
--- a commit fails where the platform, the tape or the ledger failed, or no memory was given, for which nothing was handed over. But for a fault of the platform
--- the cell is as it was at each moment
-abbrev pub IsCommitCause : {S R : Type 0} → PlatformGhosts S → TapeGhosts R → S → S → R → R → Type 0 → Type 0 → Type 0 → CommitFault → Type 0
-IsCommitCause P T platform platform_now tape tape_now Failed Undrawn Unput commit.PlatformFault = Failed
-IsCommitCause P T platform platform_now tape tape_now Failed Undrawn Unput commit.TapeFault =
-    Undrawn × (P.tells → CellStays (P.history platform) (P.history platform_now))
-IsCommitCause P T platform platform_now tape tape_now Failed Undrawn Unput commit.LedgerFault =
-    Unput × (P.tells → CellStays (P.history platform) (P.history platform_now))
-IsCommitCause P T platform platform_now tape tape_now Failed Undrawn Unput commit.Memory =
-    AddsNothing P T platform platform_now tape tape_now × (P.tells → CellStays (P.history platform) (P.history platform_now))
+-- a commit fails where the platform, the tape or the ledger failed, and no other of them, or no memory was given, for which nothing was handed over and none
+-- failed. But for a fault of the platform the cell is as it was at each moment
+abbrev pub IsCommitCause : {S R : Type 0} → PlatformGhosts S → TapeGhosts R → S → S → R → R → Counts → Counts → CommitFault → Type 0
+IsCommitCause P T platform platform_now tape tape_now before now commit.PlatformFault = PlatformRose before now
+IsCommitCause P T platform platform_now tape tape_now before now commit.TapeFault =
+    TapeRose before now × (P.tells → CellStays (P.history platform) (P.history platform_now))
+IsCommitCause P T platform platform_now tape tape_now before now commit.LedgerFault =
+    LedgerRose before now × (P.tells → CellStays (P.history platform) (P.history platform_now))
+IsCommitCause P T platform platform_now tape tape_now before now commit.Memory =
+    AddsNothing P T platform platform_now tape tape_now × (P.tells → CellStays (P.history platform) (P.history platform_now)) × (now ≡ before)
+
+-- the counts of faults of what a commit is handed
+abbrev pub commit_counts : {S R W : Type 0} → PlatformGhosts S → TapeGhosts R → SinkGhosts W → S → R → W → Counts
+commit_counts P T L platform tape ledger = counts (P.faults platform) (T.faults tape) 0 0 (L.faults ledger)
 
 -- a commit, whatever its answer: a session that goes on has its array still, and is open on the device that the answer tells of
 pub record Commits {S R W : Type 0} (P : PlatformGhosts S) (T : TapeGhosts R) (L : SinkGhosts W) (platform platform_now : S) (tape tape_now : R) (ledger ledger_now : W) (session now : Session) (result : Result CommitReply CommitFault) : Type 0 where
@@ -91,6 +95,6 @@ pub record Commits {S R W : Type 0} (P : PlatformGhosts S) (T : TapeGhosts R) (L
       (HoldsListed session (P.history platform).present) (λ keys. OnOk result (HoldsListed now (P.history platform_now).present keys))
   pub certifies : Certifies P.tells (L.written ledger) (L.written ledger_now) (P.history platform) (P.history platform_now)
       session.root.head (number_of session + 1) (IsOfCommit session (P.history platform).present (P.history platform_now).present) (IsOk result)
-  pub cause : IfErr result (IsCommitCause P T platform platform_now tape tape_now (Rose (P.faults platform) (P.faults platform_now))
-      (Rose (T.faults tape) (T.faults tape_now)) (Rose (L.faults ledger) (L.faults ledger_now)))
+  pub cause : IfErr result (IsCommitCause P T platform platform_now tape tape_now (commit_counts P T L platform tape ledger) (commit_counts P T L platform_now tape_now ledger_now))
+  pub quiet : OnOk result (commit_counts P T L platform_now tape_now ledger_now ≡ commit_counts P T L platform tape ledger)
   pub grows : GrowsBy P T L (needed_by session) platform platform_now tape tape_now ledger ledger_now

@@ -1,5 +1,5 @@
-ghost use Rattle.std.specs.Prelude.{◌≡◌, ◌<◌, ◌≤◌, ◌-◌, Some, true, false, IfOk, OnOk, IfErr, IsOk};
-ghost use Rattle.sdbt_base.specs.Faults.{Rose};
+ghost use Rattle.std.specs.Prelude.{◌≡◌, ◌<◌, ◌≤◌, ◌-◌, Some, true, false, IfOk, OnOk, IsOk};
+ghost use Rattle.sdbt_base.specs.Counts.{counts};
 ghost use Rattle.platform.specs.Image.{with_cell};
 ghost use Rattle.platform.specs.History.{Turns, CellStays};
 ghost use Rattle.root_codec.specs.RootRecord.{FitsRoot, root_bytes};
@@ -109,8 +109,8 @@ fn publish<P: Platform, L: Sink>(
         prepared.line prepared.root (IsOk result) }
     ensures beside { Swaps P.Platform platform.old platform.new }
     ensures count { L.faults ledger.old ≤ L.faults ledger.new }
-    ensures cause { IfErr result (IsPublishCause (Rose (P.faults platform.old) (P.faults platform.new))
-        (Rose (L.faults ledger.old) (L.faults ledger.new) × (P.tells → CellStays (P.history platform.old) (P.history platform.new)))) }
+    ensures cause { IsPublishCause (P.tells → CellStays (P.history platform.old) (P.history platform.new))
+        (counts (P.faults platform.old) 0 0 0 (L.faults ledger.old)) (counts (P.faults platform.new) 0 0 0 (L.faults ledger.new)) result }
 {
     let Ok(()) = ledger.put(prepared.line()) else {
         prepared.abandon();

@@ -1,5 +1,5 @@
 ghost use Rattle.std.specs.Prelude.{◌≡◌, ◌<◌, ◌≤◌, ◌+◌, ℕ, OnOk, IsErrOf, length};
-ghost use Rattle.sdbt_base.specs.Faults.{Rose};
+ghost use Rattle.sdbt_base.specs.Faults.{TellsOf};
 ghost use Rattle.sdbt_base.specs.Arrays.{Device, Blocks};
 ghost use Rattle.platform.specs.Calls.{Looks};
 ghost use Rattle.node_codec.specs.Record.{DataRecord};
@@ -52,7 +52,7 @@ impl Session {
         ensures listed { P.tells → StaysListed (P.history platform.old).present (P.history platform.new).present self.old self.new }
         ensures looks { Looks P.Platform platform.old platform.new }
         ensures reads { ReadsFew P.Platform block platform.old platform.new self.old self.new result }
-        ensures cause { IsReadCause block (blocks_of self.old) (Rose (P.faults platform.old) (P.faults platform.new)) result }
+        ensures cause { IsReadCause block (blocks_of self.old) (P.faults platform.old) (P.faults platform.new) result }
     {
         if block >= self.root.blocks {
             return Err(ReadRefusal::Range);
@@ -94,7 +94,7 @@ fn read_block<P: Platform>(
         → NothingFits (P.history platform.old).present.readable (block_want entry.now.addr block) entry.now.key }
     ensures looks { Looks P.Platform platform.old platform.new }
     ensures reads { P.tells → P.reads platform.new ≤ P.reads platform.old + 1 }
-    ensures cause { IsErrOf result FetchRefusal.PlatformFault → Rose (P.faults platform.old) (P.faults platform.new) }
+    ensures cause { TellsOf FetchRefusal.PlatformFault result (P.faults platform.old) (P.faults platform.new) }
 {
     let want = Want::of_block(entry.addr, block);
     match fetch_block(platform, &want, &entry.key, buffers) {

@@ -1,5 +1,5 @@
 ghost use Rattle.std.specs.Prelude.{◌≡◌, ◌<◌, ◌*◌, ℕ, IfOk, IsErrOf, IsTrue};
-ghost use Rattle.sdbt_base.specs.Faults.{Rose};
+ghost use Rattle.sdbt_base.specs.Faults.{TellsOf};
 ghost use Rattle.sdbt_base.specs.Arrays.{Device, Blocks};
 ghost use Rattle.btree_walk.specs.Looks.{Looks};
 ghost use Rattle.btree_walk.specs.Sights.{StandsOver};
@@ -35,7 +35,7 @@ impl Session {
         ensures ready { P.tells → StandsOver (P.history platform.old).present.readable self.old.cache
             → Readies (P.history platform.old).present.readable (P.history platform.new).present.readable block self.old self.new result }
         ensures looks { Looks P.Platform (2 * self.old.grove.level) platform.old platform.new }
-        ensures cause { IsErrOf result ReadyRefusal.PlatformFault → Rose (P.faults platform.old) (P.faults platform.new) }
+        ensures cause { TellsOf ReadyRefusal.PlatformFault result (P.faults platform.old) (P.faults platform.new) }
     {
         self.grove
             .ready(self.alloc, block, platform, &mut self.reader)

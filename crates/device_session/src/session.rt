@@ -1,5 +1,5 @@
-ghost use Rattle.std.specs.Prelude.{◌≡◌, ◌≤◌, IfOk, IfErr, IsErrOf};
-ghost use Rattle.sdbt_base.specs.Faults.{Rose};
+ghost use Rattle.std.specs.Prelude.{◌≡◌, ◌≤◌, IfOk, IfErr};
+ghost use Rattle.sdbt_base.specs.Faults.{TellsOf};
 ghost use Rattle.platform.specs.Calls.{Looks};
 ghost use Rattle.btree_walk.specs.Readers.{IsWiped};
 ghost use Rattle.device_session.specs.Causes.{IsMountCause};
@@ -69,7 +69,7 @@ impl Session {
         ensures refused { P.tells → IfErr result (λ refusal. IsMountCause (P.history platform.old).present.cell (P.head platform.old) refusal) }
         ensures looks { Looks P.Platform platform.old platform.new }
         ensures reads { P.tells → P.reads platform.new ≡ P.reads platform.old }
-        ensures cause { IsErrOf result MountRefusal.PlatformFault → Rose (P.faults platform.old) (P.faults platform.new) }
+        ensures cause { TellsOf MountRefusal.PlatformFault result (P.faults platform.old) (P.faults platform.new) }
     {
         let found = match current(platform) {
             Ok(found) => found,

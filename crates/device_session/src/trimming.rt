@@ -1,5 +1,4 @@
 ghost use Rattle.std.specs.Prelude.{◌⊎◌, ◌<◌, ◌≤◌, ℕ, false, IsOk, IsErrOf};
-ghost use Rattle.sdbt_base.specs.Faults.{Rose};
 ghost use Rattle.sdbt_base.specs.Arrays.{Device, Blocks};
 ghost use Rattle.platform.specs.Calls.{Looks};
 ghost use Rattle.btree_walk.specs.Sights.{StandsOver};
@@ -39,7 +38,7 @@ impl Session {
         ensures updates { Updates self.old self.new result }
         ensures listed { P.tells → StaysListed (P.history platform.old).present (P.history platform.new).present self.old self.new }
         ensures looks { Looks P.Platform platform.old platform.new }
-        ensures cause { IsTrimCause block (blocks_of self.old) (Rose (P.faults platform.old) (P.faults platform.new)) result }
+        ensures cause { IsTrimCause block (blocks_of self.old) (P.faults platform.old) (P.faults platform.new) result }
     {
         if block >= self.root.blocks {
             return Err(TrimRefusal::Range);

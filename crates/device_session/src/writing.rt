@@ -1,6 +1,6 @@
-ghost use Rattle.std.specs.Prelude.{◌≡◌, ◌⊎◌, ◌<◌, ◌≤◌, ℕ, true, All, IsTrue, OnOk, IfErr, IsOk, IsErrOf, length};
+ghost use Rattle.std.specs.Prelude.{◌≡◌, ◌⊎◌, ◌<◌, ◌≤◌, ℕ, true, All, IsTrue, OnOk, IsOk, IsErrOf, length};
 ghost use Rattle.std.specs.Bool.{OnFalse};
-ghost use Rattle.sdbt_base.specs.Faults.{Rose};
+ghost use Rattle.sdbt_base.specs.Counts.{counts};
 ghost use Rattle.sdbt_base.specs.Arrays.{padded, Device, Blocks};
 ghost use Rattle.page_store.specs.Keeping.{KeepsKeys};
 ghost use Rattle.btree_walk.specs.Sights.{StandsOver};
@@ -55,7 +55,7 @@ impl Session {
             (HoldsListed self.old (P.history platform.old).present) (HoldsListed self.new (P.history platform.new).present) }
         ensures adds { WriteAdds P.Platform T.Tape platform.old platform.new tape.old tape.new (places_of self.new.grove) block result }
         ensures cause { IsWriteCause block (blocks_of self.old) (P.head platform.old) (P.capacity platform.old)
-            (Rose (P.faults platform.old) (P.faults platform.new)) (Rose (T.faults tape.old) (T.faults tape.new)) result }
+            (counts (P.faults platform.old) (T.faults tape.old) 0 0 0) (counts (P.faults platform.new) (T.faults tape.new) 0 0 0) result }
         ensures grows { WriteGrows P.Platform T.Tape platform.old platform.new tape.old tape.new }
     {
         if block >= self.root.blocks {
@@ -111,7 +111,7 @@ impl Session {
             (λ keys. HoldsListed self.old (P.history platform.old).present keys × IsReadyFor (P.history platform.old).present.readable block self.old.grove is_mapped)
             (HoldsListed self.new (P.history platform.new).present) }
         ensures adds { WriteAdds P.Platform T.Tape platform.old platform.new tape.old tape.new (places_of self.new.grove) block result }
-        ensures cause { IfErr result (IsPutCause (Rose (P.faults platform.old) (P.faults platform.new)) (Rose (T.faults tape.old) (T.faults tape.new))) }
+        ensures cause { IsPutCause (counts (P.faults platform.old) (T.faults tape.old) 0 0 0) (counts (P.faults platform.new) (T.faults tape.new) 0 0 0) result }
         ensures grows { WriteGrows P.Platform T.Tape platform.old platform.new tape.old tape.new }
     {
         are_bytes(content);

@@ -1,6 +1,6 @@
 //! The platform over the files of folders.
 ghost use Rattle.std.specs.Prelude.{◌≡◌, ◌<◌, ◌≤◌, ◌+◌, ◌^◌, ◌∷◌, [], length, false, true, not, is_ok, IsTrue, IsErr, IfOk, IfErr, OnOk};
-ghost use Rattle.sdbt_base.specs.Faults.{Rose};
+ghost use Rattle.sdbt_base.specs.Faults.{Tells};
 ghost use Rattle.folder_platform.specs.Files.{Files};
 ghost use Rattle.folder_platform.specs.Events.{all_done};
 ghost use Rattle.folder_platform.specs.Model.{replay};
@@ -225,7 +225,7 @@ fn remove_root<C: FolderCalls>(calls: &mut C) -> io::Result<()>
 // A call that failed is counted.
 fn fault<T>(faults: &mut u64) -> Result<T, PlatformFault>
     ensures rises { faults.old ≤ faults.new }
-    ensures rose { Rose faults.old faults.new }
+    ensures cause { Tells result faults.old faults.new }
     ensures failed { IsErr result }
 {
     *faults = faults.saturating_add(1);

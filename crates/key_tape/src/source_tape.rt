@@ -1,8 +1,8 @@
 //! A tape over the bytes of a source.
-ghost use Rattle.std.specs.Prelude.{◌≡◌, ℕ, ◌<◌, ◌≤◌, ◌⊎◌, List, length, take, OnOk, IfOk, OnErr, is_err, if◌then◌else◌};
-ghost use Rattle.sdbt_base.specs.Faults.{Rose, next_count};
-ghost use Rattle.sdbt_base.specs.Told.{Gave, Drew, IsAtEnd};
-ghost use Rattle.key_tape.specs.Parts.{source_of, faults_of, told_by};
+ghost use Rattle.std.specs.Prelude.{◌≡◌, ℕ, ◌<◌, ◌≤◌, List, length, take, OnOk, IfOk, OnErr, is_err, if◌then◌else◌};
+ghost use Rattle.sdbt_base.specs.Faults.{Tells, next_count};
+ghost use Rattle.sdbt_base.specs.Told.{Gave, Drew};
+ghost use Rattle.key_tape.specs.Parts.{TellsSource, source_of, faults_of, told_by};
 
 use sdbt_base::{FreshKey, KEY, Source, Tape, TapeFault};
 
@@ -35,16 +35,15 @@ impl<S: Source> Tape for SourceTape<S> {
         ensures drawn { IfOk result (λ key. Drew (told_by self.old) key (told_by self.new)) }
         ensures undrawn { OnErr result (told_by self.new ≡ told_by self.old) }
         ensures count { faults_of self.old ≤ faults_of self.new }
-        ensures cause { OnErr result (Rose (faults_of self.old) (faults_of self.new)) }
+        ensures cause { Tells result (faults_of self.old) (faults_of self.new) }
 
         // A key is the next bytes of the source; a fault loses fewer than a key has.
         ensures key { IfOk result (λ key. Gave (S.left (source_of self.old)) key (S.left (source_of self.new))) }
         ensures size { IfOk result (λ key. length key ≡ KEY) }
         ensures lost { OnErr result ((part : List ℕ) × (length part < KEY)
             × Gave (S.left (source_of self.old)) part (S.left (source_of self.new))) }
-        // It fails only where the source failed or had nothing left.
-        ensures fails { OnErr result (Rose (S.faults (source_of self.old)) (S.faults (source_of self.new))
-            ⊎ IsAtEnd (S.left (source_of self.new))) }
+        // It fails only where the source failed or had nothing left, and no fault of the source is passed over.
+        ensures fails { TellsSource result (S.left (source_of self.new)) (S.faults (source_of self.old)) (S.faults (source_of self.new)) }
         ensures source_count { S.faults (source_of self.old) ≤ S.faults (source_of self.new) }
         ensures faults { faults_of self.new
             ≡ (if is_err result then next_count (faults_of self.old) else faults_of self.old) }
@@ -66,8 +65,7 @@ fn fill<S: Source>(source: &mut S, bytes: &mut [u8]) -> Result<(), TapeFault>
     ensures full { OnOk result (Gave (S.left source.old) bytes.new (S.left source.new)) }
     ensures part { OnErr result ((n : ℕ) × (n < length bytes.old)
         × Gave (S.left source.old) (take n bytes.new) (S.left source.new)) }
-    ensures cause { OnErr result (Rose (S.faults source.old) (S.faults source.new)
-        ⊎ IsAtEnd (S.left source.new)) }
+    ensures cause { TellsSource result (S.left source.new) (S.faults source.old) (S.faults source.new) }
     ensures count { S.faults source.old ≤ S.faults source.new }
 {
     let mut filled = 0;

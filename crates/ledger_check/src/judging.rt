@@ -1,6 +1,6 @@
 //! Reads a ledger from its input, and has it judged.
-ghost use Rattle.std.specs.Prelude.{◌≤◌, IsErrOf};
-ghost use Rattle.sdbt_base.specs.Faults.{Rose};
+ghost use Rattle.std.specs.Prelude.{◌≤◌};
+ghost use Rattle.sdbt_base.specs.Faults.{TellsOf};
 ghost use Rattle.ledger_check.specs.Judging.{FromInput, IsRead, Judged};
 
 use crate::reader::LedgerReader;
@@ -18,7 +18,7 @@ const PIECE: usize = 4096;
 /// by `Rule` with the first broken rule; by `Source` where the input failed; by `Limit` at 2^32 bytes; or by `Memory`.
 pub fn judge<I: Source>(alloc: Global, input: &mut I, root: &Root) -> Result<Verdict, JudgeRefusal>
     ensures judged { Judged root.now (I.left input.old) (I.left input.new) result }
-    ensures cause { IsErrOf result JudgeRefusal.Source → Rose (I.faults input.old) (I.faults input.new) }
+    ensures cause { TellsOf JudgeRefusal.Source result (I.faults input.old) (I.faults input.new) }
     ensures count { I.faults input.old ≤ I.faults input.new }
 {
     let checker = read_ledger(alloc, input)?;
@@ -28,7 +28,7 @@ pub fn judge<I: Source>(alloc: Global, input: &mut I, root: &Root) -> Result<Ver
 /// A checker that was fed the ledger that an input gives.
 fn read_ledger<I: Source>(alloc: Global, input: &mut I) -> Result<Checker, JudgeRefusal>
     ensures read { FromInput IsRead (I.left input.old) (I.left input.new) result }
-    ensures cause { IsErrOf result JudgeRefusal.Source → Rose (I.faults input.old) (I.faults input.new) }
+    ensures cause { TellsOf JudgeRefusal.Source result (I.faults input.old) (I.faults input.new) }
     ensures count { I.faults input.old ≤ I.faults input.new }
 {
     let mut reader = LedgerReader::new(alloc);

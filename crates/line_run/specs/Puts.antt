@@ -1,6 +1,7 @@
 -- What a run over lines has put, and how much it took before.
 use Rattle.std.specs.Prelude.{◌≡◌, ℕ, ◌≤◌, ◌⊎◌, List, [], ◌∷◌, ◌++◌, Option, Ok, Err, take, length, codes}
 use Rattle.std.specs.Fmt.{decimal}
+use Rattle.sdbt_base.specs.Faults.{Rose}
 use Rattle.sdbt_base.specs.Told.{Got, GotPart, IsAtEnd}
 use Rattle.text_lines.specs.Lines.{whole_lines_of, lines_of}
 use Rattle.session_calls.specs.declared.stops.DeviceStop.{DeviceStop}
@@ -41,6 +42,11 @@ HasPut line (Err stops.Sink) written written_now = GotPart written line written_
 HasPut line (Err stops.Source) written written_now = ⊥
 HasPut line (Err stops.Limit) written written_now = ⊥
 HasPut line (Err (stops.Device stop)) written written_now = ⊥
+
+-- a put was done without a fault of the output, or the run stops at one
+abbrev pub TellsPut : Ending → ℕ → ℕ → Type 0
+TellsPut (Ok done) before now = now ≡ before
+TellsPut (Err stop) before now = (stop ≡ stops.Sink) × Rose before now
 
 -- the lines that have come: those with their line feeds, and at the end of the input also a last one without
 abbrev pub HaveCome : List ℕ → Option (List ℕ) → List (List ℕ) → Type 0

@@ -1,8 +1,7 @@
 -- How a run over lines ends, what it took from its input, and what its stops are due to.
 use Rattle.std.specs.Prelude.{◌≡◌, ℕ, ◌^◌, ◌<◌, ◌≤◌, List, Option, Result, Ok, Err, OnOk, IfErr, IsErrOf, length}
-use Rattle.sdbt_base.specs.Faults.{Rose}
 use Rattle.sdbt_base.specs.Told.{IsAtEnd}
-use Rattle.session_calls.specs.Blame.{Counts, NoneFell}
+use Rattle.sdbt_base.specs.Counts.{Counts, InputRose, OutputRose, NoneFell}
 use Rattle.session_calls.specs.Blame as blame
 use Rattle.session_calls.specs.declared.stops.DeviceStop.{DeviceStop}
 use Rattle.session_calls.specs.declared.stops.DeviceStop.TheVariants as device
@@ -13,16 +12,17 @@ use Rattle.line_run.specs.declared.stop.Stop.TheVariants as stops
 abbrev pub Ending : Type 0
 Ending = Result (Unit {0}) Stop
 
--- a stop that names a fault comes only where the count of that object rose
+-- a stop that names a fault comes where the count of that object rose, and that of no other; at each other stop all are as they were
 abbrev pub HasCause : Counts → Counts → Stop → Type 0
-HasCause before now stops.Source = Rose before.input now.input
-HasCause before now stops.Sink = Rose before.output now.output
+HasCause before now stops.Source = InputRose before now
+HasCause before now stops.Sink = OutputRose before now
 HasCause before now (stops.Device stop) = blame.HasCause before now stop
-HasCause before now stops.Limit = Unit {0}
+HasCause before now stops.Limit = now ≡ before
 
--- no count fell, and a run, or a part of one, that stopped at a fault did so where the count of that object rose
+-- no count fell; all are as they were after a run, or a part of one, that was done, and where one stopped at a fault that of this object rose alone
 pub record IsBlamedOn {T : Type 0} (before now : Counts) (result : Result T Stop) : Type 0 where
   pub fell : NoneFell before now
+  pub quiet : OnOk result (now ≡ before)
   pub cause : IfErr result (HasCause before now)
 
 -- the exit status of each stop

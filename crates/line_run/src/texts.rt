@@ -1,8 +1,8 @@
 //! Lines of text that are made in place, and put.
-ghost use Rattle.std.specs.Prelude.{◌≡◌, ◌≤◌, ◌⊎◌, ◌+◌, ◌++◌, length, IfErr};
+ghost use Rattle.std.specs.Prelude.{◌≡◌, ◌≤◌, ◌⊎◌, ◌+◌, ◌++◌, length};
 ghost use Rattle.sdbt_base.specs.Faults.{Rose};
 ghost use Rattle.sdbt_base.specs.Told.{Got, GotPart};
-ghost use Rattle.line_run.specs.Puts.{HasPut, damage_line};
+ghost use Rattle.line_run.specs.Puts.{HasPut, TellsPut, damage_line};
 ghost use Rattle.line_run.specs.Stops.{IsSound};
 ghost use Rattle.arrayvec.specs.ArrayVec.{array_vec_len};
 
@@ -22,7 +22,7 @@ pub fn push_text<const ROOM: usize>(line: &mut ArrayVec<u8, ROOM>, text: &[u8])
 /// Puts a line, or some lines.
 pub fn put_line<O: Sink>(line: &[u8], output: &mut O) -> Result<(), Stop>
     ensures put { HasPut line.now result (O.written output.old) (O.written output.new) }
-    ensures stop { IfErr result (λ stop. (stop ≡ Stop.Sink) × Rose (O.faults output.old) (O.faults output.new)) }
+    ensures stop { TellsPut result (O.faults output.old) (O.faults output.new) }
     ensures count { O.faults output.old ≤ O.faults output.new }
 {
     match output.put(line) {
@@ -33,7 +33,8 @@ pub fn put_line<O: Sink>(line: &[u8], output: &mut O) -> Result<(), Stop>
 
 /// Puts the last line of a run that met a record or a root record which does not fit.
 pub fn last_line<O: Sink>(stop: DeviceStop, output: &mut O) -> Stop
-    ensures stop { ((result ≡ Stop.Device stop) × Got (O.written output.old) (damage_line stop) (O.written output.new))
+    ensures stop { ((result ≡ Stop.Device stop) × Got (O.written output.old) (damage_line stop) (O.written output.new)
+        × (O.faults output.new ≡ O.faults output.old))
         ⊎ ((result ≡ Stop.Sink) × Rose (O.faults output.old) (O.faults output.new)
         × GotPart (O.written output.old) (damage_line stop) (O.written output.new) × (IsSound stop → ⊥)) }
     ensures count { O.faults output.old ≤ O.faults output.new }

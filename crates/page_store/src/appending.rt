@@ -1,5 +1,5 @@
 ghost use Rattle.std.specs.Prelude.{◌≡◌, ◌<◌, All, Contains, IfOk, IsErrOf};
-ghost use Rattle.sdbt_base.specs.Faults.{Rose};
+ghost use Rattle.sdbt_base.specs.Faults.{TellsOf};
 ghost use Rattle.sdbt_base.specs.Bytes.{IsBytes};
 ghost use Rattle.seal_record.specs.Sealing.{masked};
 ghost use Rattle.node_codec.specs.Record.{Record, FitsRecord, record_bytes};
@@ -50,10 +50,8 @@ impl Buffers {
         ensures adds { AddsOne P.Platform T.Tape platform.old platform.new tape.old tape.new }
         ensures body { self.new.body ≡ self.old.body }
 
-        ensures platform_cause { IsErrOf result AppendFault.PlatformFault →
-            Rose (P.faults platform.old) (P.faults platform.new) }
-        ensures tape_cause { IsErrOf result AppendFault.TapeFault →
-            Rose (T.faults tape.old) (T.faults tape.new) }
+        ensures platform_cause { TellsOf AppendFault.PlatformFault result (P.faults platform.old) (P.faults platform.new) }
+        ensures tape_cause { TellsOf AppendFault.TapeFault result (T.faults tape.old) (T.faults tape.new) }
     {
         let Ok(fresh) = tape.draw() else {
             return Err(AppendFault::TapeFault);

@@ -1,5 +1,5 @@
 ghost use Rattle.std.specs.Prelude.{◌≡◌, ◌<◌, ◌+◌, ℕ, IsTrue, IsFalse, OnOk, IsErrOf, drop, length};
-ghost use Rattle.sdbt_base.specs.Faults.{Rose};
+ghost use Rattle.sdbt_base.specs.Faults.{TellsOf};
 ghost use Rattle.node_codec.specs.Record.{Record, DataRecord};
 ghost use Rattle.page_store.specs.Buffer.{content_of};
 ghost use Rattle.page_store.specs.Places.{FitsAt, NothingFits, IsWantedRecord};
@@ -38,8 +38,7 @@ pub fn fetch_block<P: Platform>(
     ensures reads_ok { P.tells → OnOk result (P.reads platform.new ≡ P.reads platform.old + 1) }
     ensures reads_bad { P.tells → (addr : ℕ) → IsErrOf result (FetchRefusal.BadRecord addr) →
         P.reads platform.new ≡ P.reads platform.old + 1 }
-    ensures cause { IsErrOf result FetchRefusal.PlatformFault →
-        Rose (P.faults platform.old) (P.faults platform.new) }
+    ensures cause { TellsOf FetchRefusal.PlatformFault result (P.faults platform.old) (P.faults platform.new) }
 {
     let Ok(()) = buf.load(platform, want.addr, key) else {
         return Err(FetchRefusal::PlatformFault);

@@ -1,5 +1,5 @@
-ghost use Rattle.std.specs.Prelude.{◌≡◌, ◌<◌, ◌≤◌, ◌+◌, Some, IfOk, OnOk, OnErr, length, slice_get};
-ghost use Rattle.sdbt_base.specs.Faults.{Rose};
+ghost use Rattle.std.specs.Prelude.{◌≡◌, ◌<◌, ◌≤◌, ◌+◌, Some, IfOk, OnOk, length, slice_get};
+ghost use Rattle.sdbt_base.specs.Faults.{Tells};
 ghost use Rattle.seal_record.specs.Sealing.{masked};
 ghost use Rattle.node_codec.specs.Record.{DataRecord, NodeRecord, FitsNode, record_bytes};
 ghost use Rattle.page_store.specs.Buffer.{Held, content_of, IsBlank};
@@ -93,7 +93,7 @@ impl Buffers {
         ensures size { OnOk result (length self.new.body ≡ 4128) }
         ensures reads_page { ReadsPage P.Platform platform.old platform.new }
         ensures reads_ok { P.tells → OnOk result (P.reads platform.new ≡ P.reads platform.old + 1) }
-        ensures cause { OnErr result (Rose (P.faults platform.old) (P.faults platform.new)) }
+        ensures cause { Tells result (P.faults platform.old) (P.faults platform.new) }
     {
         platform.read(addr, &mut self.page)?;
         unseal(key, &self.page, &mut self.body);

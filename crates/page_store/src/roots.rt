@@ -1,5 +1,5 @@
 ghost use Rattle.std.specs.Prelude.{◌≡◌, ◌≢◌, None, Some, IfOk, IfSome, IfNone, IsErrOf, length};
-ghost use Rattle.sdbt_base.specs.Faults.{Rose};
+ghost use Rattle.sdbt_base.specs.Faults.{TellsOf};
 ghost use Rattle.root_codec.specs.RootRecord.{root_bytes};
 ghost use Rattle.page_store.specs.Reading.{ReadsCell};
 ghost use Rattle.page_store.specs.Roots.{IsRootWithin, IsBadCell};
@@ -24,8 +24,7 @@ pub fn current<P: Platform>(platform: &mut P) -> Result<Option<Root>, CurrentRef
         IsBadCell (P.head platform.old) (P.history platform.old).present.cell }
 
     ensures reads_cell { ReadsCell P.Platform platform.old platform.new }
-    ensures cause { IsErrOf result CurrentRefusal.PlatformFault →
-        Rose (P.faults platform.old) (P.faults platform.new) }
+    ensures cause { TellsOf CurrentRefusal.PlatformFault result (P.faults platform.old) (P.faults platform.new) }
 {
     let mut bytes = [0; ROOT];
     let Ok(is_full) = platform.load_root(&mut bytes) else {

@@ -1,6 +1,6 @@
 -- A platform in memory, as contracts see it.
 use Rattle.std.specs.Prelude.{◌≡◌, ◌⊎◌, ◌<◌, ◌≤◌, ◌+◌, ◌-◌, ◌^◌, ◌↔◌, ℕ, Bool, true, false, List, Option, Some, IsSome, Result, IsErr, OnOk, OnErr, slice_index}
-use Rattle.sdbt_base.specs.Faults.{Rose, next_count}
+use Rattle.sdbt_base.specs.Faults.{Rose, Tells, next_count}
 use Rattle.platform.specs.declared.failures.CallKind.{CallKind}
 use Rattle.platform.specs.declared.failures.CallKind.TheVariants.{Read}
 use Rattle.platform.specs.declared.failures.Failure.{Failure}
@@ -77,8 +77,7 @@ pub record IsSameRest (old new : MemPlatform) : Type 0 where
 -- a call that failed counts one fault, as long as the count has room for it, and another none
 pub record TellsFaults {T E : Type 0} (old new : MemPlatform) (result : Result T E) : Type 0 where
   pub rises : faults_of old ≤ faults_of new
-  pub cause : OnErr result (Rose (faults_of old) (faults_of new))
-  pub none : OnOk result (faults_of new ≡ faults_of old)
+  pub cause : Tells result (faults_of old) (faults_of new)
   pub one : OnErr result (faults_of new ≡ next_count (faults_of old))
 
 -- a call that reads no page is one step of the history

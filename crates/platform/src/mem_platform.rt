@@ -1,7 +1,7 @@
 //! A platform in memory.
 ghost use Rattle.std.specs.Prelude.{◌≡◌, ◌↔◌, ◌⊎◌, ◌<◌, ◌≤◌, ◌+◌, ◌-◌, ◌^◌, [], Some, None, IsTrue, IsSome, IsErr, IfOk, OnOk, OnErr, All, length, slice_get};
 ghost use Rattle.medium_trace.specs.Trace.{Tears};
-ghost use Rattle.sdbt_base.specs.Faults.{Rose, next_count};
+ghost use Rattle.sdbt_base.specs.Faults.{Tells, next_count};
 ghost use Rattle.platform.specs.Image.{blank, with_page, with_cell, all_synced, MayLeave};
 ghost use Rattle.platform.specs.History.{Steps};
 ghost use Rattle.platform.specs.Failures.{no_calls};
@@ -374,7 +374,7 @@ impl Platform for MemPlatform {
 // A call that failed is counted.
 fn fault<T>(faults: &mut u64) -> Result<T, PlatformFault>
     ensures rises { faults.old ≤ faults.new }
-    ensures rose { Rose faults.old faults.new }
+    ensures cause { Tells result faults.old faults.new }
     ensures one { faults.new ≡ next_count faults.old }
     ensures failed { IsErr result }
 {

@@ -1,5 +1,5 @@
-ghost use Rattle.std.specs.Prelude.{◌≡◌, ◌↔◌, ◌<◌, ◌≤◌, ◌+◌, ◌^◌, ℕ, Some, None, IsTrue, IsSome, IfOk, OnOk, OnErr, length, slice_get};
-ghost use Rattle.sdbt_base.specs.Faults.{Rose};
+ghost use Rattle.std.specs.Prelude.{◌≡◌, ◌↔◌, ◌<◌, ◌≤◌, ◌+◌, ◌^◌, ℕ, Some, None, IsTrue, IsSome, IfOk, OnOk, length, slice_get};
+ghost use Rattle.sdbt_base.specs.Faults.{Tells};
 ghost use Rattle.platform.specs.Counts.{MayRiseByOne};
 ghost use Rattle.platform.specs.Image.{with_page, with_cell, all_synced, IsEither, MayHavePage};
 ghost use Rattle.platform.specs.History.{History, Steps};
@@ -60,7 +60,7 @@ pub trait Platform {
         ensures capacity { capacity self.new ≡ capacity self.old }
         ensures reads { tells → reads self.new ≡ reads self.old }
         ensures faults { faults self.old ≤ faults self.new }
-        ensures cause { OnErr result (Rose (faults self.old) (faults self.new)) };
+        ensures cause { Tells result (faults self.old) (faults self.new) };
 
     /// Reads a page. After a fault the buffer may hold anything.
     fn read(&mut self, addr: u64, into: &mut [u8]) -> Result<(), PlatformFault>
@@ -78,7 +78,7 @@ pub trait Platform {
         ensures reads_rise { tells → reads self.old ≤ reads self.new }
         ensures reads_by_one { tells → reads self.new ≤ reads self.old + 1 }
         ensures faults { faults self.old ≤ faults self.new }
-        ensures cause { OnErr result (Rose (faults self.old) (faults self.new)) };
+        ensures cause { Tells result (faults self.old) (faults self.new) };
 
     /// Makes every page that was handed over outlast a loss of power. After a fault all of that was done, or nothing.
     fn sync(&mut self) -> Result<(), PlatformFault>
@@ -93,7 +93,7 @@ pub trait Platform {
         ensures capacity { capacity self.new ≡ capacity self.old }
         ensures reads { tells → reads self.new ≡ reads self.old }
         ensures faults { faults self.old ≤ faults self.new }
-        ensures cause { OnErr result (Rose (faults self.old) (faults self.new)) };
+        ensures cause { Tells result (faults self.old) (faults self.new) };
 
     /// Whether the root cell holds a record, which is then put into the buffer of `ROOT` bytes.
     fn load_root(&mut self, into: &mut [u8]) -> Result<bool, PlatformFault>
@@ -110,7 +110,7 @@ pub trait Platform {
         ensures capacity { capacity self.new ≡ capacity self.old }
         ensures reads { tells → reads self.new ≡ reads self.old }
         ensures faults { faults self.old ≤ faults self.new }
-        ensures cause { OnErr result (Rose (faults self.old) (faults self.new)) };
+        ensures cause { Tells result (faults self.old) (faults self.new) };
 
     /// Puts a record of `ROOT` bytes in the place of what the cell held. After a fault it holds the one or the other.
     fn swap_root(&mut self, bytes: &[u8]) -> Result<(), PlatformFault>
@@ -126,7 +126,7 @@ pub trait Platform {
         ensures capacity { capacity self.new ≡ capacity self.old }
         ensures reads { tells → reads self.new ≡ reads self.old }
         ensures faults { faults self.old ≤ faults self.new }
-        ensures cause { OnErr result (Rose (faults self.old) (faults self.new)) };
+        ensures cause { Tells result (faults self.old) (faults self.new) };
 
     /// Empties the cell, without a trace of what it held. After a fault it holds that or nothing.
     fn clear_root(&mut self) -> Result<(), PlatformFault>
@@ -140,7 +140,7 @@ pub trait Platform {
         ensures capacity { capacity self.new ≡ capacity self.old }
         ensures reads { tells → reads self.new ≡ reads self.old }
         ensures faults { faults self.old ≤ faults self.new }
-        ensures cause { OnErr result (Rose (faults self.old) (faults self.new)) };
+        ensures cause { Tells result (faults self.old) (faults self.new) };
 
     /// Where the history is told, the recorded pages are as many as the head says.
     ghost counts_pages: { tells → (platform : Self) → length (history platform).present.recorded ≡ head platform };

@@ -17,7 +17,7 @@ pub struct ReplyWriter {
 }
 
 impl ReplyWriter {
-    ghost use Rattle.sdbt_base.specs.Faults.{Rose};
+    ghost use Rattle.sdbt_base.specs.Faults.{Tells};
     ghost use Rattle.sdbt_base.specs.Told.{Got, GotPart};
     ghost use Rattle.script_lang.specs.Replies.{line_of, text_of, said, FitsBlock, CanWrite, hex_or_dash};
 
@@ -41,7 +41,7 @@ impl ReplyWriter {
         ensures put { OnOk result (Got (O.written sink.old) (line_of (said reply.now buffer.now)) (O.written sink.new)) }
         ensures part { OnErr result (GotPart (O.written sink.old) (line_of (said reply.now buffer.now)) (O.written sink.new)) }
         ensures count { O.faults sink.old ≤ O.faults sink.new }
-        ensures cause { OnErr result (Rose (O.faults sink.old) (O.faults sink.new)) }
+        ensures cause { Tells result (O.faults sink.old) (O.faults sink.new) }
     {
         self.line.clear();
         self.push_reply(reply, buffer);

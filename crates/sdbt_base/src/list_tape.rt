@@ -1,6 +1,6 @@
 //! A tape of listed keys.
 ghost use Rattle.std.specs.Prelude.{◌≡◌, ◌≤◌, ◌↔◌, ◌⊎◌, ◌∷◌, Some, [], length, take, drop, Contains, IfOk, OnErr, IsErr, is_err, if◌then◌else◌};
-ghost use Rattle.sdbt_base.specs.Faults.{Rose, next_count};
+ghost use Rattle.sdbt_base.specs.Faults.{Tells, next_count};
 ghost use Rattle.sdbt_base.specs.Objects.{TapeState};
 ghost use Rattle.sdbt_base.specs.Told.{Drew};
 
@@ -64,7 +64,7 @@ impl Tape for ListTape {
         ensures drawn { IfOk result (λ key. Drew (Some self.old.drawn) key (Some self.new.drawn)) }
         ensures undrawn { OnErr result (Some self.new.drawn ≡ Some self.old.drawn) }
         ensures count { self.old.faults ≤ self.new.faults }
-        ensures cause { OnErr result (Rose self.old.faults self.new.faults) }
+        ensures cause { Tells result self.old.faults self.new.faults }
 
         // It fails exactly where its number is listed or no key is left.
         ensures fails { IsErr result ↔ (Contains self.old.fail (next_count self.old.draws) ⊎ (self.old.left ≡ [])) }

@@ -1,6 +1,6 @@
 //! A sink in memory.
 ghost use Rattle.std.specs.Prelude.{◌≡◌, ◌<◌, ◌≤◌, ◌↔◌, ◌⊎◌, ◌++◌, Some, [], take, IfOk, IfSome, OnOk, OnErr, IsErr, IsSome, is_err, if◌then◌else◌};
-ghost use Rattle.sdbt_base.specs.Faults.{Rose, next_count};
+ghost use Rattle.sdbt_base.specs.Faults.{Rose, Tells, next_count};
 ghost use Rattle.sdbt_base.specs.Objects.{SinkState, fails_after};
 ghost use Rattle.sdbt_base.specs.Told.{Got, GotPart};
 
@@ -76,7 +76,7 @@ impl Sink for MemSink {
         ensures put { OnOk result (Got (Some self.old.written) bytes.now (Some self.new.written)) }
         ensures part { OnErr result (GotPart (Some self.old.written) bytes.now (Some self.new.written)) }
         ensures count { self.old.faults ≤ self.new.faults }
-        ensures cause { OnErr result (Rose self.old.faults self.new.faults) }
+        ensures cause { Tells result self.old.faults self.new.faults }
 
         // It fails exactly where its number is listed or it was given no memory.
         ensures fails { IsErr result ↔ (IsSome (fails_after self.old.fail (next_count self.old.puts)) ⊎ Rose self.old.starved self.new.starved) }

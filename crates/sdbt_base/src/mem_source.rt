@@ -1,6 +1,6 @@
 //! A source in memory.
 ghost use Rattle.std.specs.Prelude.{◌≡◌, ◌<◌, ◌≤◌, ◌↔◌, Some, [], length, take, drop, min, Contains, IfOk, IfSome, OnErr, IsErr, is_err, if◌then◌else◌};
-ghost use Rattle.sdbt_base.specs.Faults.{Rose, next_count};
+ghost use Rattle.sdbt_base.specs.Faults.{Tells, next_count};
 ghost use Rattle.sdbt_base.specs.Objects.{SourceState};
 ghost use Rattle.sdbt_base.specs.Told.{Gave};
 
@@ -72,7 +72,7 @@ impl Source for MemSource {
         ensures end { IfOk result (λ count. IfSome (Some self.old.left) (λ rest. (count ≡ 0) ↔ (rest ≡ []))) }
         ensures nothing_taken { OnErr result (Some self.new.left ≡ Some self.old.left) }
         ensures count { self.old.faults ≤ self.new.faults }
-        ensures cause { OnErr result (Rose self.old.faults self.new.faults) }
+        ensures cause { Tells result self.old.faults self.new.faults }
 
         // It fails exactly where its number is listed.
         ensures fails { IsErr result ↔ Contains self.old.fail (next_count self.old.takes) }

@@ -1,6 +1,6 @@
 //! Where bytes go.
 ghost use Rattle.std.specs.Prelude.{ℕ, ◌≤◌, Option, List, OnOk, OnErr};
-ghost use Rattle.sdbt_base.specs.Faults.{Rose};
+ghost use Rattle.sdbt_base.specs.Faults.{Tells};
 ghost use Rattle.sdbt_base.specs.Told.{Got, GotPart};
 
 use crate::SinkFault;
@@ -18,5 +18,5 @@ pub trait Sink {
         ensures put { OnOk result (Got (written self.old) bytes.now (written self.new)) }
         ensures part { OnErr result (GotPart (written self.old) bytes.now (written self.new)) }
         ensures count { faults self.old ≤ faults self.new }
-        ensures cause { OnErr result (Rose (faults self.old) (faults self.new)) };
+        ensures cause { Tells result (faults self.old) (faults self.new) };
 }

@@ -1,6 +1,6 @@
 //! Where bytes come from.
 ghost use Rattle.std.specs.Prelude.{◌≡◌, ℕ, ◌<◌, ◌≤◌, ◌↔◌, Option, List, [], length, take, IfOk, IfSome, OnErr};
-ghost use Rattle.sdbt_base.specs.Faults.{Rose};
+ghost use Rattle.sdbt_base.specs.Faults.{Tells};
 ghost use Rattle.sdbt_base.specs.Told.{Gave};
 
 use crate::SourceFault;
@@ -22,5 +22,5 @@ pub trait Source {
         ensures end { IfOk result (λ count. IfSome (left self.old) (λ rest. (count ≡ 0) ↔ (rest ≡ []))) }
         ensures nothing_taken { OnErr result (left self.new ≡ left self.old) }
         ensures count { faults self.old ≤ faults self.new }
-        ensures cause { OnErr result (Rose (faults self.old) (faults self.new)) };
+        ensures cause { Tells result (faults self.old) (faults self.new) };
 }

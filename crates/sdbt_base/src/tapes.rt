@@ -1,6 +1,6 @@
 //! Where keys come from.
 ghost use Rattle.std.specs.Prelude.{◌≡◌, ℕ, ◌≤◌, Option, List, OnErr, IfOk};
-ghost use Rattle.sdbt_base.specs.Faults.{Rose};
+ghost use Rattle.sdbt_base.specs.Faults.{Tells};
 ghost use Rattle.sdbt_base.specs.Told.{Drew};
 
 use crate::{FreshKey, TapeFault};
@@ -18,5 +18,5 @@ pub trait Tape {
         ensures drawn { IfOk result (λ key. Drew (drawn self.old) key (drawn self.new)) }
         ensures undrawn { OnErr result (drawn self.new ≡ drawn self.old) }
         ensures count { faults self.old ≤ faults self.new }
-        ensures cause { OnErr result (Rose (faults self.old) (faults self.new)) };
+        ensures cause { Tells result (faults self.old) (faults self.new) };
 }

@@ -1,7 +1,6 @@
 -- Calls that only look, one after another.
-use Rattle.std.proofs.Common.{◌≡◌, ◌≤◌, ℕ, inl, inr, refl, ◌∙◌, arith}
-use Rattle.std.specs.Prelude.{Result, Ok, Err, IfErr, IsErrOf}
-use Rattle.sdbt_base.specs.Faults.{Rose}
+use Rattle.std.proofs.Common.{◌≡◌, ℕ, inl, inr, refl, subst, ◌∙◌, arith}
+use Rattle.std.specs.Prelude.{Result, Ok, Err, IsErrOf}
 use Rattle.platform.specs.Image.{Image}
 use Rattle.platform.specs.declared.platforms.Platform.{Ghosts}
 use Rattle.platform.proofs.Moments.{During-then, During-step, Turns-not, Steps-refl}
@@ -34,15 +33,9 @@ looks_then P a b c one other = record {
   faults = omega (arith, one.faults, other.faults);
 }
 
--- a count that rose since rose from before
-pub rose_since : (before mid now : ℕ) → before ≤ mid → mid ≤ now → Rose mid now → Rose before now
-rose_since before mid now one other rose = grind arith
-
-pub stops_since : (before mid now : ℕ) (refusal : SeizeRefusal) → before ≤ mid → mid ≤ now → Stops mid now refusal → Stops before now refusal
-stops_since before mid now refusal one other stops = elim stops [
-  | inl memory ↦ inl memory
-  | inr fault ↦ inr (fault.0, rose_since before mid now one other fault.1)
-]
+-- a call stops as its last part does, before which the count is as it was
+pub stops_since : {T : Type 0} (before mid now : ℕ) (result : Result T SeizeRefusal) → mid ≡ before → Stops mid now result → Stops before now result
+stops_since before mid now result same = subst (λ (n : ℕ). Stops n now result) same
 
 not_memory : {R : Type 0} (refusal : SeizeRefusal) → refusal ≡ Memory → (let result : Result R SeizeRefusal = Err refusal in result ≡ Err BadRoot) → ⊥
 not_memory refusal memory bad = cc
@@ -51,6 +44,6 @@ not_fault : {R : Type 0} (refusal : SeizeRefusal) → refusal ≡ PlatformFault 
 not_fault refusal fault bad = cc
 
 -- a call that stops so never says that the cell is bad
-pub not_bad_root : {R : Type 0} (result : Result R SeizeRefusal) (before now : ℕ) → IfErr result (Stops before now) → IsErrOf result BadRoot → ⊥
+pub not_bad_root : {R : Type 0} (result : Result R SeizeRefusal) (before now : ℕ) → Stops before now result → IsErrOf result BadRoot → ⊥
 not_bad_root (Ok it) before now stops bad = cc
-not_bad_root {R = R} (Err refusal) before now stops bad = elim stops [ inl memory ↦ not_memory {R = R} refusal memory bad | inr fault ↦ not_fault {R = R} refusal fault.0 bad ]
+not_bad_root {R = R} (Err refusal) before now stops bad = elim stops [ inl memory ↦ not_memory {R = R} refusal memory.0 bad | inr fault ↦ not_fault {R = R} refusal fault.0 bad ]

@@ -1,5 +1,5 @@
 -- What a call that only looks does to a platform, and what ends it early.
-use Rattle.std.specs.Prelude.{◌≡◌, ◌≤◌, ◌⊎◌, ℕ}
+use Rattle.std.specs.Prelude.{◌≡◌, ◌≤◌, ◌⊎◌, ℕ, Result, Ok, Err}
 use Rattle.sdbt_base.specs.Faults.{Rose}
 use Rattle.platform.specs.History.{Steps}
 use Rattle.platform.specs.declared.platforms.Platform.{Ghosts}
@@ -15,6 +15,7 @@ pub record Looks {S : Type 0} (P : Ghosts S) (old new : S) : Type 0 where
   pub reads : P.tells → P.reads old ≤ P.reads new
   pub faults : P.faults old ≤ P.faults new
 
--- want of memory, or a fault, where their count went from the one number to the other
-abbrev pub Stops : ℕ → ℕ → SeizeRefusal → Type 0
-Stops before now refusal = (refusal ≡ Memory) ⊎ ((refusal ≡ PlatformFault) × Rose before now)
+-- what an answer tells of the count of faults: it rose at a fault, and is as it was where the call was done, and at want of memory, the one other refusal
+abbrev pub Stops : {T : Type 0} → ℕ → ℕ → Result T SeizeRefusal → Type 0
+Stops before now (Ok done) = now ≡ before
+Stops before now (Err refusal) = ((refusal ≡ Memory) × (now ≡ before)) ⊎ ((refusal ≡ PlatformFault) × Rose before now)

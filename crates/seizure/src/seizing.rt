@@ -1,6 +1,6 @@
 //! A seizure of a platform.
-ghost use Rattle.std.specs.Prelude.{◌≡◌, ◌<◌, ◌≤◌, ◌⊎◌, ◌+◌, [], ℕ, List, None, All, Contains, IfOk, IfErr, OnOk, IsErrOf, length};
-ghost use Rattle.sdbt_base.specs.Faults.{Rose};
+ghost use Rattle.std.specs.Prelude.{◌≡◌, ◌<◌, ◌≤◌, ◌⊎◌, ◌+◌, [], ℕ, List, None, All, Contains, IfOk, OnOk, IsErrOf, length};
+ghost use Rattle.sdbt_base.specs.Faults.{TellsOf};
 ghost use Rattle.page_store.specs.Roots.{IsBadCell};
 ghost use Rattle.seizure.specs.Index.{AreMarks, AreBelow, AreApart, AreRising};
 ghost use Rattle.seizure.specs.Looks.{Looks, Stops};
@@ -35,7 +35,7 @@ pub fn seize<P: Platform>(alloc: Global, platform: &mut P) -> Result<Report, Sei
     ensures reads { P.tells → ReadsFew (P.head platform.old) (P.history platform.old).present.cell [] (P.history platform.old).present.readable
         (P.reads platform.old) (P.reads platform.new) }
     ensures looks { Looks P.Platform platform.old platform.new }
-    ensures cause { IsErrOf result SeizeRefusal.PlatformFault → Rose (P.faults platform.old) (P.faults platform.new) }
+    ensures cause { TellsOf SeizeRefusal.PlatformFault result (P.faults platform.old) (P.faults platform.new) }
 {
     seize_all(alloc, platform, &KeyList::new(alloc))
 }
@@ -64,7 +64,7 @@ pub fn seize_all<P: Platform>(
     ensures reads { P.tells → ReadsFew (P.head platform.old) (P.history platform.old).present.cell keys.now (P.history platform.old).present.readable
         (P.reads platform.old) (P.reads platform.new) }
     ensures looks { Looks P.Platform platform.old platform.new }
-    ensures cause { IsErrOf result SeizeRefusal.PlatformFault → Rose (P.faults platform.old) (P.faults platform.new) }
+    ensures cause { TellsOf SeizeRefusal.PlatformFault result (P.faults platform.old) (P.faults platform.new) }
 {
     let root = match current(platform) {
         Ok(root) => root,
@@ -104,7 +104,7 @@ fn seize_from<P: Platform>(
     ensures reads { P.tells → (roots : List (List ℕ)) → Gains [] work.keys (Contains roots) →
         ReadsEach roots (P.history platform.old).present.readable (P.reads platform.old) (P.reads platform.new) }
     ensures looks { Looks P.Platform platform.old platform.new }
-    ensures stops { IfErr result (Stops (P.faults platform.old) (P.faults platform.new)) }
+    ensures stops { Stops (P.faults platform.old) (P.faults platform.new) result }
 {
     if !work.keys.is_empty() {
         search(alloc, platform, &mut work)?;
@@ -121,7 +121,7 @@ fn search<P: Platform>(alloc: Global, platform: &mut P, work: &mut Work) -> Resu
     ensures reads { P.tells → (roots : List (List ℕ)) → Gains [] work.old.keys (Contains roots) →
         ReadsEach roots (P.history platform.old).present.readable (P.reads platform.old) (P.reads platform.new) }
     ensures looks { Looks P.Platform platform.old platform.new }
-    ensures stops { IfErr result (Stops (P.faults platform.old) (P.faults platform.new)) }
+    ensures stops { Stops (P.faults platform.old) (P.faults platform.new) result }
 {
     let index = index_of(alloc, platform)?;
     let mut next = 0;
@@ -143,7 +143,7 @@ fn index_of<P: Platform>(alloc: Global, platform: &mut P) -> Result<Index, Seize
     ensures rising { IfOk result (λ index. AreRising index.marks.items) }
     ensures reads { P.tells → P.reads platform.new ≤ P.reads platform.old + P.head platform.old }
     ensures looks { Looks P.Platform platform.old platform.new }
-    ensures stops { IfErr result (Stops (P.faults platform.old) (P.faults platform.new)) }
+    ensures stops { Stops (P.faults platform.old) (P.faults platform.new) result }
 {
     let mut index = Index::new(alloc);
     let mut page = [0; RECORD];
@@ -169,7 +169,7 @@ fn open_each<P: Platform>(
     ensures known { OnOk result (KnowsItsKeys work.new) }
     ensures reads { P.tells → P.reads platform.new ≤ P.reads platform.old + length addrs.now }
     ensures looks { Looks P.Platform platform.old platform.new }
-    ensures stops { IfErr result (Stops (P.faults platform.old) (P.faults platform.new)) }
+    ensures stops { Stops (P.faults platform.old) (P.faults platform.new) result }
 {
     let mut page = [0; RECORD];
     let mut body = [0; RECORD];

@@ -3,7 +3,6 @@ use Rattle.std.proofs.Common.{◌≡◌, ◌+◌, ◌-◌, ◌<◌, ◌≤◌, �
 use Rattle.std.specs.Prelude.{◌⊎◌}
 use Rattle.std.proofs.lemmas.Bool.{cases_Bool, cases_lt}
 use Rattle.sdbt_base.specs.Arrays.{Blocks, Device, Session as OpenSession, State, closed, committed, committed_if, mounted}
-use Rattle.sdbt_base.specs.Faults.{Rose}
 use Rattle.sdbt_base.specs.declared.tapes.Tape.{Ghosts as TapeGhosts}
 use Rattle.platform.specs.declared.platforms.Platform.{Ghosts as PlatformGhosts}
 use Rattle.platform.specs.Image.{Image}
@@ -26,27 +25,28 @@ use Rattle.device_session.specs.declared.refusals.CommitFault.TheVariants as fau
 use Rattle.device_session.specs.declared.refusals.CommitReply.{CommitReply}
 use Rattle.device_session.specs.declared.refusals.CommitReply.TheVariants as replies
 use Rattle.device_session.proofs.CountLaws.{needs_none}
-use Rattle.session_calls.specs.Blame.{Counts, HasCause}
+use Rattle.sdbt_base.specs.Counts.{Counts}
+use Rattle.session_calls.specs.Blame.{HasCause}
 use Rattle.session_calls.specs.Commits.{AnswersReply, CommitLeads, HasNumber, LeftAt, ReplyLeads, stop_of_fault}
 use Rattle.session_calls.specs.declared.stops.DeviceStop.{DeviceStop}
 use Rattle.session_calls.specs.declared.stops.DeviceStop.TheVariants as stops
 use Rattle.session_calls.proofs.StateLaws.{at_array}
 
--- whose count rose
+-- whose count rose, and that no other did
 pub fault_blamed : {S R : Type 0} (P : PlatformGhosts S) (T : TapeGhosts R) (platform platform_now : S) (tape tape_now : R) (fault : CommitFault) (before now : Counts)
-    → IsCommitCause P T platform platform_now tape tape_now (Rose before.platform now.platform) (Rose before.tape now.tape) (Rose before.ledger now.ledger) fault → HasCause before now (stop_of_fault fault)
+    → IsCommitCause P T platform platform_now tape tape_now before now fault → HasCause before now (stop_of_fault fault)
 fault_blamed P T platform platform_now tape tape_now faults.PlatformFault before now cause = cause
 fault_blamed P T platform platform_now tape tape_now faults.TapeFault before now cause = cause.0
 fault_blamed P T platform platform_now tape tape_now faults.LedgerFault before now cause = cause.0
-fault_blamed P T platform platform_now tape tape_now faults.Memory before now cause = tt
+fault_blamed P T platform platform_now tape tape_now faults.Memory before now cause = cause.2
 
 -- what it left
-pub fault_left : {S R : Type 0} (P : PlatformGhosts S) (T : TapeGhosts R) (platform platform_now : S) (tape tape_now : R) (fault : CommitFault) (Failed Undrawn Unput : Type 0)
-    → IsCommitCause P T platform platform_now tape tape_now Failed Undrawn Unput fault → LeftAt P T platform platform_now tape tape_now (stop_of_fault fault)
-fault_left P T platform platform_now tape tape_now faults.PlatformFault Failed Undrawn Unput cause = tt
-fault_left P T platform platform_now tape tape_now faults.TapeFault Failed Undrawn Unput cause = cause.1
-fault_left P T platform platform_now tape tape_now faults.LedgerFault Failed Undrawn Unput cause = cause.1
-fault_left P T platform platform_now tape tape_now faults.Memory Failed Undrawn Unput cause = cause
+pub fault_left : {S R : Type 0} (P : PlatformGhosts S) (T : TapeGhosts R) (platform platform_now : S) (tape tape_now : R) (fault : CommitFault) (before now : Counts)
+    → IsCommitCause P T platform platform_now tape tape_now before now fault → LeftAt P T platform platform_now tape tape_now (stop_of_fault fault)
+fault_left P T platform platform_now tape tape_now faults.PlatformFault before now cause = tt
+fault_left P T platform platform_now tape tape_now faults.TapeFault before now cause = cause.1
+fault_left P T platform platform_now tape tape_now faults.LedgerFault before now cause = cause.1
+fault_left P T platform platform_now tape tape_now faults.Memory before now cause = (cause.0, cause.1)
 
 -- of the device
 pub fault_leads : {S R : Type 0} (P : PlatformGhosts S) (T : TapeGhosts R) (platform platform_now : S) (tape tape_now : R) (fault : CommitFault) (device : Device) (array : OpenSession) → P.tells

@@ -3,7 +3,7 @@ use Rattle.std.proofs.Common.{◌≡◌, ◌+◌, ◌*◌, ◌<◌, ◌≤◌, �
 use Rattle.std.specs.Prelude.{◌≢◌, ◌||◌}
 use Rattle.std.specs.FinMap.{contains_key}
 use Rattle.sdbt_base.specs.Arrays.{Device, Session as OpenSession, State, unmapped, mounted}
-use Rattle.sdbt_base.specs.Faults.{Rose}
+use Rattle.sdbt_base.proofs.CountLaws.{quiet_platform}
 use Rattle.platform.specs.declared.platforms.Platform.{Ghosts as PlatformGhosts}
 use Rattle.platform.specs.Calls.{Looks}
 use Rattle.platform.specs.Image.{Image}
@@ -24,7 +24,8 @@ use Rattle.device_session.specs.declared.refusals.ReadRefusal.TheVariants as rea
 use Rattle.device_session.specs.declared.refusals.TrimRefusal.{TrimRefusal}
 use Rattle.device_session.specs.declared.refusals.TrimRefusal.TheVariants as trim
 use Rattle.session_calls.specs.Along.{Along, Drawn}
-use Rattle.session_calls.specs.Blame.{Counts, HasCause, IsOfCall}
+use Rattle.sdbt_base.specs.Counts.{Counts}
+use Rattle.session_calls.specs.Blame.{HasCause, IsOfCall}
 use Rattle.session_calls.specs.Goes.{IsReadStop, IsTrimStop, ReadsBlock, TrimsBlock}
 use Rattle.session_calls.specs.declared.stops.DeviceStop.{DeviceStop}
 use Rattle.session_calls.specs.declared.stops.DeviceStop.TheVariants as stops
@@ -55,17 +56,17 @@ look_along P updates platform platform_now drawn session now goes_on needs liste
 
 -- ---- a trim
 
-pub other_trim_refusal : (refusal : TrimRefusal) (block blocks : ℕ) (Failed : Type 0) → IsTrimCause block blocks Failed (Err refusal) → block < blocks → refusal ≢ trim.Range
-other_trim_refusal trim.Range block blocks Failed cause within = absurd (omega (arith, cause, within))
-other_trim_refusal trim.Memory block blocks Failed cause within = λ e. cc
-other_trim_refusal (trim.BadRecord addr) block blocks Failed cause within = λ e. cc
-other_trim_refusal trim.PlatformFault block blocks Failed cause within = λ e. cc
+pub other_trim_refusal : (refusal : TrimRefusal) (block blocks before now : ℕ) → IsTrimCause block blocks before now (Err refusal) → block < blocks → refusal ≢ trim.Range
+other_trim_refusal trim.Range block blocks before now cause within = absurd (omega (arith, cause.0, within))
+other_trim_refusal trim.Memory block blocks before now cause within = λ e. cc
+other_trim_refusal (trim.BadRecord addr) block blocks before now cause within = λ e. cc
+other_trim_refusal trim.PlatformFault block blocks before now cause within = λ e. cc
 
-pub trim_blamed : (refusal : TrimRefusal) (stop : DeviceStop) (block blocks : ℕ) (before now : Counts) → IsTrimStop refusal stop → IsTrimCause block blocks (Rose before.platform now.platform) (Err refusal) → HasCause before now stop
-trim_blamed trim.Range stop block blocks before now is cause = absurd is
-trim_blamed trim.Memory stop block blocks before now is cause = subst (λ (s : DeviceStop). HasCause before now s) (sym is) tt
-trim_blamed (trim.BadRecord addr) stop block blocks before now is cause = subst (λ (s : DeviceStop). HasCause before now s) (sym is) tt
-trim_blamed trim.PlatformFault stop block blocks before now is cause = subst (λ (s : DeviceStop). HasCause before now s) (sym is) cause.1
+pub trim_blamed : (refusal : TrimRefusal) (stop : DeviceStop) (block blocks : ℕ) (before now : Counts) → now ≡ record before { platform = now.platform } → IsTrimStop refusal stop → IsTrimCause block blocks before.platform now.platform (Err refusal) → HasCause before now stop
+trim_blamed trim.Range stop block blocks before now alone is cause = absurd is
+trim_blamed trim.Memory stop block blocks before now alone is cause = subst (λ (s : DeviceStop). HasCause before now s) (sym is) (quiet_platform before now alone cause.1)
+trim_blamed (trim.BadRecord addr) stop block blocks before now alone is cause = subst (λ (s : DeviceStop). HasCause before now s) (sym is) (quiet_platform before now alone cause.1)
+trim_blamed trim.PlatformFault stop block blocks before now alone is cause = subst (λ (s : DeviceStop). HasCause before now s) (sym is) (cause.1, alone)
 
 pub trim_of_call : (refusal : TrimRefusal) (stop : DeviceStop) → IsTrimStop refusal stop → IsOfCall stop
 trim_of_call trim.Range stop is = absurd is
@@ -104,15 +105,15 @@ trim_leads image now device array block (Err (stops.BadRecord addr)) led = absur
 
 -- ---- a read
 
-pub other_read_refusal : (refusal : ReadRefusal) (block blocks : ℕ) (Failed : Type 0) → IsReadCause block blocks Failed (Err refusal) → block < blocks → refusal ≢ read.Range
-other_read_refusal read.Range block blocks Failed cause within = absurd (omega (arith, cause, within))
-other_read_refusal (read.BadRecord addr) block blocks Failed cause within = λ e. cc
-other_read_refusal read.PlatformFault block blocks Failed cause within = λ e. cc
+pub other_read_refusal : (refusal : ReadRefusal) (block blocks before now : ℕ) → IsReadCause block blocks before now (Err refusal) → block < blocks → refusal ≢ read.Range
+other_read_refusal read.Range block blocks before now cause within = absurd (omega (arith, cause.0, within))
+other_read_refusal (read.BadRecord addr) block blocks before now cause within = λ e. cc
+other_read_refusal read.PlatformFault block blocks before now cause within = λ e. cc
 
-pub read_blamed : (refusal : ReadRefusal) (stop : DeviceStop) (block blocks : ℕ) (before now : Counts) → IsReadStop refusal stop → IsReadCause block blocks (Rose before.platform now.platform) (Err refusal) → HasCause before now stop
-read_blamed read.Range stop block blocks before now is cause = absurd is
-read_blamed (read.BadRecord addr) stop block blocks before now is cause = subst (λ (s : DeviceStop). HasCause before now s) (sym is) tt
-read_blamed read.PlatformFault stop block blocks before now is cause = subst (λ (s : DeviceStop). HasCause before now s) (sym is) cause.1
+pub read_blamed : (refusal : ReadRefusal) (stop : DeviceStop) (block blocks : ℕ) (before now : Counts) → now ≡ record before { platform = now.platform } → IsReadStop refusal stop → IsReadCause block blocks before.platform now.platform (Err refusal) → HasCause before now stop
+read_blamed read.Range stop block blocks before now alone is cause = absurd is
+read_blamed (read.BadRecord addr) stop block blocks before now alone is cause = subst (λ (s : DeviceStop). HasCause before now s) (sym is) (quiet_platform before now alone cause.1)
+read_blamed read.PlatformFault stop block blocks before now alone is cause = subst (λ (s : DeviceStop). HasCause before now s) (sym is) (cause.1, alone)
 
 pub read_of_call : (refusal : ReadRefusal) (stop : DeviceStop) → IsReadStop refusal stop → IsOfCall stop
 read_of_call read.Range stop is = absurd is

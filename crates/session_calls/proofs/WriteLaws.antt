@@ -2,7 +2,6 @@
 use Rattle.std.proofs.Common.{◌≡◌, ◌+◌, ◌<◌, ◌≤◌, ℕ, List, Some, Result, Ok, Err, refl, sym, ◌∙◌, subst, ap, arith}
 use Rattle.std.specs.Prelude.{◌≢◌}
 use Rattle.sdbt_base.specs.Arrays.{Device, Session as OpenSession, State, written, mounted}
-use Rattle.sdbt_base.specs.Faults.{Rose}
 use Rattle.sdbt_base.specs.declared.tapes.Tape.{Ghosts as TapeGhosts}
 use Rattle.platform.specs.declared.platforms.Platform.{Ghosts as PlatformGhosts}
 use Rattle.platform.specs.Image.{Image}
@@ -21,7 +20,8 @@ use Rattle.device_session.specs.Sessions.{Session}
 use Rattle.device_session.specs.declared.refusals.WriteRefusal.{WriteRefusal}
 use Rattle.device_session.specs.declared.refusals.WriteRefusal.TheVariants as write
 use Rattle.session_calls.specs.Along.{Along, drawn_by}
-use Rattle.session_calls.specs.Blame.{Counts, HasCause, IsOfCall}
+use Rattle.sdbt_base.specs.Counts.{Counts}
+use Rattle.session_calls.specs.Blame.{HasCause, IsOfCall}
 use Rattle.session_calls.specs.Goes.{AddsBlock, IsWriteStop, WritesBlock}
 use Rattle.session_calls.specs.declared.stops.DeviceStop.{DeviceStop}
 use Rattle.session_calls.specs.declared.stops.DeviceStop.TheVariants as stops
@@ -29,22 +29,22 @@ use Rattle.session_calls.proofs.CellLaws.{mounted_still}
 use Rattle.session_calls.proofs.StateLaws.{at_array, with_array}
 
 -- where the device has the block and a page is free, it is refused for another reason
-pub other_refusal : (refusal : WriteRefusal) (block blocks head capacity : ℕ) (Failed Undrawn : Type 0) → IsWriteCause block blocks head capacity Failed Undrawn (Err refusal) → block < blocks → head ≢ capacity
+pub other_refusal : (refusal : WriteRefusal) (block blocks head capacity : ℕ) (before now : Counts) → IsWriteCause block blocks head capacity before now (Err refusal) → block < blocks → head ≢ capacity
     → (refusal ≢ write.Range) × (refusal ≢ write.Full)
-other_refusal write.Range block blocks head capacity Failed Undrawn cause within free = absurd (omega (arith, cause, within))
-other_refusal write.Full block blocks head capacity Failed Undrawn cause within free = absurd (free cause.1)
-other_refusal write.Memory block blocks head capacity Failed Undrawn cause within free = (λ e. cc, λ e. cc)
-other_refusal (write.BadRecord addr) block blocks head capacity Failed Undrawn cause within free = (λ e. cc, λ e. cc)
-other_refusal write.PlatformFault block blocks head capacity Failed Undrawn cause within free = (λ e. cc, λ e. cc)
-other_refusal write.TapeFault block blocks head capacity Failed Undrawn cause within free = (λ e. cc, λ e. cc)
+other_refusal write.Range block blocks head capacity before now cause within free = absurd (omega (arith, cause.0, within))
+other_refusal write.Full block blocks head capacity before now cause within free = absurd (free cause.1)
+other_refusal write.Memory block blocks head capacity before now cause within free = (λ e. cc, λ e. cc)
+other_refusal (write.BadRecord addr) block blocks head capacity before now cause within free = (λ e. cc, λ e. cc)
+other_refusal write.PlatformFault block blocks head capacity before now cause within free = (λ e. cc, λ e. cc)
+other_refusal write.TapeFault block blocks head capacity before now cause within free = (λ e. cc, λ e. cc)
 
--- whose count rose
+-- whose count rose, and that no other did
 pub write_blamed : (refusal : WriteRefusal) (stop : DeviceStop) (block blocks head capacity : ℕ) (before now : Counts) → IsWriteStop refusal stop
-    → IsWriteCause block blocks head capacity (Rose before.platform now.platform) (Rose before.tape now.tape) (Err refusal) → HasCause before now stop
+    → IsWriteCause block blocks head capacity before now (Err refusal) → HasCause before now stop
 write_blamed write.Range stop block blocks head capacity before now is cause = absurd is
 write_blamed write.Full stop block blocks head capacity before now is cause = absurd is
-write_blamed write.Memory stop block blocks head capacity before now is cause = subst (λ (s : DeviceStop). HasCause before now s) (sym is) tt
-write_blamed (write.BadRecord addr) stop block blocks head capacity before now is cause = subst (λ (s : DeviceStop). HasCause before now s) (sym is) tt
+write_blamed write.Memory stop block blocks head capacity before now is cause = subst (λ (s : DeviceStop). HasCause before now s) (sym is) cause.2
+write_blamed (write.BadRecord addr) stop block blocks head capacity before now is cause = subst (λ (s : DeviceStop). HasCause before now s) (sym is) cause.2
 write_blamed write.PlatformFault stop block blocks head capacity before now is cause = subst (λ (s : DeviceStop). HasCause before now s) (sym is) cause.2
 write_blamed write.TapeFault stop block blocks head capacity before now is cause = subst (λ (s : DeviceStop). HasCause before now s) (sym is) cause.2
 

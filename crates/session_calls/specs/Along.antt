@@ -9,7 +9,7 @@ use Rattle.device_course.specs.States.{IsAt, IsListed}
 use Rattle.device_session.specs.Open.{IsOpen, blocks_of, needed_by}
 use Rattle.device_session.specs.Reading.{room_of}
 use Rattle.device_session.specs.Sessions.{Session}
-use Rattle.session_calls.specs.Blame.{NoneFell, counts}
+use Rattle.sdbt_base.specs.Counts.{NoneFell, counts}
 use Rattle.session_calls.specs.Damage.{IsMounted}
 
 -- what a tape tells: the keys that it drew, and its count of faults

@@ -1,44 +1,17 @@
 -- What a stop of the device is due to.
-use Rattle.std.specs.Prelude.{◌≤◌, ℕ, Result, IfErr}
-use Rattle.sdbt_base.specs.Faults.{Rose}
+use Rattle.std.specs.Prelude.{◌≡◌, Result, OnOk, IfErr}
+use Rattle.sdbt_base.specs.Counts.{Counts, PlatformRose, TapeRose, LedgerRose, NoneFell}
 use Rattle.session_calls.specs.declared.stops.DeviceStop.{DeviceStop}
 use Rattle.session_calls.specs.declared.stops.DeviceStop.TheVariants as stops
 
--- the counts of faults of what a run is handed
-pub record Counts : Type 0 where
-  pub platform : ℕ
-  pub tape : ℕ
-  pub input : ℕ
-  pub output : ℕ
-  pub ledger : ℕ
-
-abbrev pub counts : ℕ → ℕ → ℕ → ℕ → ℕ → Counts
-counts platform tape input output ledger = record { platform = platform; tape = tape; input = input; output = output; ledger = ledger }
-
--- no count fell
-pub record NoneFell (before now : Counts) : Type 0 where
-  pub platform : before.platform ≤ now.platform
-  pub tape : before.tape ≤ now.tape
-  pub input : before.input ≤ now.input
-  pub output : before.output ≤ now.output
-  pub ledger : before.ledger ≤ now.ledger
-
--- no count rose
-pub record NoneRose (before now : Counts) : Type 0 where
-  pub platform : Rose before.platform now.platform → ⊥
-  pub tape : Rose before.tape now.tape → ⊥
-  pub input : Rose before.input now.input → ⊥
-  pub output : Rose before.output now.output → ⊥
-  pub ledger : Rose before.ledger now.ledger → ⊥
-
--- a stop that names a fault comes only where the count of that object rose
+-- a stop that names a fault comes where the count of that object rose, and that of no other; at each other stop all are as they were
 abbrev pub HasCause : Counts → Counts → DeviceStop → Type 0
-HasCause before now stops.Platform = Rose before.platform now.platform
-HasCause before now stops.Tape = Rose before.tape now.tape
-HasCause before now stops.Ledger = Rose before.ledger now.ledger
-HasCause before now stops.BadRoot = Unit {0}
-HasCause before now (stops.BadRecord addr) = Unit {0}
-HasCause before now stops.Memory = Unit {0}
+HasCause before now stops.Platform = PlatformRose before now
+HasCause before now stops.Tape = TapeRose before now
+HasCause before now stops.Ledger = LedgerRose before now
+HasCause before now stops.BadRoot = now ≡ before
+HasCause before now (stops.BadRecord addr) = now ≡ before
+HasCause before now stops.Memory = now ≡ before
 
 -- a stop that a call for a block comes to: neither the ledger's nor a root record's
 abbrev pub IsOfCall : DeviceStop → Type 0
@@ -49,7 +22,8 @@ IsOfCall (stops.BadRecord addr) = Unit {0}
 IsOfCall stops.Ledger = ⊥
 IsOfCall stops.BadRoot = ⊥
 
--- no count fell, and a call that stopped at a fault did so where the count of that object rose
+-- no count fell; all are as they were after a call that was done, and where one stopped at a fault that of this object rose alone
 pub record IsBlamed {T : Type 0} (before now : Counts) (result : Result T DeviceStop) : Type 0 where
   pub fell : NoneFell before now
+  pub quiet : OnOk result (now ≡ before)
   pub cause : IfErr result (HasCause before now)

@@ -16,7 +16,8 @@ use Rattle.device_session.specs.declared.refusals.CommitFault.{CommitFault}
 use Rattle.device_session.specs.declared.refusals.CommitFault.TheVariants as faults
 use Rattle.device_session.specs.declared.refusals.CommitReply.{CommitReply}
 use Rattle.device_session.specs.declared.refusals.CommitReply.TheVariants as replies
-use Rattle.session_calls.specs.Blame.{IsBlamed, counts}
+use Rattle.sdbt_base.specs.Counts.{counts}
+use Rattle.session_calls.specs.Blame.{IsBlamed}
 use Rattle.session_calls.specs.Damage.{IsMounted}
 use Rattle.session_calls.specs.declared.committing.Committed.{Committed}
 use Rattle.session_calls.specs.declared.stops.DeviceStop.{DeviceStop}

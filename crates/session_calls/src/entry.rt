@@ -1,6 +1,6 @@
 //! What is looked at before anything is served.
 ghost use Rattle.std.specs.Prelude.{◌≡◌, ◌≤◌, ◌⊎◌, IfErr, IfOk, OnOk, IsErrOf, IfSome, IfNone, length};
-ghost use Rattle.sdbt_base.specs.Faults.{Rose};
+ghost use Rattle.sdbt_base.specs.Faults.{TellsOf};
 ghost use Rattle.platform.specs.History.{Steps};
 ghost use Rattle.root_codec.specs.declared.root.Root.{Root};
 ghost use Rattle.root_codec.specs.RootRecord.{root_bytes};
@@ -18,8 +18,8 @@ pub fn check_cell<P: Platform>(platform: &mut P) -> Result<Option<Root>, DeviceS
     ensures found { P.tells → IfOk result (IsInCell (P.history platform.old).present) }
     ensures served { P.tells → OnOk result (IsServedImage (P.history platform.old).present) }
     ensures bad_root { P.tells → IsErrOf result DeviceStop.BadRoot → IsServedImage (P.history platform.old).present → ⊥ }
-    ensures stops { IfErr result (λ stop. (stop ≡ DeviceStop.BadRoot)
-        ⊎ ((stop ≡ DeviceStop.Platform) × Rose (P.faults platform.old) (P.faults platform.new))) }
+    ensures stops { IfErr result (λ stop. (stop ≡ DeviceStop.BadRoot) ⊎ (stop ≡ DeviceStop.Platform)) }
+    ensures cause { TellsOf DeviceStop.Platform result (P.faults platform.old) (P.faults platform.new) }
     ensures image { P.tells → (P.history platform.new).present ≡ (P.history platform.old).present }
     ensures time { P.tells → Steps (P.history platform.old) (P.history platform.new) }
     ensures head { P.head platform.new ≡ P.head platform.old }

@@ -3,7 +3,8 @@ ghost use Rattle.sdbt_base.specs.Arrays.{State};
 ghost use Rattle.platform.specs.Calls.{Looks};
 ghost use Rattle.device_course.specs.Keys.{KeepsOn};
 ghost use Rattle.device_course.specs.States.{IsAt, IsListed};
-ghost use Rattle.session_calls.specs.Blame.{IsBlamed, counts};
+ghost use Rattle.sdbt_base.specs.Counts.{counts};
+ghost use Rattle.session_calls.specs.Blame.{IsBlamed};
 ghost use Rattle.session_calls.specs.Mounts.{IsFound, IsMountStop, MountLeads};
 
 use crate::stops::DeviceStop;

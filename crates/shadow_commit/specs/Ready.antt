@@ -124,18 +124,19 @@ abbrev pub ListsNewTree : Image → Image → ℕ → List Stub → ℕ → Root
 ListsNewTree old new order places mapped next keys =
     (each : List Parts) → Stand old order places each mapped → All (λ p. Contains keys p.key) (joined each).places → KnowsTree keys new.readable next
 
--- there was room for the nodes in memory exactly where it isn't full; want of room and of memory leave all as it was; and a fault comes only
--- where the count rose
+-- there was room for the nodes in memory exactly where it isn't full; want of room and of memory leave all as it was; and but for the object that an
+-- answer names none failed
 abbrev pub IsPrepareCause : {S R : Type 0} → PlatformGhosts S → TapeGhosts R → S → S → R → R → ℕ → Result Prepared CommitRefusal → Type 0
-IsPrepareCause P T platform platform_now tape tape_now grown (Ok prepared) = grown ≤ P.capacity platform - P.head platform
+IsPrepareCause P T platform platform_now tape tape_now grown (Ok prepared) =
+    (grown ≤ P.capacity platform - P.head platform) × (P.faults platform_now ≡ P.faults platform) × (T.faults tape_now ≡ T.faults tape)
 IsPrepareCause P T platform platform_now tape tape_now grown (Err (refused.Full needed free)) =
     (free < needed) × (needed ≡ grown) × (free ≡ P.capacity platform - P.head platform) × (platform_now ≡ platform) × (tape_now ≡ tape)
 IsPrepareCause P T platform platform_now tape tape_now grown (Err refused.Memory) =
     (grown ≤ P.capacity platform - P.head platform) × (platform_now ≡ platform) × (tape_now ≡ tape)
 IsPrepareCause P T platform platform_now tape tape_now grown (Err refused.TapeFault) =
-    (grown ≤ P.capacity platform - P.head platform) × Rose (T.faults tape) (T.faults tape_now)
+    (grown ≤ P.capacity platform - P.head platform) × Rose (T.faults tape) (T.faults tape_now) × (P.faults platform_now ≡ P.faults platform)
 IsPrepareCause P T platform platform_now tape tape_now grown (Err refused.PlatformFault) =
-    (grown ≤ P.capacity platform - P.head platform) × Rose (P.faults platform) (P.faults platform_now)
+    (grown ≤ P.capacity platform - P.head platform) × Rose (P.faults platform) (P.faults platform_now) × (T.faults tape_now ≡ T.faults tape)
 
 -- nothing was begun, for want of room or of memory
 abbrev pub IsUnbegun : Result Prepared CommitRefusal → Type 0

@@ -1,6 +1,6 @@
 //! A commit that is ready but for its root record.
-ghost use Rattle.std.specs.Prelude.{◌≡◌, Some, OnOk, IfOk, OnErr};
-ghost use Rattle.sdbt_base.specs.Faults.{Rose};
+ghost use Rattle.std.specs.Prelude.{◌≡◌, Some, OnOk, IfOk};
+ghost use Rattle.sdbt_base.specs.Faults.{Tells};
 ghost use Rattle.platform.specs.Image.{with_cell, IsEither};
 ghost use Rattle.platform.specs.History.{Steps};
 ghost use Rattle.root_codec.specs.RootRecord.{FitsRoot, root_bytes};
@@ -51,7 +51,7 @@ impl Prepared {
         ensures either { P.tells → IsEither (P.history platform.old).present (with_cell (P.history platform.old).present (Some (root_bytes self.root))) (P.history platform.new).present }
         ensures time { P.tells → Steps (P.history platform.old) (P.history platform.new) }
         ensures beside { Swaps P.Platform platform.old platform.new }
-        ensures cause { OnErr result (Rose (P.faults platform.old) (P.faults platform.new)) }
+        ensures cause { Tells result (P.faults platform.old) (P.faults platform.new) }
     {
         let mut bytes = [0; ROOT];
         encode_root(&self.root, &mut bytes);

@@ -1,6 +1,6 @@
 //! A commit up to its root record.
-ghost use Rattle.std.specs.Prelude.{◌≡◌, ◌≤◌, ◌+◌, ◌*◌, suc, vec_len, vec_capacity, IfOk, IsErr, IsErrOf};
-ghost use Rattle.sdbt_base.specs.Faults.{Rose};
+ghost use Rattle.std.specs.Prelude.{◌≡◌, ◌≤◌, ◌+◌, ◌*◌, suc, vec_len, vec_capacity, IfOk, IsErr};
+ghost use Rattle.sdbt_base.specs.Faults.{TellsOf};
 ghost use Rattle.page_store.specs.Keeping.{KeepsKeys};
 ghost use Rattle.btree_twigs.specs.Stubs.{stubs, nodes};
 ghost use Rattle.btree_twigs.specs.Top.{child_level};
@@ -103,8 +103,8 @@ fn seal_all<P: Platform, T: Tape>(
     ensures stops { (at : CanSealTop (P.head platform.old) (P.capacity platform.old) root.now mapped top.now) → IsErr result →
         StopsFrom (P.head platform.old) (stubs (suc at.level) root.now.blocks top.now) P.tells (P.history platform.old).present (P.history platform.new).present (T.drawn tape.old) (T.drawn tape.new) }
     ensures beside { OnlyAdds P.Platform T.Tape platform.old platform.new tape.old tape.new }
-    ensures platform_cause { IsErrOf result AppendFault.PlatformFault → Rose (P.faults platform.old) (P.faults platform.new) }
-    ensures tape_cause { IsErrOf result AppendFault.TapeFault → Rose (T.faults tape.old) (T.faults tape.new) }
+    ensures platform_cause { TellsOf AppendFault.PlatformFault result (P.faults platform.old) (P.faults platform.new) }
+    ensures tape_cause { TellsOf AppendFault.TapeFault result (T.faults tape.old) (T.faults tape.new) }
 {
     let Child::Grown { twig, .. } = top else {
         unreachable!()

@@ -1,7 +1,7 @@
 //! How the nodes in memory are sealed.
-ghost use Rattle.std.specs.Prelude.{◌≡◌, ◌<◌, ◌≤◌, ◌+◌, ◌*◌, ◌++◌, [], ◌∷◌, suc, vec_len, vec_capacity, IfOk, IsErr, IsErrOf, All};
+ghost use Rattle.std.specs.Prelude.{◌≡◌, ◌<◌, ◌≤◌, ◌+◌, ◌*◌, ◌++◌, [], ◌∷◌, suc, vec_len, vec_capacity, IfOk, IsErr, All};
 ghost use Rattle.sdbt_base.specs.Bytes.{IsBytes};
-ghost use Rattle.sdbt_base.specs.Faults.{Rose};
+ghost use Rattle.sdbt_base.specs.Faults.{TellsOf};
 ghost use Rattle.btree_twigs.specs.Top.{child_level};
 ghost use Rattle.btree_twigs.specs.Stubs.{level_of, children_of, nodes, nodes_below, stubs, stubs_below};
 ghost use Rattle.shadow_commit.specs.Sealed.{Seals, SealsNode};
@@ -37,8 +37,8 @@ pub(crate) fn seal_twig<P: Platform, T: Tape>(
     ensures stops { (at : CanSeal (P.head platform.old) (P.capacity platform.old) twig.now) → IsErr result →
         Stops (AreNodesOver (P.head platform.old) (stubs_below at.level at.high twig.now)) P.tells (P.history platform.old).present (P.history platform.new).present (T.drawn tape.old) (T.drawn tape.new) }
     ensures beside { OnlyAdds P.Platform T.Tape platform.old platform.new tape.old tape.new }
-    ensures platform_cause { IsErrOf result AppendFault.PlatformFault → Rose (P.faults platform.old) (P.faults platform.new) }
-    ensures tape_cause { IsErrOf result AppendFault.TapeFault → Rose (T.faults tape.old) (T.faults tape.new) }
+    ensures platform_cause { TellsOf AppendFault.PlatformFault result (P.faults platform.old) (P.faults platform.new) }
+    ensures tape_cause { TellsOf AppendFault.TapeFault result (T.faults tape.old) (T.faults tape.new) }
     ensures entries { IfOk result (λ _. entries.new.items ≡ entries.old.items) }
     ensures room { vec_capacity entries.old ≤ vec_capacity entries.new }
 {
@@ -75,8 +75,8 @@ fn seal_child<P: Platform, T: Tape>(
     ensures stops { (at : CanSealChild (P.head platform.old) (P.capacity platform.old) child.now) → IsErr result →
         Stops (AreNodesOver (P.head platform.old) (stubs at.level at.high child.now)) P.tells (P.history platform.old).present (P.history platform.new).present (T.drawn tape.old) (T.drawn tape.new) }
     ensures beside { OnlyAdds P.Platform T.Tape platform.old platform.new tape.old tape.new }
-    ensures platform_cause { IsErrOf result AppendFault.PlatformFault → Rose (P.faults platform.old) (P.faults platform.new) }
-    ensures tape_cause { IsErrOf result AppendFault.TapeFault → Rose (T.faults tape.old) (T.faults tape.new) }
+    ensures platform_cause { TellsOf AppendFault.PlatformFault result (P.faults platform.old) (P.faults platform.new) }
+    ensures tape_cause { TellsOf AppendFault.TapeFault result (T.faults tape.old) (T.faults tape.new) }
     ensures entries { IfOk result (λ _. entries.new.items ≡ entries.old.items) }
     ensures room { vec_capacity entries.old ≤ vec_capacity entries.new }
 {

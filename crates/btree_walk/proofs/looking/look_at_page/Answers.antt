@@ -22,7 +22,7 @@ returns-in_err-fetch_node g c =
       keeps = search rules;
       but = but_same c.args.want.now.addr c.args.key.now c.args.reader.now.cache;
       looks = search rules;
-      cause = λ is. c.in_err-fetch_node.ensures.cause (cc);
+      cause = record { done = tt; failed = λ is. c.in_err-fetch_node.ensures.cause.failed (cc); refused = λ other. c.in_err-fetch_node.ensures.cause.refused (λ is. other (cc)) };
     }
 
 pub returns : goal.returns

@@ -1,7 +1,8 @@
-use Rattle.std.proofs.Common.{◌≡◌, ◌≤◌, ◌-◌, ℕ, List, Err, ap, subst, arith, rules, length, Some, slice_get}
+use Rattle.std.proofs.Common.{◌≡◌, ◌≤◌, ◌-◌, ℕ, List, Err, ap, ◌∙◌, subst, arith, rules, length, Some, slice_get}
 use Rattle.node_codec.specs.declared.body.Entry.{Entry}
 use Rattle.std.proofs.lemmas.Result.{err_from_is_err_and}
-use Rattle.btree_walk.specs.declared.refusals.WalkRefusal.TheVariants.{BadRecord}
+use Rattle.btree_walk.specs.declared.refusals.WalkRefusal.TheVariants.{BadRecord, PlatformFault}
+use Rattle.sdbt_base.specs.Faults.{TellsOf}
 use Rattle.btree_walk.specs.Nodes.{node_at, branches, Adds, Meets, FirstWrong}
 use Rattle.btree_walk.proofs.NodeLaws.{branch_level, branch_most, branch_below, ahead_more, ahead_all, leaf_met, wrong_here, wrong_later}
 use Rattle.btree_walk.proofs.walking.+walk.Goals as goal
@@ -48,6 +49,12 @@ returns-in_err-walk-clause-wrong g t c =
     wrong_later pages addr want c.args.key.now entries c.loop-place.place branch (Adds g.G.Gather.holds c.args.gathered.now c.loop-place.gathered) (g.P.Platform.reads c.args.platform.now) (g.P.Platform.reads c.loop-place.platform)
     c.requires.level (c.in_ok-read_node.ensures.fits tells) at (c.loop-place.invariant.ahead tells) wrong)
 
+pub returns-in_err-walk-clause-cause : goal.returns-in_err-walk-clause-cause
+returns-in_err-walk-clause-cause g t c =
+    let p = err_from_is_err_and c.from_residual-in_err-walk.result c.from_residual-in_err-walk.ensures.1 in
+    let cause = subst (λ (n : ℕ). TellsOf {T = Unit {0}} PlatformFault (Err c.in_err-walk.field-0.0) n (g.P.Platform.faults c.walk.new.platform)) c.loop-place.invariant.quiet c.in_err-walk.ensures.cause in
+    rw (p.1, p.2) cause
+
 pub loop-place-preserved : goal.loop-place-preserved
 loop-place-preserved g t c =
     let want = c.args.want.now in let branch = c.branch_at-branch.result in
@@ -63,6 +70,7 @@ loop-place-preserved g t c =
           at (branch_level want.most (want.level - 1) want.high c.loop-place.place entries branch at) (branch_most want.most (want.level - 1) want.high c.loop-place.place entries branch at)
           (c.loop-place.invariant.ahead tells) meets);
       looks = search rules;
+      quiet = c.in_ok-walk.ensures.cause.done ∙ c.loop-place.invariant.quiet;
     }
 
 pub returns-clause-met : goal.returns-clause-met

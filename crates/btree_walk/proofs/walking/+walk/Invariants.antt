@@ -1,4 +1,4 @@
-use Rattle.std.proofs.Common.{◌-◌}
+use Rattle.std.proofs.Common.{◌≡◌, ◌-◌}
 use Rattle.btree_walk.specs.Looks.{OnlyLooks}
 use Rattle.btree_walk.specs.Nodes.{branches, node_at, Adds}
 use Rattle.btree_walk.proofs.NodeLaws.{Ahead}
@@ -14,4 +14,5 @@ invariant-loop-place g l = record {
       (Adds g.G.Gather.holds l.fn.gathered l.gathered) (node_at l.want.addr l.want.level l.node.entries.items)
       (g.P.Platform.reads l.fn.platform) (g.P.Platform.reads l.platform);
   looks : OnlyLooks g.P.Platform l.fn.platform l.platform;
+  quiet : g.P.Platform.faults l.platform ≡ g.P.Platform.faults l.fn.platform;
 }

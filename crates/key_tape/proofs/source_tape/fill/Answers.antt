@@ -30,5 +30,5 @@ takes-preserved g c =
       gave = rw (front_written at (length c.takes.bytes - at) c.in-Ok.count c.takes.bytes into c.takes.invariant.within fits)
           (Gave-then (g.S.Source.left c.args.source.now) (take at c.takes.bytes) (g.S.Source.left c.takes.source) (take c.in-Ok.count into)
           (g.S.Source.left c.take.new.self) c.takes.invariant.gave c.in-Ok.ensures.taken);
-      count = omega (arith, c.in-Ok.ensures.count);
+      quiet = omega (arith, c.in-Ok.ensures.cause, c.takes.invariant.quiet);
     }

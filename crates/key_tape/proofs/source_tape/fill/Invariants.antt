@@ -1,4 +1,4 @@
-use Rattle.std.proofs.Common.{length, ◌-◌, ◌≤◌, take}
+use Rattle.std.proofs.Common.{◌≡◌, length, ◌-◌, ◌≤◌, take}
 use Rattle.sdbt_base.specs.Told.{Gave}
 use Rattle.key_tape.proofs.source_tape.fill.Given as goal
 
@@ -6,7 +6,7 @@ abbrev pub invariant-takes : goal.invariant-takes
 invariant-takes g l = record {
   within : l.filled ≤ length l.bytes;
   gave : Gave (g.S.Source.left l.initial.source) (take l.filled l.bytes) (g.S.Source.left l.source);
-  count : g.S.Source.faults l.initial.source ≤ g.S.Source.faults l.source;
+  quiet : g.S.Source.faults l.source ≡ g.S.Source.faults l.initial.source;
 }
 
 abbrev pub decreases-takes : goal.decreases-takes

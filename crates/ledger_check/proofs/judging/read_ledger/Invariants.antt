@@ -1,10 +1,10 @@
-use Rattle.std.proofs.Common.{◌≤◌}
+use Rattle.std.proofs.Common.{◌≡◌}
 use Rattle.ledger_check.proofs.TakingLaws.{IsTaking}
 use Rattle.ledger_check.proofs.judging.read_ledger.Given as goal
 
 abbrev pub invariant-loop-left : goal.invariant-loop-left
 invariant-loop-left g l = record {
-  count : g.I.Source.faults l.fn.input ≤ g.I.Source.faults l.input;
+  quiet : g.I.Source.faults l.input ≡ g.I.Source.faults l.fn.input;
   taking : IsTaking (g.I.Source.left l.fn.input) (g.I.Source.left l.input) l.reader l.left;
 }
 

@@ -27,7 +27,7 @@ returns-then-is_empty-clause-stop g c =
     let written = g.O.Sink.written c.args.output.now in
     let none : length c.damage_text-line.result.items ≡ 0 = eqb-true (length c.damage_text-line.result.items) 0 (sym c.is_empty.ensures ∙ c.if-is_empty.true) in
     let empty : damage_line c.args.stop ≡ [] = sym c.damage_text-line.ensures ∙ nothing c.damage_text-line.result.items none in
-    inl (refl, subst (λ (line : List ℕ). Got written line written) (sym empty) (Got-nothing written))
+    inl (refl, subst (λ (line : List ℕ). Got written line written) (sym empty) (Got-nothing written), refl)
 
 pub returns-in-Err-clause-stop : goal.returns-in-Err-clause-stop
 returns-in-Err-clause-stop g c =

@@ -1,4 +1,4 @@
-use Rattle.std.proofs.Common.{◌≤◌, ◌+◌}
+use Rattle.std.proofs.Common.{◌≡◌, ◌≤◌, ◌+◌}
 use Rattle.seizure.specs.Index.{AreMarks, AreBelow, AreApart}
 use Rattle.seizure.specs.Looks.{Looks}
 use Rattle.seizure.proofs.seizing.index_of.Given as goal
@@ -6,6 +6,7 @@ use Rattle.seizure.proofs.seizing.index_of.Given as goal
 abbrev pub invariant-loop-addr : goal.invariant-loop-addr
 invariant-loop-addr g l = record {
   looks : Looks g.P.Platform l.fn.platform l.platform;
+  quiet : g.P.Platform.faults l.platform ≡ g.P.Platform.faults l.fn.platform;
   marks : g.P.Platform.tells → AreMarks (g.P.Platform.history l.fn.platform).present.readable l.addr l.index.marks.items;
   below : AreBelow l.addr l.index.marks.items;
   apart : AreApart l.index.marks.items;

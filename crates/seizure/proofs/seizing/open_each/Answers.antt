@@ -24,6 +24,7 @@ loop-i-preserved g c =
         reads = c.read.ensures.reads_rise;
         faults = c.read.ensures.faults;
       });
+      quiet = c.in_ok-read.ensures.cause ∙ c.loop-i.invariant.quiet;
       tried = λ told.
           (let there : slice_get pages addr ≡ Some c.read.new.into = subst (λ (ps : List (List ℕ)). slice_get ps addr ≡ Some c.read.new.into) (ap (λ image. image.readable) (c.loop-i.invariant.looks.image told)) (c.in_ok-read.ensures.page told) in
           let body : c.unseal.new.out ≡ body_at pages key addr = c.unseal.ensures.body ∙ sym (page_is pages key addr c.read.new.into there) in

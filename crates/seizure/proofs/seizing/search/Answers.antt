@@ -14,6 +14,7 @@ loop-next-init g c =
     let pages = (g.P.Platform.history c.args.platform.now).present.readable in
     record {
       looks = c.in_ok-index.ensures.looks;
+      quiet = c.in_ok-index.ensures.stops;
       known = c.requires.known;
       searched = λ told roots gains.
           subst (λ (l : List Opened). IsSearched roots pages c.args.work.now.keys l 0) (sym c.requires.fresh) (searched_none roots pages c.args.work.now.keys gains);
@@ -31,6 +32,7 @@ loop-next-preserved g c =
     let here : key ≡ get_or work.keys c.loop-next.next key = sym (get_or_from_slice_get work.keys c.loop-next.next key key c.at.ensures) in
     record {
       looks = looks_then P start c.loop-next.platform c.open_each.new.platform c.loop-next.invariant.looks c.in_ok-open_each.ensures.looks;
+      quiet = c.in_ok-open_each.ensures.stops ∙ c.loop-next.invariant.quiet;
       known = c.in_ok-open_each.ensures.known;
       searched = λ told roots gains.
           (let all : P.head start ≡ length pages = sym ((whole-now (P.history start)).as_many ∙ g.met.P.Platform.counts_pages told start) in

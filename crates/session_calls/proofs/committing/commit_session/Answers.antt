@@ -6,7 +6,8 @@ use Rattle.device_course.proofs.KeysLaws.{on_commit}
 use Rattle.device_session.specs.Open.{is_touched, needed_by}
 use Rattle.device_session.specs.declared.refusals.CommitFault.{CommitFault}
 use Rattle.device_session.specs.declared.refusals.CommitReply.{CommitReply}
-use Rattle.session_calls.specs.Blame.{Counts, HasCause, counts}
+use Rattle.sdbt_base.specs.Counts.{Counts, counts}
+use Rattle.session_calls.specs.Blame.{HasCause}
 use Rattle.session_calls.specs.Commits.{CommitLeads, LeftAt}
 use Rattle.session_calls.specs.declared.stops.DeviceStop.{DeviceStop}
 use Rattle.session_calls.proofs.CommitLaws.{fault_blamed, fault_leads, fault_left, reply_answers, reply_leads}
@@ -30,6 +31,7 @@ returns-in-Ok-clause-goes g c =
       keeps = on_commit {X = CommitReply} {Y = CommitFault} _ _ _ _ _ (Some c.args.session) c.args.session _ _ _ (Ok c.in-Ok.reply) _ _ _ refl c.requires.open (λ told. (c.requires.mounted told).cell) commits.discloses commits.certifies (λ going. going) (λ keys done. done);
       blame = record {
         fell = record { platform = commits.grows.platform_faults; tape = commits.grows.tape_faults; input = omega arith; output = omega arith; ledger = commits.grows.ledger_faults };
+        quiet = commits.quiet;
         cause = tt;
       };
     }
@@ -46,6 +48,7 @@ returns-in-Err-clause-goes g c =
       keeps = on_commit {X = CommitReply} {Y = CommitFault} _ _ _ _ _ (Some c.args.session) c.args.session _ _ _ (Err c.in-Err.fault) _ _ _ refl c.requires.open (λ told. (c.requires.mounted told).cell) commits.discloses commits.certifies (λ going. going) (λ keys done. done);
       blame = record {
         fell = record { platform = commits.grows.platform_faults; tape = commits.grows.tape_faults; input = omega arith; output = omega arith; ledger = commits.grows.ledger_faults };
+        quiet = tt;
         cause = subst (λ (s : DeviceStop). HasCause before now s) (sym c.stop_of.ensures) (fault_blamed g.P.Platform g.T.Tape _ _ _ _ c.in-Err.fault before now commits.cause);
       };
     }
@@ -66,7 +69,7 @@ returns-in-Err-clause-answers g c =
         | inl few ↦ absurd (let no = (c.in-Err.ensures.full touched few).5 in cc)
         | inr many ↦ many
       ];
-      left = subst (λ (s : DeviceStop). LeftAt P g.T.Tape c.args.platform.now c.commit.new.platform c.args.tape.now c.commit.new.tape s) (sym c.stop_of.ensures) (fault_left P g.T.Tape _ _ _ _ c.in-Err.fault _ _ _ c.in-Err.ensures.commits.cause);
+      left = subst (λ (s : DeviceStop). LeftAt P g.T.Tape c.args.platform.now c.commit.new.platform c.args.tape.now c.commit.new.tape s) (sym c.stop_of.ensures) (fault_left P g.T.Tape _ _ _ _ c.in-Err.fault _ _ c.in-Err.ensures.commits.cause);
     }
 
 pub returns-in-Ok-clause-leads : goal.returns-in-Ok-clause-leads
@@ -86,4 +89,4 @@ returns-in-Err-clause-leads g c told device array at =
     let P = g.P.Platform in
     let commits = c.in-Err.ensures.commits in
     subst (λ (s : DeviceStop). CommitLeads (P.history c.args.platform.now) (P.history c.commit.new.platform) device array (Err s)) (sym c.stop_of.ensures)
-    (fault_leads P g.T.Tape _ _ c.args.tape.now c.commit.new.tape c.in-Err.fault device array told (fault_left P g.T.Tape _ _ _ _ c.in-Err.fault _ _ _ commits.cause) at.there.device (commits.time told device array.contents at.there.session.0))
+    (fault_leads P g.T.Tape _ _ c.args.tape.now c.commit.new.tape c.in-Err.fault device array told (fault_left P g.T.Tape _ _ _ _ c.in-Err.fault _ _ commits.cause) at.there.device (commits.time told device array.contents at.there.session.0))

@@ -1,16 +1,16 @@
-use Rattle.std.proofs.Common.{◌≡◌, Some, Ok, Err, inl, refl, sym, ap, subst, ◌∙◌, arith}
+use Rattle.std.proofs.Common.{◌≡◌, ℕ, Some, Ok, Err, inl, refl, sym, ap, subst, ◌∙◌, arith}
 use Rattle.platform.specs.Image.{Image}
 use Rattle.page_store.specs.Tree.{Wrong}
 use Rattle.device_course.proofs.KeysLaws.{needed_read}
 use Rattle.device_session.specs.declared.refusals.ReadRefusal.TheVariants as refusals
-use Rattle.session_calls.specs.Blame.{counts}
+use Rattle.sdbt_base.specs.Counts.{counts}
 use Rattle.session_calls.proofs.CellLaws.{wrong_page}
 use Rattle.session_calls.proofs.LookLaws.{read_of_call, look_along, other_read_refusal, read_blamed, read_leads, read_named, read_refused}
 use Rattle.session_calls.proofs.StateLaws.{at_array, served_still}
 use Rattle.session_calls.proofs.reading.read_block.Goals as goal
 
 pub stop_of_read-requires : goal.stop_of_read-requires
-stop_of_read-requires g c = other_read_refusal c.in-Err.refusal _ _ _ c.in-Err.ensures.cause c.requires.within
+stop_of_read-requires g c = other_read_refusal c.in-Err.refusal _ _ _ _ c.in-Err.ensures.cause c.requires.within
 
 pub returns-in-Ok-clause-leads : goal.returns-in-Ok-clause-leads
 returns-in-Ok-clause-leads g c told device array at =
@@ -31,6 +31,7 @@ returns-in-Ok-clause-goes g c drawn = record {
       (at_array _ _ device array there.0 (c.in-Ok.ensures.same.1 ∙ at.there.session.1) (served_still _ _ (c.read.ensures.looks.time told) at.served), there.1)));
   needs_still = tt;
   stops = tt;
+  quiet = ap (λ (n : ℕ). counts n drawn.faults 0 0 0) c.in-Ok.ensures.cause.1;
   cause = tt;
 }
 
@@ -43,7 +44,8 @@ returns-in-Err-clause-goes g c drawn = record {
       (c.in-Err.ensures.same.1 ∙ at.there.session.1) (served_still _ _ (c.read.ensures.looks.time told) at.served)));
   needs_still = needed_read c.args.session.now c.read.new.self c.in-Err.ensures.same.2;
   stops = read_of_call c.in-Err.refusal _ c.stop_of_read.ensures;
-  cause = read_blamed c.in-Err.refusal _ _ _ (counts (g.P.Platform.faults c.args.platform.now) drawn.faults 0 0 0) (counts (g.P.Platform.faults c.read.new.platform) drawn.faults 0 0 0) c.stop_of_read.ensures c.in-Err.ensures.cause;
+  quiet = tt;
+  cause = read_blamed c.in-Err.refusal _ _ _ (counts (g.P.Platform.faults c.args.platform.now) drawn.faults 0 0 0) (counts (g.P.Platform.faults c.read.new.platform) drawn.faults 0 0 0) refl c.stop_of_read.ensures c.in-Err.ensures.cause;
 }
 
 -- what is named is a wrong page below the root record in the cell

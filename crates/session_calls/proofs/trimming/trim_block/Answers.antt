@@ -1,14 +1,14 @@
-use Rattle.std.proofs.Common.{◌≡◌, Some, Ok, Err, refl, ap, ◌∙◌, arith}
+use Rattle.std.proofs.Common.{◌≡◌, ℕ, Some, Ok, Err, refl, ap, ◌∙◌, arith}
 use Rattle.device_session.specs.Open.{is_touched}
 use Rattle.device_session.specs.declared.refusals.TrimRefusal.TheVariants as refusals
-use Rattle.session_calls.specs.Blame.{counts}
+use Rattle.sdbt_base.specs.Counts.{counts}
 use Rattle.session_calls.proofs.CellLaws.{wrong_page}
 use Rattle.session_calls.proofs.LookLaws.{trim_of_call, look_along, other_trim_refusal, trim_blamed, trim_done, trim_leads, trim_named, trim_refused}
 use Rattle.session_calls.proofs.StateLaws.{served_still}
 use Rattle.session_calls.proofs.trimming.trim_block.Goals as goal
 
 pub stop_of_trim-requires : goal.stop_of_trim-requires
-stop_of_trim-requires g c = other_trim_refusal c.in-Err.refusal _ _ _ c.in-Err.ensures.cause c.requires.within
+stop_of_trim-requires g c = other_trim_refusal c.in-Err.refusal _ _ _ _ c.in-Err.ensures.cause c.requires.within
 
 pub returns-in-Ok-clause-leads : goal.returns-in-Ok-clause-leads
 returns-in-Ok-clause-leads g c told device array at =
@@ -26,6 +26,7 @@ returns-in-Ok-clause-goes g c drawn = record {
       (trim_done _ _ device array c.args.block (is_touched c.args.session.now) at.there.session.1 (c.in-Ok.ensures.array told device array.contents at.there.session.0).array (served_still _ _ (c.trim.ensures.looks.time told) at.served)));
   needs_still = tt;
   stops = tt;
+  quiet = ap (λ (n : ℕ). counts n drawn.faults 0 0 0) c.in-Ok.ensures.cause.1;
   cause = tt;
 }
 
@@ -37,7 +38,8 @@ returns-in-Err-clause-goes g c drawn = record {
       (c.in-Err.ensures.updates.touched_still ∙ at.there.session.1) (served_still _ _ (c.trim.ensures.looks.time told) at.served)));
   needs_still = c.in-Err.ensures.updates.needs_still;
   stops = trim_of_call c.in-Err.refusal _ c.stop_of_trim.ensures;
-  cause = trim_blamed c.in-Err.refusal _ _ _ (counts (g.P.Platform.faults c.args.platform.now) drawn.faults 0 0 0) (counts (g.P.Platform.faults c.trim.new.platform) drawn.faults 0 0 0) c.stop_of_trim.ensures c.in-Err.ensures.cause;
+  quiet = tt;
+  cause = trim_blamed c.in-Err.refusal _ _ _ (counts (g.P.Platform.faults c.args.platform.now) drawn.faults 0 0 0) (counts (g.P.Platform.faults c.trim.new.platform) drawn.faults 0 0 0) refl c.stop_of_trim.ensures c.in-Err.ensures.cause;
 }
 
 -- what is named is a wrong page below the root record in the cell

@@ -2,7 +2,7 @@ use Rattle.std.proofs.Common.{◌≡◌, Some, Ok, Err, refl, ap, ◌∙◌}
 use Rattle.sdbt_base.specs.Arrays.{padded, written}
 use Rattle.btree_update.specs.Groves.{places_of}
 use Rattle.device_session.specs.declared.refusals.WriteRefusal.TheVariants as refusals
-use Rattle.session_calls.specs.Blame.{counts}
+use Rattle.sdbt_base.specs.Counts.{counts}
 use Rattle.session_calls.proofs.CellLaws.{wrong_page}
 use Rattle.session_calls.proofs.StateLaws.{at_array, served_still}
 use Rattle.session_calls.proofs.WriteLaws.{write_of_call, other_refusal, write_added, write_along, write_blamed, write_named, write_refused}
@@ -26,6 +26,7 @@ returns-in-Ok-clause-goes g c = record {
       (λ told device array at. at_array _ _ device (written array c.args.block c.args.content.now) (c.in-Ok.ensures.array told device array.contents at.there.session.0).array c.in-Ok.ensures.touched (served_still _ _ (c.write.ensures.grows.time told) at.served));
   needs_still = tt;
   stops = tt;
+  quiet = c.in-Ok.ensures.cause.2;
   cause = tt;
 }
 
@@ -35,6 +36,7 @@ returns-in-Err-clause-goes g c = record {
       (λ told device array at. write_refused _ _ device array c.args.block c.args.content.now (padded c.args.content.now) c.in-Err.refusal _ c.stop_of_write.ensures (c.in-Err.ensures.array told device array.contents at.there.session.0).array (c.in-Err.ensures.updates.touched_still ∙ at.there.session.1) (served_still _ _ (c.write.ensures.grows.time told) at.served));
   needs_still = c.in-Err.ensures.updates.needs_still;
   stops = write_of_call c.in-Err.refusal _ c.stop_of_write.ensures;
+  quiet = tt;
   cause = write_blamed c.in-Err.refusal _ _ _ _ _ (counts (g.P.Platform.faults c.args.platform.now) (g.T.Tape.faults c.args.tape.now) 0 0 0)
       (counts (g.P.Platform.faults c.write.new.platform) (g.T.Tape.faults c.write.new.tape) 0 0 0) c.stop_of_write.ensures c.in-Err.ensures.cause;
 }

@@ -1,13 +1,17 @@
 use Rattle.std.specs.Vec.{vec_len, vec_capacity}
 use Rattle.btree_twigs.specs.Top.{child_level}
 use Rattle.std.proofs.Common.{◌≡◌, ◌≤◌, ◌*◌, suc, ◌+◌, List, [], ◌∷◌, ◌++◌, take, drop, length, refl, sym, ap, subst, ◌∙◌, arith, append-nil, length-append}
+use Rattle.std.proofs.Common.{Err}
+use Rattle.std.proofs.lemmas.Result.{err_from_is_err_and}
 use Rattle.std.proofs.lemmas.List.{take_all}
 use Rattle.std.proofs.lemmas.List.Elements.{All-from_recursion}
 use Rattle.node_codec.specs.declared.body.Entry.{Entry}
 use Rattle.node_codec.specs.Record.{NodeRecord, FitsNode, record_bytes}
 use Rattle.page_store.specs.Buffer.{Held}
 use Rattle.sdbt_base.specs.Bytes.{IsBytes}
-use Rattle.std.specs.Prelude.{is_err}
+use Rattle.sdbt_base.proofs.FaultLaws.{tells_then, tells_on}
+use Rattle.page_store.specs.declared.refusals.AppendFault.TheVariants.{TapeFault, PlatformFault}
+use Rattle.std.specs.Prelude.{IfOk, is_err}
 use Rattle.btree_twigs.specs.declared.twigs.Child.{Child}
 use Rattle.btree_twigs.specs.Stubs.{children_of, sum_by, nodes, stubs, stubs_by, stubs_below, low_of}
 use Rattle.btree_twigs.specs.Shape.{EachBy, IsChild}
@@ -128,6 +132,7 @@ seal_twig-loop-child-preserved g t c =
       count = omega (arith, inv.count, ap length c.in_ok-entry.ensures.entries, ap length c.add.ensures.items, length-append c.seal_child.new.entries.items (c.in_ok-entry.entry ∷ []));
       room = omega (arith, inv.room, c.seal_child.ensures.room, c.add.ensures.capacity);
       beside = beside_then g.P.Platform g.T.Tape c.args.platform.now c.loop-child.platform c.seal_child.new.platform c.args.tape.now c.loop-child.tape c.seal_child.new.tape inv.beside c.seal_child.ensures.beside;
+      quiet = (c.in_ok-entry.ensures.platform_cause.done ∙ inv.quiet.0, c.in_ok-entry.ensures.tape_cause.done ∙ inv.quiet.1);
     }
 
 pub seal_twig-put_node-requires : goal.seal_twig-put_node-requires
@@ -313,3 +318,21 @@ seal_twig-returns-in_err-placed-clause-stops g t c at = λ _.
     in
     adds_stops (AreCached (λ ns. SealsEach (Seals at.level) head (take i cs) ns es) c.args.reader.now.cache c.loop-child.reader.cache) Are (AreNodesOver head (stubs_below at.level at.high twig)) tells (history c.args.platform.now).present mid new
     head now (drawn c.args.tape.now) (drawn c.loop-child.tape) (drawn c.append.new.tape) so_far (λ ms are. are) stops
+
+pub seal_twig-returns-in_err-entry-clause-platform_cause : goal.seal_twig-returns-in_err-entry-clause-platform_cause
+seal_twig-returns-in_err-entry-clause-platform_cause g t c =
+    let p = err_from_is_err_and c.from_residual.result c.from_residual.ensures.1 in
+    let told = tells_then {T = Entry} PlatformFault (Err c.in_err-entry.field-0.0) _ _ _ c.loop-child.invariant.quiet.0 c.in_err-entry.ensures.platform_cause in
+    rw (p.1, p.2) (tells_on PlatformFault c.in_err-entry.field-0.0 _ _ told)
+
+pub seal_twig-returns-in_err-entry-clause-tape_cause : goal.seal_twig-returns-in_err-entry-clause-tape_cause
+seal_twig-returns-in_err-entry-clause-tape_cause g t c =
+    let p = err_from_is_err_and c.from_residual.result c.from_residual.ensures.1 in
+    let told = tells_then {T = Entry} TapeFault (Err c.in_err-entry.field-0.0) _ _ _ c.loop-child.invariant.quiet.1 c.in_err-entry.ensures.tape_cause in
+    rw (p.1, p.2) (tells_on TapeFault c.in_err-entry.field-0.0 _ _ told)
+
+pub seal_twig-returns-clause-platform_cause : goal.seal_twig-returns-clause-platform_cause
+seal_twig-returns-clause-platform_cause g t c = tells_then PlatformFault c.append.result _ _ _ c.loop-child.invariant.quiet.0 c.append.ensures.platform_cause
+
+pub seal_twig-returns-clause-tape_cause : goal.seal_twig-returns-clause-tape_cause
+seal_twig-returns-clause-tape_cause g t c = tells_then TapeFault c.append.result _ _ _ c.loop-child.invariant.quiet.1 c.append.ensures.tape_cause

@@ -19,6 +19,7 @@ invariant-seal_twig-loop-child g l = record {
   count : length l.entries.items ≡ length l.fn.entries.items + l.child-index;
   room : vec_capacity l.fn.entries ≤ vec_capacity l.entries;
   beside : OnlyAdds g.P.Platform g.T.Tape l.fn.platform l.platform l.fn.tape l.tape;
+  quiet : (g.P.Platform.faults l.platform ≡ g.P.Platform.faults l.fn.platform) × (g.T.Tape.faults l.tape ≡ g.T.Tape.faults l.fn.tape);
 }
 
 abbrev pub decreases-seal_child : goal.decreases-seal_child

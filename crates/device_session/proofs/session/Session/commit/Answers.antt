@@ -1,10 +1,11 @@
-use Rattle.std.proofs.Common.{◌≡◌, ◌∙◌, is_ok, sym, ap, subst, arith}
+use Rattle.std.proofs.Common.{◌≡◌, ◌∙◌, ℕ, is_ok, sym, ap, subst, arith}
+use Rattle.sdbt_base.specs.Counts.{counts}
 use Rattle.std.specs.Prelude.{IsOk, box_value}
 use Rattle.btree_walk.specs.declared.reader.NodeReader.{NodeReader}
 use Rattle.root_codec.specs.declared.root.Root.{Root}
 use Rattle.device_session.specs.Sessions.{Session}
 use Rattle.device_session.specs.Finishing.{TakesUp}
-use Rattle.device_session.proofs.StepLaws.{IsCommitting, untouched_after, commits_nothing, commits_full, commits_stopped, commits_failed, commits_done, commits_raised, committed_cached}
+use Rattle.device_session.proofs.StepLaws.{IsCommitting, untouched_after, commits_nothing, commits_full, commits_stopped, same_counts, commits_failed, commits_done, commits_raised, committed_cached}
 use Rattle.device_session.proofs.DamageLaws.{follows_taken}
 use Rattle.device_session.specs.contracts.session.Session.{the_view}
 use Rattle.device_session.proofs.session.Session.commit.Given.{Over}
@@ -34,6 +35,7 @@ calls g c =
       turns = c.publish.ensures.time;
       put = c.publish.ensures.put;
       count = c.publish.ensures.count;
+      quiet = (c.in-Ok.ensures.cause.1, c.in-Ok.ensures.cause.2);
     }
 
 pub returns-then-not-self-clause-commits : goal.returns-then-not-self-clause-commits
@@ -50,17 +52,19 @@ pub returns-in-Err-Memory-clause-commits : goal.returns-in-Err-Memory-clause-com
 returns-in-Err-Memory-clause-commits g c = rw (← c.self.view_is) (
     let cause = rw c.in-Err-Memory.field-0-is at c.in-Err-Memory.ensures.cause in
     commits_stopped _ _ _ _ _ _ _ _ _ _ _ c.prepare.ensures.beside c.prepare.ensures.within c.in-Err-Memory.ensures.keeps
-    (record { head = ap g.P.Platform.head cause.1; image = λ told. ap (λ s. (g.P.Platform.history s).present) cause.1; drawn = ap g.T.Tape.drawn cause.2 }, c.prepare.ensures.beside.cell))
+    (record { head = ap g.P.Platform.head cause.1; image = λ told. ap (λ s. (g.P.Platform.history s).present) cause.1; drawn = ap g.T.Tape.drawn cause.2 }, c.prepare.ensures.beside.cell, same_counts g.P.Platform g.T.Tape g.L.Sink _ _ _ _ _ cause.1 cause.2))
 
 pub returns-in-Err-TapeFault-clause-commits : goal.returns-in-Err-TapeFault-clause-commits
 returns-in-Err-TapeFault-clause-commits g c = rw (← c.self.view_is) (
     let cause = rw c.in-Err-TapeFault.field-0-is at c.in-Err-TapeFault.ensures.cause in
-    commits_stopped _ _ _ _ _ _ _ _ _ _ _ c.prepare.ensures.beside c.prepare.ensures.within c.in-Err-TapeFault.ensures.keeps (cause.1, c.prepare.ensures.beside.cell))
+    commits_stopped _ _ _ _ _ _ _ _ _ _ _ c.prepare.ensures.beside c.prepare.ensures.within c.in-Err-TapeFault.ensures.keeps
+    ((cause.1, ap (λ (n : ℕ). counts n (g.T.Tape.faults c.prepare.new.tape) 0 0 (g.L.Sink.faults c.args.ledger.now)) cause.2), c.prepare.ensures.beside.cell))
 
 pub returns-in-Err-PlatformFault-clause-commits : goal.returns-in-Err-PlatformFault-clause-commits
 returns-in-Err-PlatformFault-clause-commits g c = rw (← c.self.view_is) (
     let cause = rw c.in-Err-PlatformFault.field-0-is at c.in-Err-PlatformFault.ensures.cause in
-    commits_stopped _ _ _ _ _ _ _ _ _ _ _ c.prepare.ensures.beside c.prepare.ensures.within c.in-Err-PlatformFault.ensures.keeps cause.1)
+    commits_stopped _ _ _ _ _ _ _ _ _ _ _ c.prepare.ensures.beside c.prepare.ensures.within c.in-Err-PlatformFault.ensures.keeps
+    (cause.1, ap (λ (n : ℕ). counts (g.P.Platform.faults c.prepare.new.platform) n 0 0 (g.L.Sink.faults c.args.ledger.now)) cause.2))
 
 -- the session with the new tree
 takes : (g : Over) (c : After-take_up g) → TakesUp (the_view c.self.inside) c.prepare.new.reader.cache c.in-Ok.prepared.root c.take_up.new.self
@@ -85,7 +89,8 @@ pub returns-clause-commits : goal.returns-clause-commits
 unfolding calls
 returns-clause-commits g c = rw (← c.self.view_is) (
     let at = goal.at.returns-clause-commits g c in
-    commits_done _ _ _ _ _ _ _ _ _ _ _ _ _ _ _ (calls g at.After-publish) (λ never. never (ap is_ok c.in-Ok-publish.is)) (takes g c) c.in-Ok-publish.ensures.swapped (number_is g c))
+    commits_done _ _ _ _ _ _ _ _ _ _ _ _ _ _ _ (calls g at.After-publish) (λ never. never (ap is_ok c.in-Ok-publish.is)) (takes g c) c.in-Ok-publish.ensures.swapped (number_is g c)
+    c.in-Ok-publish.ensures.cause)
 
 pub returns-clause-mounted : goal.returns-clause-mounted
 unfolding calls
