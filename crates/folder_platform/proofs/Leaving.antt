@@ -41,5 +41,6 @@ left_settled m left as_many settled may = record {
   synced = may.synced;
   pages = omega (arith, may.pages);
   same = may.same;
+  handed = may.handed;
   whole = may.whole;
 }

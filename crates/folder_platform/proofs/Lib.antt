@@ -5,3 +5,5 @@ pub mod Looking
 pub mod Leaving
 pub mod Opening
 pub mod Safety
+pub mod Once
+pub mod Moments

@@ -55,9 +55,9 @@ module _ (files : Files) (are : AreFiles files) (n : ℕ) where
   whole-first : IsWhole (now_of files (pages_counted n ∷ new_removed true ∷ []))
   whole-first = record {
     cell = λ held is. found-bytes files.root held are.root is;
-    recorded = fitted-bytes n files.pages are.pages;
+    recorded = fitted-bytes n files.handed are.handed;
     readable = fitted-bytes n files.pages are.pages;
-    as_many = refl;
+    as_many = length-fitted n files.pages ∙ sym (length-fitted n files.handed);
     synced = omega arith;
   }
 
@@ -95,10 +95,10 @@ opens files' events' n are is =
     subst (λ (es : List Event). Opens files' es n) (sym is) (record {
       told = told_open files' are n;
       readable = length-fitted n files'.pages;
-      recorded = length-fitted n files'.pages;
+      recorded = length-fitted n files'.handed;
       sound = refl;
       settled = settled_open files' are n;
-      safe = safe_open files' n;
+      safe = safe_open files' n (length-fitted n files'.handed ∙ sym (length-fitted n files'.pages));
     })
 
 fitted-same : (n : ℕ) (pages : List (List ℕ)) → n ≡ length pages → fitted n pages ≡ pages
@@ -107,15 +107,18 @@ fitted-same n pages same =
     let none : n - length pages ≡ 0 = omega arith in
     rw (none, append-nil, take_all n pages (omega arith)) refl
 
-found-image : (files : Files) (n : ℕ) → n ≡ length files.pages → now_of files (opening n) ≡ opened files
-found-image files n same =
+found-image : (files : Files) (n : ℕ) → AreFiles files → n ≡ length files.pages → now_of files (opening n) ≡ opened files
+found-image files n are same =
     let all : fitted n files.pages ≡ files.pages = fitted-same n files.pages same in
+    let handed : fitted n files.handed ≡ files.handed = fitted-same n files.handed (same ∙ sym are.as_many) in
     let cell : cell_of (file_synced (found files.root)) ≡ cell_with files.root = synced-cell (found files.root) ∙ found-cell files.root in
-    ap (λ (pages : List (List ℕ)). record { cell = cell_of (file_synced (found files.root)); recorded = pages; readable = pages; synced = length pages }) all
-    ∙ ap (λ (cell : Option (List ℕ)). record { cell = cell; recorded = files.pages; readable = files.pages; synced = length files.pages }) cell
+    ap (λ (pages : List (List ℕ)). record { cell = cell_of (file_synced (found files.root)); recorded = pages; readable = fitted n files.pages; synced = length pages }) handed
+    ∙ ap (λ (pages : List (List ℕ)). record { cell = cell_of (file_synced (found files.root)); recorded = files.handed; readable = pages; synced = length files.handed }) all
+    ∙ ap (λ (k : ℕ). record { cell = cell_of (file_synced (found files.root)); recorded = files.handed; readable = files.pages; synced = k }) are.as_many
+    ∙ ap (λ (cell : Option (List ℕ)). record { cell = cell; recorded = files.handed; readable = files.pages; synced = length files.pages }) cell
 
 -- where the answers were honest, what is found is what the files held
-pub opens_image : (files files' : Files) (events' : List Event) (n : ℕ) → files' ≡ files → events' ≡ opening n → IsHonest files' events' → now_of files' events' ≡ opened files
-opens_image files files' events' n same is honest =
+pub opens_image : (files files' : Files) (events' : List Event) (n : ℕ) → AreFiles files' → files' ≡ files → events' ≡ opening n → IsHonest files' events' → now_of files' events' ≡ opened files
+opens_image files files' events' n are same is honest =
     let told : IsHonest files' (opening n) = subst (λ (es : List Event). IsHonest files' es) is honest in
-    ap (λ (es : List Event). now_of files' es) is ∙ found-image files' n (told.1.1.1.1.0 refl) ∙ ap opened same
+    ap (λ (es : List Event). now_of files' es) is ∙ found-image files' n are (told.1.1.1.1.0 refl) ∙ ap opened same

@@ -6,13 +6,13 @@ use Rattle.platform.specs.Image.{Image, IsWhole, IsEarlier}
 use Rattle.platform.specs.History.{image_of}
 use Rattle.folder_platform.specs.Told.{AreOrderly}
 
-get_or-end : (past : List Image) (present : Image) (i : ℕ) → length past ≤ i → get_or past i present ≡ present
+pub get_or-end : (past : List Image) (present : Image) (i : ℕ) → length past ≤ i → get_or past i present ≡ present
 get_or-end [] present i end = refl
 get_or-end (image ∷ past) present zero end = absurd (omega arith)
 get_or-end (image ∷ past) present (suc i) end = get_or-end past present i (omega arith)
 
 -- a moment from before stays
-more-before : (past : List Image) (present new : Image) (i : ℕ) → i ≤ length past → get_or (past ++ present ∷ []) i new ≡ get_or past i present
+pub more-before : (past : List Image) (present new : Image) (i : ℕ) → i ≤ length past → get_or (past ++ present ∷ []) i new ≡ get_or past i present
 more-before [] present new zero before = refl
 more-before [] present new (suc i) before = absurd (omega arith)
 more-before (image ∷ past) present new zero before = refl

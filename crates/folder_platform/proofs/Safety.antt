@@ -3,7 +3,7 @@ use Rattle.std.proofs.Common.{◌≡◌, ◌⊎◌, inl, inr, ℕ, Bool, true, f
 use Rattle.std.specs.Prelude.{Contains, MatchResult, option_map}
 use Rattle.std.proofs.lemmas.List.Elements.{All-contains, All-cons, All-nil}
 use Rattle.platform.specs.Image.{Image}
-use Rattle.folder_platform.specs.Files.{Files}
+use Rattle.folder_platform.specs.Files.{Files, fitted}
 use Rattle.folder_platform.specs.Events.{Event, page_read, page_written, media_synced, root_read, root_removed, new_removed, new_made, new_synced, new_renamed, cell_synced}
 use Rattle.folder_platform.specs.Model.{NamedFile, Model, replay, durable, found, is_synced}
 use Rattle.folder_platform.specs.Told.{shown, cell_of, now_of}
@@ -14,7 +14,7 @@ use Rattle.folder_platform.proofs.Leaving.{left_cell, leaves_cell, synced-is_syn
 -- the cell is the one alone
 pub safe_alone : (before : Image) (m : Model) → length m.recorded ≡ length m.readable → m.on_disk ≡ Some (m.root ∷ []) → is_synced m.root ≡ true → IsSafe before (shown m) m
 safe_alone before m as_many one synced = record {
-  stays = λ left may same. record { cell = same; synced = may.synced; pages = omega (arith, may.pages); same = may.same; whole = may.whole };
+  stays = λ left may same. record { cell = same; synced = may.synced; pages = omega (arith, may.pages); same = may.same; handed = may.handed; whole = may.whole };
   falls = λ left may other. absurd (other (left_cell m left one synced may));
 }
 
@@ -27,7 +27,7 @@ one_of a b file there =
 pub safe_two : (m was : Model) → length m.recorded ≡ length m.readable → m.readable ≡ was.readable → m.recorded ≡ was.recorded → durable m ≡ durable was → m.on_disk ≡ Some (m.root ∷ was.root ∷ []) → is_synced m.root ≡ true → is_synced was.root ≡ true
     → IsSafe (shown was) (shown m) m
 safe_two m was as_many readable recorded same two synced synced' = record {
-  stays = λ left may cell. record { cell = cell; synced = may.synced; pages = omega (arith, may.pages); same = may.same; whole = may.whole };
+  stays = λ left may cell. record { cell = cell; synced = may.synced; pages = omega (arith, may.pages); same = may.same; handed = may.handed; whole = may.whole };
   falls = λ left may other.
       let there = may.root (m.root ∷ was.root ∷ []) two in
       elim (one_of m.root was.root there.0 there.1) [
@@ -37,6 +37,7 @@ safe_two m was as_many readable recorded same two synced synced' = record {
           synced = omega (arith, may.synced, same);
           pages = omega (arith, may.pages, ap (λ (xs : List (List ℕ)). length xs) recorded);
           same = ap (λ k. take k left.pages) (sym same) ∙ may.same ∙ ap (λ k. take k m.readable) same ∙ ap (λ (xs : List (List ℕ)). take (durable was) xs) readable;
+          handed = may.handed ∙ ap (λ (xs : List (List ℕ)). take (length left.pages) xs) recorded;
           whole = may.whole;
         }
       ];
@@ -144,7 +145,7 @@ opening-alone n (last ∷ later) earlier is (k, newer, opened) =
     absurd (omega (arith, most, least))
 
 -- an opening
-pub safe_open : (files : Files) (n : ℕ) → AllSafe files (opening n)
-safe_open files n later earlier is from =
+pub safe_open : (files : Files) (n : ℕ) → length (fitted n files.handed) ≡ length (fitted n files.pages) → AllSafe files (opening n)
+safe_open files n as_many later earlier is from =
     subst (λ (es : List Event). IsSafe (before_of files es) (now_of files es) (replay files es)) (sym (opening-alone n later earlier is from))
-    (safe_alone _ (replay files (opening n)) refl refl (synced-is_synced (found files.root)))
+    (safe_alone _ (replay files (opening n)) as_many refl (synced-is_synced (found files.root)))

@@ -5,12 +5,15 @@ use Rattle.sdbt_base.specs.declared.limits.TheConstants.{RECORD}
 
 pub record Files : Type 0 where
   pub pages : List (List ℕ)  -- those of `media`, of which a last one that is there in part counts as filled up with zeros
+  pub handed : List (List ℕ)  -- for each of these the page that was once handed over to be written there: where a loss of power tore it, another one. No file tells it
   pub root : Option (List ℕ)  -- the first ROOT + 1 bytes of `root`, if it is there
   pub new_root : Option (List ℕ)  -- those of `root.new`, if it is there
 
--- pages have their size, and bytes are bytes
+-- pages have their size, and bytes are bytes; and for each page there is the one that was handed over
 pub record AreFiles (files : Files) : Type 0 where
   pub pages : All (IsBytes RECORD) files.pages
+  pub handed : All (IsBytes RECORD) files.handed
+  pub as_many : length files.handed ≡ length files.pages
   pub root : (bytes : List ℕ) → files.root ≡ Some bytes → All (λ b. b < 256) bytes
 
 -- a page of zeros

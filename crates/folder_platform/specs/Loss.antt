@@ -3,6 +3,7 @@ use Rattle.std.specs.Prelude.{◌≡◌, ◌≢◌, ◌≤◌, ◌++◌, if◌th
 use Rattle.sdbt_base.specs.Bytes.{IsBytes}
 use Rattle.sdbt_base.specs.declared.limits.TheConstants.{RECORD}
 use Rattle.platform.specs.Image.{Image}
+use Rattle.platform.specs.History.{History, image_at, moment}
 use Rattle.folder_platform.specs.Files.{Files}
 use Rattle.folder_platform.specs.Events.{Event}
 use Rattle.folder_platform.specs.Model.{NamedFile, Model, replay, durable, is_synced}
@@ -17,12 +18,13 @@ Leaves None left = left ≡ None
 Leaves (Some (bytes, true)) left = left ≡ Some bytes
 Leaves (Some (bytes, false)) left = (any : List ℕ) × (left ≡ Some any)
 
--- Pages that are on the disk stay as they are. Later ones may be missing, and of those that are there each may be any page. `root`
--- leads to one of the files to which it may lead on the disk.
+-- Pages that are on the disk stay as they are. Later ones may be missing, and of those that are there each may be any page, whatever
+-- was handed over there. `root` leads to one of the files to which it may lead on the disk.
 pub record MayHold (m : Model) (left : Files) : Type 0 where
   pub synced : durable m ≤ length left.pages
   pub pages : length left.pages ≤ length m.readable
   pub same : take (durable m) left.pages ≡ take (durable m) m.readable
+  pub handed : left.handed ≡ take (length left.pages) m.recorded
   pub whole : All (IsBytes RECORD) left.pages
   pub root : (files : List NamedFile) → m.on_disk ≡ Some files → (file : NamedFile) × Contains files file × Leaves file left.root
 
@@ -32,11 +34,12 @@ pub record AreLeft (image : Image) (left : Files) : Type 0 where
   pub synced : image.synced ≤ length left.pages
   pub pages : length left.pages ≤ length image.recorded
   pub same : take image.synced left.pages ≡ take image.synced image.readable
+  pub handed : left.handed ≡ take (length left.pages) image.recorded
   pub whole : All (IsBytes RECORD) left.pages
 
 -- the first image of a platform over these files: all that is found, and all of it synced
 abbrev pub opened : Files → Image
-opened files = record { cell = cell_with files.root; recorded = files.pages; readable = files.pages; synced = length files.pages }
+opened files = record { cell = cell_with files.root; recorded = files.handed; readable = files.pages; synced = length files.pages }
 
 -- the medium's name is on the disk, the cell outlasts a loss of power as it is, and no other record stands beside it
 pub record Settled (m : Model) : Type 0 where
@@ -46,7 +49,7 @@ pub record Settled (m : Model) : Type 0 where
   pub no_new : m.new_root ≡ None
 
 -- a call that changes the cell
-abbrev changes_cell : FileCall → Bool
+abbrev pub changes_cell : FileCall → Bool
 changes_cell RemoveRoot = true
 changes_cell RenameNew = true
 changes_cell other = false
@@ -65,3 +68,11 @@ pub record IsSafe (before now : Image) (m : Model) : Type 0 where
 abbrev pub AllSafe : Files → List Event → Type 0
 AllSafe files events =
     (later earlier : List Event) → events ≡ later ++ earlier → AreOpened earlier → IsSafe (before_of files earlier) (now_of files earlier) (replay files earlier)
+
+-- the files are those that the image of one of the moments from an old one on leaves, since when no page was handed over: these are all
+pub record IsLeftAt (old new : History) (recorded : List (List ℕ)) (left : Files) : Type 0 where
+  pub at : ℕ
+  pub from : moment old ≤ at
+  pub to : at ≤ moment new
+  pub are : AreLeft (image_at new at) left
+  pub all : (image_at new at).recorded ≡ recorded

@@ -45,7 +45,7 @@ found (Some bytes) = Some (bytes, false)
 
 -- files as they are found: nothing is known of the disk
 abbrev pub begun : Files → Model
-begun files = record { recorded = files.pages; readable = files.pages; synced = 0; is_believed = true; is_named = false; root = found files.root; new_root = found files.new_root; on_disk = None }
+begun files = record { recorded = files.handed; readable = files.pages; synced = 0; is_believed = true; is_named = false; root = found files.root; new_root = found files.new_root; on_disk = None }
 
 -- What a call does. A write that fails leaves a page of which nothing is known. A file that is made, a rename and a removal count
 -- as done where they fail too: the file may have any bytes then, and on the disk the name may lead to what it led to before.

@@ -1,8 +1,10 @@
 -- Which calls on files a call of the platform consists of.
-use Rattle.std.specs.Prelude.{◌≡◌, ◌⊎◌, ◌↔◌, ℕ, Bool, true, false, List, [], ◌∷◌, ◌++◌, Option, Some, None, Result, Ok, Err, take, IsTrue, IsSome}
+use Rattle.std.specs.Prelude.{◌≡◌, ◌⊎◌, ◌↔◌, ◌+◌, if◌then◌else◌, ℕ, Bool, true, false, List, [], ◌∷◌, ◌++◌, Option, Some, None, Result, Ok, Err, take, IsTrue, IsSome}
 use Rattle.folder_platform.specs.Files.{Files}
 use Rattle.folder_platform.specs.Events.{Event, pages_counted, media_synced, folder_synced, root_read, root_synced, root_removed, new_removed, new_made, new_synced, new_renamed, cell_synced}
 use Rattle.folder_platform.specs.Told.{cell_with}
+use Rattle.folder_platform.specs.declared.file_call.FileCall.{FileCall}
+use Rattle.folder_platform.specs.declared.file_call.FileCall.TheVariants.{CountPages}
 
 -- these calls one after another, the oldest first: all of them were done, or the last one that was made failed
 abbrev pub Attempts : List (Bool → Event) → Bool → List Event → List Event → Type 0
@@ -24,6 +26,16 @@ opening n = cell_synced true ∷ root_synced true ∷ folder_synced true ∷ med
 -- the calls begin with an opening
 abbrev pub AreOpened : List Event → Type 0
 AreOpened events = (n : ℕ) × (later : List Event) × (events ≡ later ++ opening n)
+
+-- a call that counts pages
+abbrev pub counts : FileCall → Bool
+counts CountPages = true
+counts other = false
+
+-- so many times pages were counted
+abbrev pub counted : List Event → ℕ
+counted [] = 0
+counted (e ∷ earlier) = if counts e.0 then counted earlier + 1 else counted earlier
 
 -- files that held this were opened, and no other call was made
 pub record IsOpening (were are : Files) (events : List Event) : Type 0 where

@@ -6,7 +6,7 @@ ghost use Rattle.folder_platform.specs.Events.{all_done};
 ghost use Rattle.folder_platform.specs.Model.{replay};
 ghost use Rattle.folder_platform.specs.Loss.{Settled, MayHold, AreLeft, AllSafe, opened};
 ghost use Rattle.folder_platform.specs.Refusals.{ShowsCause};
-ghost use Rattle.folder_platform.specs.Sequences.{Replaces, Removes, NotesCell, IsOpening};
+ghost use Rattle.folder_platform.specs.Sequences.{Replaces, Removes, NotesCell, IsOpening, counted};
 ghost use Rattle.folder_platform.specs.Told.{IsTold, now_of};
 
 use crate::{FolderCalls, FolderFile, OpenRefusal, told};
@@ -32,6 +32,7 @@ pub struct FolderPlatform<C: FolderCalls + Drop> {
     ghost sound: { is_stuck ≡ false → all_done (C.FolderCalls.events calls) ≡ true },
     ghost settled: { is_stuck ≡ false → Settled (replay (C.FolderCalls.start calls) (C.FolderCalls.events calls)) },
     ghost safe: { AllSafe (C.FolderCalls.start calls) (C.FolderCalls.events calls) },
+    ghost once: { counted (C.FolderCalls.events calls) ≡ 1 },
 }
 
 impl<C: FolderCalls + Drop> FolderPlatform<C> {

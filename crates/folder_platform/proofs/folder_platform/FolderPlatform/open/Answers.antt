@@ -1,5 +1,6 @@
 use Rattle.std.proofs.Common.{◌≡◌, arith, rules}
 use Rattle.folder_platform.specs.Sequences.{opening}
+use Rattle.folder_platform.proofs.Once.{once_opening}
 use Rattle.folder_platform.proofs.Opening.{opens, opens_image}
 use Rattle.folder_platform.proofs.folder_platform.FolderPlatform.open.Goals as goal
 
@@ -7,7 +8,7 @@ pub invariant_of-result : goal.invariant_of-result
 invariant_of-result g c =
     let is : g.C.FolderCalls.events c.sync_cell.new.self ≡ opening c.in_ok-pages.pages = search rules in
     let all = opens _ _ c.in_ok-pages.pages (g.met.C.FolderCalls.are_files c.sync_cell.new.self) is in
-    record { told = all.told; readable = all.readable; recorded = all.recorded; room = omega arith; sound = λ calm. all.sound; settled = λ calm. all.settled; safe = all.safe }
+    record { told = all.told; readable = all.readable; recorded = all.recorded; room = omega arith; sound = λ calm. all.sound; settled = λ calm. all.settled; safe = all.safe; once = once_opening c.in_ok-pages.pages _ is }
 
 pub returns-clause-image : goal.returns-clause-image
 returns-clause-image g c told =
@@ -15,4 +16,4 @@ returns-clause-image g c told =
     let is : g.C.FolderCalls.events now ≡ opening c.in_ok-pages.pages = search rules in
     let same : g.C.FolderCalls.start now ≡ g.C.FolderCalls.start c.args.calls = search rules in
     let honest = told (g.C.FolderCalls.start now) (g.C.FolderCalls.events now) (g.met.C.FolderCalls.occurred now) in
-    opens_image _ _ _ c.in_ok-pages.pages same is honest
+    opens_image _ _ _ c.in_ok-pages.pages (g.met.C.FolderCalls.are_files now) same is honest

@@ -1,4 +1,5 @@
 use Rattle.std.proofs.Common.{◌∙◌, sym}
+use Rattle.folder_platform.proofs.Once.{once_look}
 use Rattle.folder_platform.proofs.Safety.{safe_look}
 use Rattle.folder_platform.proofs.Telling.{kept_look, done_look}
 use Rattle.folder_platform.proofs.folder_platform.FolderPlatformPlatform.load_root.Goals as goal
@@ -8,4 +9,4 @@ invariant_of-self-in-Ok-1 g c =
     let old = c.args.self.now in
     let e = c.load_cell.ensures in
     let all = kept_look _ _ _ _ c.load_cell.result c.load_cell.new.into e.start e.noted old.told in
-    record { told = all.told; readable = all.readable ∙ old.readable; recorded = all.recorded ∙ old.recorded; room = old.room; sound = λ calm. done_look _ _ c.load_cell.result c.load_cell.new.into e.noted ∙ old.sound calm; settled = λ calm. all.settled (old.settled calm); safe = safe_look _ _ _ _ e.start (old.recorded ∙ sym old.readable) (old.settled c.if-self.false) old.safe c.load_cell.result c.load_cell.new.into e.noted }
+    record { told = all.told; readable = all.readable ∙ old.readable; recorded = all.recorded ∙ old.recorded; room = old.room; sound = λ calm. done_look _ _ c.load_cell.result c.load_cell.new.into e.noted ∙ old.sound calm; settled = λ calm. all.settled (old.settled calm); safe = safe_look _ _ _ _ e.start (old.recorded ∙ sym old.readable) (old.settled c.if-self.false) old.safe c.load_cell.result c.load_cell.new.into e.noted; once = once_look _ _ c.load_cell.result c.load_cell.new.into e.noted old.once }

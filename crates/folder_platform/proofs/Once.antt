@@ -1,0 +1,60 @@
+-- That pages are counted once, when the files are opened.
+use Rattle.std.proofs.Common.{◌≡◌, inl, inr, ℕ, Bool, true, false, List, [], ◌∷◌, Option, Some, None, Result, Ok, Err, refl, ◌∙◌, ap}
+use Rattle.std.specs.Prelude.{All, MatchResult}
+use Rattle.std.proofs.lemmas.List.Elements.{All-nil, All-cons, All-head, All-tail}
+use Rattle.folder_platform.specs.Events.{Event, page_read, root_read, new_removed, new_made, new_synced, new_renamed, root_removed, cell_synced}
+use Rattle.folder_platform.specs.Sequences.{Attempts, Replaces, Removes, NotesCell, opening, counts, counted}
+
+pub once_opening : (n : ℕ) (events : List Event) → events ≡ opening n → counted events ≡ 1
+once_opening n events is = ap counted is
+
+pub counted_more : (e : Event) (events : List Event) → counts e.0 ≡ false → counted (e ∷ events) ≡ counted events
+counted_more e events other = rw other refl
+
+pub once_event : (old new : List Event) (e : Event) → counts e.0 ≡ false → new ≡ e ∷ old → counted old ≡ 1 → counted new ≡ 1
+once_event old new e other is once = ap counted is ∙ counted_more e old other ∙ once
+
+once_same : (old new : List Event) → new ≡ old → counted old ≡ 1 → counted new ≡ 1
+once_same old new is once = ap counted is ∙ once
+
+pub once_answer : {T E : Type 0} (old new : List Event) (addr : ℕ) (page : List ℕ) (result : Result T E) → MatchResult result (λ _. new ≡ page_read addr page ∷ old) (λ _. new ≡ old) → counted old ≡ 1 → counted new ≡ 1
+once_answer old new addr page (Ok x) is once = once_event old new (page_read addr page) refl is once
+once_answer old new addr page (Err error) is once = once_same old new is once
+
+once_loaded : (old new : List Event) (held : Option (List ℕ)) → new ≡ root_read held ∷ old → counted old ≡ 1 → counted new ≡ 1
+once_loaded old new None is once = once_event old new (root_read None) refl is once
+once_loaded old new (Some bytes) is once = once_event old new (root_read (Some bytes)) refl is once
+
+pub once_look : {E : Type 0} (old new : List Event) (result : Result Bool E) (into : List ℕ) → NotesCell result into old new → counted old ≡ 1 → counted new ≡ 1
+once_look old new (Ok full) into notes once = once_loaded old new notes.0 notes.1 once
+once_look old new (Err error) into notes once = once_same old new notes once
+
+-- a call that counts no pages, done or not
+abbrev IsCountless : (Bool → Event) → Type 0
+IsCountless call = (done : Bool) → counts (call done).0 ≡ false
+
+once_attempts : (calls : List (Bool → Event)) (done : Bool) (old new : List Event) → All IsCountless calls → Attempts calls done old new → counted old ≡ 1 → counted new ≡ 1
+once_attempts [] done old new countless made once = once_same old new made.1 once
+once_attempts (call ∷ calls) done old new countless (inl made) once =
+    once_attempts calls done (call true ∷ old) new (All-tail IsCountless call calls countless) made
+    (once_event old (call true ∷ old) (call true) (All-head IsCountless call calls countless true) refl once)
+once_attempts (call ∷ calls) done old new countless (inr failed) once = once_event old new (call false) (All-head IsCountless call calls countless false) failed.1 once
+
+pub once_replaced : (bytes : List ℕ) (done : Bool) (old new : List Event) → Replaces bytes done old new → counted old ≡ 1 → counted new ≡ 1
+once_replaced bytes done old new made once =
+    let made_new : Bool → Event = λ done. new_made done bytes in
+    let all : All IsCountless (new_removed ∷ made_new ∷ new_synced ∷ new_renamed ∷ cell_synced ∷ []) =
+    All-cons IsCountless new_removed (made_new ∷ new_synced ∷ new_renamed ∷ cell_synced ∷ []) (λ done. refl)
+    (All-cons IsCountless made_new (new_synced ∷ new_renamed ∷ cell_synced ∷ []) (λ done. refl)
+    (All-cons IsCountless new_synced (new_renamed ∷ cell_synced ∷ []) (λ done. refl)
+    (All-cons IsCountless new_renamed (cell_synced ∷ []) (λ done. refl)
+    (All-cons IsCountless cell_synced [] (λ done. refl) (All-nil IsCountless))))) in
+    once_attempts (new_removed ∷ made_new ∷ new_synced ∷ new_renamed ∷ cell_synced ∷ []) done old new all made once
+
+pub once_removed : (done : Bool) (old new : List Event) → Removes done old new → counted old ≡ 1 → counted new ≡ 1
+once_removed done old new made once =
+    let all : All IsCountless (new_removed ∷ root_removed ∷ cell_synced ∷ []) =
+    All-cons IsCountless new_removed (root_removed ∷ cell_synced ∷ []) (λ done. refl)
+    (All-cons IsCountless root_removed (cell_synced ∷ []) (λ done. refl)
+    (All-cons IsCountless cell_synced [] (λ done. refl) (All-nil IsCountless))) in
+    once_attempts (new_removed ∷ root_removed ∷ cell_synced ∷ []) done old new all made once

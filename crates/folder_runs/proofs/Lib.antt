@@ -1,0 +1,3 @@
+pub mod ChainsOver
+pub mod Opened
+pub mod Together
