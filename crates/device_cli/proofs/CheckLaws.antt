@@ -18,7 +18,7 @@ use Rattle.cert_checker.proofs.FirstLaws.{none_first}
 use Rattle.ledger_check.specs.Judging.{IsWhole}
 use Rattle.device_terms.specs.Served.{IsServedCell, IsServedImage}
 use Rattle.line_run.specs.Stops.{HasCause}
-use Rattle.session_calls.specs.Blame.{Counts, NoneRose}
+use Rattle.sdbt_base.specs.Counts.{Counts, NoneRose}
 use Rattle.line_run.specs.Puts.{damage_line}
 use Rattle.device_cli.specs.Checks.{Checks, IsAcceptable, IsSaid, IsSo, finding_line, status_at, status_of_finding}
 use Rattle.session_calls.specs.Cells.{IsInCell}
@@ -93,12 +93,12 @@ complete_check tells image before now left left_now written written_now ending c
     go (Ok findings.BadRoot) said h = absurd (said.0.1 told (served_some image root able.cell))
     go (Ok (findings.Broken number value)) said h = absurd (broken said.0.0 said.0.2.0 number value (said.0.1 told) said.0.2.1 said.0.2.2)
     go (Ok (findings.Accepted commit live deleted)) said h = inl refl
-    go (Err stops.Source) said h = absurd (quiet.input h)
-    go (Err stops.Sink) said h = absurd (quiet.output h)
+    go (Err stops.Source) said h = absurd (quiet.input h.0)
+    go (Err stops.Sink) said h = absurd (quiet.output h.0)
     go (Err stops.Limit) said h =
         let few = some_taken text checks.taken left left_now able.text_is checks.gave in
         absurd (omega (arith, few, able.short, said.0.0))
-    go (Err (stops.Device device.Platform)) said h = absurd (quiet.platform h)
+    go (Err (stops.Device device.Platform)) said h = absurd (quiet.platform h.0)
     go (Err (stops.Device device.Memory)) said h = inr refl
     go (Err (stops.Device device.Tape)) said h = absurd said.0
     go (Err (stops.Device device.Ledger)) said h = absurd said.0

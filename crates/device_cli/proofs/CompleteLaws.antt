@@ -19,7 +19,7 @@ use Rattle.device_cli.specs.Represents.{StandsFor}
 use Rattle.device_cli.specs.Pages.{updates_after, TurnOn, AnswersOn}
 use Rattle.device_cli.specs.Run.{IsStatus, Took}
 use Rattle.line_run.specs.Stops.{HasCause, TookUntil, Ending, exit_of}
-use Rattle.session_calls.specs.Blame.{Counts, NoneRose}
+use Rattle.sdbt_base.specs.Counts.{Counts, NoneRose}
 use Rattle.line_run.specs.declared.stop.Stop.TheVariants as stops
 use Rattle.session_calls.specs.declared.stops.DeviceStop.TheVariants as device
 use Rattle.device_cli.proofs.RanLaws.{Took-of}
@@ -172,11 +172,11 @@ complete tells old new status left left_now written written_now text there told 
 quiet_exit : (ending : Ending) (before now : Counts) → IfErr ending (HasCause before now) → NoneRose before now
     → (exit_of ending ≢ 2) × (exit_of ending ≢ 3) × (exit_of ending ≢ 4) × (exit_of ending ≢ 5) × (exit_of ending ≢ 6) × (exit_of ending ≢ 7)
 quiet_exit (Ok done) before now h quiet = (λ e. omega (arith, e), λ e. omega (arith, e), λ e. omega (arith, e), λ e. omega (arith, e), λ e. omega (arith, e), λ e. omega (arith, e))
-quiet_exit (Err stops.Source) before now h quiet = (λ e. omega (arith, e), λ e. quiet.input h, λ e. omega (arith, e), λ e. omega (arith, e), λ e. omega (arith, e), λ e. omega (arith, e))
-quiet_exit (Err stops.Sink) before now h quiet = (λ e. omega (arith, e), λ e. omega (arith, e), λ e. quiet.output h, λ e. omega (arith, e), λ e. omega (arith, e), λ e. omega (arith, e))
-quiet_exit (Err (stops.Device device.Platform)) before now h quiet = (λ e. omega (arith, e), λ e. omega (arith, e), λ e. omega (arith, e), λ e. quiet.platform h, λ e. omega (arith, e), λ e. omega (arith, e))
-quiet_exit (Err (stops.Device device.Tape)) before now h quiet = (λ e. omega (arith, e), λ e. omega (arith, e), λ e. omega (arith, e), λ e. omega (arith, e), λ e. quiet.tape h, λ e. omega (arith, e))
-quiet_exit (Err (stops.Device device.Ledger)) before now h quiet = (λ e. omega (arith, e), λ e. omega (arith, e), λ e. omega (arith, e), λ e. omega (arith, e), λ e. omega (arith, e), λ e. quiet.ledger h)
+quiet_exit (Err stops.Source) before now h quiet = (λ e. omega (arith, e), λ e. quiet.input h.0, λ e. omega (arith, e), λ e. omega (arith, e), λ e. omega (arith, e), λ e. omega (arith, e))
+quiet_exit (Err stops.Sink) before now h quiet = (λ e. omega (arith, e), λ e. omega (arith, e), λ e. quiet.output h.0, λ e. omega (arith, e), λ e. omega (arith, e), λ e. omega (arith, e))
+quiet_exit (Err (stops.Device device.Platform)) before now h quiet = (λ e. omega (arith, e), λ e. omega (arith, e), λ e. omega (arith, e), λ e. quiet.platform h.0, λ e. omega (arith, e), λ e. omega (arith, e))
+quiet_exit (Err (stops.Device device.Tape)) before now h quiet = (λ e. omega (arith, e), λ e. omega (arith, e), λ e. omega (arith, e), λ e. omega (arith, e), λ e. quiet.tape h.0, λ e. omega (arith, e))
+quiet_exit (Err (stops.Device device.Ledger)) before now h quiet = (λ e. omega (arith, e), λ e. omega (arith, e), λ e. omega (arith, e), λ e. omega (arith, e), λ e. omega (arith, e), λ e. quiet.ledger h.0)
 quiet_exit (Err (stops.Device device.Memory)) before now h quiet = (λ e. omega (arith, e), λ e. omega (arith, e), λ e. omega (arith, e), λ e. omega (arith, e), λ e. omega (arith, e), λ e. omega (arith, e))
 quiet_exit (Err (stops.Device device.BadRoot)) before now h quiet = (λ e. omega (arith, e), λ e. omega (arith, e), λ e. omega (arith, e), λ e. omega (arith, e), λ e. omega (arith, e), λ e. omega (arith, e))
 quiet_exit (Err (stops.Device (device.BadRecord addr))) before now h quiet = (λ e. omega (arith, e), λ e. omega (arith, e), λ e. omega (arith, e), λ e. omega (arith, e), λ e. omega (arith, e), λ e. omega (arith, e))

@@ -1,3 +1,4 @@
+pub mod BlameLaws
 pub mod CellLaws
 pub mod CallLaws
 pub mod Choices

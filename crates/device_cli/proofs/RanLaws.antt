@@ -215,13 +215,13 @@ Took-of (Err (stops.Device device.BadRoot)) taken left t = record { most = t.mos
 Took-of (Err (stops.Device (device.BadRecord addr))) taken left t = record { most = t.most; whole = λ e. absurd (omega (arith, e)); failed = λ e. absurd (omega (arith, e)); refused = λ e. absurd (omega (arith, e)); limit = λ e. absurd (omega (arith, e)); nothing = λ e. absurd (omega (arith, e)) }
 
 -- a stop of the device, and what the putting of its last line ended with
-pub Ran-ended : (tells : Type 0) (old new : World) (Risen : Type 0) (stop : DeviceStop) (ended : Stop) (left left_now a b c : Option (List ℕ))
+pub Ran-ended : (tells : Type 0) (old new : World) (Still Risen : Type 0) (stop : DeviceStop) (ended : Stop) (left left_now a b c : Option (List ℕ))
     → Ran tells old new no_line (Err (stops.Device stop)) left left_now a b
-    → ((ended ≡ stops.Device stop) × Got b (damage_line stop) c) ⊎ ((ended ≡ stops.Sink) × Risen × GotPart b (damage_line stop) c × (IsSound stop → ⊥))
+    → ((ended ≡ stops.Device stop) × Got b (damage_line stop) c × Still) ⊎ ((ended ≡ stops.Sink) × Risen × GotPart b (damage_line stop) c × (IsSound stop → ⊥))
     → Ran tells old new damage_line (Err ended) left left_now a c
-Ran-ended tells old new Risen stop ended left left_now a b c r (inl (e, got)) =
+Ran-ended tells old new Still Risen stop ended left left_now a b c r (inl (e, got, still)) =
     subst (λ (s : Stop). Ran tells old new damage_line (Err s) left left_now a c) (sym e) (Ran-last tells old new stop left left_now a b c r got)
-Ran-ended tells old new Risen stop ended left left_now a b c r (inr (e, risen, got, damaged)) =
+Ran-ended tells old new Still Risen stop ended left left_now a b c r (inr (e, risen, got, damaged)) =
     subst (λ (s : Stop). Ran tells old new damage_line (Err s) left left_now a c) (sym e) (Ran-cut tells old new stop left left_now a b c r got damaged)
 
 -- a stop before the first line is one without damage, where the cell can be served

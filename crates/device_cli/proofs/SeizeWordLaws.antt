@@ -11,7 +11,7 @@ use Rattle.device_terms.specs.Served.{IsServedCell}
 use Rattle.seizure.specs.declared.opened.Opened.{Opened}
 use Rattle.line_run.specs.Stops.{Ending, IsSound, exit_of, HasCause}
 use Rattle.line_run.specs.Puts.{HasPut, damage_line}
-use Rattle.session_calls.specs.Blame.{Counts, NoneRose}
+use Rattle.sdbt_base.specs.Counts.{Counts, NoneRose}
 use Rattle.device_cli.specs.Given.{AreGiven, HasBadRecord}
 use Rattle.device_cli.specs.Seizing.{IsReportOf, IsRefused, ReadsFewFor, Seizes, opened_line}
 use Rattle.session_calls.specs.declared.stops.DeviceStop.{DeviceStop}
@@ -77,9 +77,9 @@ pub complete_seizure : (tells : Type 0) (head : ℕ) (image : Image) (records : 
     → IfErr ending (HasCause before now) → tells → (IsRefused head image records → ⊥) → NoneRose before now → (exit_of ending ≡ 0) ⊎ (exit_of ending ≡ 11)
 complete_seizure tells head image records before now written written_now (Ok done) h cause told good quiet = inl refl
 complete_seizure tells head image records before now written written_now (Err stops.Source) h cause told good quiet = absurd h
-complete_seizure tells head image records before now written written_now (Err stops.Sink) h cause told good quiet = absurd (quiet.output cause)
+complete_seizure tells head image records before now written written_now (Err stops.Sink) h cause told good quiet = absurd (quiet.output cause.0)
 complete_seizure tells head image records before now written written_now (Err stops.Limit) h cause told good quiet = absurd h
-complete_seizure tells head image records before now written written_now (Err (stops.Device device.Platform)) h cause told good quiet = absurd (quiet.platform cause)
+complete_seizure tells head image records before now written written_now (Err (stops.Device device.Platform)) h cause told good quiet = absurd (quiet.platform cause.0)
 complete_seizure tells head image records before now written written_now (Err (stops.Device device.Tape)) h cause told good quiet = absurd h
 complete_seizure tells head image records before now written written_now (Err (stops.Device device.Ledger)) h cause told good quiet = absurd h
 complete_seizure tells head image records before now written written_now (Err (stops.Device device.BadRoot)) h cause told good quiet = absurd (good (h.0 told))
@@ -138,46 +138,46 @@ got_none None now got = got
 got_none (Some bytes) now got = got ∙ ap (λ (b : List ℕ). Some b) (append-nil bytes)
 
 -- why a seizure does not come about
-abbrev IsWhy : DeviceStop → Type 0 → Type 0
-IsWhy stop R = (stop ≡ device.BadRoot) ⊎ (stop ≡ device.Memory) ⊎ ((stop ≡ device.Platform) × R)
+abbrev IsWhy : DeviceStop → Type 0
+IsWhy stop = (stop ≡ device.BadRoot) ⊎ (stop ≡ device.Memory) ⊎ (stop ≡ device.Platform)
 
-no_tape : (R : Type 0) → IsWhy device.Tape R → ⊥
-no_tape R (inl e) = cc
-no_tape R (inr (inl e)) = cc
-no_tape R (inr (inr (e, r))) = cc
+no_tape : IsWhy device.Tape → ⊥
+no_tape (inl e) = cc
+no_tape (inr (inl e)) = cc
+no_tape (inr (inr e)) = cc
 
-no_ledger : (R : Type 0) → IsWhy device.Ledger R → ⊥
-no_ledger R (inl e) = cc
-no_ledger R (inr (inl e)) = cc
-no_ledger R (inr (inr (e, r))) = cc
+no_ledger : IsWhy device.Ledger → ⊥
+no_ledger (inl e) = cc
+no_ledger (inr (inl e)) = cc
+no_ledger (inr (inr e)) = cc
 
-no_record : (R : Type 0) (addr : ℕ) → IsWhy (device.BadRecord addr) R → ⊥
-no_record R addr (inl e) = cc
-no_record R addr (inr (inl e)) = cc
-no_record R addr (inr (inr (e, r))) = cc
+no_record : (addr : ℕ) → IsWhy (device.BadRecord addr) → ⊥
+no_record addr (inl e) = cc
+no_record addr (inr (inl e)) = cc
+no_record addr (inr (inr e)) = cc
 
 -- its last line was put, if it has one
-pub stopped_whole : (tells : Type 0) (head : ℕ) (image : Image) (records : List (List ℕ)) (written written_now : Option (List ℕ)) (stop : DeviceStop) (R : Type 0)
-    → (tells → stop ≡ device.BadRoot → IsRefused head image records) → (tells → stop ≡ device.Memory → IsRefused head image records → ⊥) → IsWhy stop R
+pub stopped_whole : (tells : Type 0) (head : ℕ) (image : Image) (records : List (List ℕ)) (written written_now : Option (List ℕ)) (stop : DeviceStop)
+    → (tells → stop ≡ device.BadRoot → IsRefused head image records) → (tells → stop ≡ device.Memory → IsRefused head image records → ⊥) → IsWhy stop
     → Got written (damage_line stop) written_now → Seizes tells head image records written written_now (Err (stops.Device stop))
 unfolding damage_line
-stopped_whole tells head image records written now device.BadRoot R bad memory why got = (λ told. bad told refl, got)
-stopped_whole tells head image records written now device.Memory R bad memory why got = (λ told cell. memory told refl cell, got_none written now got)
-stopped_whole tells head image records written now device.Platform R bad memory why got = got_none written now got
-stopped_whole tells head image records written now device.Tape R bad memory why got = absurd (no_tape R why)
-stopped_whole tells head image records written now device.Ledger R bad memory why got = absurd (no_ledger R why)
-stopped_whole tells head image records written now (device.BadRecord addr) R bad memory why got = absurd (no_record R addr why)
+stopped_whole tells head image records written now device.BadRoot bad memory why got = (λ told. bad told refl, got)
+stopped_whole tells head image records written now device.Memory bad memory why got = (λ told cell. memory told refl cell, got_none written now got)
+stopped_whole tells head image records written now device.Platform bad memory why got = got_none written now got
+stopped_whole tells head image records written now device.Tape bad memory why got = absurd (no_tape why)
+stopped_whole tells head image records written now device.Ledger bad memory why got = absurd (no_ledger why)
+stopped_whole tells head image records written now (device.BadRecord addr) bad memory why got = absurd (no_record addr why)
 
 -- or not whole
-pub stopped_part : (tells : Type 0) (head : ℕ) (image : Image) (records : List (List ℕ)) (written written_now : Option (List ℕ)) (stop : DeviceStop) (R : Type 0)
-    → (tells → stop ≡ device.BadRoot → IsRefused head image records) → IsWhy stop R → (IsSound stop → ⊥)
+pub stopped_part : (tells : Type 0) (head : ℕ) (image : Image) (records : List (List ℕ)) (written written_now : Option (List ℕ)) (stop : DeviceStop)
+    → (tells → stop ≡ device.BadRoot → IsRefused head image records) → IsWhy stop → (IsSound stop → ⊥)
     → GotPart written (damage_line stop) written_now → Seizes tells head image records written written_now (Err stops.Sink)
-stopped_part tells head image records written now device.BadRoot R bad why unsound part = inr (λ told. bad told refl, part)
-stopped_part tells head image records written now device.Memory R bad why unsound part = absurd (unsound tt)
-stopped_part tells head image records written now device.Platform R bad why unsound part = absurd (unsound tt)
-stopped_part tells head image records written now device.Tape R bad why unsound part = absurd (unsound tt)
-stopped_part tells head image records written now device.Ledger R bad why unsound part = absurd (unsound tt)
-stopped_part tells head image records written now (device.BadRecord addr) R bad why unsound part = absurd (no_record R addr why)
+stopped_part tells head image records written now device.BadRoot bad why unsound part = inr (λ told. bad told refl, part)
+stopped_part tells head image records written now device.Memory bad why unsound part = absurd (unsound tt)
+stopped_part tells head image records written now device.Platform bad why unsound part = absurd (unsound tt)
+stopped_part tells head image records written now device.Tape bad why unsound part = absurd (unsound tt)
+stopped_part tells head image records written now device.Ledger bad why unsound part = absurd (unsound tt)
+stopped_part tells head image records written now (device.BadRecord addr) bad why unsound part = absurd (no_record addr why)
 
 -- a cell that can be seized, and words that are root records, are not refused
 pub not_refused : (head : ℕ) (image : Image) (records keys : List (List ℕ)) → (IsBadCell head image.cell → ⊥) → AreGiven head records keys → IsRefused head image records → ⊥

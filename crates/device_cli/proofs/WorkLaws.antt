@@ -16,7 +16,7 @@ use Rattle.device_cli.specs.Ran.{Ran, AnswersScript, IsAmple, IsComplete}
 use Rattle.line_run.specs.Stops.{Ending, exit_of, HasCause, status_of}
 use Rattle.line_run.specs.Puts.{damage_line}
 use Rattle.device_cli.specs.Handed.{Handed}
-use Rattle.session_calls.specs.Blame.{Counts, NoneRose}
+use Rattle.sdbt_base.specs.Counts.{Counts, NoneRose}
 use Rattle.device_cli.specs.Working.{Says, Worked, Working, script_of}
 use Rattle.session_calls.specs.declared.stops.DeviceStop.{DeviceStop}
 use Rattle.session_calls.specs.declared.stops.DeviceStop.TheVariants as device
@@ -87,14 +87,14 @@ work_complete tells old new seed count serving ending before now left told writt
     go : (serving ending : Ending) → (s : AnswersScript tells old new (exit_of serving) (Some text) left (Some []) told) → Says seed count s.replies serving written written_now ending
         → IfErr ending (HasCause before now) → (exit_of ending ≡ 11) ⊎ ((exit_of ending ≡ 0) × IsComplete (closed there) text (Some []) told)
     go (Ok done) (Ok put) s says cause = inr (refl, all s)
-    go (Ok done) (Err stops.Sink) s says cause = absurd (quiet.output cause)
+    go (Ok done) (Err stops.Sink) s says cause = absurd (quiet.output cause.0)
     go (Ok done) (Err stops.Source) s says cause = absurd says
     go (Ok done) (Err stops.Limit) s says cause = absurd says
     go (Ok done) (Err (stops.Device stop)) s says cause = absurd says
     go (Err stops.Source) ending s says cause = absurd says
     go (Err stops.Limit) ending s says cause = absurd says
     go (Err stops.Sink) ending s says cause = inl (ap exit_of says.0)
-    go (Err (stops.Device stop)) ending s (inr part) cause = absurd (quiet.output (subst (λ (e : Ending). IfErr e (HasCause before now)) part.0 cause))
+    go (Err (stops.Device stop)) ending s (inr part) cause = absurd (quiet.output (subst (λ (e : Ending). IfErr e (HasCause before now)) part.0 cause).0)
     go (Err (stops.Device stop)) ending s (inl whole) cause = stopped stop s (subst (λ (e : Ending). IfErr e (HasCause before now)) whole.0 cause) (ap exit_of whole.0)
       where
         Done : ℕ → Type 0
@@ -102,9 +102,9 @@ work_complete tells old new seed count serving ending before now left told writt
 
         stopped : (stop : DeviceStop) → AnswersScript tells old new (status_of (stops.Device stop)) (Some text) left (Some []) told → HasCause before now (stops.Device stop)
             → exit_of ending ≡ status_of (stops.Device stop) → Done (exit_of ending)
-        stopped device.Platform s cause e = absurd (quiet.platform cause)
-        stopped device.Tape s cause e = absurd (quiet.tape cause)
-        stopped device.Ledger s cause e = absurd (quiet.ledger cause)
+        stopped device.Platform s cause e = absurd (quiet.platform cause.0)
+        stopped device.Tape s cause e = absurd (quiet.tape cause.0)
+        stopped device.Ledger s cause e = absurd (quiet.ledger cause.0)
         stopped device.BadRoot s cause e = absurd ((s.answered holds there stands served).sound.0 refl)
         stopped (device.BadRecord addr) s cause e = absurd ((s.answered holds there stands served).sound.1 refl)
         stopped device.Memory s cause e = inl e

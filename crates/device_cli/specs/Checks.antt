@@ -16,7 +16,7 @@ use Rattle.line_run.specs.Puts.{damage_line}
 use Rattle.device_cli.specs.Handed.{Handed}
 use Rattle.session_calls.specs.Cells.{IsInCell}
 use Rattle.line_run.specs.Stops.{status_of}
-use Rattle.session_calls.specs.Blame.{NoneRose}
+use Rattle.sdbt_base.specs.Counts.{NoneRose}
 use Rattle.device_cli.specs.declared.checking.Finding.{Finding}
 use Rattle.device_cli.specs.declared.checking.Finding.TheVariants as findings
 use Rattle.session_calls.specs.declared.stops.DeviceStop.TheVariants as device

@@ -4,7 +4,7 @@ use Rattle.sdbt_base.specs.declared.sinks.Sink.{Ghosts as SinkGhosts}
 use Rattle.sdbt_base.specs.declared.sources.Source.{Ghosts as SourceGhosts}
 use Rattle.sdbt_base.specs.declared.tapes.Tape.{Ghosts as TapeGhosts}
 use Rattle.platform.specs.declared.platforms.Platform.{Ghosts as PlatformGhosts}
-use Rattle.session_calls.specs.Blame.{Counts, counts}
+use Rattle.sdbt_base.specs.Counts.{Counts, counts}
 use Rattle.device_cli.specs.World.{World, world_of}
 
 -- the five objects at one moment, and what they tell then: the platform, without a session; the keys that the tape drew; what the input has left; what the output

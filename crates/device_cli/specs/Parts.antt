@@ -15,7 +15,7 @@ use Rattle.device_cli.specs.Pages.{updates_after}
 use Rattle.device_cli.specs.Replied.{Serves, outcome}
 use Rattle.device_cli.specs.Represents.{Represents}
 use Rattle.line_run.specs.Stops.{IsBlamedOn}
-use Rattle.session_calls.specs.Blame.{counts}
+use Rattle.sdbt_base.specs.Counts.{counts}
 use Rattle.device_cli.specs.Seen.{Saw}
 use Rattle.device_cli.specs.World.{World, world_of, needed_of, AreEnough}
 use Rattle.device_cli.specs.declared.desk.Desk.{Desk}
@@ -39,7 +39,7 @@ abbrev pub KeepsStill : {S X E : Type 0} → PlatformGhosts S → Desk → Desk 
 KeepsStill P desk now platform platform_now result =
     (drawn : Option (List (List ℕ))) (written : Option (List ℕ)) → KeepsFrom P drawn drawn written written desk now platform platform_now result
 
--- no count fell, and a stop at a fault came where the count of that object rose; the input is not called
+-- no count fell; all are as they were where a part was done, and where it stopped at a fault that of this object rose alone; the input is not called
 abbrev pub Blames : {S R O L : Type 0} → PlatformGhosts S → TapeGhosts R → SinkGhosts O → SinkGhosts L → S → S → R → R → O → O → L → L → Result (Unit {0}) Stop → Type 0
 Blames P T O L platform platform_now tape tape_now output output_now ledger ledger_now result =
     IsBlamedOn (counts (P.faults platform) (T.faults tape) 0 (O.faults output) (L.faults ledger))

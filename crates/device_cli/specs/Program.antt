@@ -11,14 +11,14 @@ use Rattle.device_course.specs.Reaching.{DisclosesTree}
 use Rattle.line_run.specs.Puts.{damage_line}
 use Rattle.device_cli.specs.Represents.{StandsFor}
 use Rattle.device_cli.specs.Run.{IsStatus, IsBlamedAt, Took}
-use Rattle.session_calls.specs.Blame.{NoneRose}
+use Rattle.sdbt_base.specs.Counts.{NoneRose}
 use Rattle.device_cli.specs.Seen.{SeizesMaps}
 use Rattle.session_calls.specs.Cells.{IsUnserved}
 use Rattle.session_calls.specs.declared.stops.DeviceStop.TheVariants as device
 use Rattle.device_cli.specs.Words.{AreWords, AreServingWords, AreSeizeWords, AreSomeWorkWords, records_of}
 
--- the exit status is one that there is, and 2 exactly where the words are none of the forms; one that names a fault comes only where the count of that object rose, and no
--- count fell; and what was taken of the input is as the status says: 0 and 3 before its limit, and 12 at it. The words `seize` and `work` say that nothing is
+-- the exit status is one that there is, and 2 exactly where the words are none of the forms; one that names a fault comes only where the count of that object rose, and
+-- that of no other, and at each other status, so at 0, all counts are as they were; and what was taken of the input is as the status says: 0 and 3 before its limit, and 12 at it. The words `seize` and `work` say that nothing is
 pub record Exits {S R I O L : Type 0} (words : List (List ℕ)) (status : ℕ) (old new : Handed S R I O L) : Type 0 where
   pub is : IsStatus status
   pub forms : (status ≡ 2) ↔ ¬ (AreWords words)

@@ -12,7 +12,7 @@ use Rattle.line_run.specs.Stops.{Ending, exit_of}
 use Rattle.line_run.specs.Puts.{HasPut, damage_line}
 use Rattle.device_cli.specs.Represents.{StandsFor}
 use Rattle.device_cli.specs.Handed.{Handed}
-use Rattle.session_calls.specs.Blame.{NoneRose}
+use Rattle.sdbt_base.specs.Counts.{NoneRose}
 use Rattle.device_cli.specs.World.{World}
 use Rattle.session_calls.specs.declared.stops.DeviceStop.TheVariants as device
 use Rattle.line_run.specs.declared.stop.Stop.TheVariants as stops

@@ -1,10 +1,10 @@
 //! The word `check`: judges a ledger for the root record in the cell.
-ghost use Rattle.std.specs.Prelude.{◌≡◌, ◌≤◌, IfErr, IfOk, OnOk};
-ghost use Rattle.sdbt_base.specs.Faults.{Rose};
+ghost use Rattle.std.specs.Prelude.{◌≡◌, ◌≤◌, IfErr, IfOk, OnOk, OnErr};
 ghost use Rattle.sdbt_base.specs.Told.{Got, GotPart};
 ghost use Rattle.platform.specs.History.{Steps};
+ghost use Rattle.line_run.specs.Puts.{TellsPut};
 ghost use Rattle.line_run.specs.Stops.{IsBlamedOn};
-ghost use Rattle.session_calls.specs.Blame.{counts};
+ghost use Rattle.sdbt_base.specs.Counts.{counts};
 ghost use Rattle.device_cli.specs.Checks.{Checks, IsJudged, Looked, finding_line, status_of_finding};
 
 use arrayvec::ArrayVec;
@@ -115,8 +115,8 @@ fn judge_for<I: Source>(alloc: Global, root: &Root, input: &mut I) -> Result<Fin
 /// Puts the line that says what was found.
 fn put_finding<O: Sink>(finding: Finding, output: &mut O) -> Result<(), Stop>
     ensures put { OnOk result (Got (O.written output.old) (finding_line finding) (O.written output.new)) }
-    ensures part { IfErr result (λ stop. (stop ≡ Stop.Sink) × Rose (O.faults output.old) (O.faults output.new)
-        × GotPart (O.written output.old) (finding_line finding) (O.written output.new)) }
+    ensures part { OnErr result (GotPart (O.written output.old) (finding_line finding) (O.written output.new)) }
+    ensures stop { TellsPut result (O.faults output.old) (O.faults output.new) }
     ensures count { O.faults output.old ≤ O.faults output.new }
 {
     match output.put(finding_text(finding).as_slice()) {

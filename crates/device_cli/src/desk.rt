@@ -1,10 +1,11 @@
 //! What a run keeps between lines, and the answer to each command.
 ghost use Rattle.std.specs.Prelude.{◌≡◌, ◌≢◌, ◌<◌, ◌≤◌, ◌⊎◌, ℕ, List, Option, true, false, IfOk, IfErr, IsErrOf, None, Some, Ok, take};
-ghost use Rattle.sdbt_base.specs.Faults.{Rose};
+ghost use Rattle.sdbt_base.specs.Faults.{Tells};
 ghost use Rattle.script_lang.specs.Commands as commands;
 ghost use Rattle.script_lang.specs.Commands.{FitsBlock as FitsCommand, asked};
 ghost use Rattle.script_lang.specs.Replies.{CanWrite, FitsBlock, said};
-ghost use Rattle.session_calls.specs.Blame.{counts, IsBlamed};
+ghost use Rattle.sdbt_base.specs.Counts.{counts};
+ghost use Rattle.session_calls.specs.Blame.{IsBlamed};
 ghost use Rattle.platform.specs.History.{During};
 ghost use Rattle.seizure.specs.Opened.{count_of_kind};
 ghost use Rattle.device_cli.specs.Replied.{IsOfBlock};
@@ -357,7 +358,7 @@ fn refuse_format<P: Platform>(platform: &mut P) -> Result<Reply, DeviceStop>
     ensures reply { IfOk result (λ reply. (buffer : List ℕ) → CanWrite (said reply buffer)) }
     ensures short { IfOk result FitsBlock }
     ensures count { P.faults platform.old ≤ P.faults platform.new }
-    ensures cause { IfErr result (λ stop. (stop ≡ DeviceStop.Platform) × Rose (P.faults platform.old) (P.faults platform.new)) }
+    ensures cause { IfErr result (λ stop. stop ≡ DeviceStop.Platform) × Tells result (P.faults platform.old) (P.faults platform.new) }
 {
     let mut cell = [0; ROOT];
     match platform.load_root(&mut cell) {

@@ -1,6 +1,5 @@
 //! Serves a script line by line.
 ghost use Rattle.std.specs.Prelude.{◌≡◌, ◌≤◌, ◌⊎◌, ◌∷◌, [], ◌++◌, ℕ, List, IfErr, OnOk, IsOk, IsErrOf, ◌+◌, IfSome, IfNone, Option, None, ⊤, option_copied};
-ghost use Rattle.sdbt_base.specs.Faults.{Rose};
 ghost use Rattle.sdbt_base.specs.Told.{Got, GotPart};
 ghost use Rattle.script_lang.specs.Grammar.{Spells, IsBad};
 ghost use Rattle.text_lines.specs.Lines.{whole_lines_of, rest_of, last_line as line_at_end};
@@ -12,10 +11,10 @@ ghost use Rattle.device_cli.specs.Desk.{Before, AfterLine};
 ghost use Rattle.device_cli.specs.World.{world_of};
 ghost use Rattle.device_cli.specs.Run.{IsRefusal};
 ghost use Rattle.line_run.specs.Stops.{IsBlamedOn, status_of, IsSound};
-ghost use Rattle.session_calls.specs.Blame.{counts};
+ghost use Rattle.sdbt_base.specs.Counts.{counts};
 ghost use Rattle.line_run.specs.Pending.{IsPending, IsUnfinished};
 ghost use Rattle.device_cli.specs.Replied.{Handled};
-ghost use Rattle.line_run.specs.Puts.{HasPut, no_line, damage_line};
+ghost use Rattle.line_run.specs.Puts.{HasPut, no_line, damage_line, TellsPut};
 ghost use Rattle.device_cli.specs.Ran.{Ran};
 ghost use Rattle.device_course.specs.Keys.{KeepsOn};
 ghost use Rattle.session_calls.specs.Cells.{IsUnserved};
@@ -220,7 +219,7 @@ fn put_reply<O: Sink>(
     requires fits { FitsBlock reply.now }
     requires trimmed { CanWrite (said reply.now buffer.now) }
     ensures put { HasPut (line_of (said reply.now buffer.now)) result (O.written output.old) (O.written output.new) }
-    ensures stop { IfErr result (λ stop. (stop ≡ Stop.Sink) × Rose (O.faults output.old) (O.faults output.new)) }
+    ensures stop { TellsPut result (O.faults output.old) (O.faults output.new) }
     ensures count { O.faults output.old ≤ O.faults output.new }
 {
     match writer.write(reply, buffer, output) {

@@ -1,13 +1,13 @@
 //! The word `seize`: tells what an adversary would open now.
 ghost use Rattle.std.specs.Prelude.{◌≡◌, ◌≤◌, ◌⊎◌, IfErr, IfOk, OnOk, IsErrOf, flat_map, length, map, string_bytes};
-ghost use Rattle.sdbt_base.specs.Faults.{Rose};
+ghost use Rattle.sdbt_base.specs.Faults.{TellsOf};
 ghost use Rattle.platform.specs.History.{Steps};
 ghost use Rattle.page_store.specs.Roots.{IsBadCell};
 ghost use Rattle.seizure.specs.Looks.{Looks};
 ghost use Rattle.seizure.specs.Reads.{ReadsFew};
 ghost use Rattle.line_run.specs.Stops.{IsBlamedOn};
-ghost use Rattle.session_calls.specs.Blame.{counts};
-ghost use Rattle.line_run.specs.Puts.{HasPut};
+ghost use Rattle.sdbt_base.specs.Counts.{counts};
+ghost use Rattle.line_run.specs.Puts.{HasPut, TellsPut};
 ghost use Rattle.device_cli.specs.Seizing.{IsReport, IsReportOf, IsRefused, ReadsFewFor, Seizes, opened_line, counts_line, report_text};
 
 use crate::given::keys_given;
@@ -66,8 +66,8 @@ fn find<P: Platform>(
         IsRefused (P.head platform.old) (P.history platform.old).present (map string_bytes records.now) }
     ensures memory { P.tells → IsErrOf result DeviceStop.Memory →
         IsRefused (P.head platform.old) (P.history platform.old).present (map string_bytes records.now) → ⊥ }
-    ensures stops { IfErr result (λ stop. (stop ≡ DeviceStop.BadRoot) ⊎ (stop ≡ DeviceStop.Memory)
-        ⊎ ((stop ≡ DeviceStop.Platform) × Rose (P.faults platform.old) (P.faults platform.new))) }
+    ensures stops { IfErr result (λ stop. (stop ≡ DeviceStop.BadRoot) ⊎ (stop ≡ DeviceStop.Memory) ⊎ (stop ≡ DeviceStop.Platform)) }
+    ensures cause { TellsOf DeviceStop.Platform result (P.faults platform.old) (P.faults platform.new) }
     ensures looks { Looks P.Platform platform.old platform.new }
     ensures reads { P.tells → ReadsFewFor (P.head platform.old) (P.history platform.old).present (map string_bytes records.now)
         (P.reads platform.old) (P.reads platform.new) }
@@ -88,8 +88,8 @@ fn open_all<P: Platform>(
     ensures found { P.tells → IfOk result (IsReport (P.head platform.old) (P.history platform.old).present keys.now) }
     ensures bad_root { P.tells → IsErrOf result DeviceStop.BadRoot →
         IsBadCell (P.head platform.old) (P.history platform.old).present.cell }
-    ensures stops { IfErr result (λ stop. (stop ≡ DeviceStop.BadRoot) ⊎ (stop ≡ DeviceStop.Memory)
-        ⊎ ((stop ≡ DeviceStop.Platform) × Rose (P.faults platform.old) (P.faults platform.new))) }
+    ensures stops { IfErr result (λ stop. (stop ≡ DeviceStop.BadRoot) ⊎ (stop ≡ DeviceStop.Memory) ⊎ (stop ≡ DeviceStop.Platform)) }
+    ensures cause { TellsOf DeviceStop.Platform result (P.faults platform.old) (P.faults platform.new) }
     ensures looks { Looks P.Platform platform.old platform.new }
     ensures reads { P.tells → ReadsFew (P.head platform.old) (P.history platform.old).present.cell keys.now
         (P.history platform.old).present.readable (P.reads platform.old) (P.reads platform.new) }
@@ -121,8 +121,8 @@ fn check_root<P: Platform>(platform: &mut P) -> Result<(), DeviceStop>
     ensures good { P.tells → OnOk result (IsBadCell (P.head platform.old) (P.history platform.old).present.cell → ⊥) }
     ensures bad_root { P.tells → IsErrOf result DeviceStop.BadRoot →
         IsBadCell (P.head platform.old) (P.history platform.old).present.cell }
-    ensures stops { IfErr result (λ stop. (stop ≡ DeviceStop.BadRoot)
-        ⊎ ((stop ≡ DeviceStop.Platform) × Rose (P.faults platform.old) (P.faults platform.new))) }
+    ensures stops { IfErr result (λ stop. (stop ≡ DeviceStop.BadRoot) ⊎ (stop ≡ DeviceStop.Platform)) }
+    ensures cause { TellsOf DeviceStop.Platform result (P.faults platform.old) (P.faults platform.new) }
     ensures looks { Looks P.Platform platform.old platform.new }
     ensures unread { P.tells → P.reads platform.new ≡ P.reads platform.old }
 {
@@ -136,7 +136,7 @@ fn check_root<P: Platform>(platform: &mut P) -> Result<(), DeviceStop>
 /// Puts the lines of a report: one for each body that was opened, and one with their numbers.
 fn put_report<O: Sink>(report: &Report, output: &mut O) -> Result<(), Stop>
     ensures put { HasPut (report_text report.now) result (O.written output.old) (O.written output.new) }
-    ensures stop { IfErr result (λ stop. (stop ≡ Stop.Sink) × Rose (O.faults output.old) (O.faults output.new)) }
+    ensures stop { TellsPut result (O.faults output.old) (O.faults output.new) }
     ensures count { O.faults output.old ≤ O.faults output.new }
 {
     if let Err(stop) = put_opened(report.opened(), output) {
@@ -148,7 +148,7 @@ fn put_report<O: Sink>(report: &Report, output: &mut O) -> Result<(), Stop>
 /// Puts a line for each body that was opened.
 fn put_opened<O: Sink>(opened: &[Opened], output: &mut O) -> Result<(), Stop>
     ensures put { HasPut (flat_map opened_line opened.now) result (O.written output.old) (O.written output.new) }
-    ensures stop { IfErr result (λ stop. (stop ≡ Stop.Sink) × Rose (O.faults output.old) (O.faults output.new)) }
+    ensures stop { TellsPut result (O.faults output.old) (O.faults output.new) }
     ensures count { O.faults output.old ≤ O.faults output.new }
 {
     for item in opened {

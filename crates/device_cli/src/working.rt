@@ -1,14 +1,13 @@
 //! The word `work`: serves the script of a seed, and tells what came of it.
 ghost use Rattle.std.specs.Prelude.{◌≡◌, ◌≤◌, ◌⊎◌, ℕ, List, Option, None, ⊤, IfErr, IsOk, flat_map};
-ghost use Rattle.sdbt_base.specs.Faults.{Rose};
 ghost use Rattle.script_lang.specs.Replies.{Reply, line_of};
 ghost use Rattle.workload.specs.Summaries.{heading, summary};
 ghost use Rattle.device_terms.specs.Served.{IsServedImage};
 ghost use Rattle.device_session.specs.Sessions.{Session};
 ghost use Rattle.device_course.specs.Keys.{KeepsOn};
-ghost use Rattle.line_run.specs.Puts.{HasPut, damage_line};
+ghost use Rattle.line_run.specs.Puts.{HasPut, damage_line, TellsPut};
 ghost use Rattle.line_run.specs.Stops.{exit_of, IsBlamedOn, status_of};
-ghost use Rattle.session_calls.specs.Blame.{counts};
+ghost use Rattle.sdbt_base.specs.Counts.{counts};
 ghost use Rattle.session_calls.specs.Cells.{IsUnserved};
 ghost use Rattle.device_cli.specs.Working.{Worked};
 ghost use Rattle.device_cli.specs.World.{world_of};
@@ -116,7 +115,7 @@ fn put_summary<O: Sink>(seed: u64, count: u64, told: &[u8], output: &mut O) -> R
     requires { count ≤ 5000 }
     ensures put { (replies : List Reply) → told.now ≡ flat_map line_of replies
         → HasPut (summary seed count replies) result (O.written output.old) (O.written output.new) }
-    ensures stop { IfErr result (λ stop. (stop ≡ Stop.Sink) × Rose (O.faults output.old) (O.faults output.new)) }
+    ensures stop { TellsPut result (O.faults output.old) (O.faults output.new) }
     ensures count { O.faults output.old ≤ O.faults output.new }
 {
     if let Err(stop) = put_line(heading_of(seed, count, Tally::of(told)).as_slice(), output) {

@@ -12,7 +12,7 @@ use Rattle.script_lang.specs.Answers.{IsMark}
 use Rattle.script_lang.specs.Replies.{Reply}
 use Rattle.device_terms.specs.Served.{IsServedImage}
 use Rattle.device_cli.specs.Run.{IsBlamedAt}
-use Rattle.session_calls.specs.Blame.{Counts}
+use Rattle.sdbt_base.specs.Counts.{Counts}
 use Rattle.device_cli.specs.World.{World}
 use Rattle.device_cli.specs.Represents.{StandsFor}
 use Rattle.device_cli.specs.Ran.{AnswersScript, AnswersFrom}
@@ -57,7 +57,7 @@ pub record GoesOnAnywhere (entry : State) (lines : List (List ℕ)) (replies : L
   pub within : (i : ℕ) → mark i ≤ length replies + length ahead
   pub each : (i : ℕ) → moment old.history ≤ i → i ≤ moment mid.history → Resumes entry lines (replies ++ ahead) mid i (mark i)
 
--- a run that was given no words ends with a status that names an object only where the count of faults of that object rose
+-- a run that was given no words ends with a status that names an object only where the count of faults of that object rose, and that of no other; at 0 none rose
 pub record HasCause (status : ℕ) (before now : Counts) : Type 0 where
   pub words : status ≢ 2
   pub blame : IsBlamedAt status before now

@@ -7,7 +7,7 @@ ghost use Rattle.device_terms.specs.Served.{IsServedImage};
 ghost use Rattle.device_course.specs.Fitting.{LeavesFitting};
 ghost use Rattle.device_cli.specs.Represents.{StandsFor};
 ghost use Rattle.platform.specs.Mem.{mem_history, image_of_now, capacity_of, reads_of, faults_of};
-ghost use Rattle.session_calls.specs.Blame.{counts};
+ghost use Rattle.sdbt_base.specs.Counts.{counts};
 ghost use Rattle.device_cli.specs.World.{world};
 ghost use Rattle.two_runs.specs.TwoRuns.{Tore, TwoRuns, HaveCauses};
 
@@ -43,7 +43,7 @@ pub fn run_twice<T: Tape, I: Source, O: Sink, L: Sink>(
     // A ledger that the checker accepted at the start is accepted, with the entries of both runs, for all that is left at the end.
     ensures fits { (there : Option Device) → StandsFor (mem_history platform.old).present there → IsServedImage (mem_history platform.old).present
         → LeavesFitting (L.written ledger.old) (L.written ledger.new) (mem_history platform.old).present (mem_history platform.new).present }
-    // Each status that names an object comes only where the count of faults of that object rose in that run.
+    // Each status that names an object comes only where the count of faults of that object rose in that run, and that of no other; at 0 none rose.
     ensures causes { HaveCauses result.0 result.1
         (counts (faults_of platform.old) (T.faults tape.old) (I.faults first.old) (O.faults output.old) (L.faults ledger.old))
         (counts (faults_of platform.new) (T.faults tape.new) (I.faults first.new) (O.faults output.new) (L.faults ledger.new))

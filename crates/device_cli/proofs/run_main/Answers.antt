@@ -165,7 +165,7 @@ returns-in-Ok-check-clause-checks g c words =
     let old = handed g.P.Platform g.T.Tape g.I.Source g.O.Sink g.L.Sink c.args.platform.now c.args.tape.now c.args.input.now c.args.output.now c.args.ledger.now in
     let new = handed g.P.Platform g.T.Tape g.I.Source g.O.Sink g.L.Sink c.check.new.platform c.args.tape.now c.check.new.input c.check.new.output c.args.ledger.now in
     let ending : Result Finding Stop = Ok c.in-Ok-check.finding in
-    let part : ArePart _ _ old.counts new.counts = record { platform = inr (refl, refl); tape = inl (refl, refl); input = inr (refl, refl); output = inr (refl, refl); ledger = inl (refl, refl) } in
+    let part : ArePart _ _ old.counts new.counts = record { platform = inr (refl, refl); tape = inl (refl, refl, refl); input = inr (refl, refl); output = inr (refl, refl); ledger = inl (refl, refl, refl) } in
     checked_at g.P.Platform.tells _ old new ending refl refl c.check.ensures.head c.check.ensures.time c.check.ensures.image c.status-in-Ok-check.ensures c.in-Ok-check.ensures.checks
     (cause_wide _ _ old.counts new.counts ending part c.in-Ok-check.ensures.blame.cause)
 
@@ -174,7 +174,7 @@ returns-in-Err-check-clause-checks g c words =
     let old = handed g.P.Platform g.T.Tape g.I.Source g.O.Sink g.L.Sink c.args.platform.now c.args.tape.now c.args.input.now c.args.output.now c.args.ledger.now in
     let new = handed g.P.Platform g.T.Tape g.I.Source g.O.Sink g.L.Sink c.check.new.platform c.args.tape.now c.check.new.input c.check.new.output c.args.ledger.now in
     let ending : Result Finding Stop = Err c.in-Err-check.stop in
-    let part : ArePart _ _ old.counts new.counts = record { platform = inr (refl, refl); tape = inl (refl, refl); input = inr (refl, refl); output = inr (refl, refl); ledger = inl (refl, refl) } in
+    let part : ArePart _ _ old.counts new.counts = record { platform = inr (refl, refl); tape = inl (refl, refl, refl); input = inr (refl, refl); output = inr (refl, refl); ledger = inl (refl, refl, refl) } in
     checked_at g.P.Platform.tells _ old new ending refl refl c.check.ensures.head c.check.ensures.time c.check.ensures.image c.status-in-Err-check.ensures c.in-Err-check.ensures.checks
     (cause_wide _ _ old.counts new.counts ending part c.in-Err-check.ensures.blame.cause)
 
@@ -245,7 +245,7 @@ returns-in-Ok-seize_word-clause-seizes g c words =
     let seizes = subst (λ (records : List (List ℕ)). Seizes g.P.Platform.tells old.world.head old.world.history.present records old.written new.written ending) c.records_of.ensures c.in-Ok-seize_word.ensures.seizes in
     let reads : g.P.Platform.tells → ReadsFewFor old.world.head old.world.history.present records old.world.reads new.world.reads =
     subst (λ (records : List (List ℕ)). g.P.Platform.tells → ReadsFewFor old.world.head old.world.history.present records old.world.reads new.world.reads) c.records_of.ensures c.seize_word.ensures.reads in
-    let part : ArePart _ _ old.counts new.counts = record { platform = inr (refl, refl); tape = inl (refl, refl); input = inl (refl, refl); output = inr (refl, refl); ledger = inl (refl, refl) } in
+    let part : ArePart _ _ old.counts new.counts = record { platform = inr (refl, refl); tape = inl (refl, refl, refl); input = inl (refl, refl, refl); output = inr (refl, refl); ledger = inl (refl, refl, refl) } in
     seizing_at g.P.Platform.tells records _ old new ending refl refl refl c.seize_word.ensures.head c.seize_word.ensures.time c.seize_word.ensures.image refl seizes reads
     (cause_wide _ _ old.counts new.counts ending part c.in-Ok-seize_word.ensures.blame.cause)
 
@@ -258,7 +258,7 @@ returns-in-Err-seize_word-clause-seizes g c words =
     let seizes = subst (λ (records : List (List ℕ)). Seizes g.P.Platform.tells old.world.head old.world.history.present records old.written new.written ending) c.records_of.ensures c.in-Err-seize_word.ensures.seizes in
     let reads : g.P.Platform.tells → ReadsFewFor old.world.head old.world.history.present records old.world.reads new.world.reads =
     subst (λ (records : List (List ℕ)). g.P.Platform.tells → ReadsFewFor old.world.head old.world.history.present records old.world.reads new.world.reads) c.records_of.ensures c.seize_word.ensures.reads in
-    let part : ArePart _ _ old.counts new.counts = record { platform = inr (refl, refl); tape = inl (refl, refl); input = inl (refl, refl); output = inr (refl, refl); ledger = inl (refl, refl) } in
+    let part : ArePart _ _ old.counts new.counts = record { platform = inr (refl, refl); tape = inl (refl, refl, refl); input = inl (refl, refl, refl); output = inr (refl, refl); ledger = inl (refl, refl, refl) } in
     seizing_at g.P.Platform.tells records _ old new ending refl refl refl c.seize_word.ensures.head c.seize_word.ensures.time c.seize_word.ensures.image c.status-in-Err-seize_word.ensures seizes reads
     (cause_wide _ _ old.counts new.counts ending part c.in-Err-seize_word.ensures.blame.cause)
 
@@ -316,7 +316,7 @@ returns-in-Ok-work-clause-works g c seed count words =
     let ending : Ending = Ok tt in
     let before = record old.counts { input = 0 } in
     let now = record new.counts { input = 0 } in
-    let part : ArePart before now old.counts new.counts = record { platform = inr (refl, refl); tape = inr (refl, refl); input = inl (refl, refl); output = inr (refl, refl); ledger = inr (refl, refl) } in
+    let part : ArePart before now old.counts new.counts = record { platform = inr (refl, refl); tape = inr (refl, refl); input = inl (refl, refl, refl); output = inr (refl, refl); ledger = inr (refl, refl) } in
     let worked = c.in-Ok-work.ensures.worked in
     let here = working_of g.P.Platform.tells c.in-Some-Work.seed c.in-Some-Work.count 0 old new worked.0 ending refl refl refl (at_most all c.in-Some-Work.seed c.in-Some-Work.count asked) refl
     (cause_wide before now old.counts new.counts ending part c.in-Ok-work.ensures.blame.cause) c.in-Ok-work.ensures.refused worked.1 in
@@ -350,7 +350,7 @@ returns-in-Err-work-clause-works g c seed count words =
     let ending : Ending = Err c.in-Err-work.stop in
     let before = record old.counts { input = 0 } in
     let now = record new.counts { input = 0 } in
-    let part : ArePart before now old.counts new.counts = record { platform = inr (refl, refl); tape = inr (refl, refl); input = inl (refl, refl); output = inr (refl, refl); ledger = inr (refl, refl) } in
+    let part : ArePart before now old.counts new.counts = record { platform = inr (refl, refl); tape = inr (refl, refl); input = inl (refl, refl, refl); output = inr (refl, refl); ledger = inr (refl, refl) } in
     let worked = c.in-Err-work.ensures.worked in
     let here = working_of g.P.Platform.tells c.in-Some-Work.seed c.in-Some-Work.count c.status-in-Err-work.result old new worked.0 ending refl refl refl (at_most all c.in-Some-Work.seed c.in-Some-Work.count asked) c.status-in-Err-work.ensures
     (cause_wide before now old.counts new.counts ending part c.in-Err-work.ensures.blame.cause) c.in-Err-work.ensures.refused worked.1 in

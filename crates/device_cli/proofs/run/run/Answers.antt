@@ -16,9 +16,9 @@ use Rattle.device_terms.proofs.MomentLaws.{one_look}
 use Rattle.device_cli.proofs.run.run.Goals as goal
 
 -- why the cell can't be served
-early : (Risen : Type 0) (stop : DeviceStop) → (stop ≡ device.BadRoot) ⊎ ((stop ≡ device.Platform) × Risen) → IsEarly stop
-early Risen stop (inl e) = subst IsEarly (sym e) tt
-early Risen stop (inr (e, risen)) = subst IsEarly (sym e) tt
+early : (stop : DeviceStop) → (stop ≡ device.BadRoot) ⊎ (stop ≡ device.Platform) → IsEarly stop
+early stop (inl e) = subst IsEarly (sym e) tt
+early stop (inr e) = subst IsEarly (sym e) tt
 
 pub returns-in-Err-clause-ran : goal.returns-in-Err-clause-ran
 returns-in-Err-clause-ran g c =
@@ -28,9 +28,9 @@ returns-in-Err-clause-ran g c =
     let old : World = world_of P None c.args.platform.now in
     let new : World = world_of P None c.check_cell.new.platform in
     let later : IsLater old new = record { capacity = c.check_cell.ensures.capacity; rises = omega (arith, c.check_cell.ensures.head); within = g.met.P.Platform.has_room c.check_cell.new.platform } in
-    let stops_at = early (Rose (P.faults c.args.platform.now) (P.faults c.check_cell.new.platform)) c.in-Err.stop c.in-Err.ensures.stops in (
+    let stops_at = early c.in-Err.stop c.in-Err.ensures.stops in (
       None,
-      Ran-ended P.tells old new (Rose (O.faults c.args.output.now) (O.faults c.last_line.new.output)) c.in-Err.stop c.last_line.result
+      Ran-ended P.tells old new (O.faults c.last_line.new.output ≡ O.faults c.args.output.now) (Rose (O.faults c.args.output.now) (O.faults c.last_line.new.output)) c.in-Err.stop c.last_line.result
           (g.I.Source.left c.args.input.now) (g.I.Source.left c.args.input.now) (written c.args.output.now) (written c.args.output.now) (written c.last_line.new.output)
           (Ran-refused P.tells old new c.in-Err.stop (g.I.Source.left c.args.input.now) (written c.args.output.now) stops_at later c.check_cell.ensures.head c.check_cell.ensures.reads
           (λ told entry rep. still_after old new entry refl (c.check_cell.ensures.image told) (c.check_cell.ensures.time told) c.check_cell.ensures.head rep)
@@ -49,7 +49,7 @@ returns-in-Device-clause-ran g c =
     let new : World = world_of P c.serve_input.new.desk.session c.serve_input.new.platform in
     let later : IsLater old mid = record { capacity = c.check_cell.ensures.capacity; rises = omega (arith, c.check_cell.ensures.head); within = g.met.P.Platform.has_room c.check_cell.new.platform } in (
       c.serve_input.new.desk.session,
-      Ran-ended P.tells old new (Rose (O.faults c.serve_input.new.output) (O.faults c.last_line-in-Device.new.output)) c.in-Device.stop c.last_line-in-Device.result
+      Ran-ended P.tells old new (O.faults c.last_line-in-Device.new.output ≡ O.faults c.serve_input.new.output) (Rose (O.faults c.serve_input.new.output) (O.faults c.last_line-in-Device.new.output)) c.in-Device.stop c.last_line-in-Device.result
           (left c.args.input.now) (left c.serve_input.new.input) (written c.args.output.now) (written c.serve_input.new.output) (written c.last_line-in-Device.new.output)
           (Ran-after P.tells old mid new no_line (Err (stops.Device c.in-Device.stop)) (left c.args.input.now) (left c.serve_input.new.input) (written c.args.output.now) (written c.serve_input.new.output)
           later c.check_cell.ensures.head c.check_cell.ensures.reads c.new-desk.ensures.session

@@ -6,6 +6,11 @@ use Rattle.sdbt_base.specs.Told.{Gave, IsAtEnd}
 use Rattle.text_lines.specs.Lines.{rest_of}
 use Rattle.device_cli.specs.World.{World, world_of}
 use Rattle.device_cli.proofs.Reading.{IsReading, IsReading-start, IsReading-more, IsReading-stop, IsReading-end, IsReading-failed, IsReading-limit}
+use Rattle.std.proofs.Common.{inl, inr, Err}
+use Rattle.sdbt_base.specs.Counts.{counts}
+use Rattle.line_run.specs.Stops.{Ending}
+use Rattle.line_run.proofs.StopLaws.{ArePart}
+use Rattle.device_cli.proofs.BlameLaws.{blamed_then, blamed_wide, fell_not}
 use Rattle.device_cli.proofs.CellLaws.{served_at, handled_through}
 use Rattle.device_course.proofs.KeysLaws.{on_start, on_done, on_then}
 use Rattle.device_cli.proofs.run.serve_input.Goals as goal
@@ -47,7 +52,7 @@ loop-left-init g c =
       ready = c.requires.ready;
       mounted = c.requires.mounted;
       keeps = on_start _ _ _ c.args.desk.now.session _ _;
-      counts = grind (arith, common_steps);
+      quiet = refl;
       reading = IsReading-start P.tells (world_of P c.args.desk.now.session c.args.platform.now) (g.I.Source.left c.args.input.now)
           (g.O.Sink.written c.args.output.now) c.new-pending.result _ (g.met.P.Platform.has_room c.args.platform.now) c.new-pending.ensures (omega arith);
     }
@@ -114,7 +119,10 @@ loop-left-preserved g c =
       keeps =
           on_done _ _ _ _ _ c.args.desk.now.session _ _ _ _ _ _
           (on_then _ _ _ _ _ _ _ c.args.desk.now.session c.loop-left.desk.session _ _ _ _ _ _ tt c.loop-left.invariant.keeps c.in-Ok-serve_piece.ensures.keeps (handled_through _ _ _ _ _ _ _ c.loop-left.invariant.reading.handled)) (λ yes. refl) (λ keys h. h);
-      counts = grind (arith, c.loop-left.invariant.counts, c.serve_piece.ensures.blame.fell, c.take.ensures.count);
+      quiet =
+          let served = c.in-Ok-serve_piece.ensures.blame.quiet in
+          let taken : g.I.Source.faults c.take.new.self ≡ g.I.Source.faults c.loop-left.input = c.in-Ok.ensures.cause in
+          (λ k. counts (served k).platform (served k).tape (taken k) (served k).output (served k).ledger) ∙ c.loop-left.invariant.quiet;
       reading = IsReading-more P.tells old mid new (left c.args.input.now) (left c.loop-left.input) (left c.take.new.self) (written c.args.output.now) (written c.loop-left.output) (written c.serve_piece.new.output)
           c.loop-left.pending c.serve_piece.new.pending c.loop-left.left (c.loop-left.left - c.in-Ok.count) _ reading took.gave took.less
           (c.in-Ok-serve_piece.ensures.pending (rest_of reading.taken) reading.unfinished) (c.in-Ok-serve_piece.ensures.handled (rest_of reading.taken) reading.unfinished);
@@ -153,3 +161,37 @@ returns-in-Err-clause-keeps g c = on_then _ _ _ _ _ _ _ c.args.desk.now.session 
 
 pub returns-clause-keeps : goal.returns-clause-keeps
 returns-clause-keeps g c = on_done _ _ _ _ _ c.args.desk.now.session _ _ _ _ _ _ c.loop-left.invariant.keeps (λ never. tt) (λ keys h. tt)
+
+pub returns-in_default-clause-blame : goal.returns-in_default-clause-blame
+returns-in_default-clause-blame g c =
+    let P = g.P.Platform in let T = g.T.Tape in let I = g.I.Source in let O = g.O.Sink in let L = g.L.Sink in
+    let l = c.loop-left in
+    let mid = counts (P.faults l.platform) (T.faults l.tape) (I.faults l.input) (O.faults l.output) (L.faults l.ledger) in
+    let now = counts (P.faults l.platform) (T.faults l.tape) (I.faults c.take.new.self) (O.faults l.output) (L.faults l.ledger) in
+    blamed_then _ mid now _ l.invariant.quiet (record {
+      fell = record { platform = omega arith; tape = omega arith; input = c.take.ensures.count; output = omega arith; ledger = omega arith };
+      quiet = tt;
+      cause = (c.in_default.ensures.cause, refl);
+    })
+
+pub returns-then-count-eq0-clause-blame : goal.returns-then-count-eq0-clause-blame
+returns-then-count-eq0-clause-blame g c =
+    let P = g.P.Platform in let T = g.T.Tape in let I = g.I.Source in let O = g.O.Sink in let L = g.L.Sink in
+    let l = c.loop-left in let e = c.serve_end.new in
+    let part : ArePart (counts (P.faults l.platform) (T.faults l.tape) 0 (O.faults l.output) (L.faults l.ledger)) (counts (P.faults e.platform) (T.faults e.tape) 0 (O.faults e.output) (L.faults e.ledger))
+        (counts (P.faults l.platform) (T.faults l.tape) (I.faults l.input) (O.faults l.output) (L.faults l.ledger)) (counts (P.faults e.platform) (T.faults e.tape) (I.faults c.take.new.self) (O.faults e.output) (L.faults e.ledger))
+    = record { platform = inr (refl, refl); tape = inr (refl, refl); input = inl (refl, refl, c.in-Ok.ensures.cause); output = inr (refl, refl); ledger = inr (refl, refl) } in
+    blamed_then _ _ _ c.serve_end.result l.invariant.quiet (blamed_wide _ _ _ _ c.serve_end.result part c.serve_end.ensures.blame)
+
+pub returns-in-Err-clause-blame : goal.returns-in-Err-clause-blame
+returns-in-Err-clause-blame g c =
+    let P = g.P.Platform in let T = g.T.Tape in let I = g.I.Source in let O = g.O.Sink in let L = g.L.Sink in
+    let l = c.loop-left in let e = c.serve_piece.new in
+    let part : ArePart (counts (P.faults l.platform) (T.faults l.tape) 0 (O.faults l.output) (L.faults l.ledger)) (counts (P.faults e.platform) (T.faults e.tape) 0 (O.faults e.output) (L.faults e.ledger))
+        (counts (P.faults l.platform) (T.faults l.tape) (I.faults l.input) (O.faults l.output) (L.faults l.ledger)) (counts (P.faults e.platform) (T.faults e.tape) (I.faults c.take.new.self) (O.faults e.output) (L.faults e.ledger))
+    = record { platform = inr (refl, refl); tape = inr (refl, refl); input = inl (refl, refl, c.in-Ok.ensures.cause); output = inr (refl, refl); ledger = inr (refl, refl) } in
+    let stopped : Ending = Err c.in-Err.stop in
+    blamed_then _ _ _ stopped l.invariant.quiet (blamed_wide _ _ _ _ stopped part c.in-Err.ensures.blame)
+
+pub returns-clause-blame : goal.returns-clause-blame
+returns-clause-blame g c = record { fell = fell_not _ _ c.loop-left.invariant.quiet; quiet = tt; cause = c.loop-left.invariant.quiet }

@@ -1,7 +1,8 @@
+use Rattle.std.proofs.Common.{◌≡◌}
 use Rattle.std.specs.Prelude.{IfSome}
 use Rattle.device_cli.specs.Desk.{IsReady}
 use Rattle.session_calls.specs.Damage.{IsMounted}
-use Rattle.session_calls.specs.Blame.{counts, NoneFell}
+use Rattle.sdbt_base.specs.Counts.{counts}
 use Rattle.device_cli.specs.World.{world_of}
 use Rattle.device_course.specs.States.{IsListed}
 use Rattle.device_course.specs.Keys.{KeepsOn}
@@ -19,7 +20,7 @@ invariant-loop-left g l =
       ready : IsReady l.desk (P.head l.platform);
       mounted : P.tells → IfSome l.desk.session (IsMounted (P.history l.platform).present);
       keeps : KeepsOn P.tells (T.drawn l.fn.tape) (T.drawn l.tape) (L.written l.fn.ledger) (L.written l.ledger) l.fn.desk.session (P.history l.fn.platform) (P.history l.platform) (Unit {0}) (IsListed l.desk.session (P.history l.platform).present);
-      counts : NoneFell (counts (P.faults l.fn.platform) (T.faults l.fn.tape) (I.faults l.fn.input) (O.faults l.fn.output) (L.faults l.fn.ledger)) (counts (P.faults l.platform) (T.faults l.tape) (I.faults l.input) (O.faults l.output) (L.faults l.ledger));
+      quiet : counts (P.faults l.platform) (T.faults l.tape) (I.faults l.input) (O.faults l.output) (L.faults l.ledger) ≡ counts (P.faults l.fn.platform) (T.faults l.fn.tape) (I.faults l.fn.input) (O.faults l.fn.output) (L.faults l.fn.ledger);
       reading : IsReading P.tells (world_of P l.fn.desk.session l.fn.platform) (world_of P l.desk.session l.platform)
           (I.left l.fn.input) (I.left l.input) (O.written l.fn.output) (O.written l.output) l.pending l.left;
     }

@@ -1,9 +1,10 @@
-use Rattle.std.proofs.Common.{ℕ, List, ◌++◌, refl}
+use Rattle.std.proofs.Common.{ℕ, List, Err, ◌++◌, ◌∙◌, refl}
 use Rattle.std.proofs.lemmas.Grind.{common_steps}
 use Rattle.std.proofs.Common.{arith}
 use Rattle.device_cli.specs.World.{World, world_of}
 use Rattle.device_cli.proofs.Serving.{HandledBy, handling}
 use Rattle.line_run.proofs.LineLaws.{IsServing-start, IsServing-line, IsServing-stop, IsServing-end}
+use Rattle.device_cli.proofs.BlameLaws.{blamed_then, fell_not}
 use Rattle.device_cli.proofs.CellLaws.{served_at, answered_through}
 use Rattle.device_course.proofs.KeysLaws.{on_start, on_done, on_then}
 use Rattle.device_cli.proofs.run.serve_piece.Goals as goal
@@ -16,7 +17,7 @@ loop-front-init g c =
       mounted = c.requires.mounted;
       keeps = on_start _ _ _ c.args.desk.now.session _ _;
       stands = λ told entry at. (entry, at);
-      counts = grind (arith, common_steps);
+      quiet = refl;
       serving = λ rest pending. IsServing-start _ (HandledBy P.tells) (handling P.tells) (world_of P c.args.desk.now.session c.args.platform.now)
           (g.O.Sink.written c.args.output.now) c.args.pending.now rest c.args.piece.now (g.met.P.Platform.has_room c.args.platform.now) pending;
     }
@@ -37,7 +38,7 @@ loop-front-preserved g c =
       stands = λ told entry at.
           let before = c.loop-front.invariant.stands told entry at in
           answered_through P.tells mid new _ _ _ c.in_default-answer.ensures.handled told before.0 before.1;
-      counts = grind (arith, c.loop-front.invariant.counts, c.answer.ensures.blame.fell);
+      quiet = c.in_default-answer.ensures.blame.quiet ∙ c.loop-front.invariant.quiet;
       serving = λ rest pending.
           let so_far = c.loop-front.invariant.serving rest pending in
           let line : List ℕ = so_far.line ++ c.in-Some.front.now in
@@ -90,3 +91,9 @@ returns-in-Err-clause-keeps g c = on_then _ _ _ _ _ _ _ c.args.desk.now.session 
 
 pub returns-clause-keeps : goal.returns-clause-keeps
 returns-clause-keeps g c = on_done _ _ _ _ _ c.args.desk.now.session _ _ _ _ _ _ c.loop-front.invariant.keeps (λ ok. tt) (λ keys h. h)
+
+pub returns-in-Err-clause-blame : goal.returns-in-Err-clause-blame
+returns-in-Err-clause-blame g c = blamed_then _ _ _ (Err c.in-Err.stop) c.loop-front.invariant.quiet c.in-Err.ensures.blame
+
+pub returns-clause-blame : goal.returns-clause-blame
+returns-clause-blame g c = record { fell = fell_not _ _ c.loop-front.invariant.quiet; quiet = c.loop-front.invariant.quiet; cause = tt }

@@ -1,8 +1,8 @@
-use Rattle.std.proofs.Common.{ℕ, List, ◌++◌, length}
+use Rattle.std.proofs.Common.{◌≡◌, ℕ, List, ◌++◌, length}
 use Rattle.std.specs.Prelude.{IfSome}
 use Rattle.device_cli.specs.Desk.{IsReady}
 use Rattle.session_calls.specs.Damage.{IsMounted}
-use Rattle.session_calls.specs.Blame.{counts, NoneFell}
+use Rattle.sdbt_base.specs.Counts.{counts}
 use Rattle.line_run.specs.Pending.{IsUnfinished}
 use Rattle.device_cli.specs.World.{world_of}
 use Rattle.sdbt_base.specs.Arrays.{State}
@@ -23,7 +23,7 @@ invariant-loop-front g l =
       mounted : P.tells → IfSome l.desk.session (IsMounted (P.history l.platform).present);
       keeps : KeepsOn P.tells (T.drawn l.fn.tape) (T.drawn l.tape) (L.written l.fn.ledger) (L.written l.ledger) l.fn.desk.session (P.history l.fn.platform) (P.history l.platform) (Unit {0}) (IsListed l.desk.session (P.history l.platform).present);
       stands : P.tells → (entry : State) → IsAt (P.history l.fn.platform).present l.fn.desk.session entry → (now : State) × IsAt (P.history l.platform).present l.desk.session now;
-      counts : NoneFell (counts (P.faults l.fn.platform) (T.faults l.fn.tape) 0 (O.faults l.fn.output) (L.faults l.fn.ledger)) (counts (P.faults l.platform) (T.faults l.tape) 0 (O.faults l.output) (L.faults l.ledger));
+      quiet : counts (P.faults l.platform) (T.faults l.tape) 0 (O.faults l.output) (L.faults l.ledger) ≡ counts (P.faults l.fn.platform) (T.faults l.fn.tape) 0 (O.faults l.fn.output) (L.faults l.fn.ledger);
       serving : (rest : List ℕ) → IsUnfinished l.fn.pending rest
           → IsServing (HandledBy P.tells) (world_of P l.fn.desk.session l.fn.platform) (world_of P l.desk.session l.platform)
           (O.written l.fn.output) (O.written l.output) (rest ++ l.fn.piece) l.pending l.rest;

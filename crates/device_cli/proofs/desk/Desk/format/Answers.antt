@@ -1,7 +1,7 @@
 use Rattle.std.proofs.lemmas.Grind.{common_steps}
 use Rattle.std.proofs.Common.{List, ◌≡◌, ◌≢◌, ◌-◌, ◌<◌, ℕ, true, false, None, Ok, Err, inl, inr, refl, sym, ap, subst, rules, arith, []}
 use Rattle.std.specs.Prelude.{Result, IfOk, IfErr, IsOk, ◌⊎◌}
-use Rattle.sdbt_base.specs.Faults.{Rose}
+use Rattle.sdbt_base.specs.Counts.{Counts}
 use Rattle.sdbt_base.specs.Arrays.{State}
 use Rattle.script_lang.specs.Replies.{said}
 use Rattle.script_lang.specs.Replies as replies
@@ -30,18 +30,18 @@ use Rattle.device_cli.proofs.EnoughLaws.{enough_refused, pages_refused}
 use Rattle.device_cli.proofs.desk.Desk.format.Goals as goal
 
 -- what the looking for a device ended with
-refused_result : (old new : World) (entry : State) (blocks order : ℕ) (result : Result Given DeviceStop) (buffer : List ℕ) (Risen : Type 0)
+refused_result : (old new : World) (entry : State) (blocks order : ℕ) (result : Result Given DeviceStop) (buffer : List ℕ)
     → IfOk result (λ now. ((now ≡ given.NotEmpty) × (old.history.present.cell ≢ None)) ⊎ ((now ≡ given.Range) × (old.history.present.cell ≡ None)))
-    → IfErr result (λ stop. (stop ≡ device.Platform) × Risen) → new.history.present ≡ old.history.present → KeepsCell old new
+    → IfErr result (λ stop. stop ≡ device.Platform) → new.history.present ≡ old.history.present → KeepsCell old new
     → in_limits blocks order ≡ false → new.session ≡ old.session → Represents old entry → Serves old new entry (Format blocks order) (outcome result buffer)
-refused_result old new entry blocks order (Ok now) buffer Risen replied cause image keeps past session rep =
+refused_result old new entry blocks order (Ok now) buffer replied cause image keeps past session rep =
     serves_refused old new entry blocks order (said now buffer) replies.Range session image keeps (λ full there. gives_format_range full there blocks order past)
     (elim replied [
       | inl found ↦ inl (ap (λ (r : Given). said r buffer) found.0, found.1)
       | inr none ↦ inr (ap (λ (r : Given). said r buffer) none.0, none.1)
     ]) rep
-refused_result old new entry blocks order (Err stop) buffer Risen replied cause image keeps past session rep =
-    subst (λ (s : DeviceStop). Halts old new entry (Format blocks order) s) (sym cause.0) (halts_still old new entry (Format blocks order) device.Platform tt rep keeps)
+refused_result old new entry blocks order (Err stop) buffer replied cause image keeps past session rep =
+    subst (λ (s : DeviceStop). Halts old new entry (Format blocks order) s) (sym cause) (halts_still old new entry (Format blocks order) device.Platform tt rep keeps)
 
 third : {X Y Z : Type 0} → (X → ⊥) → (Y → ⊥) → X ⊎ (Y ⊎ Z) → Z
 third not_one not_two (inl x) = absurd (not_one x)
@@ -49,10 +49,10 @@ third not_one not_two (inr (inl y)) = absurd (not_two y)
 third not_one not_two (inr (inr z)) = z
 
 -- a device is made where the cell is empty
-empty_where_made : {S R : Type 0} (P : PlatformGhosts S) (T : TapeGhosts R) (platform platform_now : S) (tape tape_now : R) (Failed Undrawn Unput : Type 0) (result : Result (Unit {0}) FormatRefusal) → IsFormatCause P T platform platform_now tape tape_now Failed Undrawn Unput result
+empty_where_made : {S R : Type 0} (P : PlatformGhosts S) (T : TapeGhosts R) (platform platform_now : S) (tape tape_now : R) (before now : Counts) (result : Result (Unit {0}) FormatRefusal) → IsFormatCause P T platform platform_now tape tape_now before now result
     → P.tells → IsOk result → (P.history platform).present.cell ≡ None
-empty_where_made P T platform platform_now tape tape_now Failed Undrawn Unput (Ok done) cause told ok = cause.0 told
-empty_where_made P T platform platform_now tape tape_now Failed Undrawn Unput (Err refusal) cause told ok = absurd cc
+empty_where_made P T platform platform_now tape tape_now before now (Ok done) cause told ok = cause.0 told
+empty_where_made P T platform platform_now tape tape_now before now (Err refusal) cause told ok = absurd cc
 
 pub returns-in-Ok-clause-answered : goal.returns-in-Ok-clause-answered
 returns-in-Ok-clause-answered g c told entry rep =
@@ -84,7 +84,7 @@ returns-in-Err-Memory-clause-answered g c told entry rep =
     let P = g.P.Platform in
     let old : World = world_of P c.args.self.now.session c.args.platform.now in
     let new : World = world_of P c.args.self.now.session c.format.new.platform in
-    halts_still old new entry (Format c.args.blocks c.args.order) device.Memory tt rep ((rw c.in-Err-Memory.field-0-is at c.in-Err-Memory.ensures.cause).1.1 told)
+    halts_still old new entry (Format c.args.blocks c.args.order) device.Memory tt rep ((rw c.in-Err-Memory.field-0-is at c.in-Err-Memory.ensures.cause).2.1 told)
 
 pub returns-in-Err-TapeFault-clause-answered : goal.returns-in-Err-TapeFault-clause-answered
 returns-in-Err-TapeFault-clause-answered g c told entry rep =
@@ -117,8 +117,8 @@ returns-then-not-is_in_limits-clause-answered g c told entry rep =
     let old : World = world_of P c.args.self.now.session c.args.platform.now in
     let new : World = world_of P c.args.self.now.session c.refuse_format.new.platform in
     let past : in_limits c.args.blocks c.args.order ≡ false = grind (arith, common_steps, c.is_in_limits.ensures.limits, c.if-not-is_in_limits.true) in
-    refused_result old new entry c.args.blocks c.args.order c.refuse_format.result c.args.self.now.buffer (Rose (P.faults c.args.platform.now) (P.faults c.refuse_format.new.platform))
-    (c.refuse_format.ensures.replies told) c.refuse_format.ensures.cause (c.refuse_format.ensures.image told) (c.refuse_format.ensures.time told) past refl rep
+    refused_result old new entry c.args.blocks c.args.order c.refuse_format.result c.args.self.now.buffer
+    (c.refuse_format.ensures.replies told) c.refuse_format.ensures.cause.0 (c.refuse_format.ensures.image told) (c.refuse_format.ensures.time told) past refl rep
 
 pub returns-in-Ok-clause-keeps : goal.returns-in-Ok-clause-keeps
 returns-in-Ok-clause-keeps g c = on_call _ _ _ _ _ c.args.self.now.session _ _ _ _ _ _ c.format.ensures.discloses.keys (λ told keys h. sound_of _ _ keys h) (λ told keys h. c.format.ensures.discloses.forgets told keys (sound_of _ _ keys h)) (λ told keys more h done. format_listed _ _ _ keys _ _ (c.in-Ok.ensures.cause.0 told) (c.in-Ok.ensures.made told).0 h) c.format.ensures.discloses.serves (certified_format {X = Unit {0}} {Y = FormatRefusal} _ _ _ _ _ _ _ (Ok (tt {0})) c.format.ensures.discloses.turns (λ told full. (c.format.ensures.kept told (inl full)).1) (λ told ok. c.in-Ok.ensures.cause.0 told) c.in-Ok.ensures.certifies) (fitting_formatted _ _ _ _ _ c.args.self.now.session _ _ (λ told sound. c.format.ensures.discloses.forgets told [] sound) c.format.ensures.certifies)
@@ -130,16 +130,16 @@ pub returns-in-Err-Full-clause-keeps : goal.returns-in-Err-Full-clause-keeps
 returns-in-Err-Full-clause-keeps g c = on_call _ _ _ _ _ c.args.self.now.session _ _ _ _ _ _ c.format.ensures.discloses.keys (λ told keys h. sound_of _ _ keys h) (λ told keys h. c.format.ensures.discloses.forgets told keys (sound_of _ _ keys h)) (λ told keys more h done. listed_keys _ _ _ keys more ((rw c.in-Err-Full.field-0-is at c.in-Err-Full.ensures.cause).2.0.image told) h) c.format.ensures.discloses.serves (certified_unput _ _ _ _ _ _ (third (λ is. absurd cc) (λ is. absurd cc) (rw c.in-Err-Full.field-0-is at c.in-Err-Full.ensures.undrawn)).1 (λ told. (rw c.in-Err-Full.field-0-is at c.in-Err-Full.ensures.cause).2.1 told)) (fitting_formatted _ _ _ _ _ c.args.self.now.session _ _ (λ told sound. c.format.ensures.discloses.forgets told [] sound) c.format.ensures.certifies)
 
 pub returns-in-Err-Memory-clause-keeps : goal.returns-in-Err-Memory-clause-keeps
-returns-in-Err-Memory-clause-keeps g c = on_call _ _ _ _ _ c.args.self.now.session _ _ _ _ _ _ c.format.ensures.discloses.keys (λ told keys h. sound_of _ _ keys h) (λ told keys h. c.format.ensures.discloses.forgets told keys (sound_of _ _ keys h)) (λ told keys more h done. tt) c.format.ensures.discloses.serves (certified_going _ _ _ _ _ _ _ (λ never. absurd cc) (certified_format _ _ _ _ _ _ _ c.format.result c.format.ensures.discloses.turns (λ told full. (c.format.ensures.kept told (inl full)).1) (empty_where_made g.P.Platform g.T.Tape _ _ _ _ _ _ _ c.format.result c.format.ensures.cause) c.format.ensures.certifies)) (fitting_formatted _ _ _ _ _ c.args.self.now.session _ _ (λ told sound. c.format.ensures.discloses.forgets told [] sound) c.format.ensures.certifies)
+returns-in-Err-Memory-clause-keeps g c = on_call _ _ _ _ _ c.args.self.now.session _ _ _ _ _ _ c.format.ensures.discloses.keys (λ told keys h. sound_of _ _ keys h) (λ told keys h. c.format.ensures.discloses.forgets told keys (sound_of _ _ keys h)) (λ told keys more h done. tt) c.format.ensures.discloses.serves (certified_going _ _ _ _ _ _ _ (λ never. absurd cc) (certified_format _ _ _ _ _ _ _ c.format.result c.format.ensures.discloses.turns (λ told full. (c.format.ensures.kept told (inl full)).1) (empty_where_made g.P.Platform g.T.Tape _ _ _ _ _ _ c.format.result c.format.ensures.cause) c.format.ensures.certifies)) (fitting_formatted _ _ _ _ _ c.args.self.now.session _ _ (λ told sound. c.format.ensures.discloses.forgets told [] sound) c.format.ensures.certifies)
 
 pub returns-in-Err-TapeFault-clause-keeps : goal.returns-in-Err-TapeFault-clause-keeps
-returns-in-Err-TapeFault-clause-keeps g c = on_call _ _ _ _ _ c.args.self.now.session _ _ _ _ _ _ c.format.ensures.discloses.keys (λ told keys h. sound_of _ _ keys h) (λ told keys h. c.format.ensures.discloses.forgets told keys (sound_of _ _ keys h)) (λ told keys more h done. tt) c.format.ensures.discloses.serves (certified_going _ _ _ _ _ _ _ (λ never. absurd cc) (certified_format _ _ _ _ _ _ _ c.format.result c.format.ensures.discloses.turns (λ told full. (c.format.ensures.kept told (inl full)).1) (empty_where_made g.P.Platform g.T.Tape _ _ _ _ _ _ _ c.format.result c.format.ensures.cause) c.format.ensures.certifies)) (fitting_formatted _ _ _ _ _ c.args.self.now.session _ _ (λ told sound. c.format.ensures.discloses.forgets told [] sound) c.format.ensures.certifies)
+returns-in-Err-TapeFault-clause-keeps g c = on_call _ _ _ _ _ c.args.self.now.session _ _ _ _ _ _ c.format.ensures.discloses.keys (λ told keys h. sound_of _ _ keys h) (λ told keys h. c.format.ensures.discloses.forgets told keys (sound_of _ _ keys h)) (λ told keys more h done. tt) c.format.ensures.discloses.serves (certified_going _ _ _ _ _ _ _ (λ never. absurd cc) (certified_format _ _ _ _ _ _ _ c.format.result c.format.ensures.discloses.turns (λ told full. (c.format.ensures.kept told (inl full)).1) (empty_where_made g.P.Platform g.T.Tape _ _ _ _ _ _ c.format.result c.format.ensures.cause) c.format.ensures.certifies)) (fitting_formatted _ _ _ _ _ c.args.self.now.session _ _ (λ told sound. c.format.ensures.discloses.forgets told [] sound) c.format.ensures.certifies)
 
 pub returns-in-Err-LedgerFault-clause-keeps : goal.returns-in-Err-LedgerFault-clause-keeps
-returns-in-Err-LedgerFault-clause-keeps g c = on_call _ _ _ _ _ c.args.self.now.session _ _ _ _ _ _ c.format.ensures.discloses.keys (λ told keys h. sound_of _ _ keys h) (λ told keys h. c.format.ensures.discloses.forgets told keys (sound_of _ _ keys h)) (λ told keys more h done. tt) c.format.ensures.discloses.serves (certified_going _ _ _ _ _ _ _ (λ never. absurd cc) (certified_format _ _ _ _ _ _ _ c.format.result c.format.ensures.discloses.turns (λ told full. (c.format.ensures.kept told (inl full)).1) (empty_where_made g.P.Platform g.T.Tape _ _ _ _ _ _ _ c.format.result c.format.ensures.cause) c.format.ensures.certifies)) (fitting_formatted _ _ _ _ _ c.args.self.now.session _ _ (λ told sound. c.format.ensures.discloses.forgets told [] sound) c.format.ensures.certifies)
+returns-in-Err-LedgerFault-clause-keeps g c = on_call _ _ _ _ _ c.args.self.now.session _ _ _ _ _ _ c.format.ensures.discloses.keys (λ told keys h. sound_of _ _ keys h) (λ told keys h. c.format.ensures.discloses.forgets told keys (sound_of _ _ keys h)) (λ told keys more h done. tt) c.format.ensures.discloses.serves (certified_going _ _ _ _ _ _ _ (λ never. absurd cc) (certified_format _ _ _ _ _ _ _ c.format.result c.format.ensures.discloses.turns (λ told full. (c.format.ensures.kept told (inl full)).1) (empty_where_made g.P.Platform g.T.Tape _ _ _ _ _ _ c.format.result c.format.ensures.cause) c.format.ensures.certifies)) (fitting_formatted _ _ _ _ _ c.args.self.now.session _ _ (λ told sound. c.format.ensures.discloses.forgets told [] sound) c.format.ensures.certifies)
 
 pub returns-in-Err-PlatformFault-clause-keeps : goal.returns-in-Err-PlatformFault-clause-keeps
-returns-in-Err-PlatformFault-clause-keeps g c = on_call _ _ _ _ _ c.args.self.now.session _ _ _ _ _ _ c.format.ensures.discloses.keys (λ told keys h. sound_of _ _ keys h) (λ told keys h. c.format.ensures.discloses.forgets told keys (sound_of _ _ keys h)) (λ told keys more h done. tt) c.format.ensures.discloses.serves (certified_going _ _ _ _ _ _ _ (λ never. absurd cc) (certified_format _ _ _ _ _ _ _ c.format.result c.format.ensures.discloses.turns (λ told full. (c.format.ensures.kept told (inl full)).1) (empty_where_made g.P.Platform g.T.Tape _ _ _ _ _ _ _ c.format.result c.format.ensures.cause) c.format.ensures.certifies)) (fitting_formatted _ _ _ _ _ c.args.self.now.session _ _ (λ told sound. c.format.ensures.discloses.forgets told [] sound) c.format.ensures.certifies)
+returns-in-Err-PlatformFault-clause-keeps g c = on_call _ _ _ _ _ c.args.self.now.session _ _ _ _ _ _ c.format.ensures.discloses.keys (λ told keys h. sound_of _ _ keys h) (λ told keys h. c.format.ensures.discloses.forgets told keys (sound_of _ _ keys h)) (λ told keys more h done. tt) c.format.ensures.discloses.serves (certified_going _ _ _ _ _ _ _ (λ never. absurd cc) (certified_format _ _ _ _ _ _ _ c.format.result c.format.ensures.discloses.turns (λ told full. (c.format.ensures.kept told (inl full)).1) (empty_where_made g.P.Platform g.T.Tape _ _ _ _ _ _ c.format.result c.format.ensures.cause) c.format.ensures.certifies)) (fitting_formatted _ _ _ _ _ c.args.self.now.session _ _ (λ told sound. c.format.ensures.discloses.forgets told [] sound) c.format.ensures.certifies)
 
 pub returns-then-not-is_in_limits-clause-keeps : goal.returns-then-not-is_in_limits-clause-keeps
 returns-then-not-is_in_limits-clause-keeps g c = on_look _ _ _ c.args.self.now.session _ _ _ _ c.refuse_format.ensures.image c.refuse_format.ensures.time (λ told keys kept h. on_ok c.refuse_format.result _ (listed_image _ _ _ keys (c.refuse_format.ensures.image told) h))

@@ -62,7 +62,7 @@ returns-clause-after g c =
     }
 
 pub returns-clause-blame : goal.returns-clause-blame
-returns-clause-blame g c = record { fell = (c.in_ok-read_block.ensures.goes (no_draw None)).along.fell; cause = tt }
+returns-clause-blame g c = record { fell = (c.in_ok-read_block.ensures.goes (no_draw None)).along.fell; quiet = (c.in_ok-read_block.ensures.goes (no_draw None)).quiet; cause = tt }
 
 pub returns-clause-pages : goal.returns-clause-pages
 returns-clause-pages g c =
@@ -104,7 +104,7 @@ returns-in_err-read_block-clause-after g c =
 pub returns-in_err-read_block-clause-blame : goal.returns-in_err-read_block-clause-blame
 returns-in_err-read_block-clause-blame g c =
     let goes = c.in_err-read_block.ensures.goes (no_draw None) in
-    rw (stopped g c) (record { fell = goes.along.fell; cause = goes.cause })
+    rw (stopped g c) (record { fell = goes.along.fell; quiet = tt; cause = goes.cause })
 
 pub returns-in_err-read_block-clause-damage : goal.returns-in_err-read_block-clause-damage
 returns-in_err-read_block-clause-damage g c told = rw (stopped g c) (λ addr is.

@@ -54,7 +54,7 @@ returns-clause-after g c =
     }
 
 pub returns-clause-blame : goal.returns-clause-blame
-returns-clause-blame g c = record { fell = (c.in_ok-trim_block.ensures.goes (no_draw None)).along.fell; cause = tt }
+returns-clause-blame g c = record { fell = (c.in_ok-trim_block.ensures.goes (no_draw None)).along.fell; quiet = (c.in_ok-trim_block.ensures.goes (no_draw None)).quiet; cause = tt }
 
 pub returns-clause-enough : goal.returns-clause-enough
 returns-clause-enough g c updates enough =
@@ -86,7 +86,7 @@ returns-in_err-trim_block-clause-after g c =
 pub returns-in_err-trim_block-clause-blame : goal.returns-in_err-trim_block-clause-blame
 returns-in_err-trim_block-clause-blame g c =
     let goes = c.in_err-trim_block.ensures.goes (no_draw None) in
-    rw (stopped g c) (record { fell = goes.along.fell; cause = goes.cause })
+    rw (stopped g c) (record { fell = goes.along.fell; quiet = tt; cause = goes.cause })
 
 pub returns-in_err-trim_block-clause-damage : goal.returns-in_err-trim_block-clause-damage
 returns-in_err-trim_block-clause-damage g c told = rw (stopped g c) (λ addr is.
