@@ -69,10 +69,7 @@ impl Session {
             Err(CommitRefusal::TapeFault) => return Err(CommitFault::TapeFault),
             Err(CommitRefusal::PlatformFault) => return Err(CommitFault::PlatformFault),
         };
-        let root = match publish(platform, ledger, prepared) {
-            Ok(root) => root,
-            Err(fault) => return Err(fault),
-        };
+        let root = publish(platform, ledger, prepared)?;
         let number = root.commit;
         self.take_up(root);
         Ok(CommitReply::Committed { number })
@@ -116,8 +113,5 @@ fn publish<P: Platform, L: Sink>(
         prepared.abandon();
         return Err(CommitFault::LedgerFault);
     };
-    match prepared.finish(platform) {
-        Ok(root) => Ok(root),
-        Err(_) => Err(CommitFault::PlatformFault),
-    }
+    Ok(prepared.finish(platform)?)
 }

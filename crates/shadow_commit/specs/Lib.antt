@@ -6,3 +6,4 @@ pub mod NewTree
 pub mod Planned
 pub mod Ready
 pub mod Finishing
+pub mod Refusals

@@ -58,14 +58,10 @@ pub fn prepare<P: Platform, T: Tape>(
     let Child::Grown { twig, .. } = grove.top() else {
         unreachable!()
     };
-    let Ok(made) = certify(alloc, twig, root, head, grove.gone(), grove.never()) else {
-        return Err(CommitRefusal::Memory);
-    };
-    let Ok(mut entries) = Vec::with_capacity(alloc, 64 * twig.level as usize) else {
-        return Err(CommitRefusal::Memory);
-    };
+    let made = certify(alloc, twig, root, head, grove.gone(), grove.never())?;
+    let mut entries = Vec::with_capacity(alloc, 64 * twig.level as usize)?;
     reader.cache.forget_all(grove.gone());
-    match seal_all(
+    let next = seal_all(
         grove.top(),
         root,
         mapped,
@@ -73,15 +69,12 @@ pub fn prepare<P: Platform, T: Tape>(
         platform,
         tape,
         reader,
-    ) {
-        Ok(root) => Ok(Prepared {
-            root,
-            cert: made.cert,
-            line: made.line,
-        }),
-        Err(AppendFault::TapeFault) => Err(CommitRefusal::TapeFault),
-        Err(AppendFault::PlatformFault) => Err(CommitRefusal::PlatformFault),
-    }
+    )?;
+    Ok(Prepared {
+        root: next,
+        cert: made.cert,
+        line: made.line,
+    })
 }
 
 /// Seals the root node and all nodes in memory below it, syncs, and answers the root record that makes the commit once it is in

@@ -233,8 +233,8 @@ hold_way-hold_below-requires g t c κs within = (
   ),
 )
 
-pub hold_way-read_kept-requires-clause-within : goal.hold_way-read_kept-requires-clause-within
-hold_way-read_kept-requires-clause-within g t c =
+pub hold_way-read_node-requires-clause-within : goal.hold_way-read_node-requires-clause-within
+hold_way-read_node-requires-clause-within g t c =
     way_lt c.args.order c.args.least c.args.level c.args.block c.args.high (g.P.Platform.head c.args.platform.now) c.in-Kept.low c.in-Kept.addr c.in-Kept.key
     (subst (CanHold c.args.order c.args.least c.args.level c.args.block c.args.high (g.P.Platform.head c.args.platform.now)) c.in-Kept.is c.requires.can)
 
@@ -277,8 +277,8 @@ hold_way-returns-in_ok-hold-in-Kept-clause-reads g t c = λ tells stands.
     let twig = c.in_ok-twig-in-Kept.twig in
     let pages = (g.P.Platform.history c.args.platform.now).present.readable in
     let Reads = IsReadAs pages c.args.order in
-    let same : (g.P.Platform.history c.read_kept.new.platform).present.readable ≡ pages = ap (λ i. i.readable) (c.in_ok-twig-in-Kept.ensures.looks.image tells) in
-    let stands' = subst (λ p. StandsOver p c.read_kept.new.reader.cache) (sym same) (c.in_ok-twig-in-Kept.ensures.stands tells stands) in
+    let same : (g.P.Platform.history c.read_node.new.platform).present.readable ≡ pages = ap (λ i. i.readable) (c.in_ok-twig-in-Kept.ensures.looks.image tells) in
+    let stands' = subst (λ p. StandsOver p c.read_node.new.reader.cache) (sym same) (c.in_ok-twig-in-Kept.ensures.stands tells stands) in
     let way = subst (λ p. OnWay c.args.block (λ end d. HeldFor (IsReadAs p c.args.order) c.args.order c.args.block (c.args.level - 1) end d c.hold_below-in-Kept.new.held.items) c.args.high twig) same (c.in_ok-left-in-Kept.ensures.reads tells stands') in
     let lt = way_lt c.args.order c.args.least c.args.level c.args.block c.args.high (g.P.Platform.head c.args.platform.now) c.in-Kept.low c.in-Kept.addr c.in-Kept.key at in
     let small : c.in-Kept.addr < 2 ^ 64 = omega (arith, lt, g.met.P.Platform.has_room c.args.platform.now, g.met.P.Platform.is_limited c.args.platform.now) in
@@ -309,8 +309,8 @@ hold_way-returns-in_err-left-in-Kept-clause-bad g t c =
     let twig = c.in_ok-twig-in-Kept.twig in
     let pages = (g.P.Platform.history c.args.platform.now).present.readable in
     let l = above_it c.args.level at.one in
-    let same : (g.P.Platform.history c.read_kept.new.platform).present.readable ≡ pages = ap (λ i. i.readable) (c.in_ok-twig-in-Kept.ensures.looks.image tells) in
-    let stands' = subst (λ p. StandsOver p c.read_kept.new.reader.cache) (sym same) (c.in_ok-twig-in-Kept.ensures.stands tells stands) in
+    let same : (g.P.Platform.history c.read_node.new.platform).present.readable ≡ pages = ap (λ i. i.readable) (c.in_ok-twig-in-Kept.ensures.looks.image tells) in
+    let stands' = subst (λ p. StandsOver p c.read_node.new.reader.cache) (sym same) (c.in_ok-twig-in-Kept.ensures.stands tells stands) in
     let w = subst (λ p. WrongUnder p c.args.order c.args.block addr (c.args.level - 1) c.args.high twig) same (c.in_err-left-in-Kept.ensures.bad tells stands' addr (ap Err err)) in
     let node = subst (λ k. IsNodeOf pages (want_at c.args.order k c.in-Kept.low c.args.high c.in-Kept.addr c.args.least) c.in-Kept.key twig) l
     (c.in_ok-twig-in-Kept.ensures.reads tells stands) in
@@ -344,8 +344,8 @@ hold_way-returns-in_ok-hold-in-Kept-clause-helps g t c =
 pub hold_way-returns-in_ok-hold-in-Kept-clause-beside : goal.hold_way-returns-in_ok-hold-in-Kept-clause-beside
 hold_way-returns-in_ok-hold-in-Kept-clause-beside g t c = λ tells stands.
     (let pages = (g.P.Platform.history c.args.platform.now).present.readable in
-    let same : (g.P.Platform.history c.read_kept.new.platform).present.readable ≡ pages = ap (λ i. i.readable) (c.in_ok-twig-in-Kept.ensures.looks.image tells) in
-    let stands' = subst (λ p. StandsOver p c.read_kept.new.reader.cache) (sym same) (c.in_ok-twig-in-Kept.ensures.stands tells stands) in
+    let same : (g.P.Platform.history c.read_node.new.platform).present.readable ≡ pages = ap (λ i. i.readable) (c.in_ok-twig-in-Kept.ensures.looks.image tells) in
+    let stands' = subst (λ p. StandsOver p c.read_node.new.reader.cache) (sym same) (c.in_ok-twig-in-Kept.ensures.stands tells stands) in
     let twig = c.in_ok-twig-in-Kept.twig in
     let left = subst (λ p. IsLeft (λ loses. HelpsBelow (IsReadAs p c.args.order) c.args.order c.args.block (c.args.level - 1) c.args.high twig c.hold_below-in-Kept.new.held.items c.hold_below-in-Kept.new.beside.items loses) c.args.order (length (children_of twig)) c.in_ok-left-in-Kept.left) same
     (c.in_ok-left-in-Kept.ensures.beside tells stands') in
@@ -358,8 +358,8 @@ hold_way-returns-in_ok-hold-in-Kept-clause-mapped g t c = λ tells stands mapped
     (let at = subst (CanHold c.args.order c.args.least c.args.level c.args.block c.args.high (g.P.Platform.head c.args.platform.now)) c.in-Kept.is c.requires.can in
     let twig = c.in_ok-twig-in-Kept.twig in
     let pages = (g.P.Platform.history c.args.platform.now).present.readable in
-    let same : (g.P.Platform.history c.read_kept.new.platform).present.readable ≡ pages = ap (λ i. i.readable) (c.in_ok-twig-in-Kept.ensures.looks.image tells) in
-    let stands' = subst (λ p. StandsOver p c.read_kept.new.reader.cache) (sym same) (c.in_ok-twig-in-Kept.ensures.stands tells stands) in
+    let same : (g.P.Platform.history c.read_node.new.platform).present.readable ≡ pages = ap (λ i. i.readable) (c.in_ok-twig-in-Kept.ensures.looks.image tells) in
+    let stands' = subst (λ p. StandsOver p c.read_node.new.reader.cache) (sym same) (c.in_ok-twig-in-Kept.ensures.stands tells stands) in
     let lt = way_lt c.args.order c.args.least c.args.level c.args.block c.args.high (g.P.Platform.head c.args.platform.now) c.in-Kept.low c.in-Kept.addr c.in-Kept.key at in
     let small : c.in-Kept.addr < 2 ^ 64 = omega (arith, lt, g.met.P.Platform.has_room c.args.platform.now, g.met.P.Platform.is_limited c.args.platform.now) in
     let node = subst (λ k. IsNodeOf pages (want_at c.args.order k c.in-Kept.low c.args.high c.in-Kept.addr c.args.least) c.in-Kept.key twig) (above_it c.args.level at.one)
@@ -415,8 +415,8 @@ hold_way-returns-in_ok-hold-in-Kept-clause-finds g t c = λ tells stands.
     let l = above_it c.args.level at.one in
     let twig = c.in_ok-twig-in-Kept.twig in
     let pages = (g.P.Platform.history c.args.platform.now).present.readable in
-    let same : (g.P.Platform.history c.read_kept.new.platform).present.readable ≡ pages = ap (λ i. i.readable) (c.in_ok-twig-in-Kept.ensures.looks.image tells) in
-    let stands' = subst (λ p. StandsOver p c.read_kept.new.reader.cache) (sym same) (c.in_ok-twig-in-Kept.ensures.stands tells stands) in
+    let same : (g.P.Platform.history c.read_node.new.platform).present.readable ≡ pages = ap (λ i. i.readable) (c.in_ok-twig-in-Kept.ensures.looks.image tells) in
+    let stands' = subst (λ p. StandsOver p c.read_node.new.reader.cache) (sym same) (c.in_ok-twig-in-Kept.ensures.stands tells stands) in
     let can = way_read c.args.order c.args.least c.args.level c.args.block c.args.high head c.in-Kept.low c.in-Kept.addr c.in-Kept.key twig at c.in_ok-twig-in-Kept.ensures.fits in
     let fits = subst (λ k. IsNodeFor (want_at c.args.order k c.in-Kept.low c.args.high c.in-Kept.addr c.args.least) twig) l c.in_ok-twig-in-Kept.ensures.fits in
     let node = subst (λ k. IsNodeOf pages (want_at c.args.order k c.in-Kept.low c.args.high c.in-Kept.addr c.args.least) c.in-Kept.key twig) l (c.in_ok-twig-in-Kept.ensures.reads tells stands) in
@@ -456,28 +456,28 @@ hold_way-returns-in-Grown-clause-caches g t c =
 
 pub hold_way-returns-in_err-twig-in-Kept-clause-caches : goal.hold_way-returns-in_err-twig-in-Kept-clause-caches
 hold_way-returns-in_err-twig-in-Kept-clause-caches g t c =
-    caches_read g.P.Platform c.args.level c.args.high c.in-Kept.low c.in-Kept.addr c.in-Kept.key c.args.child.now c.args.platform.now c.args.reader.now.cache c.read_kept.new.reader.cache c.in-Kept.is c.requires.can.one c.in_err-twig-in-Kept.ensures.capacity c.in_err-twig-in-Kept.ensures.stands c.in_err-twig-in-Kept.ensures.but
+    caches_read g.P.Platform c.args.level c.args.high c.in-Kept.low c.in-Kept.addr c.in-Kept.key c.args.child.now c.args.platform.now c.args.reader.now.cache c.read_node.new.reader.cache c.in-Kept.is c.requires.can.one c.in_err-twig-in-Kept.ensures.capacity c.in_err-twig-in-Kept.ensures.stands c.in_err-twig-in-Kept.ensures.but
 
 pub hold_way-returns-in_err-left-in-Kept-clause-caches : goal.hold_way-returns-in_err-left-in-Kept-clause-caches
 hold_way-returns-in_err-left-in-Kept-clause-caches g t c =
-    let one = caches_read g.P.Platform c.args.level c.args.high c.in-Kept.low c.in-Kept.addr c.in-Kept.key c.args.child.now c.args.platform.now c.args.reader.now.cache c.read_kept.new.reader.cache c.in-Kept.is c.requires.can.one c.in_ok-twig-in-Kept.ensures.capacity c.in_ok-twig-in-Kept.ensures.stands c.in_ok-twig-in-Kept.ensures.but in
-    caches_then g.P.Platform (λ pages. HaveNodes pages (stubs c.args.level c.args.high c.args.child.now)) (λ pages. HaveNodes pages (stubs_below (c.args.level - 1) c.args.high c.in_ok-twig-in-Kept.twig)) c.args.platform.now c.read_kept.new.platform c.args.reader.now.cache c.read_kept.new.reader.cache c.hold_below-in-Kept.new.reader.cache
+    let one = caches_read g.P.Platform c.args.level c.args.high c.in-Kept.low c.in-Kept.addr c.in-Kept.key c.args.child.now c.args.platform.now c.args.reader.now.cache c.read_node.new.reader.cache c.in-Kept.is c.requires.can.one c.in_ok-twig-in-Kept.ensures.capacity c.in_ok-twig-in-Kept.ensures.stands c.in_ok-twig-in-Kept.ensures.but in
+    caches_then g.P.Platform (λ pages. HaveNodes pages (stubs c.args.level c.args.high c.args.child.now)) (λ pages. HaveNodes pages (stubs_below (c.args.level - 1) c.args.high c.in_ok-twig-in-Kept.twig)) c.args.platform.now c.read_node.new.platform c.args.reader.now.cache c.read_node.new.reader.cache c.hold_below-in-Kept.new.reader.cache
     c.in_ok-twig-in-Kept.ensures.looks.image
     (λ tells stands places such. nodes_below_read _ places c.args.level c.args.high c.in-Kept.low c.in-Kept.addr c.in-Kept.key _ c.in_ok-twig-in-Kept.twig c.args.child.now refl c.in-Kept.is c.requires.can.one (c.in_ok-twig-in-Kept.ensures.reads tells stands) such)
     one c.in_err-left-in-Kept.ensures.caches
 
 pub hold_way-returns-in_err-hold-in-Kept-clause-caches : goal.hold_way-returns-in_err-hold-in-Kept-clause-caches
 hold_way-returns-in_err-hold-in-Kept-clause-caches g t c =
-    let one = caches_read g.P.Platform c.args.level c.args.high c.in-Kept.low c.in-Kept.addr c.in-Kept.key c.args.child.now c.args.platform.now c.args.reader.now.cache c.read_kept.new.reader.cache c.in-Kept.is c.requires.can.one c.in_ok-twig-in-Kept.ensures.capacity c.in_ok-twig-in-Kept.ensures.stands c.in_ok-twig-in-Kept.ensures.but in
-    caches_then g.P.Platform (λ pages. HaveNodes pages (stubs c.args.level c.args.high c.args.child.now)) (λ pages. HaveNodes pages (stubs_below (c.args.level - 1) c.args.high c.in_ok-twig-in-Kept.twig)) c.args.platform.now c.read_kept.new.platform c.args.reader.now.cache c.read_kept.new.reader.cache c.hold_below-in-Kept.new.reader.cache
+    let one = caches_read g.P.Platform c.args.level c.args.high c.in-Kept.low c.in-Kept.addr c.in-Kept.key c.args.child.now c.args.platform.now c.args.reader.now.cache c.read_node.new.reader.cache c.in-Kept.is c.requires.can.one c.in_ok-twig-in-Kept.ensures.capacity c.in_ok-twig-in-Kept.ensures.stands c.in_ok-twig-in-Kept.ensures.but in
+    caches_then g.P.Platform (λ pages. HaveNodes pages (stubs c.args.level c.args.high c.args.child.now)) (λ pages. HaveNodes pages (stubs_below (c.args.level - 1) c.args.high c.in_ok-twig-in-Kept.twig)) c.args.platform.now c.read_node.new.platform c.args.reader.now.cache c.read_node.new.reader.cache c.hold_below-in-Kept.new.reader.cache
     c.in_ok-twig-in-Kept.ensures.looks.image
     (λ tells stands places such. nodes_below_read _ places c.args.level c.args.high c.in-Kept.low c.in-Kept.addr c.in-Kept.key _ c.in_ok-twig-in-Kept.twig c.args.child.now refl c.in-Kept.is c.requires.can.one (c.in_ok-twig-in-Kept.ensures.reads tells stands) such)
     one c.in_ok-left-in-Kept.ensures.caches
 
 pub hold_way-returns-in_ok-hold-in-Kept-clause-caches : goal.hold_way-returns-in_ok-hold-in-Kept-clause-caches
 hold_way-returns-in_ok-hold-in-Kept-clause-caches g t c =
-    let one = caches_read g.P.Platform c.args.level c.args.high c.in-Kept.low c.in-Kept.addr c.in-Kept.key c.args.child.now c.args.platform.now c.args.reader.now.cache c.read_kept.new.reader.cache c.in-Kept.is c.requires.can.one c.in_ok-twig-in-Kept.ensures.capacity c.in_ok-twig-in-Kept.ensures.stands c.in_ok-twig-in-Kept.ensures.but in
-    caches_then g.P.Platform (λ pages. HaveNodes pages (stubs c.args.level c.args.high c.args.child.now)) (λ pages. HaveNodes pages (stubs_below (c.args.level - 1) c.args.high c.in_ok-twig-in-Kept.twig)) c.args.platform.now c.read_kept.new.platform c.args.reader.now.cache c.read_kept.new.reader.cache c.hold_below-in-Kept.new.reader.cache
+    let one = caches_read g.P.Platform c.args.level c.args.high c.in-Kept.low c.in-Kept.addr c.in-Kept.key c.args.child.now c.args.platform.now c.args.reader.now.cache c.read_node.new.reader.cache c.in-Kept.is c.requires.can.one c.in_ok-twig-in-Kept.ensures.capacity c.in_ok-twig-in-Kept.ensures.stands c.in_ok-twig-in-Kept.ensures.but in
+    caches_then g.P.Platform (λ pages. HaveNodes pages (stubs c.args.level c.args.high c.args.child.now)) (λ pages. HaveNodes pages (stubs_below (c.args.level - 1) c.args.high c.in_ok-twig-in-Kept.twig)) c.args.platform.now c.read_node.new.platform c.args.reader.now.cache c.read_node.new.reader.cache c.hold_below-in-Kept.new.reader.cache
     c.in_ok-twig-in-Kept.ensures.looks.image
     (λ tells stands places such. nodes_below_read _ places c.args.level c.args.high c.in-Kept.low c.in-Kept.addr c.in-Kept.key _ c.in_ok-twig-in-Kept.twig c.args.child.now refl c.in-Kept.is c.requires.can.one (c.in_ok-twig-in-Kept.ensures.reads tells stands) such)
     one c.in_ok-left-in-Kept.ensures.caches

@@ -1,4 +1,4 @@
-use Rattle.std.proofs.Common.{◌≡◌, suc, ◌<◌, ◌-◌, ◌/◌, ◌^◌, Err, Some, length, sym, ap, subst, arith}
+use Rattle.std.proofs.Common.{◌≡◌, suc, ◌<◌, ◌-◌, ◌/◌, ◌^◌, Err, Some, length, sym, ap, subst, ◌∙◌, arith}
 use Rattle.std.proofs.lemmas.Result.{err_from_is_err_and}
 use Rattle.btree_twigs.specs.declared.twigs.Child.{out-Child}
 use Rattle.btree_twigs.specs.declared.twigs.Child.TheVariants as made
@@ -13,8 +13,8 @@ use Rattle.btree_update.proofs.BesideLaws.{want_beside, spares_of, beside_lt, no
 use Rattle.btree_update.proofs.CacheLaws.{caches_read}
 use Rattle.btree_update.proofs.siblings.read_help.Goals as goal
 
-pub read_kept-requires-clause-within : goal.read_kept-requires-clause-within
-read_kept-requires-clause-within g c =
+pub read_node-requires-clause-within : goal.read_node-requires-clause-within
+read_node-requires-clause-within g c =
     beside_lt c.args.order c.args.level c.args.high (g.P.Platform.head c.args.platform.now) c.in-Kept.low c.in-Kept.addr c.in-Kept.key
     (subst (CanRead c.args.order c.args.level c.args.high (g.P.Platform.head c.args.platform.now)) c.in-Kept.is c.requires.can)
 
@@ -60,9 +60,9 @@ returns-in_ok-twig-in-Kept-clause-reads g c = λ tells stands.
 pub returns-in_err-twig-in-Kept-clause-caches : goal.returns-in_err-twig-in-Kept-clause-caches
 returns-in_err-twig-in-Kept-clause-caches g c =
     let l = c.requires.can.level_is in
-    caches_read g.P.Platform c.args.level c.args.high c.in-Kept.low c.in-Kept.addr c.in-Kept.key c.args.child.now c.args.platform.now c.args.reader.now.cache c.read_kept.new.reader.cache c.in-Kept.is (omega (arith, l)) c.in_err-twig-in-Kept.ensures.capacity c.in_err-twig-in-Kept.ensures.stands c.in_err-twig-in-Kept.ensures.but
+    caches_read g.P.Platform c.args.level c.args.high c.in-Kept.low c.in-Kept.addr c.in-Kept.key c.args.child.now c.args.platform.now c.args.reader.now.cache c.read_node.new.reader.cache c.in-Kept.is (omega (arith, l)) c.in_err-twig-in-Kept.ensures.capacity c.in_err-twig-in-Kept.ensures.stands c.in_err-twig-in-Kept.ensures.but
 
 pub returns-in_ok-twig-in-Kept-clause-caches : goal.returns-in_ok-twig-in-Kept-clause-caches
 returns-in_ok-twig-in-Kept-clause-caches g c =
     let l = c.requires.can.level_is in
-    caches_read g.P.Platform c.args.level c.args.high c.in-Kept.low c.in-Kept.addr c.in-Kept.key c.args.child.now c.args.platform.now c.args.reader.now.cache c.read_kept.new.reader.cache c.in-Kept.is (omega (arith, l)) c.in_ok-twig-in-Kept.ensures.capacity c.in_ok-twig-in-Kept.ensures.stands c.in_ok-twig-in-Kept.ensures.but
+    caches_read g.P.Platform c.args.level c.args.high c.in-Kept.low c.in-Kept.addr c.in-Kept.key c.args.child.now c.args.platform.now c.args.reader.now.cache c.read_node.new.reader.cache c.in-Kept.is (omega (arith, l)) c.in_ok-twig-in-Kept.ensures.capacity c.in_ok-twig-in-Kept.ensures.stands c.in_ok-twig-in-Kept.ensures.but

@@ -7,6 +7,7 @@ use Rattle.device_session.specs.Sessions.{Session}
 use Rattle.device_session.specs.Finishing.{TakesUp}
 use Rattle.device_session.proofs.StepLaws.{IsCommitting, untouched_after, commits_nothing, commits_full, commits_stopped, same_counts, commits_failed, commits_done, commits_raised, committed_cached}
 use Rattle.device_session.proofs.DamageLaws.{follows_taken}
+use Rattle.std.proofs.lemmas.Result.{err_from_is_err_and}
 use Rattle.device_session.specs.contracts.session.Session.{the_view}
 use Rattle.device_session.proofs.session.Session.commit.Given.{Over}
 use Rattle.device_session.proofs.session.Session.commit.Goals.{After-publish, After-take_up}
@@ -70,34 +71,36 @@ returns-in-Err-PlatformFault-clause-commits g c = rw (← c.self.view_is) (
 takes : (g : Over) (c : After-take_up g) → TakesUp (the_view c.self.inside) c.prepare.new.reader.cache c.in-Ok.prepared.root c.take_up.new.self
 takes g c =
     let t = c.take_up.ensures in
-    subst (λ (root : Root). TakesUp (the_view c.self.inside) c.prepare.new.reader.cache root c.take_up.new.self) c.in-Ok-publish.ensures.root
+    subst (λ (root : Root). TakesUp (the_view c.self.inside) c.prepare.new.reader.cache root c.take_up.new.self) c.in_ok-root.ensures.root
     (record { root_is = t.root_is; mapped = t.mapped; untouched = t.untouched; tree = t.tree; none_held = t.none_held; cached = t.cached; wiped = t.wiped })
 
-number_is : (g : Over) (c : After-take_up g) → c.in-Ok-publish.root.commit ≡ c.in-Ok.prepared.root.commit
-number_is g c = ap (λ (root : Root). root.commit) c.in-Ok-publish.ensures.root
+number_is : (g : Over) (c : After-take_up g) → c.in_ok-root.root.commit ≡ c.in-Ok.prepared.root.commit
+number_is g c = ap (λ (root : Root). root.commit) c.in_ok-root.ensures.root
 
-pub returns-in-Err-clause-commits : goal.returns-in-Err-clause-commits
-returns-in-Err-clause-commits g c = rw (← c.self.view_is) (commits_failed _ _ _ _ _ _ _ _ _ _ _ _ _ _ c.in-Err.fault (calls g (goal.at.returns-in-Err-clause-commits g c).After-publish) c.in-Err.ensures.cause)
+pub returns-in_err-root-clause-commits : goal.returns-in_err-root-clause-commits
+returns-in_err-root-clause-commits g c =
+    let p = err_from_is_err_and c.from_residual.result c.from_residual.ensures.1 in
+    rw (← c.self.view_is, p.1, p.2) (commits_failed _ _ _ _ _ _ _ _ _ _ _ _ _ _ c.in_err-root.field-0.0 (calls g (goal.at.returns-in_err-root-clause-commits g c).After-publish) c.in_err-root.ensures.cause)
 
 pub returns-clause-raised : goal.returns-clause-raised
 unfolding calls
 returns-clause-raised g c = λ touched room. rw (← c.self.view_is) (
     let at = goal.at.returns-clause-raised g c in
-    commits_raised _ _ _ _ _ _ _ _ _ _ _ _ _ _ _ (calls g at.After-publish) (takes g c) c.in-Ok-publish.ensures.swapped (number_is g c))
+    commits_raised _ _ _ _ _ _ _ _ _ _ _ _ _ _ _ (calls g at.After-publish) (takes g c) c.in_ok-root.ensures.swapped (number_is g c))
 
 pub returns-clause-commits : goal.returns-clause-commits
 unfolding calls
 returns-clause-commits g c = rw (← c.self.view_is) (
     let at = goal.at.returns-clause-commits g c in
-    commits_done _ _ _ _ _ _ _ _ _ _ _ _ _ _ _ (calls g at.After-publish) (λ never. never (ap is_ok c.in-Ok-publish.is)) (takes g c) c.in-Ok-publish.ensures.swapped (number_is g c)
-    c.in-Ok-publish.ensures.cause)
+    commits_done _ _ _ _ _ _ _ _ _ _ _ _ _ _ _ (calls g at.After-publish) (λ never. never (ap is_ok c.in_ok-root.was)) (takes g c) c.in_ok-root.ensures.swapped (number_is g c)
+    c.in_ok-root.ensures.cause)
 
 pub returns-clause-mounted : goal.returns-clause-mounted
 unfolding calls
 returns-clause-mounted g c = λ told. rw (← c.self.view_is) (
     let at = goal.at.returns-clause-mounted g c in
     let all = calls g at.After-publish in
-    let swapped = c.in-Ok-publish.ensures.swapped in (
+    let swapped = c.in_ok-root.ensures.swapped in (
       λ f. follows_taken (the_view c.self.inside) c.take_up.new.self c.prepare.new.reader.cache c.in-Ok.prepared.root _ (takes g c) all.readied.ready.is.next_is.mapped_is (committed_cached _ _ _ _ _ _ _ _ _ _ _ _ _ _ all (takes g c) told (swapped told) f.cached),
       λ cell. (commits_raised _ _ _ _ _ _ _ _ _ _ _ _ _ _ _ all (takes g c) swapped (number_is g c)).cell told,
     ))
