@@ -1,15 +1,12 @@
 use Rattle.std.proofs.Common.{◌<◌, ◌≤◌, ◌-◌, ◌^◌, IfOk, Some, None, refl, sym, subst, arith}
 use Rattle.page_store.specs.Places.{FitsAt}
-use Rattle.btree_walk.specs.Sights.{KeptFits}
-use Rattle.btree_walk.specs.Finds.{Finds}
 use Rattle.btree_walk.proofs.OnLaws.{IfOk_map}
 use Rattle.btree_walk.proofs.MappedLaws.{finds_page, stops_page}
 use Rattle.btree_update.specs.GroveTree.{want_of}
 use Rattle.btree_update.specs.Held.{stub_at}
-use Rattle.btree_update.specs.Finding.{FindsBelow, ComesToWrong, FindsFrom, StopsFrom, KeepsFrom, level_from, CanGoOn}
+use Rattle.btree_update.specs.Finding.{FindsFrom, StopsFrom, KeepsFrom, level_from, CanGoOn}
 use Rattle.btree_update.proofs.KeptWay.{OnOk_from}
 use Rattle.btree_update.proofs.CacheLaws.{stands_on}
-use Rattle.btree_walk.specs.Among.{IsAmong}
 use Rattle.btree_update.specs.Among.{HaveSpot}
 use Rattle.btree_update.proofs.finding.find_from.Goals as goal
 

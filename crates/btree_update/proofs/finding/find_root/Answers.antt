@@ -1,7 +1,6 @@
 use Rattle.std.proofs.Common.{◌≡◌, ◌<◌, ◌≤◌, ◌-◌, ◌^◌, ℕ, suc, List, IfOk, sym, subst, arith}
 use Rattle.page_store.specs.Places.{FitsAt}
 use Rattle.btree_walk.specs.Sights.{KeptFits}
-use Rattle.btree_walk.specs.Finds.{Finds}
 use Rattle.btree_walk.proofs.OnLaws.{IfOk_map, entry_below}
 use Rattle.btree_walk.proofs.MappedLaws.{finds_page, stops_page}
 use Rattle.btree_twigs.specs.declared.twigs.Child.{Child}
@@ -19,7 +18,6 @@ use Rattle.btree_update.specs.Finding.{FindsBelow, ComesToWrong, RootFinds, Root
 use Rattle.btree_update.proofs.RootHolds.{root_grown, root_lt}
 use Rattle.btree_update.proofs.FoundLaws.{looks_more, up_twig, goes_on, from_level, want_is}
 use Rattle.btree_update.proofs.KeptWay.{finds_there, OnOk_from, OnOk_map}
-use Rattle.btree_walk.specs.Among.{IsAmong}
 use Rattle.btree_update.specs.Among.{HaveNodes, HaveSpot}
 use Rattle.btree_update.proofs.AmongLaws.{grown_among, kept_among, spot_among}
 use Rattle.btree_update.proofs.CacheLaws.{stands_on, caches_fewer}

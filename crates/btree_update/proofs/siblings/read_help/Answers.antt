@@ -1,4 +1,4 @@
-use Rattle.std.proofs.Common.{◌≡◌, suc, ◌<◌, ◌-◌, ◌/◌, ◌^◌, Err, Some, length, sym, ap, subst, ◌∙◌, arith}
+use Rattle.std.proofs.Common.{◌≡◌, suc, ◌<◌, ◌-◌, ◌/◌, ◌^◌, Err, Some, length, sym, ap, subst, arith}
 use Rattle.std.proofs.lemmas.Result.{err_from_is_err_and}
 use Rattle.btree_twigs.specs.declared.twigs.Child.{out-Child}
 use Rattle.btree_twigs.specs.declared.twigs.Child.TheVariants as made

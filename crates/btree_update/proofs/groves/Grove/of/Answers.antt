@@ -12,8 +12,7 @@ returns-clause-below c head lt = kept_place c.args.root.now.level c.args.root.no
 pub returns-clause-levels : goal.returns-clause-levels
 returns-clause-levels c pages parts tree =
     let root = c.args.root.now in
-    let t = tree_told pages root.order root.level (root_want root) root.key parts (omega (arith, c.requires.blocks_least)) tree in
-    (
+    let t = tree_told pages root.order root.level (root_want root) root.key parts (omega (arith, c.requires.blocks_least)) tree in (
       rows_at t.medium root.level root.blocks (made.Kept 0 root.addr root.key),
       record {
         medium = t.medium;
