@@ -1,3 +1,12 @@
 pub mod RoomLaws
 pub mod CameLaws
 pub mod HaggleLaws
+pub mod CallLaws
+pub mod CarryLaws
+pub mod BlameLaws
+pub mod DataLaws
+pub mod PartLaws
+pub mod RequestLaws
+pub mod ReplyLaws
+pub mod SpanLaws
+pub mod StatusLaws

@@ -2,3 +2,8 @@ pub mod Room
 pub mod Passed
 pub mod Stops
 pub mod Haggling
+pub mod Halts
+pub mod Requests
+pub mod Serving
+pub mod Running
+pub mod Program

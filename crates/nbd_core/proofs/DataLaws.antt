@@ -1,0 +1,81 @@
+-- Bytes of a request that come behind its head.
+use Rattle.std.proofs.Common.{◌≡◌, ◌≤◌, ◌<◌, ◌+◌, ◌++◌, ◌⊎◌, ℕ, List, [], Option, Result, Ok, Err, inl, inr, length, take, refl, sym, ap, subst, ◌∙◌, append_assoc, length-append, arith}
+use Rattle.std.specs.Prelude.{IfErr}
+use Rattle.nbd_core.specs.Room.{Room, Came, IsShorter}
+use Rattle.nbd_core.specs.Requests.{DataCame, DataEnd}
+use Rattle.nbd_core.specs.declared.stop.Stop.{Stop}
+use Rattle.nbd_core.specs.declared.stop.Stop.TheVariants as stops
+use Rattle.nbd_core.specs.declared.halts.Halt.{Halt}
+use Rattle.nbd_core.specs.declared.halts.Halt.TheVariants as halts
+use Rattle.sdbt_base.specs.Told.{IsAtEnd}
+use Rattle.nbd_core.proofs.CameLaws.{came_nothing, came_then, gone_more}
+
+-- more came behind bytes that are gone, and fewer than so many were waited for
+pub gone_then : (a b c : Option (List ℕ)) (old mid : Room) (left_to_take count more : ℕ) (gone came : List ℕ) → Came a b old mid.left (IsShorter count) (gone ++ mid.ahead) → length gone + more ≤ count → Came b c mid left_to_take (IsShorter more) came
+    → Came a c old left_to_take (IsShorter count) (gone ++ came)
+gone_then a b c old mid left_to_take count more gone came first le next =
+    came_then a b c old mid left_to_take (IsShorter count) (IsShorter more) (IsShorter count) gone came (λ bytes waits. waits)
+    (λ bytes waits. omega (arith, waits, le, length-append gone (mid.ahead ++ bytes))) first next
+
+-- so many more are gone
+pub gone_skip : (a c : Option (List ℕ)) (old mid new : Room) (count k : ℕ) (gone : List ℕ) → Came a c old mid.left (IsShorter count) (gone ++ mid.ahead) → new.ahead ≡ Rattle.std.proofs.Common.drop k mid.ahead → new.left ≡ mid.left
+    → Came a c old new.left (IsShorter count) ((gone ++ take k mid.ahead) ++ new.ahead)
+gone_skip a c old mid new count k gone came ahead left =
+    let same : gone ++ mid.ahead ≡ (gone ++ take k mid.ahead) ++ new.ahead = gone_more gone mid.ahead k ∙ ap (λ (l : List ℕ). (gone ++ take k mid.ahead) ++ l) (sym ahead) in
+    subst (λ (n : ℕ). Came a c old n (IsShorter count) ((gone ++ take k mid.ahead) ++ new.ahead)) (sym left) (subst (Came a c old mid.left (IsShorter count)) same came)
+
+-- no byte belongs to the request
+pub no_data : {X : Type 0} (left : Option (List ℕ)) (old : Room) (count : ℕ) (result : Result X Halt) → count ≡ 0 → IfErr result (DataEnd left 0 old.ahead) → DataCame left left old old count result
+no_data left old count (Ok x) none ends = record { gone = []; came = came_nothing left old (IsShorter count); whole = sym none; ends = tt }
+no_data left old count (Err halt) none ends = record { gone = []; came = came_nothing left old (IsShorter count); whole = tt; ends = subst (λ (n : ℕ). DataEnd left n old.ahead halt) (sym none) ends }
+
+-- all came
+pub data_whole : {X : Type 0} (a c : Option (List ℕ)) (old new : Room) (count : ℕ) (gone : List ℕ) (x : X) → Came a c old new.left (IsShorter count) (gone ++ new.ahead) → length gone ≡ count → DataCame a c old new count (Ok x)
+data_whole a c old new count gone x came whole = record { gone = gone; came = came; whole = whole; ends = tt }
+
+-- fewer came
+pub data_short : {X : Type 0} (a c : Option (List ℕ)) (old new : Room) (count : ℕ) (gone : List ℕ) (stop : Stop) → Came a c old new.left (IsShorter count) (gone ++ new.ahead) → length (gone ++ new.ahead) < count
+    → (stop ≡ stops.Source) ⊎ (stop ≡ stops.Limit) → DataCame {X = X} a c old new count (Err (halts.Client stop))
+data_short a c old new count gone stops.Source came short which = record { gone = gone; came = came; whole = tt; ends = short }
+data_short a c old new count gone stops.Limit came short which = record { gone = gone; came = came; whole = tt; ends = short }
+data_short a c old new count gone stops.Broken came short (inl same) = absurd cc
+data_short a c old new count gone stops.Broken came short (inr same) = absurd cc
+data_short a c old new count gone stops.Sink came short (inl same) = absurd cc
+data_short a c old new count gone stops.Sink came short (inr same) = absurd cc
+
+pub data_broken : {X : Type 0} (a c : Option (List ℕ)) (old new : Room) (count : ℕ) (gone : List ℕ) → Came a c old new.left (IsShorter count) (gone ++ new.ahead) → length (gone ++ new.ahead) < count → IsAtEnd c
+    → DataCame {X = X} a c old new count (Err (halts.Client stops.Broken))
+data_broken a c old new count gone came short end = record { gone = gone; came = came; whole = tt; ends = (short, end) }
+
+ends_then : (left : Option (List ℕ)) (count more : ℕ) (gone came : List ℕ) (halt : Halt) → length gone + more ≡ count → DataEnd left more came halt → DataEnd left count (gone ++ came) halt
+ends_then left count more gone came (halts.Client stops.Source) is ends = omega (arith, is, ends, length-append gone came)
+ends_then left count more gone came (halts.Client stops.Limit) is ends = omega (arith, is, ends, length-append gone came)
+ends_then left count more gone came (halts.Client stops.Broken) is ends = (omega (arith, is, ends.0, length-append gone came), ends.1)
+ends_then left count more gone came (halts.Client stops.Sink) is ends = absurd ends
+ends_then left count more gone came halts.Platform is ends = tt
+ends_then left count more gone came halts.Tape is ends = tt
+ends_then left count more gone came halts.Ledger is ends = tt
+ends_then left count more gone came halts.Memory is ends = tt
+ends_then left count more gone came halts.BadRoot is ends = absurd ends
+ends_then left count more gone came halts.NoDevice is ends = absurd ends
+ends_then left count more gone came halts.Unfinished is ends = absurd ends
+
+-- the rest of them came behind those that are gone
+pub data_then : {X : Type 0} (a b c : Option (List ℕ)) (old mid new : Room) (count more : ℕ) (gone : List ℕ) (result : Result X Halt) → Came a b old mid.left (IsShorter count) (gone ++ mid.ahead) → length gone + more ≡ count → DataCame b c mid new more result → DataCame a c old new count result
+data_then a b c old mid new count more gone (Ok x) first is rest = record {
+  gone = gone ++ rest.gone;
+  came = subst (Came a c old new.left (IsShorter count)) (sym (append_assoc gone rest.gone new.ahead)) (gone_then a b c old mid new.left count more gone (rest.gone ++ new.ahead) first (omega (arith, is)) rest.came);
+  whole = omega (arith, is, rest.whole, length-append gone rest.gone);
+  ends = tt;
+}
+data_then a b c old mid new count more gone (Err halt) first is rest = record {
+  gone = gone ++ rest.gone;
+  came = subst (Came a c old new.left (IsShorter count)) (sym (append_assoc gone rest.gone new.ahead)) (gone_then a b c old mid new.left count more gone (rest.gone ++ new.ahead) first (omega (arith, is)) rest.came);
+  whole = tt;
+  ends = subst (λ (l : List ℕ). DataEnd c count l halt) (sym (append_assoc gone rest.gone new.ahead)) (ends_then c count more gone (rest.gone ++ new.ahead) halt is rest.ends);
+}
+
+-- there is no more to come than before
+pub less_of_data : {X : Type 0} (a c : Option (List ℕ)) (old new : Room) (count : ℕ) (result : Result X Halt) → DataCame a c old new count result → length new.ahead + new.left ≤ length old.ahead + old.left
+less_of_data a c old new count result rest =
+    omega (arith, ap length rest.came.is, length-append rest.gone new.ahead, length-append old.ahead rest.came.taken, rest.came.count)

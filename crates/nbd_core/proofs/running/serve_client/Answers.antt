@@ -1,0 +1,29 @@
+use Rattle.std.proofs.Common.{inr, refl, ap, arith, ◌∙◌, ◌≡◌, ◌*◌, Ok}
+use Rattle.device_session.specs.Open.{blocks_of}
+use Rattle.nbd_core.proofs.CarryLaws.{carries_start, carries_end}
+use Rattle.nbd_core.proofs.SpanLaws.{conversed_of}
+use Rattle.nbd_core.proofs.running.serve_client.Goals as goal
+
+pub returns-in_default-clause-carries : goal.returns-in_default-clause-carries
+returns-in_default-clause-carries g c = carries_end _ _ _ _ _ _ _ (λ never. tt) (carries_start _ _ _ c.requires)
+
+pub returns-in-Ok-Nothing-clause-carries : goal.returns-in-Ok-Nothing-clause-carries
+returns-in-Ok-Nothing-clause-carries g c = carries_end _ _ _ _ _ _ _ (λ going. tt) (carries_start _ _ _ c.requires)
+
+pub returns-in-Err-clause-carries : goal.returns-in-Err-clause-carries
+returns-in-Err-clause-carries g c = carries_end _ _ _ _ _ _ _ (λ never. tt) (carries_start _ _ _ c.requires)
+
+pub returns-in-Ok-Requests-clause-says : goal.returns-in-Ok-Requests-clause-says
+returns-in-Ok-Requests-clause-says g c =
+    let size : c.blocks-2.result * 4096 ≡ 4096 * blocks_of c.args.session = omega (arith, c.blocks-2.ensures) in
+    inr (conversed_of _ _ _ _ _ _ _ _ _ _ _ _ _ size (c.in-Ok-Requests.is ∙ ap Ok c.in-Ok-Requests.field-0-is) c.in-Ok.ensures.0 c.in-Ok.ensures.1 c.haggle.ensures.haggled tt)
+
+pub returns-in-Ok-Nothing-clause-says : goal.returns-in-Ok-Nothing-clause-says
+returns-in-Ok-Nothing-clause-says g c =
+    let size : c.blocks-2.result * 4096 ≡ 4096 * blocks_of c.args.session = omega (arith, c.blocks-2.ensures) in
+    inr (conversed_of _ _ _ _ _ _ _ _ _ _ _ _ _ size (c.in-Ok-Nothing.is ∙ ap Ok c.in-Ok-Nothing.field-0-is) c.in-Ok.ensures.0 c.in-Ok.ensures.1 c.haggle.ensures.haggled (refl, refl, refl))
+
+pub returns-in-Err-clause-says : goal.returns-in-Err-clause-says
+returns-in-Err-clause-says g c =
+    let size : c.blocks-2.result * 4096 ≡ 4096 * blocks_of c.args.session = omega (arith, c.blocks-2.ensures) in
+    inr (conversed_of _ _ _ _ _ _ _ _ _ _ _ _ _ size c.in-Err.is c.in-Ok.ensures.0 c.in-Ok.ensures.1 c.haggle.ensures.haggled (refl, refl, refl))

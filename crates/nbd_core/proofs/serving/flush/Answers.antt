@@ -1,0 +1,17 @@
+use Rattle.nbd_core.proofs.CarryLaws.{carries_committed, carries_stopped, carries_going}
+use Rattle.nbd_core.proofs.BlameLaws.{commit_halts, of_commit}
+use Rattle.nbd_core.proofs.serving.flush.Goals as goal
+
+pub returns-in-Ok-clause-carries : goal.returns-in-Ok-clause-carries
+returns-in-Ok-clause-carries g c =
+    carries_going _ _ _ _ _ _ _ (λ going. tt) (carries_committed g.P.Platform g.T.Tape g.L.Sink _ _ _ _ _ _ _ c.in-Ok.done c.in-Ok.ensures.goes c.in-Ok.ensures.leads)
+
+pub returns-in-Err-clause-carries : goal.returns-in-Err-clause-carries
+returns-in-Err-clause-carries g c =
+    carries_going _ _ _ _ _ _ _ (λ going. cc) (carries_stopped g.P.Platform g.T.Tape g.L.Sink _ _ _ _ _ _ _ c.in-Err.stop c.in-Err.ensures.goes c.in-Err.ensures.leads)
+
+pub after_commit-requires : goal.after_commit-requires
+after_commit-requires g c = of_commit g.P.Platform g.T.Tape _ _ _ _ c.in-Err.stop c.in-Err.ensures.answers.left
+
+pub returns-in-Err-clause-halts : goal.returns-in-Err-clause-halts
+returns-in-Err-clause-halts g c left came = commit_halts c.in-Err.stop _ left came (of_commit g.P.Platform g.T.Tape _ _ _ _ c.in-Err.stop c.in-Err.ensures.answers.left) c.after_commit.ensures

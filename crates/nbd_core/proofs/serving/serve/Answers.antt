@@ -1,0 +1,90 @@
+use Rattle.std.proofs.Common.{refl, arith, subst, Ok, Option}
+use Rattle.std.proofs.lemmas.Result.{err_from_is_err_and}
+use Rattle.session_calls.specs.Blame.{counts, NoneFell}
+use Rattle.nbd_lang.specs.declared.requests.Request.{Request}
+use Rattle.nbd_core.specs.Requests.{HeadCame}
+use Rattle.nbd_core.proofs.BlameLaws.{blame_earlier, blame_as, fell_then}
+use Rattle.nbd_core.proofs.CarryLaws.{carries_start, carries_then, carries_end, carries_going}
+use Rattle.nbd_core.proofs.RequestLaws.{less_of_head}
+use Rattle.nbd_core.proofs.SpanLaws.{late_head}
+use Rattle.nbd_core.proofs.serving.serve.Goals as goal
+
+pub requests-init : goal.requests-init
+requests-init g c = record {
+  carries = carries_start _ _ _ c.requires;
+  fell = record { platform = omega arith; tape = omega arith; input = omega arith; output = omega arith; ledger = omega arith };
+}
+
+pub returns-in_err-request-clause-carries : goal.returns-in_err-request-clause-carries
+returns-in_err-request-clause-carries g c =
+    let p = err_from_is_err_and c.from_residual.result c.from_residual.ensures.1 in
+    rw p.1 (carries_end _ _ _ _ _ _ _ (λ never. cc) c.requests.invariant.carries)
+
+pub returns-in_err-request-clause-blame : goal.returns-in_err-request-clause-blame
+returns-in_err-request-clause-blame g c =
+    let p = err_from_is_err_and c.from_residual.result c.from_residual.ensures.1 in
+    let rest = counts (g.P.Platform.faults c.requests.platform) (g.T.Tape.faults c.requests.tape) 0 (g.O.Sink.faults c.requests.output) (g.L.Sink.faults c.requests.ledger) in
+    rw (p.1, p.2) (blame_earlier _ _ _ _ c.requests.invariant.fell (blame_as _ _ c.in_err-request.field-0.0 (c.in_err-request.ensures.blame rest rest (record { platform = omega arith; tape = omega arith; input = omega arith; output = omega arith; ledger = omega arith }))))
+
+pub returns-then-eq-clause-carries : goal.returns-then-eq-clause-carries
+returns-then-eq-clause-carries g c = carries_then _ _ _ _ _ _ _ _ _ tt c.requests.invariant.carries c.finish.ensures.carries
+
+pub returns-then-eq-clause-blame : goal.returns-then-eq-clause-blame
+returns-then-eq-clause-blame g c =
+    let zero = counts 0 0 0 0 0 in
+    let none : NoneFell zero zero = record { platform = omega arith; tape = omega arith; input = omega arith; output = omega arith; ledger = omega arith } in
+    let came = c.in_ok-request.ensures.blame zero zero none in
+    let o = g.O.Sink.faults c.requests.output in
+    blame_earlier _ _ _ _ c.requests.invariant.fell
+    (c.finish.ensures.blame (counts 0 0 (g.I.Source.faults c.requests.input) o 0) (counts 0 0 (g.I.Source.faults c.next_request.new.input) o 0)
+    (record { platform = omega arith; tape = omega arith; input = came.fell.input; output = omega arith; ledger = omega arith }))
+
+pub requests-smaller : goal.requests-smaller
+requests-smaller g c =
+    let head = subst (λ (it : Option Request). HeadCame (g.I.Source.left c.requests.input) (g.I.Source.left c.next_request.new.input) c.requests.intake c.next_request.new.intake (Ok it)) c.in-Some.is c.in_ok-request.ensures.came in
+    omega (arith, less_of_head _ _ _ _ c.in-Some.request head, c.answer.ensures.less)
+
+pub requests-preserved : goal.requests-preserved
+requests-preserved g c =
+    let zero = counts 0 0 0 0 0 in
+    let none : NoneFell zero zero = record { platform = omega arith; tape = omega arith; input = omega arith; output = omega arith; ledger = omega arith } in
+    let came = c.in_ok-request.ensures.blame zero zero none in
+    record {
+      carries = carries_then _ _ _ _ _ _ _ _ _ tt c.requests.invariant.carries (carries_going _ _ _ _ _ _ _ (λ going. refl) c.in-Ok.ensures.carries);
+      fell =
+          fell_then _ _ _ c.requests.invariant.fell
+          (record {
+            platform = c.in-Ok.ensures.blame.fell.platform;
+            tape = c.in-Ok.ensures.blame.fell.tape;
+            input = omega (arith, came.fell.input, c.in-Ok.ensures.blame.fell.input);
+            output = c.in-Ok.ensures.blame.fell.output;
+            ledger = c.in-Ok.ensures.blame.fell.ledger;
+          });
+    }
+
+pub returns-in-Err-clause-carries : goal.returns-in-Err-clause-carries
+returns-in-Err-clause-carries g c = carries_then _ _ _ _ _ _ _ _ _ tt c.requests.invariant.carries c.in-Err.ensures.carries
+
+pub returns-in-Err-clause-blame : goal.returns-in-Err-clause-blame
+returns-in-Err-clause-blame g c =
+    let zero = counts 0 0 0 0 0 in
+    let none : NoneFell zero zero = record { platform = omega arith; tape = omega arith; input = omega arith; output = omega arith; ledger = omega arith } in
+    let came = c.in_ok-request.ensures.blame zero zero none in
+    blame_earlier _ _ _ _
+    (fell_then _ _ _ c.requests.invariant.fell (record { platform = omega arith; tape = omega arith; input = came.fell.input; output = omega arith; ledger = omega arith }))
+    (blame_as _ _ c.in-Err.halt c.in-Err.ensures.blame)
+
+pub returns-clause-carries : goal.returns-clause-carries
+returns-clause-carries g c = carries_end _ _ _ _ _ _ _ (λ going. tt) c.requests.invariant.carries
+
+pub returns-clause-blame : goal.returns-clause-blame
+returns-clause-blame g c =
+    let zero = counts 0 0 0 0 0 in
+    let none : NoneFell zero zero = record { platform = omega arith; tape = omega arith; input = omega arith; output = omega arith; ledger = omega arith } in
+    let came = c.in_ok-request.ensures.blame zero zero none in
+    record { fell = fell_then _ _ _ c.requests.invariant.fell (record { platform = omega arith; tape = omega arith; input = came.fell.input; output = omega arith; ledger = omega arith }); cause = tt }
+
+pub returns-in_err-request-clause-halts : goal.returns-in_err-request-clause-halts
+returns-in_err-request-clause-halts g c =
+    let p = err_from_is_err_and c.from_residual.result c.from_residual.ensures.1 in
+    rw (p.1, p.2) (late_head (g.I.Source.left c.next_request.new.input) c.next_request.new.intake.ahead c.in_err-request.ensures.came.came c.in_err-request.field-0.0 c.in_err-request.ensures.came.ends)

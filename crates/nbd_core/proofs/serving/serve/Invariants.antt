@@ -1,0 +1,18 @@
+use Rattle.std.specs.Prelude.{◌+◌, Some, length}
+use Rattle.device_course.specs.States.{around}
+use Rattle.session_calls.specs.Blame.{NoneFell}
+use Rattle.nbd_core.specs.Serving.{Carries, counts_of}
+use Rattle.nbd_core.proofs.serving.serve.Given as goal
+
+abbrev pub invariant-requests : goal.invariant-requests
+invariant-requests g l =
+    let P = g.P.Platform in
+    let T = g.T.Tape in
+    let L = g.L.Sink in
+    record {
+      carries : Carries P.tells (around P T L l.fn.platform l.fn.tape l.fn.ledger) (around P T L l.platform l.tape l.ledger) l.fn.first (Some l.session) (Unit {0});
+      fell : NoneFell (counts_of P T g.I.Source g.O.Sink L l.fn.platform l.fn.tape l.fn.input l.fn.output l.fn.ledger) (counts_of P T g.I.Source g.O.Sink L l.platform l.tape l.input l.output l.ledger);
+    }
+
+abbrev pub decreases-requests : goal.decreases-requests
+decreases-requests g l = length l.intake.ahead + l.intake.left

@@ -1,0 +1,19 @@
+use Rattle.std.proofs.Common.{ap, length, arith, ◌-◌}
+use Rattle.byte_arrays.proofs.RangeLaws.{length-blocks_from}
+use Rattle.session_calls.specs.Along.{drawn_by}
+use Rattle.session_calls.proofs.AlongLaws.{along_start}
+use Rattle.nbd_core.proofs.writing.write.Goals as goal
+
+pub returns-then-blocks-capacity-clause-along : goal.returns-then-blocks-capacity-clause-along
+returns-then-blocks-capacity-clause-along g c = (0, along_start g.P.Platform _ (drawn_by g.T.Tape c.args.tape.now) _ c.requires.open)
+
+pub returns-then-blocks-capacity-clause-blame : goal.returns-then-blocks-capacity-clause-blame
+returns-then-blocks-capacity-clause-blame g c rest rest_now fell =
+    let p = g.P.Platform.faults c.args.platform.now in
+    let t = g.T.Tape.faults c.args.tape.now in
+    c.let_go.ensures.blame (record rest { platform = p; tape = t }) (record rest_now { platform = p; tape = t }) (record { platform = omega arith; tape = omega arith; input = fell.input; output = fell.output; ledger = fell.ledger })
+
+pub write_range-requires-clause-free : goal.write_range-requires-clause-free
+write_range-requires-clause-free g c =
+    let blocks = c.touched-blocks.result in
+    omega (arith, ap length c.touched-blocks.ensures.blocks, length-blocks_from blocks.start (blocks.end - blocks.start), g.met.P.Platform.has_room c.args.platform.now, c.if-blocks-capacity.false)

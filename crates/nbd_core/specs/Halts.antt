@@ -1,0 +1,79 @@
+-- Why a run ends, its status, and what that is due to.
+use Rattle.std.specs.Prelude.{ℕ, Result, Ok, Err, IfErr}
+use Rattle.sdbt_base.specs.Faults.{Rose}
+use Rattle.nbd_lang.specs.declared.replies.Outcome.{Outcome}
+use Rattle.nbd_lang.specs.declared.replies.Outcome.TheVariants as outcomes
+use Rattle.session_calls.specs.Blame.{Counts, NoneFell}
+use Rattle.session_calls.specs.declared.stops.DeviceStop.{DeviceStop}
+use Rattle.session_calls.specs.declared.stops.DeviceStop.TheVariants as device
+use Rattle.nbd_core.specs.Stops.{status_of}
+use Rattle.nbd_core.specs.declared.stop.Stop.TheVariants as stops
+use Rattle.nbd_core.specs.declared.halts.Halt.{Halt}
+use Rattle.nbd_core.specs.declared.halts.Halt.TheVariants as halts
+
+abbrev pub status_at : Halt → ℕ
+status_at (halts.Client stop) = status_of stop
+status_at halts.Platform = 5
+status_at halts.Tape = 6
+status_at halts.Ledger = 7
+status_at halts.BadRoot = 8
+status_at halts.NoDevice = 10
+status_at halts.Unfinished = 10
+status_at halts.Memory = 11
+
+-- what a request comes to of which a call for a block stopped: want of memory and a record that
+-- doesn't fit have a reply
+abbrev pub outcome_after : DeviceStop → Result Outcome Halt
+outcome_after device.Memory = Ok outcomes.NoMemory
+outcome_after (device.BadRecord addr) = Ok outcomes.Damaged
+outcome_after device.Platform = Err halts.Platform
+outcome_after device.Tape = Err halts.Tape
+outcome_after device.Ledger = Err halts.Ledger
+outcome_after device.BadRoot = Err halts.BadRoot
+
+-- a stop that a commit comes to
+abbrev pub OfCommit : DeviceStop → Type 0
+OfCommit device.Platform = Unit {0}
+OfCommit device.Tape = Unit {0}
+OfCommit device.Ledger = Unit {0}
+OfCommit device.Memory = Unit {0}
+OfCommit device.BadRoot = ⊥
+OfCommit (device.BadRecord addr) = ⊥
+
+abbrev pub commit_halt : DeviceStop → Halt
+commit_halt device.Platform = halts.Platform
+commit_halt device.Tape = halts.Tape
+commit_halt device.Ledger = halts.Ledger
+commit_halt device.Memory = halts.Memory
+commit_halt device.BadRoot = halts.BadRoot
+commit_halt (device.BadRecord addr) = halts.Memory
+
+-- a run ends at a fault only where the count of that object rose
+abbrev pub IsDueTo : Counts → Counts → Halt → Type 0
+IsDueTo before now (halts.Client stops.Source) = Rose before.input now.input
+IsDueTo before now (halts.Client stops.Sink) = Rose before.output now.output
+IsDueTo before now (halts.Client stops.Limit) = Unit {0}
+IsDueTo before now (halts.Client stops.Broken) = Unit {0}
+IsDueTo before now halts.Platform = Rose before.platform now.platform
+IsDueTo before now halts.Tape = Rose before.tape now.tape
+IsDueTo before now halts.Ledger = Rose before.ledger now.ledger
+IsDueTo before now halts.BadRoot = Unit {0}
+IsDueTo before now halts.NoDevice = Unit {0}
+IsDueTo before now halts.Unfinished = Unit {0}
+IsDueTo before now halts.Memory = Unit {0}
+
+-- no count fell, and a run that ended at a fault did so where the count of that object rose
+pub record Blames {X : Type 0} (before now : Counts) (result : Result X Halt) : Type 0 where
+  pub fell : NoneFell before now
+  pub cause : IfErr result (IsDueTo before now)
+
+-- a run ended behind the look at its cell
+abbrev pub IsLate : Halt → Type 0
+IsLate halts.BadRoot = ⊥
+IsLate halts.NoDevice = ⊥
+IsLate (halts.Client stop) = Unit {0}
+IsLate halts.Platform = Unit {0}
+IsLate halts.Tape = Unit {0}
+IsLate halts.Ledger = Unit {0}
+IsLate halts.Unfinished = Unit {0}
+IsLate halts.Memory = Unit {0}

@@ -1,0 +1,86 @@
+-- What the server promises of a run.
+use Rattle.std.specs.Prelude.{◌≡◌, ◌≢◌, ◌⊎◌, ◌↔◌, ℕ, List, [], Option, None, Result, Ok, Err}
+use Rattle.sdbt_base.specs.Faults.{Rose}
+use Rattle.sdbt_base.specs.declared.sinks.Sink.{Ghosts as SinkGhosts}
+use Rattle.sdbt_base.specs.declared.sources.Source.{Ghosts as SourceGhosts}
+use Rattle.sdbt_base.specs.declared.tapes.Tape.{Ghosts as TapeGhosts}
+use Rattle.platform.specs.declared.platforms.Platform.{Ghosts as PlatformGhosts}
+use Rattle.device_course.specs.States.{Outside, around}
+use Rattle.device_terms.specs.Served.{IsServedImage}
+use Rattle.session_calls.specs.Blame.{Counts, NoneFell}
+use Rattle.nbd_core.specs.Halts.{status_at}
+use Rattle.nbd_core.specs.Serving.{counts_of}
+use Rattle.nbd_core.specs.Running.{Untouched, Talks}
+use Rattle.nbd_core.specs.declared.halts.Halt.{Halt}
+
+-- the five objects at one moment, and what they tell then: the moments of the platform, its pages,
+-- the keys that the tape drew and what the ledger has got; what the input has left; what the output
+-- has got; and the counts of their faults
+pub record Handed (S R I O L : Type 0) : Type 0 where
+  pub platform : S
+  pub tape : R
+  pub input : I
+  pub output : O
+  pub ledger : L
+  pub outside : Outside
+  pub left : Option (List ℕ)
+  pub written : Option (List ℕ)
+  pub counts : Counts
+
+abbrev pub handed : {S R I O L : Type 0} → PlatformGhosts S → TapeGhosts R → SourceGhosts I → SinkGhosts O → SinkGhosts L → S → R → I → O → L → Handed S R I O L
+handed P T I O L platform tape input output ledger = record {
+  platform = platform;
+  tape = tape;
+  input = input;
+  output = output;
+  ledger = ledger;
+  outside = around P T L platform tape ledger;
+  left = I.left input;
+  written = O.written output;
+  counts = counts_of P T I O L platform tape input output ledger;
+}
+
+-- the exit status of a run that ends so
+abbrev pub exit_of : Result (Unit {0}) Halt → ℕ
+exit_of (Ok done) = 0
+exit_of (Err halt) = status_at halt
+
+-- the statuses that there are
+abbrev pub IsStatus : ℕ → Type 0
+IsStatus status =
+    (status ≡ 0) ⊎ (status ≡ 2) ⊎ (status ≡ 3) ⊎ (status ≡ 4) ⊎ (status ≡ 5) ⊎ (status ≡ 6) ⊎ (status ≡ 7) ⊎ (status ≡ 8) ⊎ (status ≡ 10) ⊎ (status ≡ 11) ⊎ (status ≡ 12) ⊎ (status ≡ 14)
+
+-- no count fell; and an exit status that names a fault comes only where the count of that object rose
+pub record IsBlamedAt (status : ℕ) (before now : Counts) : Type 0 where
+  pub none_fell : NoneFell before now
+  pub input : status ≡ 3 → Rose before.input now.input
+  pub output : status ≡ 4 → Rose before.output now.output
+  pub platform : status ≡ 5 → Rose before.platform now.platform
+  pub tape : status ≡ 6 → Rose before.tape now.tape
+  pub ledger : status ≡ 7 → Rose before.ledger now.ledger
+
+-- the exit status is one that there is, and 2 exactly where words are given; one that names a fault
+-- comes only where the count of that object rose
+pub record Exits {S R I O L : Type 0} (words : List (List ℕ)) (status : ℕ) (old new : Handed S R I O L) : Type 0 where
+  pub is : IsStatus status
+  pub refused : (status ≡ 2) ↔ (words ≢ [])
+  pub blame : IsBlamedAt status old.counts new.counts
+
+-- all is as it was, at each moment
+abbrev pub IsAsBefore : {S R I O L : Type 0} → Type 0 → Handed S R I O L → Handed S R I O L → Type 0
+IsAsBefore tells old new = Untouched tells old.tape new.tape old.input new.input old.output new.output old.ledger new.ledger old.outside.head new.outside.head old.outside.history new.outside.history
+
+-- 8 comes exactly where the cell at the start is full and can't be served, and 10 where it is empty,
+-- unless the platform failed; then all is as it was, and nothing was said. At 2 all is
+pub record Refuses {S R I O L : Type 0} (tells : Type 0) (words : List (List ℕ)) (status : ℕ) (old new : Handed S R I O L) : Type 0 where
+  pub other_words : status ≡ 2 → (new.platform ≡ old.platform) × (new.tape ≡ old.tape) × (new.input ≡ old.input) × (new.output ≡ old.output) × (new.ledger ≡ old.ledger)
+  pub bad_root_only : tells → status ≡ 8 → (IsServedImage old.outside.history.present → ⊥) × IsAsBefore tells old new
+  pub bad_root : tells → (IsServedImage old.outside.history.present → ⊥) → words ≡ [] → (status ≡ 8) ⊎ (status ≡ 5)
+  pub no_device : tells → old.outside.history.present.cell ≡ None → words ≡ [] → ((status ≡ 10) × IsAsBefore tells old new) ⊎ (status ≡ 5)
+
+-- what was said: nothing, or the greeting and the answers to the options that came, and what goes on
+-- from there
+pub record Serving {S R I O L : Type 0} (tells : Type 0) (status : ℕ) (old new : Handed S R I O L) : Type 0 where
+  pub ending : Result (Unit {0}) Halt
+  pub status_is : status ≡ exit_of ending
+  pub talks : Talks tells old.outside.history.present old.left new.left old.written new.written ending

@@ -1,0 +1,131 @@
+-- A run, from the look at the cell on.
+use Rattle.std.specs.Prelude.{◌≡◌, ◌≢◌, ◌⊎◌, ◌^◌, ◌*◌, ℕ, List, [], Option, None, Some, Result, Ok, Err, IfErr}
+use Rattle.sdbt_base.specs.Arrays.{Device, closed}
+use Rattle.platform.specs.Image.{Image}
+use Rattle.platform.specs.History.{History, During}
+use Rattle.page_store.specs.Stands.{Stands}
+use Rattle.device_terms.specs.Served.{IsServedImage}
+use Rattle.device_course.specs.Course.{Made}
+use Rattle.device_course.specs.Keys.{KeepsOn}
+use Rattle.device_course.specs.Marks.{last_mark}
+use Rattle.device_course.specs.States.{Outside, IsLater}
+use Rattle.session_calls.specs.declared.stops.DeviceStop.{DeviceStop}
+use Rattle.session_calls.specs.declared.stops.DeviceStop.TheVariants as device
+use Rattle.nbd_core.specs.Room.{Room}
+use Rattle.nbd_core.specs.Haggling.{Haggled}
+use Rattle.nbd_core.specs.declared.stop.Stop.{Stop}
+use Rattle.nbd_core.specs.declared.halts.Halt.{Halt}
+use Rattle.nbd_core.specs.declared.halts.Halt.TheVariants as halts
+use Rattle.nbd_core.specs.declared.haggling.Agreed.{Agreed}
+use Rattle.nbd_core.specs.declared.haggling.Agreed.TheVariants as agreed
+
+-- a run, whatever it served: pages were only added; keys were kept, and the ledger got what belongs
+-- to the root records that came into the cell; and from the device that there was it made others
+pub record Spans (tells : Type 0) (old new : Outside) (Going : Type 0) : Type 0 where
+  pub later : IsLater old new
+  pub keeps : KeepsOn tells old.drawn new.drawn old.written new.written None old.history new.history Going (λ keys. Unit {0})
+  pub made : tells → (device : Option Device) → Stands old.history.present device → IsServedImage old.history.present
+      → (marks : List (Option Device)) × Made old.history new.history None (closed device) marks (closed (last_mark device marks))
+
+-- all that a run is handed is as it was, at each moment
+pub record Untouched {R I O L : Type 0} (tells : Type 0) (tape tape_now : R) (input input_now : I) (output output_now : O) (ledger ledger_now : L) (head head_now : ℕ) (old new : History) : Type 0 where
+  pub undrawn : tape_now ≡ tape
+  pub untaken : input_now ≡ input
+  pub unput : output_now ≡ output
+  pub unlisted : ledger_now ≡ ledger
+  pub pages : head_now ≡ head
+  pub image : tells → During old new (λ image. image ≡ old.present)
+
+-- why a run ends at its look at the cell
+abbrev pub IsCellHalt : Halt → Type 0
+IsCellHalt halts.BadRoot = Unit {0}
+IsCellHalt halts.NoDevice = Unit {0}
+IsCellHalt halts.Platform = ⊥
+IsCellHalt halts.Tape = ⊥
+IsCellHalt halts.Ledger = ⊥
+IsCellHalt halts.Unfinished = ⊥
+IsCellHalt halts.Memory = ⊥
+IsCellHalt (halts.Client stop) = ⊥
+
+-- what the look at the cell finds: where it can't be served or is empty the run ends so, or the
+-- platform failed; and only there, with nothing done
+pub record Looked {X : Type 0} (tells : Type 0) (image : Image) (Nothing : Type 0) (result : Result X Halt) : Type 0 where
+  pub bad : tells → (IsServedImage image → ⊥) → (result ≡ Err halts.BadRoot) ⊎ (result ≡ Err halts.Platform)
+  pub empty : tells → image.cell ≡ None → (result ≡ Err halts.NoDevice) ⊎ (result ≡ Err halts.Platform)
+  pub bad_only : tells → result ≡ Err halts.BadRoot → IsServedImage image → ⊥
+  pub empty_only : tells → result ≡ Err halts.NoDevice → image.cell ≡ None
+  pub nothing : tells → IfErr result (λ halt. IsCellHalt halt → Nothing)
+
+-- the stops of a look at the cell, and of a mount
+abbrev pub OfCell : DeviceStop → Type 0
+OfCell device.BadRoot = Unit {0}
+OfCell device.Platform = Unit {0}
+OfCell device.Tape = ⊥
+OfCell device.Ledger = ⊥
+OfCell device.Memory = ⊥
+OfCell (device.BadRecord addr) = ⊥
+
+abbrev pub cell_halt : DeviceStop → Halt
+cell_halt device.BadRoot = halts.BadRoot
+cell_halt _ = halts.Platform
+
+abbrev pub OfMount : DeviceStop → Type 0
+OfMount device.BadRoot = Unit {0}
+OfMount device.Platform = Unit {0}
+OfMount device.Memory = Unit {0}
+OfMount device.Tape = ⊥
+OfMount device.Ledger = ⊥
+OfMount (device.BadRecord addr) = ⊥
+
+abbrev pub mount_halt : DeviceStop → Halt
+mount_halt device.BadRoot = halts.BadRoot
+mount_halt device.Memory = halts.Memory
+mount_halt _ = halts.Platform
+
+-- the cell is full, and can be served
+pub record IsOnCell (image : Image) : Type 0 where
+  pub full : image.cell ≢ None
+  pub served : IsServedImage image
+
+-- how a run goes on behind the options: with requests, or not at all
+abbrev pub GoesOn : Result Agreed Stop → Option (List ℕ) → Option (List ℕ) → Option (List ℕ) → Option (List ℕ) → Result (Unit {0}) Halt → Type 0
+GoesOn (Ok agreed.Requests) left left_now written written_now result = Unit {0}
+GoesOn (Ok agreed.Nothing) left left_now written written_now result = (left_now ≡ left) × (written_now ≡ written) × (result ≡ Ok tt)
+GoesOn (Err stop) left left_now written written_now result = (left_now ≡ left) × (written_now ≡ written) × (result ≡ Err (halts.Client stop))
+
+-- what is said on a device of so many bytes: with nothing taken yet the greeting and the answers to
+-- options, and what goes on from there
+pub record Conversed (size : ℕ) (left left_now written written_now : Option (List ℕ)) (result : Result (Unit {0}) Halt) : Type 0 where
+  pub first : Room
+  pub room : Room
+  pub fresh : (first.ahead ≡ []) × (first.left ≡ 2 ^ 40)
+  pub left_then : Option (List ℕ)
+  pub written_then : Option (List ℕ)
+  pub agreed : Result Agreed Stop
+  pub haggled : Haggled size left left_then first room written written_then agreed
+  pub goes_on : GoesOn agreed left_then left_now written_then written_now result
+
+-- a run that ends before it says anything
+abbrev pub IsEarly : Result (Unit {0}) Halt → Type 0
+IsEarly (Ok done) = ⊥
+IsEarly (Err halts.BadRoot) = Unit {0}
+IsEarly (Err halts.NoDevice) = Unit {0}
+IsEarly (Err halts.Platform) = Unit {0}
+IsEarly (Err halts.Memory) = Unit {0}
+IsEarly (Err halts.Tape) = ⊥
+IsEarly (Err halts.Ledger) = ⊥
+IsEarly (Err halts.Unfinished) = ⊥
+IsEarly (Err (halts.Client stop)) = ⊥
+
+abbrev pub IsSilent : Option (List ℕ) → Option (List ℕ) → Option (List ℕ) → Option (List ℕ) → Result (Unit {0}) Halt → Type 0
+IsSilent left left_now written written_now result = (left_now ≡ left) × (written_now ≡ written) × IsEarly result
+
+-- the same on a device: the one that the image stands for
+pub record Conversation (tells : Type 0) (image : Image) (left left_now written written_now : Option (List ℕ)) (result : Result (Unit {0}) Halt) : Type 0 where
+  pub size : ℕ
+  pub is : tells → (there : Device) → Stands image (Some there) → size ≡ 4096 * there.blocks
+  pub conversed : Conversed size left left_now written written_now result
+
+-- a run says nothing, or has a conversation
+abbrev pub Talks : Type 0 → Image → Option (List ℕ) → Option (List ℕ) → Option (List ℕ) → Option (List ℕ) → Result (Unit {0}) Halt → Type 0
+Talks tells image left left_now written written_now result = IsSilent left left_now written written_now result ⊎ Conversation tells image left left_now written written_now result

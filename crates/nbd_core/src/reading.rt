@@ -1,0 +1,106 @@
+//! Reads.
+ghost use Rattle.std.specs.Prelude.{◌≡◌, ◌+◌, ◌*◌, ◌≤◌, ◌<◌, ℕ, List, Option, IfErr, IfOk, IsTrue, length};
+ghost use Rattle.device_session.specs.Open.{IsOpen, blocks_of};
+ghost use Rattle.session_calls.specs.Along.{Along, Drawn};
+ghost use Rattle.session_calls.specs.Blame.{Counts, NoneFell};
+ghost use Rattle.nbd_core.specs.Halts.{Blames};
+ghost use Rattle.nbd_core.specs.Requests.{DataEnd};
+ghost use Rattle.nbd_core.specs.Serving.{Calls, IsWithin};
+
+use crate::halts::{Halt, after_stop};
+use byte_arrays::Part;
+use device_session::Session;
+use nbd_lang::{Outcome, REPLY_HEAD, Request};
+use platform::Platform;
+use sdbt_base::BLOCK;
+use session_calls::{DeviceStop, read_block};
+
+/// Puts the bytes of a range into the room of a reply, behind its head.
+pub(crate) fn read<P: Platform>(
+    session: &mut Session,
+    block: &mut [u8; BLOCK],
+    reply: &mut Vec<u8>,
+    platform: &mut P,
+    request: &Request,
+) -> Result<Outcome, Halt>
+    requires open { IsOpen session.old (P.head platform.old) }
+    requires within { IsWithin request.now (blocks_of session.old) }
+    ensures along { (drawn : Drawn) → Along P.Platform 0 platform.old platform.new drawn drawn
+        session.old session.new }
+    ensures blame { (rest rest_now : Counts) → NoneFell rest rest_now
+        → Blames (record rest { platform = P.faults platform.old })
+        (record rest_now { platform = P.faults platform.new }) result }
+    ensures halts { (left : Option (List ℕ)) (came : List ℕ) → IfErr result (DataEnd left 0 came) }
+    ensures room { IfOk result (λ outcome. outcome ≡ Outcome.Done
+        → 16 + request.now.length ≤ length reply.new.items) }
+{
+    let length = request.length as usize;
+    if !has_room(reply, REPLY_HEAD + length) {
+        return Ok(Outcome::NoMemory);
+    }
+    let out = &mut reply[REPLY_HEAD..REPLY_HEAD + length];
+    match read_range(session, block, platform, request.offset, out) {
+        Ok(()) => Ok(Outcome::Done),
+        Err(stop) => after_stop(stop),
+    }
+}
+
+/// Whether so many bytes are there, or could be added.
+fn has_room(reply: &mut Vec<u8>, count: usize) -> bool
+    ensures { IsTrue result → count ≤ length reply.new.items }
+{
+    count <= reply.len() || reply.resize(count, 0).is_ok()
+}
+
+/// Reads the bytes from the place `at` on: as many as `out` has room for.
+fn read_range<P: Platform>(
+    session: &mut Session,
+    block: &mut [u8; BLOCK],
+    platform: &mut P,
+    at: u64,
+    out: &mut [u8],
+) -> Result<(), DeviceStop>
+    requires open { IsOpen session.old (P.head platform.old) }
+    requires within { at + length out.old ≤ 4096 * blocks_of session.old }
+    ensures calls { (drawn : Drawn) → Calls P.Platform 0 platform.old platform.new drawn drawn
+        session.old session.new result }
+    ensures size { length out.new ≡ length out.old }
+{
+    let mut done = 0;
+    while done < out.len() {
+        let part = Part::first(at + done as u64, out.len() - done);
+        let place = &mut out[done..done + part.count];
+        match read_part(session, block, platform, part, place) {
+            Ok(()) => {}
+            Err(stop) => return Err(stop),
+        }
+        done += part.count;
+    }
+    Ok(())
+}
+
+/// Reads a part of a block.
+fn read_part<P: Platform>(
+    session: &mut Session,
+    block: &mut [u8; BLOCK],
+    platform: &mut P,
+    part: Part,
+    out: &mut [u8],
+) -> Result<(), DeviceStop>
+    requires size { length out.old ≡ part.count }
+    requires open { IsOpen session.old (P.head platform.old) }
+    requires within { part.block < blocks_of session.old }
+    ensures calls { (drawn : Drawn) → Calls P.Platform 0 platform.old platform.new drawn drawn
+        session.old session.new result }
+    ensures size { length out.new ≡ length out.old }
+{
+    if part.is_whole() {
+        return read_block(session, platform, part.block, out);
+    }
+    match read_block(session, platform, part.block, block) {
+        Ok(()) => {}
+        Err(stop) => return Err(stop),
+    }
+    out.copy_from_slice(part.bytes_of(block));
+    Ok(())
+}

@@ -1,0 +1,41 @@
+//! Trims.
+ghost use Rattle.std.specs.Prelude.{◌≡◌, ◌+◌, ◌*◌, ◌≤◌, ℕ, List, Option, IfErr, length};
+ghost use Rattle.byte_arrays.specs.Ranges.{covered_blocks};
+ghost use Rattle.device_session.specs.Open.{IsOpen, blocks_of};
+ghost use Rattle.session_calls.specs.Along.{Along, Drawn};
+ghost use Rattle.session_calls.specs.Blame.{Counts, NoneFell};
+ghost use Rattle.nbd_core.specs.Halts.{Blames};
+ghost use Rattle.nbd_core.specs.Requests.{DataEnd};
+ghost use Rattle.nbd_core.specs.Serving.{IsWithin};
+
+use crate::halts::{Halt, after_stop};
+use byte_arrays::covered;
+use device_session::Session;
+use nbd_lang::{Outcome, Request};
+use platform::Platform;
+use session_calls::trim_block;
+
+/// Trims the blocks that lie whole in a range.
+pub(crate) fn trim<P: Platform>(
+    session: &mut Session,
+    platform: &mut P,
+    request: &Request,
+) -> Result<Outcome, Halt>
+    requires open { IsOpen session.old (P.head platform.old) }
+    requires within { IsWithin request.now (blocks_of session.old) }
+    ensures along { (updates : ℕ) × ((drawn : Drawn)
+        → Along P.Platform updates platform.old platform.new drawn drawn session.old session.new) }
+    ensures blame { (rest rest_now : Counts) → NoneFell rest rest_now
+        → Blames (record rest { platform = P.faults platform.old })
+        (record rest_now { platform = P.faults platform.new }) result }
+    ensures halts { (left : Option (List ℕ)) (came : List ℕ) → IfErr result (DataEnd left 0 came) }
+{
+    let blocks = covered(request.offset, request.length as u64);
+    for block in blocks.start..blocks.end {
+        match trim_block(session, platform, block) {
+            Ok(()) => {}
+            Err(stop) => return after_stop(stop),
+        }
+    }
+    Ok(Outcome::Done)
+}
