@@ -32,11 +32,11 @@ where
     ensures sound { IfOk result (λ platform. platform.is_stuck ≡ false) }
     ensures cause { IfErr result ShowsCause }
 {
-    FolderPlatform::open(files_in(rt, cell, folder)?)
+    FolderPlatform::open(files_in_folders(rt, cell, folder)?)
 }
 
-// The files of two folders, with both locks, and no call on them yet.
-fn files_in<R: Files + Alloc + Clone + Drop>(
+/// The files of two folders, with both locks, and no call on them yet: see [`open_in_folders`].
+pub fn files_in_folders<R: Files + Alloc + Clone + Drop>(
     rt: R,
     cell: &str,
     folder: &str,

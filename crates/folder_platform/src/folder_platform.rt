@@ -64,6 +64,13 @@ impl<C: FolderCalls + Drop> FolderPlatform<C> {
         })
     }
 
+    /// The files, of which this platform asks nothing more.
+    pub fn into_files(self) -> C
+        ensures { result ≡ self.calls }
+    {
+        self.calls
+    }
+
     /// Whether each call that changes something was done. So long, what a loss of power leaves is what the last image
     /// says: its cell, and its pages but for some of the last ones that were not synced.
     pub fn is_sound(&self) -> bool
