@@ -44,7 +44,7 @@ impl<C: FolderCalls + Drop> FolderPlatform<C> {
         ensures image { IfOk result (λ platform. ⟦<FolderPlatform<C> as Platform>⟧.tells → (⟦<FolderPlatform<C> as Platform>⟧.history platform).present ≡ opened (C.FolderCalls.start calls)) }
         ensures faults { IfOk result (λ platform. platform.faults ≡ 0) }
         ensures sound { IfOk result (λ platform. platform.is_stuck ≡ false) }
-        ensures cause { IfErr result ShowsCause }
+        ensures cause { IfErr result (ShowsCause ⊥) }
     {
         told(FolderFile::NewRoot, calls.remove_new())?;
         let pages = told(FolderFile::Media, calls.count_pages())?;
