@@ -11,5 +11,6 @@ mod std_files;
 
 pub use honest_files::{HonestFiles, open_honest};
 pub use lock_file::LockFile;
-pub use opening::open_in_folders;
+pub use opening::{files_in_folders, open_in_folders};
+pub use record::Record;
 pub use std_files::StdFiles;

@@ -30,13 +30,14 @@ where
     R::File: LockFile,
     ensures faults { IfOk result (λ platform. ⟦<FolderPlatform<StdFiles<R>> as Platform>⟧.faults platform ≡ 0) }
     ensures sound { IfOk result (λ platform. platform.is_stuck ≡ false) }
-    ensures cause { IfErr result ShowsCause }
+    // That another has a lock is said only where a file says that it is held.
+    ensures cause { IfErr result (ShowsCause ((held : R.File) × R.File.is_held held)) }
 {
-    FolderPlatform::open(files_in(rt, cell, folder)?)
+    FolderPlatform::open(files_in_folders(rt, cell, folder)?)
 }
 
-// The files of two folders, with both locks, and no call on them yet.
-fn files_in<R: Files + Alloc + Clone + Drop>(
+/// The files of two folders, with both locks, and no call on them yet: see [`open_in_folders`].
+pub fn files_in_folders<R: Files + Alloc + Clone + Drop>(
     rt: R,
     cell: &str,
     folder: &str,
@@ -44,16 +45,16 @@ fn files_in<R: Files + Alloc + Clone + Drop>(
 where
     R::File: LockFile,
     ensures new { IfOk result (λ files. files.calls.events ≡ []) }
-    ensures cause { IfErr result ShowsCause }
+    ensures cause { IfErr result (ShowsCause ((held : R.File) × R.File.is_held held)) }
 {
     let root = format!(in rt.alloc(); "{cell}/root")?;
     let new_root = format!(in rt.alloc(); "{cell}/root.new")?;
     let media = format!(in rt.alloc(); "{folder}/media")?;
     let cell = open_folder(&rt, FolderFile::Cell, cell)?;
     let folder = open_folder(&rt, FolderFile::Folder, folder)?;
-    locked(FolderFile::Cell, cell.try_lock())?;
+    lock(FolderFile::Cell, &cell)?;
     let media = told(FolderFile::Media, open_media(&rt, media.as_str()))?;
-    locked(FolderFile::Media, media.try_lock())?;
+    lock(FolderFile::Media, &media)?;
     let metadata = told(FolderFile::Media, media.metadata())?;
     not_too_long(metadata.len())?;
     Ok(StdFiles {
@@ -68,6 +69,13 @@ where
     })
 }
 
+// Takes the lock on a file.
+fn lock<F: LockFile>(name: FolderFile, file: &F) -> Result<(), OpenRefusal>
+    ensures cause { IfErr result (ShowsCause ((held : F) × F.is_held held)) }
+{
+    locked(name, file.try_lock())
+}
+
 // What a try for the lock on a file answered: that another has it is a refusal of its own.
 fn locked(file: FolderFile, outcome: io::Result<()>) -> Result<(), OpenRefusal>
     ensures { TellsHeld file outcome result }
@@ -80,7 +88,7 @@ fn locked(file: FolderFile, outcome: io::Result<()>) -> Result<(), OpenRefusal>
 
 // Opens a folder, and refuses what is none.
 fn open_folder<R: Files>(files: &R, file: FolderFile, path: &str) -> Result<R::File, OpenRefusal>
-    ensures cause { IfErr result ShowsCause }
+    ensures cause { IfErr result (ShowsCause ⊥) }
 {
     let folder = told(file, fs::open(files, path))?;
     let metadata = told(file, folder.metadata())?;

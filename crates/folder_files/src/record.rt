@@ -28,7 +28,7 @@ impl Model for Record {
 
 impl Record {
     /// No call.
-    pub(crate) fn new() -> Record
+    pub fn new() -> Record
         ensures { result.events ≡ [] }
     {
         Record {
@@ -37,7 +37,7 @@ impl Record {
     }
 
     /// Notes a call with its answer: an address or a number, whether it was done, and bytes.
-    pub(crate) fn note(&mut self, call: FileCall, number: u64, is_done: bool, bytes: &[u8])
+    pub fn note(&mut self, call: FileCall, number: u64, is_done: bool, bytes: &[u8])
         ensures { self.new.events ≡ (call, number, is_done, bytes.now) ∷ self.old.events }
     {
         let noted = Noted {

@@ -12,12 +12,12 @@ use Rattle.folder_platform.specs.declared.refusals.OpenRefusal.TheVariants.{TooL
 abbrev pub IsMemory : OpenRefusal → Type 0
 IsMemory refusal = refusal ≡ Memory
 
--- a refusal shows its cause where one can be known: a length beyond that of all pages, or an error that is none of memory
-abbrev pub ShowsCause : OpenRefusal → Type 0
-ShowsCause (TooLong len) = MAX_PAGES * RECORD < len
-ShowsCause InUse = ⊤
-ShowsCause (Io _ error) = error_kind error ≢ OutOfMemory
-ShowsCause Memory = ⊤
+-- a refusal shows its cause where one can be known: a length beyond that of all pages, a lock that another has, or an error that is none of memory
+abbrev pub ShowsCause : Type 0 → OpenRefusal → Type 0
+ShowsCause Locked (TooLong len) = MAX_PAGES * RECORD < len
+ShowsCause Locked InUse = Locked
+ShowsCause Locked (Io _ error) = error_kind error ≢ OutOfMemory
+ShowsCause Locked Memory = ⊤
 
 -- a refusal that says what an error of this file says
 abbrev pub IsRefusalOf : FolderFile → Error → OpenRefusal → Type 0

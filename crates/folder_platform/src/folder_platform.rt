@@ -44,7 +44,7 @@ impl<C: FolderCalls + Drop> FolderPlatform<C> {
         ensures image { IfOk result (λ platform. ⟦<FolderPlatform<C> as Platform>⟧.tells → (⟦<FolderPlatform<C> as Platform>⟧.history platform).present ≡ opened (C.FolderCalls.start calls)) }
         ensures faults { IfOk result (λ platform. platform.faults ≡ 0) }
         ensures sound { IfOk result (λ platform. platform.is_stuck ≡ false) }
-        ensures cause { IfErr result ShowsCause }
+        ensures cause { IfErr result (ShowsCause ⊥) }
     {
         told(FolderFile::NewRoot, calls.remove_new())?;
         let pages = told(FolderFile::Media, calls.count_pages())?;
@@ -62,6 +62,13 @@ impl<C: FolderCalls + Drop> FolderPlatform<C> {
             is_stuck: false,
             faults: 0,
         })
+    }
+
+    /// The files, of which this platform asks nothing more.
+    pub fn into_files(self) -> C
+        ensures { result ≡ self.calls }
+    {
+        self.calls
     }
 
     /// Whether each call that changes something was done. So long, what a loss of power leaves is what the last image

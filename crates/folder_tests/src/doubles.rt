@@ -172,6 +172,8 @@ impl OpenFile for LoggedFile<'_> {
 }
 
 impl LockFile for LoggedFile<'_> {
+    ghost is_held = { λ _. Unit {0} };
+
     fn try_lock(&self) -> io::Result<()> {
         self.log.call("lock ", self.name)?;
         LockFile::try_lock(&self.inner)
