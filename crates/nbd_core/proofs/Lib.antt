@@ -10,3 +10,4 @@ pub mod RequestLaws
 pub mod ReplyLaws
 pub mod SpanLaws
 pub mod StatusLaws
+pub mod ServedLaws

@@ -1,5 +1,5 @@
 -- A whole run, from its look at the cell on.
-use Rattle.std.proofs.Common.{◌≡◌, ◌≤◌, ◌*◌, ◌^◌, ℕ, List, [], Option, None, Some, Result, Ok, Err, refl, sym, subst, ◌∙◌, ap, arith}
+use Rattle.std.proofs.Common.{◌≡◌, ◌≤◌, ◌*◌, ◌^◌, ℕ, List, [], Option, None, Some, Result, Ok, refl, sym, subst, ◌∙◌, ap, arith}
 use Rattle.std.specs.Prelude.{IsOk, IfOk}
 use Rattle.platform.specs.declared.platforms.Platform.{Ghosts as PlatformGhosts}
 use Rattle.device_session.specs.Open.{blocks_of}
@@ -24,11 +24,9 @@ use Rattle.session_calls.specs.Mounts.{IsFound, IsMountStop, MountLeads}
 use Rattle.session_calls.specs.declared.stops.DeviceStop.{DeviceStop}
 use Rattle.session_calls.specs.declared.stops.DeviceStop.TheVariants as device
 use Rattle.nbd_core.specs.Halts.{IsLate}
-use Rattle.nbd_core.specs.Requests.{DataEnd, HeadEnd}
 use Rattle.nbd_core.specs.Running.{Conversed, GoesOn, Spans, OfMount, mount_halt}
 use Rattle.nbd_core.specs.Serving.{Carries}
 use Rattle.nbd_core.specs.declared.halts.Halt.{Halt}
-use Rattle.nbd_core.specs.declared.halts.Halt.TheVariants as halts
 use Rattle.nbd_core.proofs.CarryLaws.{stays_at}
 
 -- a look at the platform, and what comes behind it
@@ -112,30 +110,10 @@ late_mount tells cell pages device.Tape halt told served is e = absurd is
 late_mount tells cell pages device.Ledger halt told served is e = absurd is
 late_mount tells cell pages (device.BadRecord addr) halt told served is e = absurd is
 
-pub late_data : (left : Option (List ℕ)) (count : ℕ) (came : List ℕ) (halt : Halt) → DataEnd left count came halt → IsLate halt
-late_data left count came (halts.Client stop) ends = tt
-late_data left count came halts.Platform ends = tt
-late_data left count came halts.Tape ends = tt
-late_data left count came halts.Ledger ends = tt
-late_data left count came halts.Memory ends = tt
-late_data left count came halts.BadRoot ends = ends
-late_data left count came halts.NoDevice ends = ends
-late_data left count came halts.Unfinished ends = tt
-
-pub late_head : (left : Option (List ℕ)) (ahead came : List ℕ) (halt : Halt) → HeadEnd left ahead came (Err halt) → IsLate halt
-late_head left ahead came (halts.Client stop) ends = tt
-late_head left ahead came halts.Platform ends = tt
-late_head left ahead came halts.Tape ends = tt
-late_head left ahead came halts.Ledger ends = tt
-late_head left ahead came halts.Memory ends = tt
-late_head left ahead came halts.BadRoot ends = ends
-late_head left ahead came halts.NoDevice ends = ends
-late_head left ahead came halts.Unfinished ends = tt
-
 -- ---- what was said, and a mount that was answered
 
 pub conversed_of : (size other : ℕ) (left left_then left_now written written_then written_now : Option (List ℕ)) (first room : Room) (was agreed : Result Agreed Stop) (result : Result (Unit {0}) Halt) → size ≡ other → was ≡ agreed → first.ahead ≡ [] → first.left ≡ 2 ^ 40
-    → Haggled size left left_then first room written written_then was → GoesOn agreed left_then left_now written_then written_now result → Conversed other left left_now written written_now result
+    → Haggled size left left_then first room written written_then was → GoesOn other agreed room left_then left_now written_then written_now result → Conversed other left left_now written written_now result
 conversed_of size other left left_then left_now written written_then written_now first room was agreed result same is none most haggled goes = record {
   first = first;
   room = room;

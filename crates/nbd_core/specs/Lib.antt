@@ -5,5 +5,6 @@ pub mod Haggling
 pub mod Halts
 pub mod Requests
 pub mod Serving
+pub mod Served
 pub mod Running
 pub mod Program

@@ -13,6 +13,7 @@ use Rattle.session_calls.specs.declared.stops.DeviceStop.{DeviceStop}
 use Rattle.session_calls.specs.declared.stops.DeviceStop.TheVariants as device
 use Rattle.nbd_core.specs.Room.{Room}
 use Rattle.nbd_core.specs.Haggling.{Haggled}
+use Rattle.nbd_core.specs.Served.{Served}
 use Rattle.nbd_core.specs.declared.stop.Stop.{Stop}
 use Rattle.nbd_core.specs.declared.halts.Halt.{Halt}
 use Rattle.nbd_core.specs.declared.halts.Halt.TheVariants as halts
@@ -88,10 +89,10 @@ pub record IsOnCell (image : Image) : Type 0 where
   pub served : IsServedImage image
 
 -- how a run goes on behind the options: with requests, or not at all
-abbrev pub GoesOn : Result Agreed Stop → Option (List ℕ) → Option (List ℕ) → Option (List ℕ) → Option (List ℕ) → Result (Unit {0}) Halt → Type 0
-GoesOn (Ok agreed.Requests) left left_now written written_now result = Unit {0}
-GoesOn (Ok agreed.Nothing) left left_now written written_now result = (left_now ≡ left) × (written_now ≡ written) × (result ≡ Ok tt)
-GoesOn (Err stop) left left_now written written_now result = (left_now ≡ left) × (written_now ≡ written) × (result ≡ Err (halts.Client stop))
+abbrev pub GoesOn : ℕ → Result Agreed Stop → Room → Option (List ℕ) → Option (List ℕ) → Option (List ℕ) → Option (List ℕ) → Result (Unit {0}) Halt → Type 0
+GoesOn size (Ok agreed.Requests) room left left_now written written_now result = (last : Room) × Served size left left_now room last written written_now result
+GoesOn size (Ok agreed.Nothing) room left left_now written written_now result = (left_now ≡ left) × (written_now ≡ written) × (result ≡ Ok tt)
+GoesOn size (Err stop) room left left_now written written_now result = (left_now ≡ left) × (written_now ≡ written) × (result ≡ Err (halts.Client stop))
 
 -- what is said on a device of so many bytes: with nothing taken yet the greeting and the answers to
 -- options, and what goes on from there
@@ -103,7 +104,7 @@ pub record Conversed (size : ℕ) (left left_now written written_now : Option (L
   pub written_then : Option (List ℕ)
   pub agreed : Result Agreed Stop
   pub haggled : Haggled size left left_then first room written written_then agreed
-  pub goes_on : GoesOn agreed left_then left_now written_then written_now result
+  pub goes_on : GoesOn size agreed room left_then left_now written_then written_now result
 
 -- a run that ends before it says anything
 abbrev pub IsEarly : Result (Unit {0}) Halt → Type 0

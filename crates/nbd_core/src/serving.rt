@@ -9,8 +9,9 @@ ghost use Rattle.nbd_lang.specs.Refusals.{refusal};
 ghost use Rattle.nbd_lang.specs.Replies.{Reply, reply_bytes};
 ghost use Rattle.session_calls.specs.Along.{Along, drawn_by};
 ghost use Rattle.session_calls.specs.Blame.{Counts, NoneFell, counts};
-ghost use Rattle.nbd_core.specs.Halts.{Blames, IsLate};
+ghost use Rattle.nbd_core.specs.Halts.{Blames};
 ghost use Rattle.nbd_core.specs.Requests.{DataCame, DataEnd, HeadCame};
+ghost use Rattle.nbd_core.specs.Served.{Answered, EndsByDisconnect, Served};
 ghost use Rattle.nbd_core.specs.Serving.{Carries, IsReady, counts_of, goes_on, performed, bytes_of_reply};
 
 use crate::haggling::put;
@@ -74,11 +75,12 @@ pub(crate) fn serve<P: Platform, T: Tape, I: Source, O: Sink, L: Sink>(
         (counts_of P.Platform T.Tape I.Source O.Sink L.Sink platform.old tape.old input.old output.old ledger.old)
         (counts_of P.Platform T.Tape I.Source O.Sink L.Sink platform.new tape.new input.new output.new ledger.new)
         result }
-    ensures halts { IfErr result IsLate }
+    ensures served { Served (4096 * blocks_of first) (I.left input.old) (I.left input.new)
+        intake.old intake.new (O.written output.old) (O.written output.new) result }
 {
     let mut session = first;
     'requests: while let Some(request) = next_request(intake, input)? {
-        if request.kind == RequestKind::Disconnect {
+        if is_disconnect(&request) {
             return finish(session, platform, tape, ledger);
         }
         match answer(
@@ -89,6 +91,13 @@ pub(crate) fn serve<P: Platform, T: Tape, I: Source, O: Sink, L: Sink>(
         }
     }
     Ok(())
+}
+
+/// Whether a request is a disconnect.
+fn is_disconnect(request: &Request) -> bool
+    ensures { IsTrue result ↔ (request.now.kind ≡ RequestKind.Disconnect) }
+{
+    request.kind == RequestKind::Disconnect
 }
 
 /// Takes the head of the next request. `None` where the input ends before it.
@@ -149,8 +158,8 @@ fn answer<P: Platform, T: Tape, I: Source, O: Sink, L: Sink>(
         (counts_of P.Platform T.Tape I.Source O.Sink L.Sink platform.old tape.old input.old output.old ledger.old)
         (counts_of P.Platform T.Tape I.Source O.Sink L.Sink platform.new tape.new input.new output.new ledger.new)
         result }
-    ensures less { length intake.new.ahead + intake.new.left ≤ length intake.old.ahead + intake.old.left }
-    ensures halts { IfErr result IsLate }
+    ensures answered { Answered (4096 * blocks_of session) request.now (I.left input.old)
+        (I.left input.new) intake.old intake.new (O.written output.old) (O.written output.new) result }
 {
     match perform(
         session, desk, intake, platform, tape, input, ledger, request,
@@ -189,6 +198,8 @@ fn perform<P: Platform, T: Tape, I: Source, L: Sink>(
         (bytes_behind request.now.kind request.now.length) result }
     ensures room { IfOk result (λ done. request.now.kind ≡ RequestKind.Read → done.outcome ≡ Outcome.Done
         → 16 + request.now.length ≤ length desk.new.reply.items) }
+    ensures refused { IfOk result (λ done. IfSome (refusal (4096 * blocks_of first) request.now)
+        (λ why. done.outcome ≡ why)) }
 {
     let refused = request.refusal(first.blocks() * BLOCK as u64);
     if is_flush(request, refused) {
@@ -240,6 +251,7 @@ fn serve_blocks<P: Platform, T: Tape, I: Source>(
         (bytes_behind request.now.kind request.now.length) result }
     ensures room { IfOk result (λ outcome. request.now.kind ≡ RequestKind.Read → outcome ≡ Outcome.Done
         → 16 + request.now.length ≤ length desk.new.reply.items) }
+    ensures refused { IfOk result (λ outcome. IfSome refused (λ why. outcome ≡ why)) }
 {
     if let Some(outcome) = refused {
         return let_go(intake, input, bytes_of(request), outcome);
@@ -319,7 +331,7 @@ fn finish<P: Platform, T: Tape, L: Sink>(
     ensures blame { (rest rest_now : Counts) → NoneFell rest rest_now
         → Blames (record rest { platform = P.faults platform.old; tape = T.faults tape.old; ledger = L.faults ledger.old })
         (record rest_now { platform = P.faults platform.new; tape = T.faults tape.new; ledger = L.faults ledger.new }) result }
-    ensures halts { IfErr result IsLate }
+    ensures ends { EndsByDisconnect result }
 {
     match flush(session, platform, tape, ledger) {
         Ok(done) if done.outcome == Outcome::Done => Ok(()),

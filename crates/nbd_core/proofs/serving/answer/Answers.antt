@@ -1,9 +1,9 @@
-use Rattle.std.proofs.Common.{arith}
+use Rattle.std.proofs.Common.{List, ℕ, arith}
 use Rattle.session_calls.specs.Blame.{counts}
 use Rattle.nbd_core.proofs.BlameLaws.{blame_sink}
 use Rattle.nbd_core.proofs.CarryLaws.{carries_end}
-use Rattle.nbd_core.proofs.DataLaws.{less_of_data}
-use Rattle.nbd_core.proofs.SpanLaws.{late_data}
+use Rattle.nbd_core.specs.Serving.{bytes_of_reply}
+use Rattle.nbd_core.proofs.ServedLaws.{answer_cut, answer_halted, is_reply}
 use Rattle.nbd_core.proofs.serving.answer.Goals as goal
 
 pub returns-in-Ok-put_reply-clause-blame : goal.returns-in-Ok-put_reply-clause-blame
@@ -12,8 +12,22 @@ returns-in-Ok-put_reply-clause-blame g c =
     let blames = c.in-Ok.ensures.blame (counts 0 0 0 (O.faults c.args.output.now) 0) (counts 0 0 0 (O.faults c.put_reply.new.output) 0) (record { platform = omega arith; tape = omega arith; input = omega arith; output = c.in-Ok-put_reply.ensures.fell; ledger = omega arith }) in
     record { fell = blames.fell; cause = tt }
 
-pub returns-in-Ok-put_reply-clause-less : goal.returns-in-Ok-put_reply-clause-less
-returns-in-Ok-put_reply-clause-less g c = less_of_data _ _ _ _ _ _ c.in-Ok.ensures.bytes
+pub returns-in-Ok-put_reply-clause-answered : goal.returns-in-Ok-put_reply-clause-answered
+returns-in-Ok-put_reply-clause-answered g c =
+    let came = c.in-Ok.ensures.bytes in
+    let request = c.args.request.now in
+    let room : List ℕ = c.perform.new.desk.reply.items in
+    let outcome = c.in-Ok.done.outcome in
+    record {
+      gone = came.gone;
+      came = came.came;
+      ends = (
+        came.whole,
+        record { outcome = outcome; cookie = request.cookie; bytes = bytes_of_reply request.kind request.length outcome room },
+        is_reply _ request outcome room c.in-Ok.ensures.refused c.in-Ok.ensures.room,
+        c.in-Ok-put_reply.ensures.put,
+      );
+    }
 
 pub returns-in-Err-put_reply-clause-carries : goal.returns-in-Err-put_reply-clause-carries
 returns-in-Err-put_reply-clause-carries g c = carries_end _ _ _ _ _ _ _ (λ never. cc) c.in-Ok.ensures.carries
@@ -24,8 +38,19 @@ returns-in-Err-put_reply-clause-blame g c =
     let blames = c.in-Ok.ensures.blame (counts 0 0 0 (O.faults c.args.output.now) 0) (counts 0 0 0 (O.faults c.put_reply.new.output) 0) (record { platform = omega arith; tape = omega arith; input = omega arith; output = c.in-Err-put_reply.ensures.fell; ledger = omega arith }) in
     blame_sink _ _ c.in-Err-put_reply.stop blames.fell c.in-Err-put_reply.ensures.cause.0 c.in-Err-put_reply.ensures.cause.1
 
-pub returns-in-Err-put_reply-clause-less : goal.returns-in-Err-put_reply-clause-less
-returns-in-Err-put_reply-clause-less g c = less_of_data _ _ _ _ _ _ c.in-Ok.ensures.bytes
+pub returns-in-Err-put_reply-clause-answered : goal.returns-in-Err-put_reply-clause-answered
+returns-in-Err-put_reply-clause-answered g c =
+    let came = c.in-Ok.ensures.bytes in
+    let request = c.args.request.now in
+    let room : List ℕ = c.perform.new.desk.reply.items in
+    let outcome = c.in-Ok.done.outcome in
+    record {
+      gone = came.gone;
+      came = came.came;
+      ends =
+          answer_cut _ request _ came.gone _ _ _ c.in-Err-put_reply.stop (record { outcome = outcome; cookie = request.cookie; bytes = bytes_of_reply request.kind request.length outcome room }) c.in-Err-put_reply.ensures.cause.0 came.whole
+          (is_reply _ request outcome room c.in-Ok.ensures.refused c.in-Ok.ensures.room) c.in-Err-put_reply.ensures.part;
+    }
 
 pub returns-in-Err-clause-blame : goal.returns-in-Err-clause-blame
 returns-in-Err-clause-blame g c =
@@ -33,8 +58,7 @@ returns-in-Err-clause-blame g c =
     let blames = c.in-Err.ensures.blame (counts 0 0 0 o 0) (counts 0 0 0 o 0) (record { platform = omega arith; tape = omega arith; input = omega arith; output = omega arith; ledger = omega arith }) in
     record { fell = blames.fell; cause = blames.cause }
 
-pub returns-in-Err-clause-less : goal.returns-in-Err-clause-less
-returns-in-Err-clause-less g c = less_of_data _ _ _ _ _ _ c.in-Err.ensures.bytes
-
-pub returns-in-Err-clause-halts : goal.returns-in-Err-clause-halts
-returns-in-Err-clause-halts g c = late_data _ _ _ c.in-Err.halt c.in-Err.ensures.bytes.ends
+pub returns-in-Err-clause-answered : goal.returns-in-Err-clause-answered
+returns-in-Err-clause-answered g c =
+    let came = c.in-Err.ensures.bytes in
+    record { gone = came.gone; came = came.came; ends = answer_halted _ c.args.request.now _ came.gone _ _ c.in-Err.halt came.ends }

@@ -1,6 +1,6 @@
 use Rattle.std.proofs.Common.{refl, None, []}
 use Rattle.nbd_core.proofs.CarryLaws.{carries_end}
-use Rattle.nbd_core.proofs.SpanLaws.{late_data}
+use Rattle.nbd_core.proofs.ServedLaws.{flush_ends}
 use Rattle.nbd_core.proofs.serving.finish.Goals as goal
 
 pub returns-in-Ok-clause-carries : goal.returns-in-Ok-clause-carries
@@ -20,5 +20,5 @@ returns-in-Err-clause-blame g c rest rest_now fell =
     let blame = c.in-Err.ensures.blame rest rest_now fell in
     record { fell = blame.fell; cause = blame.cause }
 
-pub returns-in-Err-clause-halts : goal.returns-in-Err-clause-halts
-returns-in-Err-clause-halts g c = late_data None 0 [] c.in-Err.halt (c.in-Err.ensures.halts None [])
+pub returns-in-Err-clause-ends : goal.returns-in-Err-clause-ends
+returns-in-Err-clause-ends g c = flush_ends c.in-Err.halt (c.in-Err.ensures.halts None [])

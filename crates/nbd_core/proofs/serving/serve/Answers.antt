@@ -1,4 +1,4 @@
-use Rattle.std.proofs.Common.{refl, arith, subst, Ok, Option}
+use Rattle.std.proofs.Common.{◌≡◌, ◌*◌, ◌++◌, ◌∷◌, [], ℕ, ap, true, false, refl, arith, subst, Ok, Option}
 use Rattle.std.proofs.lemmas.Result.{err_from_is_err_and}
 use Rattle.session_calls.specs.Blame.{counts, NoneFell}
 use Rattle.nbd_lang.specs.declared.requests.Request.{Request}
@@ -6,11 +6,14 @@ use Rattle.nbd_core.specs.Requests.{HeadCame}
 use Rattle.nbd_core.proofs.BlameLaws.{blame_earlier, blame_as, fell_then}
 use Rattle.nbd_core.proofs.CarryLaws.{carries_start, carries_then, carries_end, carries_going}
 use Rattle.nbd_core.proofs.RequestLaws.{less_of_head}
-use Rattle.nbd_core.proofs.SpanLaws.{late_head}
+use Rattle.device_session.specs.Open.{blocks_of}
+use Rattle.nbd_core.proofs.ServedLaws.{answered_on, less_of_answer, replied_more, replied_nothing, served_goodbye, served_halted, served_over, served_stopped}
 use Rattle.nbd_core.proofs.serving.serve.Goals as goal
 
 pub requests-init : goal.requests-init
 requests-init g c = record {
+  exchanges = [];
+  replied = replied_nothing _ _ _ _;
   carries = carries_start _ _ _ c.requires;
   fell = record { platform = omega arith; tape = omega arith; input = omega arith; output = omega arith; ledger = omega arith };
 }
@@ -26,11 +29,11 @@ returns-in_err-request-clause-blame g c =
     let rest = counts (g.P.Platform.faults c.requests.platform) (g.T.Tape.faults c.requests.tape) 0 (g.O.Sink.faults c.requests.output) (g.L.Sink.faults c.requests.ledger) in
     rw (p.1, p.2) (blame_earlier _ _ _ _ c.requests.invariant.fell (blame_as _ _ c.in_err-request.field-0.0 (c.in_err-request.ensures.blame rest rest (record { platform = omega arith; tape = omega arith; input = omega arith; output = omega arith; ledger = omega arith }))))
 
-pub returns-then-eq-clause-carries : goal.returns-then-eq-clause-carries
-returns-then-eq-clause-carries g c = carries_then _ _ _ _ _ _ _ _ _ tt c.requests.invariant.carries c.finish.ensures.carries
+pub returns-then-is_disconnect-clause-carries : goal.returns-then-is_disconnect-clause-carries
+returns-then-is_disconnect-clause-carries g c = carries_then _ _ _ _ _ _ _ _ _ tt c.requests.invariant.carries c.finish.ensures.carries
 
-pub returns-then-eq-clause-blame : goal.returns-then-eq-clause-blame
-returns-then-eq-clause-blame g c =
+pub returns-then-is_disconnect-clause-blame : goal.returns-then-is_disconnect-clause-blame
+returns-then-is_disconnect-clause-blame g c =
     let zero = counts 0 0 0 0 0 in
     let none : NoneFell zero zero = record { platform = omega arith; tape = omega arith; input = omega arith; output = omega arith; ledger = omega arith } in
     let came = c.in_ok-request.ensures.blame zero zero none in
@@ -42,14 +45,21 @@ returns-then-eq-clause-blame g c =
 pub requests-smaller : goal.requests-smaller
 requests-smaller g c =
     let head = subst (λ (it : Option Request). HeadCame (g.I.Source.left c.requests.input) (g.I.Source.left c.next_request.new.input) c.requests.intake c.next_request.new.intake (Ok it)) c.in-Some.is c.in_ok-request.ensures.came in
-    omega (arith, less_of_head _ _ _ _ c.in-Some.request head, c.answer.ensures.less)
+    omega (arith, less_of_head _ _ _ _ c.in-Some.request head, less_of_answer _ _ _ _ _ _ _ _ _ c.answer.ensures.answered)
 
 pub requests-preserved : goal.requests-preserved
 requests-preserved g c =
     let zero = counts 0 0 0 0 0 in
     let none : NoneFell zero zero = record { platform = omega arith; tape = omega arith; input = omega arith; output = omega arith; ledger = omega arith } in
     let came = c.in_ok-request.ensures.blame zero zero none in
+    let so_far = c.requests.invariant in
+    let head = subst (λ (it : Option Request). HeadCame (g.I.Source.left c.requests.input) (g.I.Source.left c.next_request.new.input) c.requests.intake c.next_request.new.intake (Ok it)) c.in-Some.is c.in_ok-request.ensures.came in
+    let size : 4096 * blocks_of c.requests.session ≡ 4096 * blocks_of c.args.first = ap (λ (n : ℕ). 4096 * n) so_far.carries.blocks in
+    let answered = answered_on _ _ _ _ _ _ _ _ _ _ size c.in-Ok.ensures.answered in
+    let more = replied_more (4096 * blocks_of c.args.first) _ _ _ _ _ _ _ _ _ _ _ so_far.exchanges c.in-Some.request c.in-Ok.next (λ is. let no : false ≡ true = c.if-is_disconnect.ensures.1 is in cc) so_far.replied head answered in
     record {
+      exchanges = so_far.exchanges ++ more.0 ∷ [];
+      replied = more.1;
       carries = carries_then _ _ _ _ _ _ _ _ _ tt c.requests.invariant.carries (carries_going _ _ _ _ _ _ _ (λ going. refl) c.in-Ok.ensures.carries);
       fell =
           fell_then _ _ _ c.requests.invariant.fell
@@ -84,7 +94,24 @@ returns-clause-blame g c =
     let came = c.in_ok-request.ensures.blame zero zero none in
     record { fell = fell_then _ _ _ c.requests.invariant.fell (record { platform = omega arith; tape = omega arith; input = came.fell.input; output = omega arith; ledger = omega arith }); cause = tt }
 
-pub returns-in_err-request-clause-halts : goal.returns-in_err-request-clause-halts
-returns-in_err-request-clause-halts g c =
+pub returns-in_err-request-clause-served : goal.returns-in_err-request-clause-served
+returns-in_err-request-clause-served g c =
     let p = err_from_is_err_and c.from_residual.result c.from_residual.ensures.1 in
-    rw (p.1, p.2) (late_head (g.I.Source.left c.next_request.new.input) c.next_request.new.intake.ahead c.in_err-request.ensures.came.came c.in_err-request.field-0.0 c.in_err-request.ensures.came.ends)
+    rw (p.1, p.2) (served_stopped _ _ _ _ _ _ _ _ _ c.requests.invariant.exchanges c.in_err-request.field-0.0 c.requests.invariant.replied c.in_err-request.ensures.came)
+
+pub returns-then-is_disconnect-clause-served : goal.returns-then-is_disconnect-clause-served
+returns-then-is_disconnect-clause-served g c =
+    let head = subst (λ (it : Option Request). HeadCame (g.I.Source.left c.requests.input) (g.I.Source.left c.next_request.new.input) c.requests.intake c.next_request.new.intake (Ok it)) c.in-Some.is c.in_ok-request.ensures.came in
+    served_goodbye _ _ _ _ _ _ _ _ _ c.requests.invariant.exchanges c.in-Some.request _ (c.if-is_disconnect.ensures.0 refl) c.requests.invariant.replied head c.finish.ensures.ends
+
+pub returns-in-Err-clause-served : goal.returns-in-Err-clause-served
+returns-in-Err-clause-served g c =
+    let so_far = c.requests.invariant in
+    let head = subst (λ (it : Option Request). HeadCame (g.I.Source.left c.requests.input) (g.I.Source.left c.next_request.new.input) c.requests.intake c.next_request.new.intake (Ok it)) c.in-Some.is c.in_ok-request.ensures.came in
+    let size : 4096 * blocks_of c.requests.session ≡ 4096 * blocks_of c.args.first = ap (λ (n : ℕ). 4096 * n) so_far.carries.blocks in
+    served_halted (4096 * blocks_of c.args.first) _ _ _ _ _ _ _ _ _ _ _ so_far.exchanges c.in-Some.request c.in-Err.halt (λ is. let no : false ≡ true = c.if-is_disconnect.ensures.1 is in cc) so_far.replied head (answered_on _ _ _ _ _ _ _ _ _ _ size c.in-Err.ensures.answered)
+
+pub returns-clause-served : goal.returns-clause-served
+returns-clause-served g c =
+    let head = subst (λ (it : Option Request). HeadCame (g.I.Source.left c.requests.input) (g.I.Source.left c.next_request.new.input) c.requests.intake c.next_request.new.intake (Ok it)) c.in_default.is c.in_ok-request.ensures.came in
+    served_over _ _ _ _ _ _ _ _ _ c.requests.invariant.exchanges c.requests.invariant.replied head

@@ -1,0 +1,117 @@
+-- Requests that came, and their replies, on any image.
+use Rattle.std.specs.Prelude.{◌≡◌, ◌≢◌, ◌⊎◌, ℕ, List, [], ◌++◌, All, Option, Result, Ok, Err, IfSome, length, take}
+use Rattle.std.specs.List.{flat_map}
+use Rattle.sdbt_base.specs.Told.{Got, GotPart, IsAtEnd}
+use Rattle.device_session.specs.Sessions.{Session}
+use Rattle.nbd_lang.specs.Refusals.{refusal}
+use Rattle.nbd_lang.specs.Replies.{Reply, reply_bytes}
+use Rattle.nbd_lang.specs.Requests.{RequestSent, FitsSent, bytes_behind, request_head, request_bytes}
+use Rattle.nbd_lang.specs.declared.replies.Outcome.{Outcome}
+use Rattle.nbd_lang.specs.declared.replies.Outcome.TheVariants as outcomes
+use Rattle.nbd_lang.specs.declared.requests.Request.{Request}
+use Rattle.nbd_lang.specs.declared.requests.RequestKind.{RequestKind}
+use Rattle.nbd_lang.specs.declared.requests.RequestKind.TheVariants as kinds
+use Rattle.nbd_core.specs.Room.{Room, Came, IsShorter}
+use Rattle.nbd_core.specs.Requests.{AwaitsRequest, IsBrokenRequest, DataEnd}
+use Rattle.nbd_core.specs.declared.stop.Stop.TheVariants as stops
+use Rattle.nbd_core.specs.declared.halts.Halt.{Halt}
+use Rattle.nbd_core.specs.declared.halts.Halt.TheVariants as halts
+
+-- how many bytes a reply has behind its head: those of a read that was done
+abbrev pub bytes_told : RequestKind → Outcome → ℕ → ℕ
+bytes_told kinds.Read outcomes.Done count = count
+bytes_told _ _ count = 0
+
+-- a reply to a request on a device of so many bytes: what is refused by its head is answered so
+pub record IsReplyTo (size : ℕ) (request : Request) (reply : Reply) : Type 0 where
+  pub cookie : reply.cookie ≡ request.cookie
+  pub refused : IfSome (refusal size request) (λ why. reply.outcome ≡ why)
+  pub bytes : length reply.bytes ≡ bytes_told request.kind reply.outcome request.length
+
+-- how a request ended of which these bytes came behind its head: its reply was put, or a part of it;
+-- or none was
+abbrev pub AnswerEnd : ℕ → Request → Option (List ℕ) → List ℕ → List ℕ → Option (List ℕ) → Option (List ℕ) → Result Session Halt → Type 0
+AnswerEnd size request left gone ahead written written_now (Ok session) =
+    (length gone ≡ bytes_behind request.kind request.length) × (reply : Reply) × IsReplyTo size request reply × Got written (reply_bytes reply) written_now
+AnswerEnd size request left gone ahead written written_now (Err (halts.Client stops.Sink)) =
+    (length gone ≡ bytes_behind request.kind request.length) × (reply : Reply) × IsReplyTo size request reply × GotPart written (reply_bytes reply) written_now
+AnswerEnd size request left gone ahead written written_now (Err halt) = (written_now ≡ written) × DataEnd left (bytes_behind request.kind request.length) (gone ++ ahead) halt
+
+pub record Answered (size : ℕ) (request : Request) (left left_now : Option (List ℕ)) (old new : Room) (written written_now : Option (List ℕ)) (result : Result Session Halt) : Type 0 where
+  pub gone : List ℕ
+  pub came : Came left left_now old new.left (IsShorter (bytes_behind request.kind request.length)) (gone ++ new.ahead)
+  pub ends : AnswerEnd size request left_now gone new.ahead written written_now result
+
+-- a request and its reply
+pub record Exchange : Type 0 where
+  pub sent : RequestSent
+  pub reply : Reply
+
+pub record FitsExchange (size : ℕ) (exchange : Exchange) : Type 0 where
+  pub sent : FitsSent exchange.sent
+  pub other : exchange.sent.head.kind ≢ kinds.Disconnect
+  pub reply : IsReplyTo size exchange.sent.head exchange.reply
+
+abbrev pub sent_bytes : Exchange → List ℕ
+sent_bytes exchange = request_bytes exchange.sent
+
+abbrev pub replied_bytes : Exchange → List ℕ
+replied_bytes exchange = reply_bytes exchange.reply
+
+-- bytes that are the first of these requests, and behind them what may still become another
+abbrev pub AwaitsMore : List Exchange → List ℕ → Type 0
+AwaitsMore exchanges bytes = (first : List Exchange) × (others : List Exchange) × (part : List ℕ) × (exchanges ≡ first ++ others) × (bytes ≡ flat_map sent_bytes first ++ part) × AwaitsRequest part
+
+-- a disconnect, and behind it what was not looked at
+abbrev pub IsGoodbye : List ℕ → List ℕ → Type 0
+IsGoodbye rest ahead = (request : Request) × (request.kind ≡ kinds.Disconnect) × (rest ≡ request_head request ++ ahead)
+
+-- a request of which a reply was put in part
+pub record IsCutOff (size : ℕ) (rest ahead part : List ℕ) : Type 0 where
+  pub exchange : Exchange
+  pub fits : FitsExchange size exchange
+  pub is : rest ≡ sent_bytes exchange ++ ahead
+  pub count : ℕ
+  pub put : part ≡ take count (replied_bytes exchange)
+
+-- how requests ended, all of which have their reply: with a rest behind them, and a part of one reply
+-- more
+abbrev pub ServedEnd : ℕ → List ℕ → List ℕ → Option (List ℕ) → List ℕ → Result (Unit {0}) Halt → Type 0
+ServedEnd size rest part left ahead (Ok done) = (part ≡ []) × (((rest ≡ []) × IsAtEnd left) ⊎ IsGoodbye rest ahead)
+ServedEnd size rest part left ahead (Err halts.Unfinished) = (part ≡ []) × IsGoodbye rest ahead
+ServedEnd size rest part left ahead (Err (halts.Client stops.Source)) = (part ≡ []) × AwaitsRequest rest
+ServedEnd size rest part left ahead (Err (halts.Client stops.Limit)) = (part ≡ []) × AwaitsRequest rest
+ServedEnd size rest part left ahead (Err (halts.Client stops.Broken)) = (part ≡ []) × IsBrokenRequest left rest
+ServedEnd size rest part left ahead (Err (halts.Client stops.Sink)) = IsCutOff size rest ahead part
+ServedEnd size rest part left ahead (Err halts.Platform) = part ≡ []
+ServedEnd size rest part left ahead (Err halts.Tape) = part ≡ []
+ServedEnd size rest part left ahead (Err halts.Ledger) = part ≡ []
+ServedEnd size rest part left ahead (Err halts.Memory) = part ≡ []
+ServedEnd size rest part left ahead (Err halts.BadRoot) = ⊥
+ServedEnd size rest part left ahead (Err halts.NoDevice) = ⊥
+
+-- requests that came, and the replies that were put, one for each in their order
+pub record Served (size : ℕ) (left left_now : Option (List ℕ)) (old new : Room) (written written_now : Option (List ℕ)) (result : Result (Unit {0}) Halt) : Type 0 where
+  pub exchanges : List Exchange
+  pub came : List ℕ
+  pub put : List ℕ
+  pub rest : List ℕ
+  pub part : List ℕ
+  pub takes : Came left left_now old new.left (AwaitsMore exchanges) came
+  pub got : Got written put written_now
+  pub fit : All (FitsExchange size) exchanges
+  pub said : came ≡ flat_map sent_bytes exchanges ++ rest
+  pub replied : put ≡ flat_map replied_bytes exchanges ++ part
+  pub ends : ServedEnd size rest part left_now new.ahead result
+
+-- how a disconnect may end
+abbrev pub EndsByDisconnect : Result (Unit {0}) Halt → Type 0
+EndsByDisconnect (Ok done) = Unit {0}
+EndsByDisconnect (Err halts.Platform) = Unit {0}
+EndsByDisconnect (Err halts.Tape) = Unit {0}
+EndsByDisconnect (Err halts.Ledger) = Unit {0}
+EndsByDisconnect (Err halts.Memory) = Unit {0}
+EndsByDisconnect (Err halts.Unfinished) = Unit {0}
+EndsByDisconnect (Err halts.BadRoot) = ⊥
+EndsByDisconnect (Err halts.NoDevice) = ⊥
+EndsByDisconnect (Err (halts.Client stop)) = ⊥
