@@ -6,4 +6,4 @@ pub mod Leaving
 pub mod Opening
 pub mod Safety
 pub mod Once
-pub mod Moments
+pub mod MomentLaws

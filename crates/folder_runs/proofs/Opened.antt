@@ -24,7 +24,7 @@ use Rattle.device_course.proofs.FitsLaws.{fits_emptied}
 use Rattle.folder_platform.specs.Files.{Files}
 use Rattle.folder_platform.specs.Told.{cell_with}
 use Rattle.folder_platform.specs.Loss.{AreLeft, opened}
-use Rattle.folder_restart.proofs.Standing.{stands_by_opened}
+use Rattle.folder_restart.proofs.StandingLaws.{stands_by_opened}
 
 -- ---- its pages are the first ones of those that were handed over
 

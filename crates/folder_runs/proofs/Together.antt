@@ -36,7 +36,7 @@ use Rattle.device_cli.specs.Represents.{StandsFor}
 use Rattle.device_cli.specs.Ran.{AnswersScript}
 use Rattle.folder_platform.specs.Files.{Files}
 use Rattle.folder_platform.specs.Loss.{AreLeft, opened}
-use Rattle.folder_restart.proofs.Standing.{stands_opened}
+use Rattle.folder_restart.proofs.StandingLaws.{stands_opened}
 use Rattle.folder_runs.specs.Chains.{ReachedOver, ReachedFirst, PremisesOver}
 use Rattle.folder_runs.specs.Restarts.{Resumes, GoesOnOver, IsOpenedAfter, ReachNoMoreOver, DisclosesOver, DisclosesRuns}
 use Rattle.folder_runs.proofs.ChainsOver.{over_first, over_second, over_grows, first_grows, reached_first, reached_second, reached_kept}

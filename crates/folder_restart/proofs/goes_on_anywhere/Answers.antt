@@ -1,4 +1,4 @@
-use Rattle.folder_restart.proofs.Standing.{goes_on}
+use Rattle.folder_restart.proofs.StandingLaws.{goes_on}
 use Rattle.folder_restart.proofs.goes_on_anywhere.Goals as goal
 
 pub returns : goal.returns
