@@ -11,3 +11,4 @@ pub mod ReplyLaws
 pub mod SpanLaws
 pub mod StatusLaws
 pub mod ServedLaws
+pub mod ArrayLaws

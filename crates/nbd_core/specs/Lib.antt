@@ -6,5 +6,6 @@ pub mod Halts
 pub mod Requests
 pub mod Serving
 pub mod Served
+pub mod Arrays
 pub mod Running
 pub mod Program

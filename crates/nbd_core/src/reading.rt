@@ -1,8 +1,11 @@
 //! Reads.
-ghost use Rattle.std.specs.Prelude.{◌≡◌, ◌+◌, ◌*◌, ◌≤◌, ◌<◌, ℕ, List, Option, IfErr, IfOk, IsTrue, length};
+ghost use Rattle.std.specs.Prelude.{Some, ◌≡◌, ◌+◌, ◌*◌, ◌≤◌, ◌<◌, ℕ, List, Option, IfErr, IfOk, IsTrue, length};
 ghost use Rattle.device_session.specs.Open.{IsOpen, blocks_of};
 ghost use Rattle.session_calls.specs.Along.{Along, Drawn};
 ghost use Rattle.session_calls.specs.Blame.{Counts, NoneFell};
+ghost use Rattle.sdbt_base.specs.Arrays.{Device, Session as OpenSession, mounted};
+ghost use Rattle.device_course.specs.States.{IsAt};
+ghost use Rattle.nbd_core.specs.Arrays.{ReadsBytes};
 ghost use Rattle.nbd_core.specs.Halts.{Blames};
 ghost use Rattle.nbd_core.specs.Requests.{DataEnd};
 ghost use Rattle.nbd_core.specs.Serving.{Calls, IsWithin};
@@ -65,6 +68,9 @@ fn read_range<P: Platform>(
     ensures calls { (drawn : Drawn) → Calls P.Platform 0 platform.old platform.new drawn drawn
         session.old session.new result }
     ensures size { length out.new ≡ length out.old }
+    ensures reads { P.tells → (device : Device) (array : OpenSession)
+        → IsAt (P.history platform.old).present (Some session.old) (mounted device array)
+        → ReadsBytes (P.history platform.new).present session.new device array at out.new result }
 {
     let mut done = 0;
     while done < out.len() {
@@ -93,6 +99,10 @@ fn read_part<P: Platform>(
     ensures calls { (drawn : Drawn) → Calls P.Platform 0 platform.old platform.new drawn drawn
         session.old session.new result }
     ensures size { length out.new ≡ length out.old }
+    ensures reads { P.tells → (device : Device) (array : OpenSession)
+        → IsAt (P.history platform.old).present (Some session.old) (mounted device array)
+        → ReadsBytes (P.history platform.new).present session.new device array
+        (4096 * part.block + part.start) out.new result }
 {
     if part.is_whole() {
         return read_block(session, platform, part.block, out);

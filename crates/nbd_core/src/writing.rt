@@ -1,7 +1,10 @@
 //! Writes.
-ghost use Rattle.std.specs.Prelude.{◌≡◌, ◌≢◌, ◌+◌, ◌*◌, ◌≤◌, ◌<◌, ◌^◌, ℕ, IfOk, length};
+ghost use Rattle.std.specs.Prelude.{Some, OnErr, ◌≡◌, ◌≢◌, ◌+◌, ◌*◌, ◌≤◌, ◌<◌, ◌^◌, ℕ, IfOk, length};
 ghost use Rattle.byte_arrays.specs.Ranges.{touched_blocks};
-ghost use Rattle.device_session.specs.Open.{IsOpen, blocks_of};
+ghost use Rattle.device_session.specs.Open.{IsOpen, blocks_of, needed_by};
+ghost use Rattle.device_course.specs.States.{IsAt};
+ghost use Rattle.sdbt_base.specs.Arrays.{Device, Session as OpenSession, mounted};
+ghost use Rattle.nbd_core.specs.Arrays.{AddsOne, WritesPart};
 ghost use Rattle.session_calls.specs.Along.{Along, drawn_by};
 ghost use Rattle.session_calls.specs.Blame.{Counts, HasCause, IsOfCall, NoneFell};
 ghost use Rattle.nbd_core.specs.Halts.{Blames};
@@ -155,6 +158,12 @@ fn write_part<P: Platform, T: Tape>(
     requires free { P.head platform.old ≢ P.capacity platform.old }
     ensures calls { Calls P.Platform 1 platform.old platform.new (drawn_by T.Tape tape.old)
         (drawn_by T.Tape tape.new) session.old session.new result }
+    ensures writes { P.tells → (device : Device) (array : OpenSession)
+        → IsAt (P.history platform.old).present (Some session.old) (mounted device array)
+        → WritesPart (P.history platform.new).present session.new device array
+        part.block part.start part.count bytes.now result }
+    ensures adds { AddsOne (P.head platform.old) (P.head platform.new) result }
+    ensures needs { OnErr result (needed_by session.new ≤ needed_by session.old) }
 {
     if part.is_whole() {
         return write_block(session, platform, tape, part.block, bytes);

@@ -1,5 +1,9 @@
-use Rattle.std.proofs.Common.{refl, ◌∙◌, sym, ap, length}
+use Rattle.std.proofs.Common.{refl, ◌∙◌, sym, ap, length, ℕ, ◌+◌, ◌*◌}
+use Rattle.sdbt_base.specs.Arrays.{content_of}
+use Rattle.byte_arrays.specs.Arrays.{bytes_at}
+use Rattle.nbd_terms.specs.Held.{array_of}
 use Rattle.byte_arrays.proofs.ArrayLaws.{length-bytes_at}
+use Rattle.nbd_core.proofs.ArrayLaws.{reads_stopped, reads_whole}
 use Rattle.nbd_core.proofs.CallLaws.{calls_of}
 use Rattle.nbd_core.proofs.reading.read_part.Goals as goal
 
@@ -14,3 +18,17 @@ returns-clause-calls g c drawn = calls_of g.P.Platform 0 _ _ drawn drawn _ _ _ (
 
 pub copy_from_slice-requires : goal.copy_from_slice-requires
 copy_from_slice-requires g c = c.requires.size ∙ sym (length-bytes_at _ _ c.args.part.count) ∙ ap length (sym (c.bytes_of.ensures (λ n. c.read_block-2.new.out) refl))
+
+pub returns-then-is_whole-clause-reads : goal.returns-then-is_whole-clause-reads
+returns-then-is_whole-clause-reads g c told device array at =
+    reads_whole _ _ device array c.args.part.block c.args.part.start c.args.part.count _ _ (c.read_block.auto.out ∙ c.requires.size) (c.if-is_whole.ensures.0 refl) c.args.part.inside (c.read_block.ensures.leads told device array at)
+
+pub returns-in-Err-clause-reads : goal.returns-in-Err-clause-reads
+returns-in-Err-clause-reads g c told device array at = reads_stopped _ _ device array c.args.part.block (4096 * c.args.part.block + c.args.part.start) c.read_block-2.new.out c.args.out.now c.in-Err.stop (c.in-Err.ensures.leads told device array at)
+
+pub returns-clause-reads : goal.returns-clause-reads
+returns-clause-reads g c told device array at =
+    let led = c.in-Ok.ensures.leads told device array at in
+    let place : ℕ = 4096 * c.args.part.block + c.args.part.start in
+    let copied = c.copy_from_slice.ensures in
+    (led.0, copied.after ∙ c.bytes_of.ensures (content_of array.contents) led.1 ∙ ap (bytes_at (array_of array) place) (sym (copied.len ∙ c.requires.size)))

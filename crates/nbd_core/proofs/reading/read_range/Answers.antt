@@ -1,5 +1,10 @@
-use Rattle.std.proofs.Common.{inl, refl, arith, ◌+◌}
+use Rattle.std.proofs.Common.{List, [], ap, arith, inl, length, refl, sym, ℕ, ◌*◌, ◌+◌, ◌∙◌, ◌≡◌}
+use Rattle.std.proofs.lemmas.List.{take_all}
+use Rattle.std.proofs.lemmas.Slice.{take-put_mid}
+use Rattle.byte_arrays.specs.Arrays.{bytes_at}
+use Rattle.nbd_terms.specs.Held.{array_of}
 use Rattle.session_calls.proofs.AlongLaws.{along_start, along_then}
+use Rattle.nbd_core.proofs.ArrayLaws.{range_stopped, read_more}
 use Rattle.nbd_core.proofs.CallLaws.{calls_then, no_draw}
 use Rattle.nbd_core.proofs.reading.read_range.Goals as goal
 
@@ -7,6 +12,7 @@ pub loop-done-init : goal.loop-done-init
 loop-done-init g c = record {
   along = λ drawn. along_start g.P.Platform _ drawn _ c.requires.open;
   within = omega arith;
+  reads = λ told device array at. (at, refl);
 }
 
 pub read_part-requires-clause-open : goal.read_part-requires-clause-open
@@ -19,6 +25,18 @@ read_part-requires-clause-within g c =
 
 pub loop-done-preserved : goal.loop-done-preserved
 loop-done-preserved g c = record {
+  reads = λ told device array at.
+      let before = c.loop-done.invariant.reads told device array at in
+      let led = c.in-Ok.ensures.reads told device array before.0 in
+      let part = c.first-part.ensures (c.args.at + c.loop-done.done) 0 (omega arith) (inl refl) in
+      let k : ℕ = c.first-part.result.count in
+      let out : List ℕ = c.loop-done.out in
+      let piece : List ℕ = c.read_part.new.out in
+      let size : length piece ≡ k = omega (arith, c.in-Ok.ensures.size, part.within) in (
+        led.0,
+        read_more array c.args.at c.loop-done.done k (4096 * c.first-part.result.block + c.first-part.result.start) out piece _ before.1 led.1 (omega (arith, part.at)) size
+            (take-put_mid c.loop-done.done _ out piece (c.loop-done.done + k) (omega (arith, size)) c.loop-done.invariant.within),
+      );
   along = λ drawn. along_then g.P.Platform 0 0 _ _ _ drawn drawn drawn _ _ _ (c.loop-done.invariant.along drawn) (c.in-Ok.ensures.calls drawn).along;
   within =
       let part = c.first-part.ensures (c.args.at + c.loop-done.done) 0 (omega arith) (inl refl) in
@@ -40,3 +58,13 @@ pub loop-done-smaller : goal.loop-done-smaller
 loop-done-smaller g c =
     let part = c.first-part.ensures (c.args.at + c.loop-done.done) 0 (omega arith) (inl refl) in
     omega (arith, part.within, part.some)
+
+pub returns-in-Err-clause-reads : goal.returns-in-Err-clause-reads
+returns-in-Err-clause-reads g c told device array at =
+    range_stopped _ _ device array (4096 * c.first-part.result.block + c.first-part.result.start) c.args.at c.read_part.new.out [] c.in-Err.stop (c.in-Err.ensures.reads told device array (c.loop-done.invariant.reads told device array at).0)
+
+pub returns-clause-reads : goal.returns-clause-reads
+returns-clause-reads g c told device array at =
+    let so_far = c.loop-done.invariant.reads told device array at in
+    let all : c.loop-done.done ≡ length c.loop-done.out = omega (arith, c.loop-done.invariant.within, c.loop-done-test.false) in
+    (so_far.0, sym (take_all c.loop-done.done c.loop-done.out (omega (arith, all))) ∙ so_far.1 ∙ ap (bytes_at (array_of array) c.args.at) all)

@@ -1,10 +1,16 @@
-use Rattle.std.specs.Prelude.{◌≤◌, ◌-◌, length}
+use Rattle.std.specs.Prelude.{◌≡◌, Some, take, ◌≤◌, ◌-◌, length}
+use Rattle.sdbt_base.specs.Arrays.{Device, Session as OpenSession, mounted}
+use Rattle.byte_arrays.specs.Arrays.{bytes_at}
+use Rattle.device_course.specs.States.{IsAt}
+use Rattle.nbd_terms.specs.Held.{array_of}
 use Rattle.session_calls.specs.Along.{Along, Drawn}
 use Rattle.nbd_core.proofs.reading.read_range.Given as goal
 
 abbrev pub invariant-loop-done : goal.invariant-loop-done
 invariant-loop-done g l = record {
   along : (drawn : Drawn) → Along g.P.Platform 0 l.fn.platform l.platform drawn drawn l.fn.session l.session;
+  reads : g.P.Platform.tells → (device : Device) (array : OpenSession) → IsAt (g.P.Platform.history l.fn.platform).present (Some l.fn.session) (mounted device array)
+      → IsAt (g.P.Platform.history l.platform).present (Some l.session) (mounted device array) × (take l.done l.out ≡ bytes_at (array_of array) l.at l.done);
   within : l.done ≤ length l.out;
 }
 

@@ -1,38 +1,88 @@
-use Rattle.std.proofs.Common.{arith, ◌+◌}
-use Rattle.session_calls.proofs.AlongLaws.{along_start, along_then}
+use Rattle.std.proofs.Common.{◌≡◌, ◌≤◌, ◌+◌, ◌-◌, ℕ, inl, refl, subst, sym, ◌∙◌, arith, Some}
+use Rattle.sdbt_base.specs.Arrays.{mounted}
+use Rattle.byte_arrays.specs.Ranges.{blocks_from}
 use Rattle.byte_arrays.proofs.RangeLaws.{covered_is}
-use Rattle.nbd_core.proofs.CallLaws.{no_draw, cause_later}
-use Rattle.nbd_core.proofs.BlameLaws.{blame_platform, blame_going, stop_halts}
+use Rattle.device_course.specs.States.{IsAt}
+use Rattle.nbd_terms.specs.Held.{trim_all}
+use Rattle.session_calls.specs.Along.{Along}
+use Rattle.session_calls.proofs.AlongLaws.{along_start, along_then}
+use Rattle.nbd_core.proofs.ArrayLaws.{trim_halted, trim_step, trimmed_some}
+use Rattle.nbd_core.proofs.BlameLaws.{blame_going, blame_platform, stop_halts}
+use Rattle.nbd_core.proofs.CallLaws.{along_more, cause_later, no_draw}
 use Rattle.nbd_core.proofs.trimming.trim.Goals as goal
 
 pub loop-block-init : goal.loop-block-init
-loop-block-init g c = (0, λ drawn. along_start g.P.Platform _ drawn _ c.requires.open)
+loop-block-init g c = record {
+  along = λ drawn. along_more g.P.Platform 0 _ _ _ drawn drawn _ _ (omega arith) (along_start g.P.Platform _ drawn _ c.requires.open);
+  trims = λ told device array at.
+      let first : ℕ = c.covered-blocks.result.start in
+      let none : first - first ≡ 0 = omega arith in
+      subst (λ (n : ℕ). IsAt (g.P.Platform.history c.args.platform.now).present (Some c.args.session.now) (mounted device (trim_all array (blocks_from first n)))) (sym none) at;
+  head = refl;
+  few = omega arith;
+}
 
 pub loop-block-preserved : goal.loop-block-preserved
-loop-block-preserved g c = (c.loop-block.invariant.0 + 1, λ drawn. along_then g.P.Platform c.loop-block.invariant.0 1 _ _ _ drawn drawn drawn _ _ _ (c.loop-block.invariant.1 drawn) (c.in-Ok.ensures.goes drawn).along)
+loop-block-preserved g c =
+    let so_far = c.loop-block.invariant in
+    let first : ℕ = c.covered-blocks.result.start in
+    let block : ℕ = c.loop-block.block in
+    let from : first ≤ block = c.loop-block.auto.block in
+    let count : (block - first) + 1 ≡ (block + 1) - first = omega (arith, from) in
+    record {
+      along = λ drawn. subst (λ (n : ℕ). Along g.P.Platform n c.args.platform.now c.trim_block.new.platform drawn drawn c.args.session.now c.trim_block.new.session) count (along_then g.P.Platform (block - first) 1 _ _ _ drawn drawn drawn _ _ _ (so_far.along drawn) (c.in-Ok.ensures.goes drawn).along);
+      trims = λ told device array at. trim_step _ _ device array first block from (c.in-Ok.ensures.leads told device _ (so_far.trims told device array at));
+      head = c.in-Ok.ensures.head ∙ so_far.head;
+      few = omega (arith, from, c.loop-block-test.true);
+    }
 
 pub trim_block-requires-clause-open : goal.trim_block-requires-clause-open
-trim_block-requires-clause-open g c = (c.loop-block.invariant.1 no_draw).is_open
+trim_block-requires-clause-open g c = (c.loop-block.invariant.along no_draw).is_open
 
 pub trim_block-requires-clause-within : goal.trim_block-requires-clause-within
 trim_block-requires-clause-within g c =
     let covered = covered_is c.args.request.now.offset c.args.request.now.length c.loop-block.block ((c.covered-blocks.ensures.covered c.loop-block.block).1 (omega arith, omega arith)) in
-    omega (arith, covered.1, c.requires.within, (c.loop-block.invariant.1 no_draw).blocks)
+    omega (arith, covered.1, c.requires.within, (c.loop-block.invariant.along no_draw).blocks)
 
 pub returns-in-Err-clause-along : goal.returns-in-Err-clause-along
-returns-in-Err-clause-along g c = (c.loop-block.invariant.0 + 1, λ drawn. along_then g.P.Platform c.loop-block.invariant.0 1 _ _ _ drawn drawn drawn _ _ _ (c.loop-block.invariant.1 drawn) (c.in-Err.ensures.goes drawn).along)
+returns-in-Err-clause-along g c =
+    let n : ℕ = c.loop-block.block - c.covered-blocks.result.start in
+    (n + 1, λ drawn. along_then g.P.Platform n 1 _ _ _ drawn drawn drawn _ _ _ (c.loop-block.invariant.along drawn) (c.in-Err.ensures.goes drawn).along)
 
 pub returns-in-Err-clause-blame : goal.returns-in-Err-clause-blame
 returns-in-Err-clause-blame g c rest rest_now fell =
     let goes = c.in-Err.ensures.goes no_draw in
-    let before = (c.loop-block.invariant.1 no_draw).fell in
+    let before = (c.loop-block.invariant.along no_draw).fell in
     blame_platform rest rest_now _ _ c.in-Err.stop _ fell (omega (arith, before.platform, goes.along.fell.platform)) goes.stops (cause_later _ _ _ c.in-Err.stop before goes.along.fell goes.cause) c.after_stop.ensures
 
 pub returns-in-Err-clause-halts : goal.returns-in-Err-clause-halts
 returns-in-Err-clause-halts g c left came = stop_halts c.in-Err.stop _ left came (c.in-Err.ensures.goes no_draw).stops c.after_stop.ensures
 
+pub returns-in-Err-clause-trims : goal.returns-in-Err-clause-trims
+returns-in-Err-clause-trims g c told device array at =
+    let goes = c.in-Err.ensures.goes no_draw in
+    let so_far = c.loop-block.invariant in
+    trim_halted _ _ device array _ c.covered-blocks.result.start c.covered-blocks.result.end c.loop-block.block _ _ c.in-Err.stop _ c.after_stop.ensures (sym c.covered-blocks.ensures.blocks) c.loop-block.auto.block c.loop-block-test.true
+    (omega (arith, goes.needs_still, (so_far.along no_draw).needs)) (c.in-Err.ensures.leads told device _ (so_far.trims told device array at))
+
+pub returns-in-Err-clause-head : goal.returns-in-Err-clause-head
+returns-in-Err-clause-head g c = c.in-Err.ensures.head ∙ c.loop-block.invariant.head
+
 pub after_stop-requires : goal.after_stop-requires
 after_stop-requires g c = (c.in-Err.ensures.goes no_draw).stops
 
+pub returns-clause-along : goal.returns-clause-along
+returns-clause-along g c = (c.loop-block.block - c.covered-blocks.result.start, c.loop-block.invariant.along)
+
 pub returns-clause-blame : goal.returns-clause-blame
-returns-clause-blame g c rest rest_now fell = blame_going rest rest_now _ _ _ fell (c.loop-block.invariant.1 no_draw).fell.platform
+returns-clause-blame g c rest rest_now fell = blame_going rest rest_now _ _ _ fell (c.loop-block.invariant.along no_draw).fell.platform
+
+pub returns-clause-trims : goal.returns-clause-trims
+returns-clause-trims g c told device array at =
+    let so_far = c.loop-block.invariant in
+    let past = c.loop-block-test.false in
+    trimmed_some _ _ device array _ c.covered-blocks.result.start c.covered-blocks.result.end (c.loop-block.block - c.covered-blocks.result.start) _ _ _ (sym c.covered-blocks.ensures.blocks) so_far.few
+    (so_far.along no_draw).needs (inl refl) (λ done. omega (arith, past, so_far.few)) (so_far.trims told device array at)
+
+pub returns-clause-head : goal.returns-clause-head
+returns-clause-head g c = c.loop-block.invariant.head

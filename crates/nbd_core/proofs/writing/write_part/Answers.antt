@@ -1,10 +1,35 @@
-use Rattle.std.proofs.Common.{arith}
+use Rattle.std.proofs.Common.{◌∙◌, ap, length, refl, arith}
 use Rattle.session_calls.specs.Along.{drawn_by}
+use Rattle.nbd_core.proofs.ArrayLaws.{adds_behind, adds_none, adds_one, on_stop, writes_patched, writes_unread, writes_whole}
 use Rattle.nbd_core.proofs.CallLaws.{calls_of, calls_then, calls_stopped}
 use Rattle.nbd_core.proofs.writing.write_part.Goals as goal
 
-pub returns-in-Err : goal.returns-in-Err
-returns-in-Err g c = record { calls = calls_stopped g.P.Platform 0 1 _ _ (drawn_by g.T.Tape c.args.tape.now) (drawn_by g.T.Tape c.args.tape.now) _ _ c.in-Err.stop (omega arith) (calls_of g.P.Platform 0 _ _ _ _ _ _ _ (c.in-Err.ensures.goes (drawn_by g.T.Tape c.args.tape.now))) }
+pub returns-then-is_whole-clause-calls : goal.returns-then-is_whole-clause-calls
+returns-then-is_whole-clause-calls g c = calls_of g.P.Platform 1 _ _ _ _ _ _ _ c.write_block.ensures.goes
+
+pub returns-then-is_whole-clause-writes : goal.returns-then-is_whole-clause-writes
+returns-then-is_whole-clause-writes g c told device array at =
+    writes_whole _ _ device array c.args.part.block c.args.part.start c.args.part.count _ _ c.requires.size (c.if-is_whole.ensures.0 refl) c.args.part.inside (c.write_block.ensures.leads told device array at)
+
+pub returns-then-is_whole-clause-adds : goal.returns-then-is_whole-clause-adds
+returns-then-is_whole-clause-adds g c = adds_one g.P.Platform g.T.Tape _ _ _ _ _ c.write_block.ensures.adds
+
+pub returns-then-is_whole-clause-needs : goal.returns-then-is_whole-clause-needs
+returns-then-is_whole-clause-needs g c = on_stop c.write_block.result _ _ (λ same. omega (arith, same)) c.write_block.ensures.goes.needs_still
+
+pub returns-in-Err-clause-calls : goal.returns-in-Err-clause-calls
+returns-in-Err-clause-calls g c = calls_stopped g.P.Platform 0 1 _ _ (drawn_by g.T.Tape c.args.tape.now) (drawn_by g.T.Tape c.args.tape.now) _ _ c.in-Err.stop (omega arith) (calls_of g.P.Platform 0 _ _ _ _ _ _ _ (c.in-Err.ensures.goes (drawn_by g.T.Tape c.args.tape.now)))
+
+pub returns-in-Err-clause-writes : goal.returns-in-Err-clause-writes
+returns-in-Err-clause-writes g c told device array at = writes_unread _ _ device array c.args.part.block c.args.part.start c.args.part.count c.read_block.new.out c.args.bytes.now c.in-Err.stop (c.in-Err.ensures.leads told device array at)
+
+pub returns-in-Err-clause-adds : goal.returns-in-Err-clause-adds
+returns-in-Err-clause-adds g c =
+    let along = (c.in-Err.ensures.goes (drawn_by g.T.Tape c.args.tape.now)).along in
+    adds_none _ _ c.in-Err.stop (omega (arith, along.rises, along.adds))
+
+pub returns-in-Err-clause-needs : goal.returns-in-Err-clause-needs
+returns-in-Err-clause-needs g c = omega (arith, (c.in-Err.ensures.goes (drawn_by g.T.Tape c.args.tape.now)).needs_still)
 
 pub write_block-requires-2-clause-open : goal.write_block-requires-2-clause-open
 write_block-requires-2-clause-open g c = (c.in-Ok.ensures.goes (drawn_by g.T.Tape c.args.tape.now)).along.is_open
@@ -17,7 +42,27 @@ write_block-requires-2-clause-free g c =
     let along = (c.in-Ok.ensures.goes (drawn_by g.T.Tape c.args.tape.now)).along in
     λ full. c.requires.free (omega (arith, full, along.rises, along.adds, along.capacity))
 
-pub returns : goal.returns
-returns g c =
+pub returns-clause-calls : goal.returns-clause-calls
+returns-clause-calls g c =
     let d = drawn_by g.T.Tape c.args.tape.now in
-    record { calls = calls_then g.P.Platform 0 1 _ _ _ d d _ _ _ _ _ (c.in-Ok.ensures.goes d).along (calls_of g.P.Platform 1 _ _ _ _ _ _ _ c.write_block-2.ensures.goes) }
+    calls_then g.P.Platform 0 1 _ _ _ d d _ _ _ _ _ (c.in-Ok.ensures.goes d).along (calls_of g.P.Platform 1 _ _ _ _ _ _ _ c.write_block-2.ensures.goes)
+
+pub returns-clause-writes : goal.returns-clause-writes
+returns-clause-writes g c told device array at =
+    let led = c.in-Ok.ensures.leads told device array at in
+    writes_patched _ _ device array c.args.part.block c.args.part.start c.args.part.count _ c.paste.new.block _
+    (record {
+      size = omega arith;
+      is = λ target offset all done part is before. c.paste.ensures target offset all done part is (led.1 ∙ before (omega (arith, ap length led.1)));
+    })
+    (c.write_block-2.ensures.leads told device array led.0)
+
+pub returns-clause-adds : goal.returns-clause-adds
+returns-clause-adds g c =
+    let along = (c.in-Ok.ensures.goes (drawn_by g.T.Tape c.args.tape.now)).along in
+    adds_behind _ _ _ _ (omega (arith, along.rises, along.adds)) (adds_one g.P.Platform g.T.Tape _ _ _ _ _ c.write_block-2.ensures.adds)
+
+pub returns-clause-needs : goal.returns-clause-needs
+returns-clause-needs g c =
+    let before = (c.in-Ok.ensures.goes (drawn_by g.T.Tape c.args.tape.now)).along.needs in
+    on_stop c.write_block-2.result _ _ (λ same. omega (arith, same, before)) c.write_block-2.ensures.goes.needs_still
