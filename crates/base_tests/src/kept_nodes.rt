@@ -82,6 +82,12 @@ fn cache_room(rt: HostRuntime) -> Result<(), Fail> {
     assert!(rt; keeps(rt.alloc(), &cache, &[10, 7, 6])?);
     assert!(rt; put(&mut cache, u64::MAX, 1, 4) == Put::Stored);
     assert!(rt; keeps(rt.alloc(), &cache, &[u64::MAX, 10, 7, 6])?);
+    // Nodes that were sealed, in the place of those that are gone.
+    cache.forget_all(&[10, 6, 8]);
+    assert!(rt; keeps(rt.alloc(), &cache, &[u64::MAX, 7])?);
+    assert!(rt; cache.put_node(11, &key(3), 2, &[]) == Put::Stored);
+    assert!(rt; level_at(&mut cache, 11, 3) == 2);
+    assert!(rt; keeps(rt.alloc(), &cache, &[11, u64::MAX, 7])?);
     Ok(())
 }
 

@@ -19,6 +19,10 @@ use Rattle.page_store.proofs.RecordLaws.{one_record}
 use Rattle.node_cache.specs.declared.slots.Kept.{Kept}
 use Rattle.node_cache.specs.Kept.{Cached, kept_node, IsKept}
 use Rattle.btree_walk.specs.Sights.{NodeFits, IsOfPage, StandsOver, KeepsOnly}
+use Rattle.page_store.specs.declared.refusals.FetchRefusal.{FetchRefusal}
+use Rattle.page_store.specs.declared.refusals.FetchRefusal.TheVariants as fetches
+use Rattle.btree_update.specs.declared.refusals.ReadyRefusal.TheVariants as ready
+use Rattle.btree_update.specs.Refusals.{refused}
 
 -- a cache that keeps only what it kept, and nodes of pages, stands over the pages still
 pub stands_on : (pages : List (List ℕ)) (old new : Cached) → StandsOver pages old → KeepsOnly pages old new → StandsOver pages new
@@ -77,3 +81,8 @@ nodes_below_read pages places level high low addr key want twig c addr_is is one
   such.0,
   below_among pages places (level - 1) high want key twig such.0 (subst (λ a. IsAmong places a key) (sym addr_is) (kept_among places level high low addr key c is one such.1)) node,
 )
+
+-- what is named where a record was refused
+pub refused_bad : (fetch : FetchRefusal) (addr : ℕ) → refused fetch ≡ ready.BadRecord addr → fetch ≡ fetches.BadRecord addr
+refused_bad (fetches.BadRecord other) addr is = let same : other ≡ addr = cc in ap fetches.BadRecord same
+refused_bad fetches.PlatformFault addr is = absurd cc

@@ -12,3 +12,4 @@ pub mod Helping
 pub mod Groves
 pub mod Holding
 pub mod Finding
+pub mod Refusals

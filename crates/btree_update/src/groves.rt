@@ -351,13 +351,8 @@ fn add_spare(alloc: Global, spares: &mut Vec<Vec<Child>>) -> Result<(), ReadyRef
     ensures kept { (order : ℕ) → order ≤ 64 → HasSpares order 0 spares.old.items → HasSpares order 0 spares.new.items }
     ensures memory { (e : ReadyRefusal) → IsErrOf result e → e ≡ ReadyRefusal.Memory }
 {
-    match Vec::with_capacity(alloc, 65) {
-        Ok(spare) => match spares.push(spare) {
-            Ok(_) => Ok(()),
-            Err(_) => Err(ReadyRefusal::Memory),
-        },
-        Err(_) => Err(ReadyRefusal::Memory),
-    }
+    spares.push(Vec::with_capacity(alloc, 65)?)?;
+    Ok(())
 }
 
 /// Makes room for what an update may let go: so many nodes on the way and beside it, and a data record.
@@ -378,11 +373,7 @@ fn make_room(
     let Some(more) = all.checked_add(1) else {
         return Err(ReadyRefusal::Memory);
     };
-    if gone.reserve(more).is_err() {
-        return Err(ReadyRefusal::Memory);
-    }
-    if never.reserve(1).is_err() {
-        return Err(ReadyRefusal::Memory);
-    }
+    gone.reserve(more)?;
+    never.reserve(1)?;
     Ok(())
 }

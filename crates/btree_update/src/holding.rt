@@ -15,12 +15,14 @@ ghost use Rattle.btree_update.specs.Beside.{IsLeft, HelpsBelow, LeftOf, IsMapped
 ghost use Rattle.btree_update.specs.Holding.{CanHold, CanHoldBelow};
 ghost use Rattle.btree_update.specs.Finding.{FindsAmong, ChildFinds, IsFoundBy};
 
-use crate::kept::read_kept;
+use crate::reading::read_node;
 use crate::refusals::ReadyRefusal;
 use crate::siblings::{Left, hold_beside, left_of_leaf};
 use btree_twigs::{Child, Twig, end_of, low_of, place};
 use btree_walk::NodeReader;
+use page_store::Want;
 use platform::Platform;
+use sdbt_base::Key;
 use std::alloc::Global;
 
 /// Reads the nodes on the way to a block that are not in memory, from a child down, and holds them, the topmost last, and with
@@ -71,9 +73,15 @@ pub(crate) fn hold_way<P: Platform>(
             beside,
         ),
         Child::Kept { low, addr, key } => {
-            let twig = read_kept(
-                alloc, platform, reader, order, least, level, *low, high, *addr, *key,
-            )?;
+            let want = Want {
+                addr: *addr,
+                level,
+                low: *low,
+                high,
+                least,
+                most: order,
+            };
+            let twig = read_node(alloc, platform, reader, &want, &Key::from_bytes(*key))?;
             let left = hold_below(
                 alloc,
                 platform,
@@ -155,8 +163,6 @@ fn hold(twig: Twig, held: &mut Vec<Twig>) -> Result<(), ReadyRefusal>
     ensures held { IfOk result (λ _. held.new.items ≡ held.old.items ++ twig ∷ []) }
     ensures memory { (e : ReadyRefusal) → IsErrOf result e → e ≡ ReadyRefusal.Memory }
 {
-    match held.push(twig) {
-        Ok(_) => Ok(()),
-        Err(_) => Err(ReadyRefusal::Memory),
-    }
+    held.push(twig)?;
+    Ok(())
 }

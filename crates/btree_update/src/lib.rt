@@ -6,7 +6,6 @@ mod finding;
 mod groves;
 mod helping;
 mod holding;
-mod kept;
 mod laws;
 mod opening;
 mod reading;

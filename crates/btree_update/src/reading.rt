@@ -14,10 +14,10 @@ use crate::refusals::ReadyRefusal;
 use btree_twigs::{Child, Twig};
 use btree_walk::{NodeReader, fits};
 use node_codec::NodeBody;
-use page_store::{FetchRefusal, Want, fetch_node};
+use page_store::{Want, fetch_node};
 use platform::Platform;
 use sdbt_base::Key;
-use std::alloc::{AllocError, Global};
+use std::alloc::Global;
 
 /// The node of a place, in memory: the one that the cache keeps, or else that of its page, which the cache then keeps.
 pub(crate) fn read_node<P: Platform>(
@@ -49,30 +49,15 @@ pub(crate) fn read_node<P: Platform>(
     }
     let node: &mut NodeBody = &mut reader.node;
     node.level = want.level;
-    match fetch_node(platform, want, key, &mut reader.buffers, &mut node.entries) {
-        Ok(()) => {
-            reader.cache.put(want.addr, key, node);
-            in_memory(alloc, node)
-        }
-        Err(FetchRefusal::BadRecord { addr }) => Err(ReadyRefusal::BadRecord { addr }),
-        Err(FetchRefusal::PlatformFault) => Err(ReadyRefusal::PlatformFault),
-    }
-}
-
-/// The node of a record in memory, or `Memory`.
-fn in_memory(alloc: Global, node: &NodeBody) -> Result<Twig, ReadyRefusal>
-    ensures node { IfOk result (λ t. (level_of t ≡ node.now.level) × (children_of t ≡ all_kept node.now.entries.items) × (64 < vec_capacity (out-Twig t).children)) }
-    ensures memory { (e : ReadyRefusal) → IsErrOf result e → e ≡ ReadyRefusal.Memory }
-{
-    match read_twig(alloc, node) {
-        Ok(twig) => Ok(twig),
-        Err(_) => Err(ReadyRefusal::Memory),
-    }
+    fetch_node(platform, want, key, &mut reader.buffers, &mut node.entries)?;
+    reader.cache.put(want.addr, key, node);
+    in_memory(alloc, node)
 }
 
 /// The node of a record in memory, with room for one child more than a node may have.
-fn read_twig(alloc: Global, node: &NodeBody) -> Result<Twig, AllocError>
-    ensures { IfOk result (λ t. (level_of t ≡ node.now.level) × (children_of t ≡ all_kept node.now.entries.items) × (64 < vec_capacity (out-Twig t).children)) }
+fn in_memory(alloc: Global, node: &NodeBody) -> Result<Twig, ReadyRefusal>
+    ensures node { IfOk result (λ t. (level_of t ≡ node.now.level) × (children_of t ≡ all_kept node.now.entries.items) × (64 < vec_capacity (out-Twig t).children)) }
+    ensures memory { (e : ReadyRefusal) → IsErrOf result e → e ≡ ReadyRefusal.Memory }
 {
     let mut children = Vec::with_capacity(alloc, 65)?;
     for entry in node.entries.iter() {

@@ -1,3 +1,5 @@
+use page_store::FetchRefusal;
+use std::alloc::{AllocError, AllocFailed};
 use std::error::Error;
 use std::fmt;
 
@@ -13,6 +15,42 @@ pub enum ReadyRefusal {
     PlatformFault,
     /// There was no memory.
     Memory,
+}
+
+impl From<FetchRefusal> for ReadyRefusal {
+    ghost use Rattle.std.specs.Prelude.{◌≡◌};
+    ghost use Rattle.btree_update.specs.Refusals.{refused};
+
+    ghost from_gives = { λ fetch ready. ready ≡ refused fetch };
+
+    fn from(fetch: FetchRefusal) -> ReadyRefusal {
+        match fetch {
+            FetchRefusal::BadRecord { addr } => ReadyRefusal::BadRecord { addr },
+            FetchRefusal::PlatformFault => ReadyRefusal::PlatformFault,
+        }
+    }
+}
+
+impl From<AllocError> for ReadyRefusal {
+    ghost use Rattle.std.specs.Prelude.{◌≡◌};
+    ghost use Rattle.btree_update.specs.declared.refusals.ReadyRefusal.{ReadyRefusal};
+
+    ghost from_gives = { λ refused ready. ready ≡ ReadyRefusal.Memory };
+
+    fn from(_: AllocError) -> ReadyRefusal {
+        ReadyRefusal::Memory
+    }
+}
+
+impl<T: Drop> From<AllocFailed<T>> for ReadyRefusal {
+    ghost use Rattle.std.specs.Prelude.{◌≡◌};
+    ghost use Rattle.btree_update.specs.declared.refusals.ReadyRefusal.{ReadyRefusal};
+
+    ghost from_gives = { λ refused ready. ready ≡ ReadyRefusal.Memory };
+
+    fn from(_: AllocFailed<T>) -> ReadyRefusal {
+        ReadyRefusal::Memory
+    }
 }
 
 impl fmt::Display for ReadyRefusal {

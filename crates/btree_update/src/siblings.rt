@@ -14,11 +14,13 @@ ghost use Rattle.btree_update.specs.Holding.{CanHoldBelow};
 ghost use Rattle.btree_update.specs.Wrong.{IsWrongBeside, IsWrongChild};
 ghost use Rattle.btree_update.specs.Beside.{CanRead, LendsFrom, HoldsBeside, IsAfter, loses_for};
 
-use crate::kept::read_kept;
+use crate::reading::read_node;
 use crate::refusals::ReadyRefusal;
 use btree_twigs::{Child, Twig, end_of};
 use btree_walk::NodeReader;
+use page_store::Want;
 use platform::Platform;
+use sdbt_base::Key;
 use std::alloc::Global;
 
 /// What a removal leaves of a node.
@@ -172,10 +174,15 @@ fn read_help<P: Platform>(
             lends: can_lend(twig, order),
         }),
         Child::Kept { low, addr, key } => {
-            let least = order / 2;
-            let twig = read_kept(
-                alloc, platform, reader, order, least, level, *low, high, *addr, *key,
-            )?;
+            let want = Want {
+                addr: *addr,
+                level,
+                low: *low,
+                high,
+                least: order / 2,
+                most: order,
+            };
+            let twig = read_node(alloc, platform, reader, &want, &Key::from_bytes(*key))?;
             let lends = can_lend(&twig, order);
             Ok(Help {
                 node: Some(twig),
@@ -190,8 +197,6 @@ fn keep(node: Option<Twig>, beside: &mut Vec<Option<Twig>>) -> Result<(), ReadyR
     ensures kept { IfOk result (λ _. beside.new.items ≡ beside.old.items ++ node ∷ []) }
     ensures memory { (e : ReadyRefusal) → IsErrOf result e → e ≡ ReadyRefusal.Memory }
 {
-    match beside.push(node) {
-        Ok(_) => Ok(()),
-        Err(_) => Err(ReadyRefusal::Memory),
-    }
+    beside.push(node)?;
+    Ok(())
 }

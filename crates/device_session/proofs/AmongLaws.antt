@@ -16,6 +16,8 @@ use Rattle.page_store.specs.Places.{IsRecordAt, root_want, child_want}
 use Rattle.page_store.specs.Tree.{Parts, Place, Subtree, EachChild, Tree, joined, bound_of}
 use Rattle.page_store.proofs.RecordLaws.{one_record}
 use Rattle.node_cache.specs.declared.slots.Kept.{Kept}
+use Rattle.node_cache.specs.Kept.{Cached, without_all, forgotten}
+use Rattle.node_cache.proofs.CacheLaws.{All-without_all, none-without_all}
 use Rattle.btree_twigs.specs.Stubs.{Stub}
 use Rattle.btree_walk.specs.Among.{IsAmong, GoDown, KeepsAmong}
 use Rattle.btree_update.specs.GroveTree.{want_in}
@@ -26,6 +28,10 @@ use Rattle.grove_accounts.specs.Below.{HaveParts}
 use Rattle.grove_accounts.specs.Holding.{IsTreeOf, root_stub}
 use Rattle.grove_accounts.proofs.ListLaws.{each_left, each_right, each_append, each_weaker}
 use Rattle.grove_accounts.proofs.HoldingLaws.{tree_place}
+use Rattle.shadow_commit.specs.Sealed.{Sealed}
+use Rattle.shadow_commit.specs.Caching.{with_sealed}
+use Rattle.shadow_commit.specs.NewTree.{place_of}
+use Rattle.shadow_commit.proofs.CachingLaws.{All-sealed}
 use Rattle.device_session.specs.Sessions.{Session}
 use Rattle.device_session.specs.Holds.{Holds}
 use Rattle.device_session.specs.Publishing.{HasTreeKeys}
@@ -137,21 +143,40 @@ held_nodes session image device contents h = (
 
 -- ---- what is kept
 
--- a session that goes on with a tree of what is left of its committed places keeps nodes of that tree
-pub taken_among : (session now : Session) (root : Root) (committed places news after : List Place) → TakesUp session root now → All (λ p. Contains places p ⊎ Contains session.grove.gone.items p.addr) committed → IsPermutation (news ++ places) after →
-    KeepsAmong committed session.cache → KeepsAmong after now.cache
-taken_among session now root committed places news after taken left same kept =
-    All-weaker (Contains now.cache.kept) (λ k. IsAmong after k.addr k.key) (λ k has. here k has) now.cache.kept (All-contains_itself now.cache.kept)
+-- sealed nodes are places of the tree that they make
+sealed_among : (ns : List Sealed) (after : List Place) → ((p : Place) → Contains (map place_of ns) p → Contains after p) → AllByRecursion (λ (n : Sealed). IsAmong after n.addr n.key) ns
+sealed_among [] after in' = tt
+sealed_among (n ∷ ns) after in' = (
+  record { place = place_of n; here = in' (place_of n) (contains_first (place_of n) (map place_of ns)); addr_is = refl; key_is = refl },
+  sealed_among ns after (λ p has. in' p (Contains-append_right (place_of n ∷ []) (map place_of ns) p has)),
+)
+
+-- a node that isn't gone is of the tree after, if it was of the one before
+still_among : (gone : List ℕ) (ks : List Kept) (committed places news after : List Place) → All (λ p. Contains places p ⊎ Contains gone p.addr) committed → IsPermutation (news ++ places) after → All (λ k. IsAmong committed k.addr k.key) ks →
+    All (λ k. IsAmong after k.addr k.key) (without_all gone ks)
+still_among gone ks committed places news after left same all = All-weaker (Contains stays) (λ k. IsAmong after k.addr k.key) here stays (All-contains_itself stays)
   where
-    here : (k : Kept) → Contains now.cache.kept k → IsAmong after k.addr k.key
+    stays : List Kept
+    stays = without_all gone ks
+
+    here : (k : Kept) → Contains (without_all gone ks) k → IsAmong after k.addr k.key
     here k has =
-        let was = All-contains (Contains session.cache.kept) now.cache.kept k taken.kept has in
-        let at = All-contains (λ (j : Kept). IsAmong committed j.addr j.key) session.cache.kept k kept was in
-        elim (All-contains (λ (p : Place). Contains places p ⊎ Contains session.grove.gone.items p.addr) committed at.place left at.here) [
+        let at = All-contains (λ (j : Kept). IsAmong committed j.addr j.key) (without_all gone ks) k (All-without_all (λ (j : Kept). IsAmong committed j.addr j.key) gone ks all) has in
+        elim (All-contains (λ (p : Place). Contains places p ⊎ Contains gone p.addr) committed at.place left at.here) [
           | inl stays ↦ record { place = at.place; here = Contains-permutation (news ++ places) after at.place same (Contains-append_right news places at.place stays); addr_is = at.addr_is; key_is = at.key_is }
-          | inr gone ↦
-              absurd (All-contains (λ (node : Kept). node.addr ≢ at.place.addr) now.cache.kept k (All-contains (λ (addr : ℕ). All (λ (node : Kept). node.addr ≢ addr) now.cache.kept) session.grove.gone.items at.place.addr taken.forgot gone) has (sym at.addr_is))
+          | inr is_gone ↦
+              absurd (All-contains (λ (j : Kept). j.addr ≢ at.place.addr) (without_all gone ks) k (All-contains (λ (addr : ℕ). All (λ (j : Kept). j.addr ≢ addr) (without_all gone ks)) gone at.place.addr (none-without_all gone ks) is_gone) has (sym at.addr_is))
         ]
+
+-- a session that goes on with a tree of sealed nodes and what is left of its committed places keeps nodes of that tree
+pub taken_among : (session now : Session) (cache : Cached) (root : Root) (committed places after : List Place) (ns : List Sealed) → TakesUp session cache root now → cache ≡ with_sealed (forgotten session.grove.gone.items session.cache) ns →
+    All (λ p. Contains places p ⊎ Contains session.grove.gone.items p.addr) committed → IsPermutation (map place_of ns ++ places) after → KeepsAmong committed session.cache → KeepsAmong after now.cache
+taken_among session now cache root committed places after ns taken sealed left same kept =
+    let gone = session.grove.gone.items in
+    let Is : Kept → Type 0 = λ k. IsAmong after k.addr k.key in
+    let new = sealed_among ns after (λ p has. Contains-permutation (map place_of ns ++ places) after p same (Contains-append_left (map place_of ns) places p has)) in
+    let all = All-sealed Is (forgotten gone session.cache) ns (still_among gone session.cache.kept committed places (map place_of ns) after left same kept) new in
+    subst (KeepsAmong after) (sym taken.cached) (All-without_all Is gone cache.kept (subst (KeepsAmong after) (sym sealed) all))
 
 -- what a session has the keys of whose tree is its root record's
 pub held_knows : (session : Session) (image : Image) (device : Device) (contents : Blocks) → IsTreeOf session.root session.grove → HoldsNone session.grove → Holds session image device contents → HasTreeKeys session image.readable

@@ -25,6 +25,7 @@ use Rattle.btree_twigs.specs.declared.twigs.Child.TheOpen.{Kept as KeptChild, Gr
 use Rattle.btree_twigs.specs.declared.twigs.Twig.{Twig}
 use Rattle.btree_twigs.specs.Top.{IsTop, IsTopBy}
 use Rattle.node_codec.specs.declared.body.Entry.{Entry}
+use Rattle.node_cache.specs.Kept.{Cached}
 use Rattle.btree_update.specs.Groves.{places_of}
 use Rattle.btree_update.proofs.GroveLaws.{above_it}
 use Rattle.grove_accounts.specs.Accounts.{IsOwn, HasAddress, LacksAddress}
@@ -82,7 +83,8 @@ pub record IsReadied (tells : Type 0) (old mid : History) (drawn drawn_now : Opt
   pub touched : session.is_touched ≡ true
   pub counts : tells → length old.present.recorded ≡ pages
   pub counts_now : tells → length mid.present.recorded ≡ now
-  pub ready : IsReady tells old.present mid.present pages now drawn drawn_now session.root session.mapped session.grove prepared
+  pub cache : Cached
+  pub ready : IsReady tells old.present mid.present pages now drawn drawn_now session.cache cache session.root session.mapped session.grove prepared
   pub cell : tells → CellStays old mid
 
 -- the session's tree was changed

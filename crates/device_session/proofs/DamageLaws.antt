@@ -53,8 +53,8 @@ follows_fresh session image count tree cached = record {
 }
 
 -- a session that goes on with the tree of a new root record
-pub follows_taken : (session now : Session) (root : Root) (image : Image) → TakesUp session root now → root.mapped ≡ session.mapped → StandsOver image.readable now.cache → Follows now image
-follows_taken session now root image taken count cached =
+pub follows_taken : (session now : Session) (cache : Cached) (root : Root) (image : Image) → TakesUp session cache root now → root.mapped ≡ session.mapped → StandsOver image.readable now.cache → Follows now image
+follows_taken session now cache root image taken count cached =
     follows_fresh now image (taken.mapped ∙ sym count ∙ ap (λ (r : Root). r.mapped) (sym taken.root_is)) (subst (λ (r : Root). IsTreeOf r now.grove) (sym taken.root_is) taken.tree) cached
 
 maps_ready : (pages : List (List ℕ)) (old new : Grove) (mapped : List Mapped) → KeepsTree old new → GroveMaps pages old mapped → GroveMaps pages new mapped

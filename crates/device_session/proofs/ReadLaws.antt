@@ -1,6 +1,6 @@
 -- What a session reads of its array.
 use Rattle.std.proofs.Common.{◌≡◌, ◌≢◌, ℕ, zero, suc, ◌-◌, ◌<◌, ◌≤◌, ◌^◌, List, [], ◌∷◌, Option, None, Some, refl, sym, ap, subst, ◌∙◌, arith, append-nil}
-use Rattle.std.specs.Prelude.{Contains, unwrap_or, replicate}
+use Rattle.std.specs.Prelude.{Contains, Err, unwrap_or, replicate}
 use Rattle.std.specs.FinMap as maps
 use Rattle.std.specs.List.{AllByRecursion}
 use Rattle.std.proofs.lemmas.Bool.{eq-eqb, ne_eqb}
@@ -12,6 +12,8 @@ use Rattle.node_codec.specs.Record.{DataRecord}
 use Rattle.node_codec.specs.declared.body.NodeBody.{NodeBody}
 use Rattle.page_store.specs.Buffer.{Held}
 use Rattle.page_store.specs.declared.wants.Want.{Want}
+use Rattle.page_store.specs.declared.refusals.FetchRefusal.{FetchRefusal}
+use Rattle.page_store.specs.declared.refusals.FetchRefusal.TheVariants as fetches
 use Rattle.page_store.specs.Places.{IsRecordAt, NothingFits, block_want, child_want}
 use Rattle.page_store.specs.Tree.{Parts, Mapped, Subtree, EachChild, joined, bound_of}
 use Rattle.page_store.proofs.RecordLaws.{one_record}
@@ -38,6 +40,9 @@ use Rattle.grove_accounts.specs.Below.{HaveParts}
 use Rattle.grove_accounts.proofs.ListLaws.{each_append, each_weaker}
 use Rattle.grove_accounts.proofs.PartsLaws.{parts_each}
 use Rattle.device_session.specs.Sessions.{Session}
+use Rattle.device_session.specs.Reading.{ReadsArray}
+use Rattle.device_session.specs.Refusals.{read_refused}
+use Rattle.device_session.specs.declared.refusals.ReadRefusal.TheVariants as read
 use Rattle.device_session.specs.Holds.{Holds}
 use Rattle.btree_update.proofs.AscendLaws.{Ascends}
 use Rattle.device_session.proofs.ArrayLaws.{array_of, array_lacks, array_has}
@@ -182,3 +187,15 @@ pub entry_fits : (image : Image) (grove : Grove) (contents : Blocks) (block : �
 entry_fits image grove contents block entry a m nothing =
     let record_is = All-contains (HasRecord image.readable) a.mapped (mapped_as entry m.1.0) (All-from_recursion (HasRecord image.readable) a.mapped a.records) m.1.1 in
     nothing (DataRecord entry.low m.1.0) (record_is, (refl, m.0))
+
+-- ---- what was refused
+
+-- a read names what its look named
+pub refused_bad : (fetch : FetchRefusal) (addr : ℕ) → read_refused fetch ≡ read.BadRecord addr → fetch ≡ fetches.BadRecord addr
+refused_bad (fetches.BadRecord other) addr is = let same : other ≡ addr = cc in ap fetches.BadRecord same
+refused_bad fetches.PlatformFault addr is = absurd cc
+
+-- of an array nothing is named
+pub refused_array : (contents : Blocks) (block : ℕ) (content : List ℕ) (fetch : FetchRefusal) → ((addr : ℕ) → fetch ≡ fetches.BadRecord addr → ⊥) → ReadsArray contents block content (Err (read_refused fetch))
+refused_array contents block content (fetches.BadRecord addr) never = never addr refl
+refused_array contents block content fetches.PlatformFault never = tt

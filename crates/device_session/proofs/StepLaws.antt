@@ -1,5 +1,5 @@
 -- What a commit says, by how far it came.
-use Rattle.std.proofs.Common.{◌≡◌, ◌∙◌, inl, ℕ, ◌+◌, ◌≤◌, false, List, length, map, ◌++◌, Result, Ok, Err, refl, sym, ap, subst, arith}
+use Rattle.std.proofs.Common.{◌≡◌, ◌≢◌, ◌∙◌, inl, ℕ, ◌+◌, ◌≤◌, ◌^◌, false, List, All, length, map, ◌++◌, Result, Ok, Err, refl, sym, ap, subst, arith}
 use Rattle.std.specs.Prelude.{Some, IfOk, IfErr, OnOk, IsOk}
 use Rattle.sdbt_base.specs.Arrays.{Device, Blocks, committed_with}
 use Rattle.sdbt_base.specs.Counts.{Counts, counts}
@@ -16,7 +16,14 @@ use Rattle.page_store.specs.Keeping.{DrewAll, KeepsKeys}
 use Rattle.page_store.specs.Stands.{StandsBy}
 use Rattle.page_store.proofs.KeepingLaws.{keeps_idle}
 use Rattle.page_store.proofs.FloorLaws.{forgets_still}
-use Rattle.btree_walk.specs.Sights.{StandsOver}
+use Rattle.btree_walk.specs.Sights.{StandsOver, IsOfPage}
+use Rattle.node_codec.specs.Record.{NodeRecord}
+use Rattle.page_store.proofs.RecordLaws.{record_stays}
+use Rattle.node_cache.specs.Kept.{Cached, without_all, forgotten}
+use Rattle.node_cache.proofs.CacheLaws.{All-without_all, none-without_all}
+use Rattle.std.proofs.lemmas.List.Elements.{All-weaker}
+use Rattle.shadow_commit.proofs.OrderLaws.{records_at}
+use Rattle.shadow_commit.proofs.CachingLaws.{All-sealed, capacity_sealed}
 use Rattle.btree_update.specs.Groves.{places_of}
 use Rattle.grove_accounts.specs.Holding.{IsTreeOf}
 use Rattle.shadow_commit.specs.Finishing.{Swaps}
@@ -43,7 +50,6 @@ use Rattle.device_session.proofs.CommitLaws.{IsReadied, Publishes, KeepsSealed, 
 use Rattle.device_session.proofs.KeyLaws.{listed_fresh}
 use Rattle.device_session.proofs.CertifyingLaws.{commit_certifies}
 use Rattle.page_store.specs.Tree.{joined}
-use Rattle.shadow_commit.specs.NewTree.{place_of}
 use Rattle.device_session.proofs.AmongLaws.{taken_among, held_knows}
 use Rattle.device_session.proofs.TakingLaws.{taken_open, taken_pages, taken_holds, taken_cached}
 
@@ -216,7 +222,7 @@ commits_failed P T L platform mid new tape tape_now ledger ledger_now session no
 
 -- the nodes that it keeps are what the pages are still
 pub committed_cached : {S R W : Type 0} (P : PlatformGhosts S) (T : TapeGhosts R) (L : SinkGhosts W) (platform mid new : S) (tape tape_now : R) (ledger ledger_now : W) (session now : Session) (prepared : Prepared) (Was : Type 0)
-    → IsCommitting P T L platform mid new tape tape_now ledger ledger_now session prepared Was → TakesUp session prepared.root now → P.tells → (P.history new).present ≡ with_next (P.history mid) prepared → StandsOver (P.history platform).present.readable session.cache
+    → (all : IsCommitting P T L platform mid new tape tape_now ledger ledger_now session prepared Was) → TakesUp session all.readied.cache prepared.root now → P.tells → (P.history new).present ≡ with_next (P.history mid) prepared → StandsOver (P.history platform).present.readable session.cache
     → StandsOver (P.history new).present.readable now.cache
 committed_cached P T L platform mid new tape tape_now ledger ledger_now session now prepared Was all taken told published stands =
     let is = all.readied.ready.is in
@@ -225,11 +231,18 @@ committed_cached P T L platform mid new tape tape_now ledger ledger_now session 
     let old = (P.history platform).present in
     let reads : (P.history new).present.readable ≡ old.readable ++ more
     = ap (λ (i : Image). i.readable) published ∙ ap (λ (i : Image). i.readable) (is.synced told) ∙ ap (λ (i : Image). i.readable) (is.adds.image told) in
-    subst (λ (pages : List (List ℕ)). StandsOver pages now.cache) (sym reads) (taken_cached session now prepared.root old.readable more taken stands)
+    let gone = session.grove.gone.items in
+    let kept = All-weaker (IsOfPage old.readable) (IsOfPage (old.readable ++ more)) (λ k of. record_stays old.readable more k.addr k.key (NodeRecord k.node.level k.node.entries.items) of) (without_all gone session.cache.kept)
+    (All-without_all (IsOfPage old.readable) gone session.cache.kept stands) in
+    let from : P.head platform ≡ length old.readable = sym (all.readied.counts told) ∙ sym (whole-now (P.history platform)).as_many in
+    let small : P.head platform + length ns ≤ 2 ^ 64 = omega (arith, is.adds.head, is.next_is.head_is, is.in_range.head) in
+    let sealed = All-sealed (IsOfPage (old.readable ++ more)) (forgotten gone session.cache) ns kept (records_at (P.head platform) old.readable ns from is.over.order.from is.over.order.fits small) in
+    subst (λ (pages : List (List ℕ)). StandsOver pages now.cache) (sym reads)
+    (taken_cached session now all.readied.cache prepared.root (old.readable ++ more) taken (subst (StandsOver (old.readable ++ more)) (sym is.cached) sealed))
 
 -- with the new root record in the cell it has the array of the device after
 committed_holds : {S R W : Type 0} (P : PlatformGhosts S) (T : TapeGhosts R) (L : SinkGhosts W) (platform mid new : S) (tape tape_now : R) (ledger ledger_now : W) (session now : Session) (prepared : Prepared) (Was : Type 0) (device : Device) (contents : Blocks)
-    → IsCommitting P T L platform mid new tape tape_now ledger ledger_now session prepared Was → TakesUp session prepared.root now → P.tells → (P.history new).present ≡ with_next (P.history mid) prepared → Holds session (P.history platform).present device contents
+    → (all : IsCommitting P T L platform mid new tape tape_now ledger ledger_now session prepared Was) → TakesUp session all.readied.cache prepared.root now → P.tells → (P.history new).present ≡ with_next (P.history mid) prepared → Holds session (P.history platform).present device contents
     → Holds now (P.history new).present (committed_with device contents) contents
 committed_holds P T L platform mid new tape tape_now ledger ledger_now session now prepared Was device contents all taken told published h =
     let first = P.history platform in
@@ -239,11 +252,11 @@ committed_holds P T L platform mid new tape tape_now ledger ledger_now session n
     let stands = next_stands P.tells first second (T.drawn tape) (T.drawn tape_now) session (P.head platform) (P.head mid) prepared device contents r told h in
     let by = subst (λ (i : Image). StandsBy i (committed_with device contents) prepared.root with.parts) (sym published) stands in
     let cached = committed_cached P T L platform mid new tape tape_now ledger ledger_now session now prepared Was all taken told published h.cached in
-    let among = taken_among session now prepared.root h.committed.places (joined h.each).places (map place_of r.ready.is.adds.nodes) with.parts.places taken h.tree.accounted.accounts.left with.are.places h.among in
-    taken_holds session now prepared.root (P.history new).present (committed_with device contents) with.parts taken by (whole-now (P.history new)).synced (sym r.ready.is.next_is.mapped_is) cached among
+    let among = taken_among session now r.cache prepared.root h.committed.places (joined h.each).places with.parts.places r.ready.is.adds.nodes taken r.ready.is.cached h.tree.accounted.accounts.left with.are.places h.among in
+    taken_holds session now r.cache prepared.root (P.history new).present (committed_with device contents) with.parts taken by (whole-now (P.history new)).synced (sym r.ready.is.next_is.mapped_is) cached among
 
 pub commits_done : {S R W : Type 0} (P : PlatformGhosts S) (T : TapeGhosts R) (L : SinkGhosts W) (platform mid new : S) (tape tape_now : R) (ledger ledger_now : W) (session now : Session) (prepared : Prepared) (Was : Type 0) (number : ℕ)
-    → IsCommitting P T L platform mid new tape tape_now ledger ledger_now session prepared Was → ((Was → ⊥) → ⊥) → TakesUp session prepared.root now → (P.tells → (P.history new).present ≡ with_next (P.history mid) prepared) → number ≡ prepared.root.commit
+    → (all : IsCommitting P T L platform mid new tape tape_now ledger ledger_now session prepared Was) → ((Was → ⊥) → ⊥) → TakesUp session all.readied.cache prepared.root now → (P.tells → (P.history new).present ≡ with_next (P.history mid) prepared) → number ≡ prepared.root.commit
     → counts (P.faults new) 0 0 0 (L.faults ledger_now) ≡ counts (P.faults mid) 0 0 0 (L.faults ledger)
     → Commits P T L platform new tape tape_now ledger ledger_now session now (Ok (Committed number))
 commits_done P T L platform mid new tape tape_now ledger ledger_now session now prepared Was number all was taken published number_is quiet =
@@ -257,14 +270,14 @@ commits_done P T L platform mid new tape tape_now ledger ledger_now session now 
           let counted : device.number + 1 ≡ number = sym (number_is ∙ r.ready.is.next_is.commit ∙ ap (λ (n : ℕ). n + 1) h.stands.number) in
           subst (λ (n : ℕ). Holds now (P.history new).present (record device { number = n; contents = contents }) contents) counted (holds told device contents h);
       goes_on = (
-        taken_open session now next (P.head new) taken (record { in_range = within.in_range; key = within.key; within = omega (arith, within.within, all.swaps.head) }) (omega (arith, r.is_open.mapped, r.ready.is.next_is.blocks)),
+        taken_open session now r.cache next (P.head new) taken (record { in_range = within.in_range; key = within.key; within = omega (arith, within.within, all.swaps.head) }) (omega (arith, r.is_open.mapped, r.ready.is.next_is.blocks)),
         ap (λ (root : Root). root.blocks) taken.root_is ∙ r.ready.is.next_is.blocks,
         taken.mapped,
-        taken.capacity,
+        ap (λ (k : Cached). k.capacity) (taken.cached ∙ ap (forgotten session.grove.gone.items) r.ready.is.cached) ∙ capacity_sealed (forgotten session.grove.gone.items session.cache) r.ready.is.adds.nodes,
       );
       time = λ told device contents h. commit_turns P.tells (P.history platform) (P.history mid) (P.history new) (T.drawn tape) (T.drawn tape_now) session (P.head platform) (P.head mid) prepared device contents r told (all.turns told) h;
       discloses = commit_discloses P T L platform mid new tape tape_now ledger ledger_now session prepared Was (λ keys. HoldsListed now (P.history new).present keys) all
-          (λ told device contents h keys. listed_fresh now (P.history new).present (committed_with device contents) contents keys (taken_pages session now next taken r.ready.is.in_range) (holds told device contents h));
+          (λ told device contents h keys. listed_fresh now (P.history new).present (committed_with device contents) contents keys (taken_pages session now r.cache next taken r.ready.is.in_range) (holds told device contents h));
       certifies = commit_certifies P.tells (L.written ledger) (L.written ledger_now) (P.history platform) (P.history mid) (P.history new) (T.drawn tape) (T.drawn tape_now) session (P.head platform) (P.head mid) prepared Was (done (Ok (Committed number))) r
           (λ never ok. was never) all.turns all.put;
       cause = tt;
@@ -275,7 +288,7 @@ commits_done P T L platform mid new tape tape_now ledger ledger_now session now 
     }
 
 pub commits_raised : {S R W : Type 0} (P : PlatformGhosts S) (T : TapeGhosts R) (L : SinkGhosts W) (platform mid new : S) (tape tape_now : R) (ledger ledger_now : W) (session now : Session) (prepared : Prepared) (Was : Type 0) (number : ℕ)
-    → IsCommitting P T L platform mid new tape tape_now ledger ledger_now session prepared Was → TakesUp session prepared.root now → (P.tells → (P.history new).present ≡ with_next (P.history mid) prepared) → number ≡ prepared.root.commit
+    → (all : IsCommitting P T L platform mid new tape tape_now ledger ledger_now session prepared Was) → TakesUp session all.readied.cache prepared.root now → (P.tells → (P.history new).present ≡ with_next (P.history mid) prepared) → number ≡ prepared.root.commit
     → HasRaised P T platform new tape tape_now session now (Committed number)
 commits_raised P T L platform mid new tape tape_now ledger ledger_now session now prepared Was number all taken published number_is =
     let r = all.readied in
@@ -285,10 +298,11 @@ commits_raised P T L platform mid new tape tape_now ledger ledger_now session no
       replied = ap Committed (number_is ∙ is.next_is.commit);
       number = ap (λ (root : Root). root.commit) taken.root_is ∙ is.next_is.commit;
       untouched = taken.untouched;
-      pages = taken_pages session now prepared.root taken is.in_range;
+      pages = taken_pages session now r.cache prepared.root taken is.in_range;
       tree = subst (λ (root : Root). IsTreeOf root now.grove) (sym taken.root_is) taken.tree;
       wiped = taken.wiped;
-      forgot = taken.forgot;
+      cached = record { nodes = is.adds.nodes; from = is.over.order.from; many = omega (arith, is.grown, is.adds.head); is = taken.cached ∙ ap (forgotten session.grove.gone.items) is.cached };
+      forgot = subst (λ (k : Cached). All (λ addr. All (λ node. node.addr ≢ addr) k.kept) session.grove.gone.items) (sym taken.cached) (none-without_all session.grove.gone.items r.cache.kept);
       head = all.swaps.head ∙ is.grown;
       names = subst (NamesLast (T.drawn tape) (T.drawn tape_now) (P.head new)) (sym taken.root_is) (record {
         earlier = last.earlier;

@@ -1,11 +1,11 @@
 -- What the steps of a commit say that follow the sealing of its tree.
-use Rattle.std.specs.Prelude.{◌≡◌, ◌≢◌, ◌⊎◌, ℕ, false, List, [], Option, Some, Result, Ok, Err, All, Contains}
+use Rattle.std.specs.Prelude.{◌≡◌, ◌⊎◌, ℕ, false, List, [], Option, Some, Result, Ok, Err}
 use Rattle.sdbt_base.specs.Counts.{Counts, PlatformRose, LedgerRose}
 use Rattle.sdbt_base.specs.Told.{Got, GotPart}
 use Rattle.platform.specs.History.{History, CellStays}
 use Rattle.root_codec.specs.declared.root.Root.{Root}
 use Rattle.root_codec.specs.RootRecord.{root_bytes}
-use Rattle.node_cache.specs.declared.slots.Kept.{Kept}
+use Rattle.node_cache.specs.Kept.{Cached, forgotten}
 use Rattle.btree_walk.specs.Readers.{IsWiped}
 use Rattle.btree_update.specs.declared.groves.Grove.{Grove}
 use Rattle.grove_accounts.specs.Holding.{IsTreeOf}
@@ -28,22 +28,17 @@ IsPublishCause Still before now (Err commit.LedgerFault) = LedgerRose before now
 IsPublishCause Still before now (Err commit.TapeFault) = ⊥
 IsPublishCause Still before now (Err commit.Memory) = ⊥
 
--- no node is kept for one of these addresses
-abbrev pub LacksNodes : List ℕ → List Kept → Type 0
-LacksNodes gone kept = All (λ addr. All (λ node. node.addr ≢ addr) kept) gone
-
 -- no node is held beside a tree
 abbrev pub HoldsNone : Grove → Type 0
 HoldsNone grove = (grove.held.items ≡ []) × (grove.beside.items ≡ []) × (grove.spares.items ≡ [])
 
--- a session goes on with the tree of a root record: no node is in memory then or held, none that is gone is kept, and nothing of what was read or sealed
-pub record TakesUp (session : Session) (root : Root) (now : Session) : Type 0 where
+-- a session goes on with the tree of a root record: no node is in memory then or held, its cache is this one without the nodes that are gone, and nothing
+-- of what was read or sealed is left
+pub record TakesUp (session : Session) (cache : Cached) (root : Root) (now : Session) : Type 0 where
   pub root_is : now.root ≡ root
   pub mapped : now.mapped ≡ session.mapped
   pub untouched : now.is_touched ≡ false
   pub tree : IsTreeOf root now.grove
-  pub capacity : now.cache.capacity ≡ session.cache.capacity
   pub none_held : HoldsNone now.grove
-  pub kept : All (Contains session.cache.kept) now.cache.kept
-  pub forgot : LacksNodes session.grove.gone.items now.cache.kept
+  pub cached : now.cache ≡ forgotten session.grove.gone.items cache
   pub wiped : IsWiped now.buffers now.node

@@ -14,3 +14,4 @@ pub mod Replies
 pub mod Certifying
 pub mod Finishing
 pub mod Publishing
+pub mod Refusals

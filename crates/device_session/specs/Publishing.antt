@@ -1,5 +1,5 @@
 -- What a commit says: how it makes a session's changes the device's.
-use Rattle.std.specs.Prelude.{◌≡◌, ◌≢◌, ◌+◌, ℕ, false, [], List, Some, Result, IfOk, OnOk, IfErr, IsOk, All}
+use Rattle.std.specs.Prelude.{◌≡◌, ◌≢◌, ◌+◌, ℕ, false, [], List, Some, Result, IfOk, OnOk, IfErr, IsOk, All, length}
 use Rattle.sdbt_base.specs.Counts.{Counts, counts, PlatformRose, TapeRose, LedgerRose}
 use Rattle.sdbt_base.specs.Arrays.{Device, Blocks, committed_with}
 use Rattle.sdbt_base.specs.declared.sinks.Sink.{Ghosts as SinkGhosts}
@@ -14,6 +14,10 @@ use Rattle.btree_walk.specs.Among.{IsAmong, KeepsAmong}
 use Rattle.btree_walk.specs.Readers.{IsWiped}
 use Rattle.btree_update.specs.Groves.{places_of}
 use Rattle.grove_accounts.specs.Holding.{IsTreeOf}
+use Rattle.node_cache.specs.Kept.{Cached, forgotten}
+use Rattle.shadow_commit.specs.Sealed.{Sealed}
+use Rattle.shadow_commit.specs.Caching.{with_sealed}
+use Rattle.shadow_commit.specs.NewTree.{AreFrom}
 use Rattle.device_session.specs.declared.refusals.CommitReply.{CommitReply}
 use Rattle.device_session.specs.declared.refusals.CommitReply.TheVariants.{Committed}
 use Rattle.device_session.specs.declared.refusals.CommitFault.{CommitFault}
@@ -38,9 +42,17 @@ pub record HasTreeKeys (session : Session) (pages : List (List ℕ)) : Type 0 wh
   pub none_held : HoldsNone session.grove
   pub cached : KeepsAmong parts.places session.cache
 
+-- a cache has what it had but for nodes that are gone, and so many new nodes as the most recent ones, in their order at the addresses from this one on
+pub record Recaches (head count : ℕ) (gone : List ℕ) (old new : Cached) : Type 0 where
+  pub nodes : List Sealed
+  pub from : AreFrom head nodes
+  pub many : length nodes ≡ count
+  pub is : new ≡ forgotten gone (with_sealed (forgotten gone old) nodes)
+
 -- a commit that raised the number: as many pages were added as there were nodes in memory, and the root record in the cell names the last of them with
--- the key that was drawn last; the session has no data pages that weren't told of, and its tree is the new one, with no node in memory. No node that is gone
--- is left in its cache, nothing of what was read or sealed in its buffers, and no entry in the room of the node that was read last; and where it had an array, each key in its fields is of the new tree
+-- the key that was drawn last; the session has no data pages that weren't told of, and its tree is the new one, with no node in memory. Its cache
+-- has what it had but for the nodes that are gone, none of which is left, and the new tree's nodes that were in memory; nothing of what was read or sealed is left in its buffers, and no entry in the room of
+-- the node that was read last; and where it had an array, each key in its fields is of the new tree
 pub record HasRaised {S R : Type 0} (P : PlatformGhosts S) (T : TapeGhosts R) (platform platform_now : S) (tape tape_now : R) (session now : Session) (reply : CommitReply) : Type 0 where
   pub replied : reply ≡ Committed (number_of session + 1)
   pub number : number_of now ≡ number_of session + 1
@@ -48,6 +60,7 @@ pub record HasRaised {S R : Type 0} (P : PlatformGhosts S) (T : TapeGhosts R) (p
   pub pages : AreDataPages now []
   pub tree : IsTreeOf now.root now.grove
   pub wiped : IsWiped now.buffers now.node
+  pub cached : Recaches (P.head platform) (needed_by session) session.grove.gone.items session.cache now.cache
   pub forgot : All (λ addr. All (λ node. node.addr ≢ addr) now.cache.kept) session.grove.gone.items
   pub head : P.head platform_now ≡ P.head platform + needed_by session
   pub names : NamesLast (T.drawn tape) (T.drawn tape_now) (P.head platform_now) (root_of now)

@@ -1,16 +1,15 @@
-ghost use Rattle.std.specs.Prelude.{◌≡◌, ◌<◌, ◌≤◌, ◌-◌, Some, true, false, All, Contains, IfOk, OnOk, IsOk};
+ghost use Rattle.std.specs.Prelude.{◌≡◌, ◌<◌, ◌≤◌, ◌-◌, Some, true, false, IfOk, OnOk, IsOk};
 ghost use Rattle.sdbt_base.specs.Counts.{counts};
 ghost use Rattle.platform.specs.Image.{with_cell};
 ghost use Rattle.platform.specs.History.{Turns, CellStays};
 ghost use Rattle.root_codec.specs.RootRecord.{FitsRoot, root_bytes};
 ghost use Rattle.shadow_commit.specs.Finishing.{Swaps};
-ghost use Rattle.device_session.specs.Finishing.{PutsLine, IsPublishCause, LacksNodes, TakesUp};
+ghost use Rattle.device_session.specs.Finishing.{PutsLine, IsPublishCause, TakesUp};
 ghost use Rattle.device_session.specs.Publishing.{Commits, HasRaised};
 
 use crate::refusals::{CommitFault, CommitReply};
 use crate::session::Session;
 use btree_update::Grove;
-use node_cache::NodeCache;
 use platform::Platform;
 use root_codec::Root;
 use sdbt_base::{Sink, Tape};
@@ -26,7 +25,8 @@ impl Session {
     /// Without changes since the mount or the last commit it answers the present number and calls nothing.
     /// Else `Full` comes exactly where fewer pages are free than nodes are in memory, and the session is then as before. A fault ends
     /// the session: the device is the one from before, or, where the last step failed, that one or the one
-    /// after. The ledger gets one entry, in one put, before the root record is replaced.
+    /// after. The ledger gets one entry, in one put, before the root record is replaced. The cache has then what it had but for the
+    /// nodes that are gone, and the new nodes as the most recent ones.
     pub fn commit<P: Platform, T: Tape, L: Sink>(
         &mut self,
         platform: &mut P,
@@ -59,7 +59,7 @@ impl Session {
             self.mapped,
             platform,
             tape,
-            &mut self.reader.buffers,
+            &mut self.reader,
         ) {
             Ok(prepared) => prepared,
             Err(CommitRefusal::Full { needed, free }) => {
@@ -69,10 +69,7 @@ impl Session {
             Err(CommitRefusal::TapeFault) => return Err(CommitFault::TapeFault),
             Err(CommitRefusal::PlatformFault) => return Err(CommitFault::PlatformFault),
         };
-        let root = match publish(platform, ledger, prepared) {
-            Ok(root) => root,
-            Err(fault) => return Err(fault),
-        };
+        let root = publish(platform, ledger, prepared)?;
         let number = root.commit;
         self.take_up(root);
         Ok(CommitReply::Committed { number })
@@ -82,24 +79,13 @@ impl Session {
     /// the cache.
     fn take_up(&mut self, root: Root)
         requires { FitsRoot root }
-        ensures { TakesUp self.old root self.new }
+        ensures { TakesUp self.old self.old.cache root self.new }
     {
-        forget(&mut self.reader.cache, self.grove.gone());
+        self.reader.cache.forget_all(self.grove.gone());
         self.grove = Grove::of(self.alloc, &root);
         self.root = root;
         self.is_touched = false;
         self.reader.wipe();
-    }
-}
-
-/// Leaves no node in a cache that is kept for one of these addresses.
-fn forget(cache: &mut NodeCache, gone: &[u64])
-    ensures capacity { cache.new.capacity ≡ cache.old.capacity }
-    ensures kept { All (Contains cache.old.kept) cache.new.kept }
-    ensures forgot { LacksNodes gone.now cache.new.kept }
-{
-    for addr in gone {
-        cache.forget(*addr);
     }
 }
 
@@ -127,8 +113,5 @@ fn publish<P: Platform, L: Sink>(
         prepared.abandon();
         return Err(CommitFault::LedgerFault);
     };
-    match prepared.finish(platform) {
-        Ok(root) => Ok(root),
-        Err(_) => Err(CommitFault::PlatformFault),
-    }
+    Ok(prepared.finish(platform)?)
 }

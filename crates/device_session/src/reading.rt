@@ -57,22 +57,12 @@ impl Session {
         if block >= self.root.blocks {
             return Err(ReadRefusal::Range);
         }
-        let found = match self.grove.find(block, platform, &mut self.reader) {
-            Ok(found) => found,
-            Err(FetchRefusal::BadRecord { addr }) => return Err(ReadRefusal::BadRecord { addr }),
-            Err(FetchRefusal::PlatformFault) => return Err(ReadRefusal::PlatformFault),
-        };
+        let found = self.grove.find(block, platform, &mut self.reader)?;
         let Some(entry) = found else {
             out.fill(0);
             return Ok(());
         };
-        match read_block(platform, &entry, block, &mut self.reader.buffers, out) {
-            Ok(()) => {}
-            Err(FetchRefusal::BadRecord { .. }) => {
-                return Err(ReadRefusal::BadRecord { addr: entry.addr });
-            }
-            Err(FetchRefusal::PlatformFault) => return Err(ReadRefusal::PlatformFault),
-        }
+        read_block(platform, &entry, block, &mut self.reader.buffers, out)?;
         Ok(())
     }
 }
@@ -91,16 +81,13 @@ fn read_block<P: Platform>(
     ensures fits { P.tells
         → OnOk result (FitsAt (P.history platform.old).present.readable (block_want entry.now.addr block) entry.now.key (DataRecord block out.new)) }
     ensures nothing_fits { P.tells → (addr : ℕ) → IsErrOf result (FetchRefusal.BadRecord addr)
-        → NothingFits (P.history platform.old).present.readable (block_want entry.now.addr block) entry.now.key }
+        → (addr ≡ entry.now.addr) × NothingFits (P.history platform.old).present.readable (block_want entry.now.addr block) entry.now.key }
     ensures looks { Looks P.Platform platform.old platform.new }
     ensures reads { P.tells → P.reads platform.new ≤ P.reads platform.old + 1 }
     ensures cause { TellsOf FetchRefusal.PlatformFault result (P.faults platform.old) (P.faults platform.new) }
 {
     let want = Want::of_block(entry.addr, block);
-    match fetch_block(platform, &want, &entry.key, buffers) {
-        Ok(()) => {}
-        Err(refusal) => return Err(refusal),
-    }
+    fetch_block(platform, &want, &entry.key, buffers)?;
     out.copy_from_slice(buffers.content());
     Ok(())
 }

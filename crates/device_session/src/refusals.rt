@@ -1,4 +1,6 @@
 //! What a session answers where a call wasn't done, and to a commit.
+use page_store::{CurrentRefusal, FetchRefusal};
+use sdbt_base::{Memory, PlatformFault};
 use thiserror::Error;
 
 /// Why no session was opened.
@@ -115,4 +117,54 @@ pub enum CommitFault {
     /// No memory was given.
     #[error("out of memory")]
     Memory,
+}
+
+impl From<CurrentRefusal> for MountRefusal {
+    ghost use Rattle.std.specs.Prelude.{◌≡◌};
+    ghost use Rattle.device_session.specs.Refusals.{mount_refused};
+
+    ghost from_gives = { λ current mount. mount ≡ mount_refused current };
+
+    fn from(current: CurrentRefusal) -> MountRefusal {
+        match current {
+            CurrentRefusal::BadRoot => MountRefusal::BadRoot,
+            CurrentRefusal::PlatformFault => MountRefusal::PlatformFault,
+        }
+    }
+}
+
+impl From<Memory> for MountRefusal {
+    ghost use Rattle.std.specs.Prelude.{◌≡◌};
+    ghost use Rattle.device_session.specs.declared.refusals.MountRefusal.{MountRefusal};
+
+    ghost from_gives = { λ memory mount. mount ≡ MountRefusal.Memory };
+
+    fn from(_: Memory) -> MountRefusal {
+        MountRefusal::Memory
+    }
+}
+
+impl From<FetchRefusal> for ReadRefusal {
+    ghost use Rattle.std.specs.Prelude.{◌≡◌};
+    ghost use Rattle.device_session.specs.Refusals.{read_refused};
+
+    ghost from_gives = { λ fetch read. read ≡ read_refused fetch };
+
+    fn from(fetch: FetchRefusal) -> ReadRefusal {
+        match fetch {
+            FetchRefusal::BadRecord { addr } => ReadRefusal::BadRecord { addr },
+            FetchRefusal::PlatformFault => ReadRefusal::PlatformFault,
+        }
+    }
+}
+
+impl From<PlatformFault> for CommitFault {
+    ghost use Rattle.std.specs.Prelude.{◌≡◌};
+    ghost use Rattle.device_session.specs.declared.refusals.CommitFault.{CommitFault};
+
+    ghost from_gives = { λ fault commit. commit ≡ CommitFault.PlatformFault };
+
+    fn from(_: PlatformFault) -> CommitFault {
+        CommitFault::PlatformFault
+    }
 }

@@ -7,7 +7,7 @@ ghost use Rattle.device_session.specs.Causes.{IsMountCause};
 use crate::refusals::MountRefusal;
 use btree_update::Grove;
 use btree_walk::NodeReader;
-use page_store::{CurrentRefusal, current};
+use page_store::current;
 use platform::Platform;
 use root_codec::Root;
 use std::alloc::Global;
@@ -71,17 +71,10 @@ impl Session {
         ensures reads { P.tells → P.reads platform.new ≡ P.reads platform.old }
         ensures cause { TellsOf MountRefusal.PlatformFault result (P.faults platform.old) (P.faults platform.new) }
     {
-        let found = match current(platform) {
-            Ok(found) => found,
-            Err(CurrentRefusal::BadRoot) => return Err(MountRefusal::BadRoot),
-            Err(CurrentRefusal::PlatformFault) => return Err(MountRefusal::PlatformFault),
-        };
-        let Some(root) = found else {
+        let Some(root) = current(platform)? else {
             return Err(MountRefusal::NoDevice);
         };
-        let Ok(reader) = NodeReader::new(alloc, cache) else {
-            return Err(MountRefusal::Memory);
-        };
+        let reader = NodeReader::new(alloc, cache)?;
         let grove = Grove::of(alloc, &root);
         let mapped = root.mapped;
         Ok(Session {

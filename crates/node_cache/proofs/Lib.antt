@@ -1,2 +1,3 @@
 mod BucketLaws
 pub mod SlotLaws
+pub mod CacheLaws

@@ -1,5 +1,6 @@
 -- The nodes that a cache keeps.
 use Rattle.std.specs.Prelude.{◌≡◌, ◌==◌, ℕ, List, [], ◌∷◌, Option, None, Some, Contains, cond, take}
+use Rattle.node_codec.specs.declared.body.Entry.{Entry}
 use Rattle.node_codec.specs.declared.body.NodeBody.{NodeBody}
 use Rattle.node_cache.specs.declared.slots.Kept.{Kept}
 
@@ -15,10 +16,23 @@ cached capacity kept = record { capacity = capacity; kept = kept }
 abbrev pub kept_node : ℕ → List ℕ → NodeBody → Kept
 kept_node addr key node = record { addr = addr; key = key; node = node }
 
+-- the node of a level with these entries
+abbrev pub node_of : ℕ → List Entry → NodeBody
+node_of level entries = record { level = level; entries = record { items = entries } }
+
 -- what is kept for other addresses, in its order
 abbrev pub without : ℕ → List Kept → List Kept
 without addr [] = []
 without addr (k ∷ ks) = cond (k.addr == addr) (without addr ks) (k ∷ without addr ks)
+
+-- what is kept for other addresses than these, in its order
+abbrev pub without_all : List ℕ → List Kept → List Kept
+without_all [] ks = ks
+without_all (addr ∷ addrs) ks = without_all addrs (without addr ks)
+
+-- the cache without what it keeps for these addresses
+abbrev pub forgotten : List ℕ → Cached → Cached
+forgotten addrs old = cached old.capacity (without_all addrs old.kept)
 
 -- the cache with a node as its most recent one, in the place of what was kept for that address
 abbrev pub touched : Cached → Kept → Cached

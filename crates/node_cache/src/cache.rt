@@ -7,14 +7,14 @@ ghost use Rattle.lru.specs.LruCache.{lru_cache, promoted};
 ghost use Rattle.std.specs.NonZero.{non_zero_usize_get};
 ghost use Rattle.node_codec.specs.declared.body.NodeBody.{NodeBody};
 ghost use Rattle.node_cache.specs.declared.slots.Kept.{Kept};
-ghost use Rattle.node_cache.specs.Kept.{kept_node};
+ghost use Rattle.node_cache.specs.Kept.{kept_node, node_of};
 ghost use Rattle.node_cache.specs.Slots.{IsLeastUsed, IsSlotFor};
 ghost use Rattle.node_cache.specs.Buckets.{Covers};
 
 use crate::buckets::{Bucket, note, slot_of};
 use crate::slots::Slot;
 use lru::LruCache;
-use node_codec::NodeBody;
+use node_codec::{Entry, NodeBody};
 use sdbt_base::{Addrs, Key, Memory};
 use std::alloc::Global;
 use std::marker::Model;
@@ -54,7 +54,7 @@ impl Model for NodeCache {
 }
 
 impl NodeCache {
-    ghost use Rattle.node_cache.specs.Kept.{filled, without, IsKept, IsOnlyKept, Uses};
+    ghost use Rattle.node_cache.specs.Kept.{filled, without, forgotten, IsKept, IsOnlyKept, Uses};
     ghost use Rattle.node_cache.specs.Lends.{EndsUsed};
 
     /// A cache of at most 4,096 nodes that keeps none yet. All memory that it ever takes is taken here. With
@@ -84,13 +84,22 @@ impl NodeCache {
         ensures off { (result ≡ Put.Off) ↔ (self.old.capacity ≡ 0) }
         ensures kept { self.new ≡ filled self.old (kept_node addr key.now node.now) }
     {
+        self.put_node(addr, key, node.level, &node.entries)
+    }
+
+    /// Keeps the node of a level with these entries, at most 64, as `put` does.
+    pub fn put_node(&mut self, addr: u64, key: &Key, level: u8, entries: &[Entry]) -> Put
+        requires { length entries.now ≤ 64 }
+        ensures off { (result ≡ Put.Off) ↔ (self.old.capacity ≡ 0) }
+        ensures kept { self.new ≡ filled self.old (kept_node addr key.now (node_of level entries.now)) }
+    {
         if self.addrs.is_empty() {
             return Put::Off;
         }
         let number = slot_for(&self.slots, &self.buckets, &self.addrs, addr);
         note(&mut self.buckets, &self.addrs, number, addr);
         self.addrs[number] = Some(addr);
-        fill(&mut self.slots, number, addr, key, node);
+        fill(&mut self.slots, number, addr, key, level, entries);
         Put::Stored
     }
 
@@ -158,6 +167,15 @@ impl NodeCache {
             self.slots.demote(&number);
         }
     }
+
+    /// Forgets what is kept for each of these addresses. The other nodes and their order stay.
+    pub fn forget_all(&mut self, addrs: &[u64])
+        ensures { self.new ≡ forgotten addrs.now self.old }
+    {
+        for addr in addrs {
+            self.forget(*addr);
+        }
+    }
 }
 
 /// How many slots the map is to have room for: one at least, which stays unused at a capacity of 0.
@@ -198,13 +216,21 @@ fn least_used(slots: &LruCache<usize, Slot>) -> usize
 }
 
 /// Copies a node into a slot, which is then the one that was used last.
-fn fill(slots: &mut LruCache<usize, Slot>, number: usize, addr: u64, key: &Key, node: &NodeBody)
-    requires { IsSome (lookup (nat_eq number) slots.old.entries) }
-    ensures written { slots.new ≡ lru_cache ((number, Some (kept_node addr key.now node.now)) ∷ remove_entry (nat_eq number) slots.old.entries) slots.old.cap }
+fn fill(
+    slots: &mut LruCache<usize, Slot>,
+    number: usize,
+    addr: u64,
+    key: &Key,
+    level: u8,
+    entries: &[Entry],
+)
+    requires there { IsSome (lookup (nat_eq number) slots.old.entries) }
+    requires count { length entries.now ≤ 64 }
+    ensures written { slots.new ≡ lru_cache ((number, Some (kept_node addr key.now (node_of level entries.now))) ∷ remove_entry (nat_eq number) slots.old.entries) slots.old.cap }
     ensures distinct { IsDistinct nat_eq (keys_of slots.new.entries) }
 {
     match slots.get_mut(&number) {
-        Some(slot) => slot.fill(addr, key, node),
+        Some(slot) => slot.fill(addr, key, level, entries),
         None => unreachable!(),
     }
     let count = slots.len();

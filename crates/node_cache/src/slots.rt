@@ -1,10 +1,11 @@
-ghost use Rattle.std.specs.Prelude.{◌≡◌, [], None, Some, Option, IfOk, replicate};
+ghost use Rattle.std.specs.Prelude.{◌≡◌, ◌≤◌, [], None, Some, Option, IfOk, length, replicate};
 ghost use Rattle.std.specs.Option.{option_copied};
 ghost use Rattle.node_codec.specs.declared.body.NodeBody.{NodeBody};
 ghost use Rattle.node_cache.specs.declared.slots.Kept.{Kept};
+ghost use Rattle.node_cache.specs.Kept.{kept_node, node_of};
 
 use arrayvec::ArrayVec;
-use node_codec::NodeBody;
+use node_codec::{Entry, NodeBody};
 use sdbt_base::{Key, Memory};
 use std::alloc::Global;
 use std::marker::Model;
@@ -40,31 +41,33 @@ impl Model for Slot {
 }
 
 impl Kept {
-    /// A copy of a node, for its address under its key.
-    fn of(addr: u64, key: &Key, node: &NodeBody) -> Kept
-        ensures { result ≡ record { addr = addr; key = key.now; node = node.now } }
+    /// The node of a level with a copy of these entries, for its address under its key.
+    fn of(addr: u64, key: &Key, level: u8, entries: &[Entry]) -> Kept
+        requires { length entries.now ≤ 64 }
+        ensures { result ≡ kept_node addr key.now (node_of level entries.now) }
     {
         let mut kept = Kept {
             addr,
             key: *key,
             node: NodeBody {
-                level: node.level,
+                level,
                 entries: ArrayVec::new(),
             },
         };
-        kept.copy(addr, key, node);
+        kept.copy(addr, key, level, entries);
         kept
     }
 
-    /// Becomes a copy of a node, for its address under its key.
-    fn copy(&mut self, addr: u64, key: &Key, node: &NodeBody)
-        ensures { self.new ≡ record { addr = addr; key = key.now; node = node.now } }
+    /// Becomes the node of a level with a copy of these entries, for its address under its key.
+    fn copy(&mut self, addr: u64, key: &Key, level: u8, entries: &[Entry])
+        requires { length entries.now ≤ 64 }
+        ensures { self.new ≡ kept_node addr key.now (node_of level entries.now) }
     {
         self.addr = addr;
         self.key = *key;
-        self.node.level = node.level;
+        self.node.level = level;
         self.node.entries.clear();
-        match self.node.entries.try_extend_from_slice(&node.entries) {
+        match self.node.entries.try_extend_from_slice(entries) {
             Ok(()) => {}
             Err(_) => unreachable!(),
         }
@@ -102,14 +105,15 @@ impl Slot {
         }
     }
 
-    /// Writes a copy of a node over what stands here, for its address under its key.
-    pub(crate) fn fill(&mut self, addr: u64, key: &Key, node: &NodeBody)
-        ensures { self.new ≡ Some (record { addr = addr; key = key.now; node = node.now }) }
+    /// Writes the node of a level with these entries over what stands here, for its address under its key.
+    pub(crate) fn fill(&mut self, addr: u64, key: &Key, level: u8, entries: &[Entry])
+        requires { length entries.now ≤ 64 }
+        ensures { self.new ≡ Some (kept_node addr key.now (node_of level entries.now)) }
     {
         if self.room.is_empty() {
-            let _room = self.room.push(Kept::of(addr, key, node));
+            let _room = self.room.push(Kept::of(addr, key, level, entries));
         } else {
-            self.room[0].copy(addr, key, node);
+            self.room[0].copy(addr, key, level, entries);
         }
         self.is_full = true;
     }

@@ -1,6 +1,7 @@
 pub mod PageLaws
 pub mod TreeLaws
 pub mod SealLaws
+pub mod CachingLaws
 pub mod OrderLaws
 pub mod ApartLaws
 pub mod StepLaws

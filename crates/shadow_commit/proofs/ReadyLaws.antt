@@ -26,6 +26,7 @@ use Rattle.btree_update.specs.GroveTree.{HasEach}
 use Rattle.btree_update.specs.Roots.{IsRootBy, IsRoot}
 use Rattle.btree_update.specs.Groves.{IsSound, places_of, grown_in}
 use Rattle.btree_update.specs.declared.groves.Grove.{Grove}
+use Rattle.node_cache.specs.Kept.{Cached}
 use Rattle.cert_maker.specs.Cert.{Cert}
 use Rattle.sdbt_base.specs.Traces.{Traced}
 use Rattle.sdbt_base.specs.declared.lists.Unkept.{Unkept}
@@ -33,6 +34,7 @@ use Rattle.page_store.proofs.TreeLaws.{one_tree}
 use Rattle.shadow_commit.specs.Sealed.{Sealed, page_of, with_nodes, SealsNode, Seals}
 use Rattle.btree_update.specs.Held.{AreBelow}
 use Rattle.shadow_commit.specs.CanSeal.{CanSeal}
+use Rattle.shadow_commit.specs.Caching.{with_sealed}
 use Rattle.shadow_commit.specs.NewTree.{place_of, keys_at, AreNodesOver}
 use Rattle.shadow_commit.specs.Handing.{StopsFrom}
 use Rattle.shadow_commit.proofs.StepLaws.{stops_none}
@@ -242,10 +244,10 @@ can_twig head at capacity root mapped grove top twig at_is same can s room = rec
 }
 
 -- what was sealed of the root node is the sealing of the tree
-abbrev pub sealed_as : (tells : Type 0) (old new : Image) (head head_now : ℕ) (drawn drawn_now : Option (List (List ℕ))) (root : Root) (mapped : ℕ) (grove : Grove) (top : Child) (next : Root) → CanPrepare head root mapped grove → top ≡ grove.top →
-    IsSealed tells old new head head_now drawn drawn_now root mapped (suc (grove.level - 1)) top (stubs (suc (grove.level - 1)) root.blocks top) next →
-    IsSealed tells old new head head_now drawn drawn_now root mapped grove.level grove.top (places_of grove) next
-sealed_as tells old new head head_now drawn drawn_now root mapped grove top next can same s = record {
+abbrev pub sealed_as : (tells : Type 0) (old new : Image) (head head_now : ℕ) (drawn drawn_now : Option (List (List ℕ))) (cache cache' cache_now : Cached) (root : Root) (mapped : ℕ) (grove : Grove) (top : Child) (next : Root) → CanPrepare head root mapped grove → top ≡ grove.top → cache ≡ cache' →
+    IsSealed tells old new head head_now drawn drawn_now cache cache_now root mapped (suc (grove.level - 1)) top (stubs (suc (grove.level - 1)) root.blocks top) next →
+    IsSealed tells old new head head_now drawn drawn_now cache' cache_now root mapped grove.level grove.top (places_of grove) next
+sealed_as tells old new head head_now drawn drawn_now cache cache' cache_now root mapped grove top next can same same_cache s = record {
   written = s.written;
   adds = record {
     nodes = s.adds.nodes;
@@ -256,6 +258,7 @@ sealed_as tells old new head head_now drawn drawn_now root mapped grove top next
     drew = s.adds.drew;
   };
   over = subst (λ ss. AreNodesOver head ss s.adds.nodes) (same_places head root mapped grove top can same) s.over;
+  cached = s.cached ∙ ap (λ (c : Cached). with_sealed c s.adds.nodes) same_cache;
   synced = s.synced;
   next_is = record {
     order = s.next_is.order;
@@ -308,10 +311,10 @@ sealed_known : (keys : List (List ℕ)) (ns : List Sealed) → AllByRecursion (�
 sealed_known keys [] h = tt
 sealed_known keys (n ∷ ns) h = (h.0, sealed_known keys ns h.1)
 
-pub knows_new_tree : (tells : Type 0) (old new : Image) (head head_now : ℕ) (drawn drawn_now : Option (List (List ℕ))) (root : Root) (mapped level : ℕ) (top : Child) (next : Root)
-    (high : ℕ) (is : IsSealed tells old new head head_now drawn drawn_now root mapped level top (stubs level high top) next) (keys : List (List ℕ)) → tells →
+pub knows_new_tree : (tells : Type 0) (old new : Image) (head head_now : ℕ) (drawn drawn_now : Option (List (List ℕ))) (cache cache_now : Cached) (root : Root) (mapped level : ℕ) (top : Child) (next : Root)
+    (high : ℕ) (is : IsSealed tells old new head head_now drawn drawn_now cache cache_now root mapped level top (stubs level high top) next) (keys : List (List ℕ)) → tells →
     AllByRecursion (λ s. Contains keys s.key) (stubs level high top) → AreKnown is.adds.nodes keys → ListsNewTree old new root.order (stubs level high top) mapped next keys
-knows_new_tree tells old new head head_now drawn drawn_now root mapped level top next high is keys told places nodes each stand below =
+knows_new_tree tells old new head head_now drawn drawn_now cache cache_now root mapped level top next high is keys told places nodes each stand below =
     let ns = is.adds.nodes in
     let with = is.stands told each stand in
     let own = child_known level head high top ns (record { low = 0; addr = next.addr; key = next.key }) is.adds.is in

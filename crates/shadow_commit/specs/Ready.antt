@@ -14,6 +14,7 @@ use Rattle.key_graph.specs.Trace.{Entries}
 use Rattle.page_store.specs.Tree.{Parts, joined}
 use Rattle.page_store.specs.Kept.{KnowsTree}
 use Rattle.page_store.specs.Stands.{StandsBy, pairs_of}
+use Rattle.node_cache.specs.Kept.{Cached, forgotten}
 use Rattle.cert_maker.specs.Cert.{Cert}
 use Rattle.cert_maker.specs.CertOf.{CertOf}
 use Rattle.cert_maker.specs.Differ.{Differ}
@@ -27,6 +28,7 @@ use Rattle.btree_update.specs.Held.{AreBelow}
 use Rattle.btree_update.specs.Groves.{IsSound, places_of}
 use Rattle.btree_update.specs.declared.groves.Grove.{Grove}
 use Rattle.shadow_commit.specs.Sealed.{Sealed, Seals}
+use Rattle.shadow_commit.specs.Caching.{with_sealed}
 use Rattle.shadow_commit.specs.Handing.{Adds}
 use Rattle.shadow_commit.specs.NewTree.{AreParts, AreNodesOver}
 use Rattle.shadow_commit.specs.Planned.{added_by}
@@ -85,11 +87,12 @@ pub record StandsWith (image : Image) (root : Root) (ns : List Sealed) (each : L
   pub are : AreParts ns each parts
   pub stands : StandsBy (with_cell image (Some (root_bytes root))) (device_with root each) root parts
 
--- the nodes in memory of a root node were sealed, their pages appended and synced, and the root record is known that makes the commit
-pub record IsSealed (tells : Type 0) (old new : Image) (head head_now : ℕ) (drawn drawn_now : Option (List (List ℕ))) (root : Root) (mapped level : ℕ) (top : Child) (places : List Stub) (next : Root) : Type 0 where
+-- the nodes in memory of a root node were sealed, their pages appended and synced, the cache keeps them, and the root record is known that makes the commit
+pub record IsSealed (tells : Type 0) (old new : Image) (head head_now : ℕ) (drawn drawn_now : Option (List (List ℕ))) (cache cache_now : Cached) (root : Root) (mapped level : ℕ) (top : Child) (places : List Stub) (next : Root) : Type 0 where
   pub written : Image
   pub adds : Adds (λ ns. Seals level head top ns (record { low = 0; addr = next.addr; key = next.key })) tells old written head head_now drawn drawn_now
   pub over : AreNodesOver head places adds.nodes
+  pub cached : cache_now ≡ with_sealed cache adds.nodes
   pub synced : tells → new ≡ all_synced written
   pub next_is : IsNextRoot root mapped level head_now next
   pub in_range : FitsRoot next
@@ -109,9 +112,9 @@ pub record CertifiesBy (commit base head node : ℕ) (added : List Traced) (gone
   pub trees : (old new : Entries) (pages : List Unkept) → AreOneEach (λ page. page.addr) never → Differ old new pages added gone never
       → CertOf old new commit node base head pages cert
 
--- all but the root record was done, and the certificate with its line is made
-pub record IsReady (tells : Type 0) (old new : Image) (head head_now : ℕ) (drawn drawn_now : Option (List (List ℕ))) (root : Root) (mapped : ℕ) (grove : Grove) (prepared : Prepared) : Type 0 where
-  pub is : IsSealed tells old new head head_now drawn drawn_now root mapped grove.level grove.top (places_of grove) prepared.root
+-- all but the root record was done, the nodes that are gone were forgotten, and the certificate with its line is made
+pub record IsReady (tells : Type 0) (old new : Image) (head head_now : ℕ) (drawn drawn_now : Option (List (List ℕ))) (cache cache_now : Cached) (root : Root) (mapped : ℕ) (grove : Grove) (prepared : Prepared) : Type 0 where
+  pub is : IsSealed tells old new head head_now drawn drawn_now (forgotten grove.gone.items cache) cache_now root mapped grove.level grove.top (places_of grove) prepared.root
   pub cert : CertifiesBy prepared.root.commit root.head prepared.root.head prepared.root.addr (added_by root.head (places_of grove) is.adds.nodes) grove.gone.items grove.never.items prepared.cert
   pub in_text : FitsText prepared.cert
   pub line : prepared.line ≡ entry prepared.cert

@@ -14,15 +14,17 @@ use crate::refusals::CommitRefusal;
 use crate::sealing::seal_twig;
 use btree_twigs::Child;
 use btree_update::Grove;
+use btree_walk::NodeReader;
 use node_codec::Entry;
-use page_store::{AppendFault, Buffers};
+use page_store::AppendFault;
 use platform::Platform;
 use root_codec::Root;
 use sdbt_base::Tape;
 use std::alloc::Global;
 
 /// Seals the nodes of a tree that are in memory, each after all below it, appends and syncs their pages, and answers what is left
-/// to do: to replace the root record, that of the last commit, by one that says that so many blocks are mapped.
+/// to do: to replace the root record, that of the last commit, by one that says that so many blocks are mapped. The cache forgets the
+/// nodes that are gone, and then keeps those that are sealed, as the most recent ones.
 ///
 /// `Full` comes exactly where there are more nodes in memory than free pages. All memory is taken before the first key is drawn.
 /// After a fault pages may have been handed over, each under a key drawn for it. At each moment the cell is as before.
@@ -33,14 +35,14 @@ pub fn prepare<P: Platform, T: Tape>(
     mapped: u64,
     platform: &mut P,
     tape: &mut T,
-    buffers: &mut Buffers,
+    reader: &mut NodeReader,
 ) -> Result<Prepared, CommitRefusal>
     requires can { CanPrepare (P.head platform.old) root.now mapped grove.now }
     ensures ready { IfOk result (IsReady P.tells (P.history platform.old).present (P.history platform.new).present (P.head platform.old) (P.head platform.new) (T.drawn tape.old) (T.drawn tape.new)
-        root.now mapped grove.now) }
+        reader.old.cache reader.new.cache root.now mapped grove.now) }
     ensures stops { IsErr result → StopsFrom (P.head platform.old) (places_of grove.now) P.tells (P.history platform.old).present (P.history platform.new).present (T.drawn tape.old) (T.drawn tape.new) }
     ensures cause { IsPrepareCause P.Platform T.Tape platform.old platform.new tape.old tape.new (grown_in grove.now) result }
-    ensures unbegun { IsUnbegun result → buffers.new ≡ buffers.old }
+    ensures unbegun { IsUnbegun result → reader.new ≡ reader.old }
     ensures within { P.head platform.new ≤ P.head platform.old + grown_in grove.now }
     ensures keeps { KeepsKeys P.tells (T.drawn tape.old) (T.drawn tape.new) (P.history platform.old) (P.history platform.new)
         (KnowsPlaces (P.history platform.old).present (places_of grove.now)) (λ keys. IfOk result (λ prepared.
@@ -56,29 +58,23 @@ pub fn prepare<P: Platform, T: Tape>(
     let Child::Grown { twig, .. } = grove.top() else {
         unreachable!()
     };
-    let Ok(made) = certify(alloc, twig, root, head, grove.gone(), grove.never()) else {
-        return Err(CommitRefusal::Memory);
-    };
-    let Ok(mut entries) = Vec::with_capacity(alloc, 64 * twig.level as usize) else {
-        return Err(CommitRefusal::Memory);
-    };
-    match seal_all(
+    let made = certify(alloc, twig, root, head, grove.gone(), grove.never())?;
+    let mut entries = Vec::with_capacity(alloc, 64 * twig.level as usize)?;
+    reader.cache.forget_all(grove.gone());
+    let next = seal_all(
         grove.top(),
         root,
         mapped,
         &mut entries,
         platform,
         tape,
-        buffers,
-    ) {
-        Ok(root) => Ok(Prepared {
-            root,
-            cert: made.cert,
-            line: made.line,
-        }),
-        Err(AppendFault::TapeFault) => Err(CommitRefusal::TapeFault),
-        Err(AppendFault::PlatformFault) => Err(CommitRefusal::PlatformFault),
-    }
+        reader,
+    )?;
+    Ok(Prepared {
+        root: next,
+        cert: made.cert,
+        line: made.line,
+    })
 }
 
 /// Seals the root node and all nodes in memory below it, syncs, and answers the root record that makes the commit once it is in
@@ -90,12 +86,12 @@ fn seal_all<P: Platform, T: Tape>(
     entries: &mut Vec<Entry>,
     platform: &mut P,
     tape: &mut T,
-    buffers: &mut Buffers,
+    reader: &mut NodeReader,
 ) -> Result<Root, AppendFault>
     requires can { CanSealTop (P.head platform.old) (P.capacity platform.old) root.now mapped top.now }
     requires room { vec_len entries.old + 64 * child_level top.now ≤ vec_capacity entries.old }
     ensures sealed { (at : CanSealTop (P.head platform.old) (P.capacity platform.old) root.now mapped top.now) → IfOk result (IsSealed P.tells (P.history platform.old).present (P.history platform.new).present
-        (P.head platform.old) (P.head platform.new) (T.drawn tape.old) (T.drawn tape.new) root.now mapped (suc at.level) top.now (stubs (suc at.level) root.now.blocks top.now)) }
+        (P.head platform.old) (P.head platform.new) (T.drawn tape.old) (T.drawn tape.new) reader.old.cache reader.new.cache root.now mapped (suc at.level) top.now (stubs (suc at.level) root.now.blocks top.now)) }
     ensures within { (at : CanSealTop (P.head platform.old) (P.capacity platform.old) root.now mapped top.now) → P.head platform.new ≤ P.head platform.old + nodes (suc at.level) top.now }
     ensures stops { (at : CanSealTop (P.head platform.old) (P.capacity platform.old) root.now mapped top.now) → IsErr result →
         StopsFrom (P.head platform.old) (stubs (suc at.level) root.now.blocks top.now) P.tells (P.history platform.old).present (P.history platform.new).present (T.drawn tape.old) (T.drawn tape.new) }
@@ -106,7 +102,7 @@ fn seal_all<P: Platform, T: Tape>(
     let Child::Grown { twig, .. } = top else {
         unreachable!()
     };
-    let placed = seal_twig(twig, entries, buffers, platform, tape)?;
+    let placed = seal_twig(twig, entries, reader, platform, tape)?;
     let Ok(()) = platform.sync() else {
         return Err(AppendFault::PlatformFault);
     };

@@ -1,3 +1,6 @@
+use page_store::AppendFault;
+use sdbt_base::Memory;
+use std::alloc::AllocError;
 use std::error::Error;
 use std::fmt;
 
@@ -17,6 +20,42 @@ pub enum CommitRefusal {
     TapeFault,
     /// The platform failed. Pages may have been handed over.
     PlatformFault,
+}
+
+impl From<Memory> for CommitRefusal {
+    ghost use Rattle.std.specs.Prelude.{◌≡◌};
+    ghost use Rattle.shadow_commit.specs.declared.refusals.CommitRefusal.{CommitRefusal};
+
+    ghost from_gives = { λ memory refusal. refusal ≡ CommitRefusal.Memory };
+
+    fn from(_: Memory) -> CommitRefusal {
+        CommitRefusal::Memory
+    }
+}
+
+impl From<AllocError> for CommitRefusal {
+    ghost use Rattle.std.specs.Prelude.{◌≡◌};
+    ghost use Rattle.shadow_commit.specs.declared.refusals.CommitRefusal.{CommitRefusal};
+
+    ghost from_gives = { λ memory refusal. refusal ≡ CommitRefusal.Memory };
+
+    fn from(_: AllocError) -> CommitRefusal {
+        CommitRefusal::Memory
+    }
+}
+
+impl From<AppendFault> for CommitRefusal {
+    ghost use Rattle.std.specs.Prelude.{◌≡◌};
+    ghost use Rattle.shadow_commit.specs.Refusals.{refused};
+
+    ghost from_gives = { λ fault refusal. refusal ≡ refused fault };
+
+    fn from(fault: AppendFault) -> CommitRefusal {
+        match fault {
+            AppendFault::TapeFault => CommitRefusal::TapeFault,
+            AppendFault::PlatformFault => CommitRefusal::PlatformFault,
+        }
+    }
 }
 
 impl fmt::Display for CommitRefusal {

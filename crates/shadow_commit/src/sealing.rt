@@ -5,30 +5,33 @@ ghost use Rattle.sdbt_base.specs.Faults.{TellsOf};
 ghost use Rattle.btree_twigs.specs.Top.{child_level};
 ghost use Rattle.btree_twigs.specs.Stubs.{level_of, children_of, nodes, nodes_below, stubs, stubs_below};
 ghost use Rattle.shadow_commit.specs.Sealed.{Seals, SealsNode};
+ghost use Rattle.shadow_commit.specs.Caching.{AreCached};
 ghost use Rattle.shadow_commit.specs.Handing.{Adds, Stops, OnlyAdds};
 ghost use Rattle.shadow_commit.specs.NewTree.{AreNodesOver};
 ghost use Rattle.shadow_commit.specs.CanSeal.{CanSeal, CanSealChild};
 
 use btree_twigs::{Child, Twig};
+use btree_walk::NodeReader;
 use node_codec::Entry;
-use page_store::{AppendFault, Buffers, Placed};
+use page_store::{AppendFault, Placed};
 use platform::Platform;
 use sdbt_base::{Key, Tape};
 
-/// Seals the nodes in memory, each after all below it, and answers where the topmost is. After a fault each page that was
-/// handed over is one of theirs, in order. `entries` has room for those of a node of each level, behind what is there; that stays.
+/// Seals the nodes in memory, each after all below it, has the cache keep them, and answers where the topmost is. After a fault
+/// each page that was handed over is one of theirs, in order. `entries` has room for those of a node of each level, behind what is
+/// there; that stays.
 #[cycle(seal)]
 pub(crate) fn seal_twig<P: Platform, T: Tape>(
     twig: &Twig,
     entries: &mut Vec<Entry>,
-    buffers: &mut Buffers,
+    reader: &mut NodeReader,
     platform: &mut P,
     tape: &mut T,
 ) -> Result<Placed, AppendFault>
     requires can { CanSeal (P.head platform.old) (P.capacity platform.old) twig.now }
     requires room { vec_len entries.old + 64 * level_of twig.now ≤ vec_capacity entries.old }
     ensures sealed { (at : CanSeal (P.head platform.old) (P.capacity platform.old) twig.now) → IfOk result (λ placed.
-        Adds (λ nodes. SealsNode (Seals at.level) at.level (P.head platform.old) (children_of twig.now) nodes placed.addr placed.key)
+        Adds (AreCached (λ nodes. SealsNode (Seals at.level) at.level (P.head platform.old) (children_of twig.now) nodes placed.addr placed.key) reader.old.cache reader.new.cache)
         P.tells (P.history platform.old).present (P.history platform.new).present (P.head platform.old) (P.head platform.new) (T.drawn tape.old) (T.drawn tape.new)) }
     ensures within { (at : CanSeal (P.head platform.old) (P.capacity platform.old) twig.now) → P.head platform.new ≤ P.head platform.old + suc (nodes_below at.level twig.now) }
     ensures stops { (at : CanSeal (P.head platform.old) (P.capacity platform.old) twig.now) → IsErr result →
@@ -41,13 +44,17 @@ pub(crate) fn seal_twig<P: Platform, T: Tape>(
 {
     let begin = entries.len();
     for child in twig.children.iter() {
-        let entry = seal_child(child, entries, buffers, platform, tape)?;
+        let entry = seal_child(child, entries, reader, platform, tape)?;
         add(entries, entry);
     }
     let (_, own) = entries.split_at(begin);
-    buffers.put_node(platform.head(), twig.level, own);
+    reader.buffers.put_node(platform.head(), twig.level, own);
+    let placed = reader.buffers.append(platform, tape)?;
+    reader
+        .cache
+        .put_node(placed.addr, &placed.key, twig.level, own);
     entries.truncate(begin);
-    buffers.append(platform, tape)
+    Ok(placed)
 }
 
 /// The entry that names a child, which is sealed first where it is in memory.
@@ -55,14 +62,14 @@ pub(crate) fn seal_twig<P: Platform, T: Tape>(
 fn seal_child<P: Platform, T: Tape>(
     child: &Child,
     entries: &mut Vec<Entry>,
-    buffers: &mut Buffers,
+    reader: &mut NodeReader,
     platform: &mut P,
     tape: &mut T,
 ) -> Result<Entry, AppendFault>
     requires can { CanSealChild (P.head platform.old) (P.capacity platform.old) child.now }
     requires room { vec_len entries.old + 64 * child_level child.now ≤ vec_capacity entries.old }
     ensures sealed { (at : CanSealChild (P.head platform.old) (P.capacity platform.old) child.now) → IfOk result (λ entry.
-        Adds (λ nodes. Seals at.level (P.head platform.old) child.now nodes entry)
+        Adds (AreCached (λ nodes. Seals at.level (P.head platform.old) child.now nodes entry) reader.old.cache reader.new.cache)
         P.tells (P.history platform.old).present (P.history platform.new).present (P.head platform.old) (P.head platform.new) (T.drawn tape.old) (T.drawn tape.new)) }
     ensures within { (at : CanSealChild (P.head platform.old) (P.capacity platform.old) child.now) → P.head platform.new ≤ P.head platform.old + nodes at.level child.now }
     ensures stops { (at : CanSealChild (P.head platform.old) (P.capacity platform.old) child.now) → IsErr result →
@@ -76,7 +83,7 @@ fn seal_child<P: Platform, T: Tape>(
     match child {
         Child::Kept { low, addr, key } => Ok(kept_entry(*low, *addr, key)),
         Child::Grown { low, twig } => {
-            let placed = seal_twig(twig, entries, buffers, platform, tape)?;
+            let placed = seal_twig(twig, entries, reader, platform, tape)?;
             Ok(Entry {
                 low: *low,
                 addr: placed.addr,

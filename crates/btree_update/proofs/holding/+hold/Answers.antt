@@ -233,19 +233,19 @@ hold_way-hold_below-requires g t c κs within = (
   ),
 )
 
-pub hold_way-read_kept-requires-clause-within : goal.hold_way-read_kept-requires-clause-within
-hold_way-read_kept-requires-clause-within g t c =
-    way_lt c.args.order c.args.least c.args.level c.args.block c.args.high (g.P.Platform.head c.args.platform.now) c.in-Kept.low c.in-Kept.addr c.in-Kept.key
-    (subst (CanHold c.args.order c.args.least c.args.level c.args.block c.args.high (g.P.Platform.head c.args.platform.now)) c.in-Kept.is c.requires.can)
+pub hold_way-read_node-requires-clause-within : goal.hold_way-read_node-requires-clause-within
+hold_way-read_node-requires-clause-within g t c =
+    way_lt c.args.order c.args.least c.args.level c.args.block c.args.high (g.P.Platform.head c.args.platform.now) c.in-Kept.low c.in-Kept.addr c.from_bytes.result
+    (subst (CanHold c.args.order c.args.least c.args.level c.args.block c.args.high (g.P.Platform.head c.args.platform.now)) (c.in-Kept.is ∙ ap (made.Kept c.in-Kept.low c.in-Kept.addr) (sym c.from_bytes.ensures)) c.requires.can)
 
 pub hold_way-hold_below-requires-in-Kept : goal.hold_way-hold_below-requires-in-Kept
 hold_way-hold_below-requires-in-Kept g t c κs within =
-    let at = subst (CanHold c.args.order c.args.least c.args.level c.args.block c.args.high (g.P.Platform.head c.args.platform.now)) c.in-Kept.is c.requires.can in (
+    let at = subst (CanHold c.args.order c.args.least c.args.level c.args.block c.args.high (g.P.Platform.head c.args.platform.now)) (c.in-Kept.is ∙ ap (made.Kept c.in-Kept.low c.in-Kept.addr) (sym c.from_bytes.ensures)) c.requires.can in (
       search rules,
       (
         within,
         subst (λ m. CanHoldBelow c.args.order (c.args.level - 1) c.args.block c.args.high m c.in_ok-twig-in-Kept.twig) (sym c.in_ok-twig-in-Kept.ensures.looks.head)
-            (way_read c.args.order c.args.least c.args.level c.args.block c.args.high (g.P.Platform.head c.args.platform.now) c.in-Kept.low c.in-Kept.addr c.in-Kept.key c.in_ok-twig-in-Kept.twig at c.in_ok-twig-in-Kept.ensures.fits),
+            (way_read c.args.order c.args.least c.args.level c.args.block c.args.high (g.P.Platform.head c.args.platform.now) c.in-Kept.low c.in-Kept.addr c.from_bytes.result c.in_ok-twig-in-Kept.twig at c.in_ok-twig-in-Kept.ensures.fits),
       ),
     )
 
@@ -266,59 +266,59 @@ hold_way-returns-in-Grown-clause-reads g t c = λ tells stands.
 
 pub hold_way-returns-in_ok-hold-in-Kept-clause-at_hand : goal.hold_way-returns-in_ok-hold-in-Kept-clause-at_hand
 hold_way-returns-in_ok-hold-in-Kept-clause-at_hand g t c =
-    let at = subst (CanHold c.args.order c.args.least c.args.level c.args.block c.args.high (g.P.Platform.head c.args.platform.now)) c.in-Kept.is c.requires.can in
-    let h = way_held c.args.order c.args.least c.args.level c.args.block c.args.high (g.P.Platform.head c.args.platform.now) c.in-Kept.low c.in-Kept.addr c.in-Kept.key c.in_ok-twig-in-Kept.twig at c.in_ok-twig-in-Kept.ensures.fits
+    let at = subst (CanHold c.args.order c.args.least c.args.level c.args.block c.args.high (g.P.Platform.head c.args.platform.now)) (c.in-Kept.is ∙ ap (made.Kept c.in-Kept.low c.in-Kept.addr) (sym c.from_bytes.ensures)) c.requires.can in
+    let h = way_held c.args.order c.args.least c.args.level c.args.block c.args.high (g.P.Platform.head c.args.platform.now) c.in-Kept.low c.in-Kept.addr c.from_bytes.result c.in_ok-twig-in-Kept.twig at c.in_ok-twig-in-Kept.ensures.fits
     AnyRead c.hold_below-in-Kept.new.held.items c.hold.new.held.items c.in_ok-hold-in-Kept.ensures.held tt c.in_ok-left-in-Kept.ensures.at_hand in
-    subst (λ x. HeldFrom AnyRead c.args.order c.args.least c.args.block (c.args.level - 1) c.args.high x c.hold.new.held.items) (sym c.in-Kept.is) h
+    subst (λ x. HeldFrom AnyRead c.args.order c.args.least c.args.block (c.args.level - 1) c.args.high x c.hold.new.held.items) (sym (c.in-Kept.is ∙ ap (made.Kept c.in-Kept.low c.in-Kept.addr) (sym c.from_bytes.ensures))) h
 
 pub hold_way-returns-in_ok-hold-in-Kept-clause-reads : goal.hold_way-returns-in_ok-hold-in-Kept-clause-reads
 hold_way-returns-in_ok-hold-in-Kept-clause-reads g t c = λ tells stands.
-    (let at = subst (CanHold c.args.order c.args.least c.args.level c.args.block c.args.high (g.P.Platform.head c.args.platform.now)) c.in-Kept.is c.requires.can in
+    (let at = subst (CanHold c.args.order c.args.least c.args.level c.args.block c.args.high (g.P.Platform.head c.args.platform.now)) (c.in-Kept.is ∙ ap (made.Kept c.in-Kept.low c.in-Kept.addr) (sym c.from_bytes.ensures)) c.requires.can in
     let twig = c.in_ok-twig-in-Kept.twig in
     let pages = (g.P.Platform.history c.args.platform.now).present.readable in
     let Reads = IsReadAs pages c.args.order in
-    let same : (g.P.Platform.history c.read_kept.new.platform).present.readable ≡ pages = ap (λ i. i.readable) (c.in_ok-twig-in-Kept.ensures.looks.image tells) in
-    let stands' = subst (λ p. StandsOver p c.read_kept.new.reader.cache) (sym same) (c.in_ok-twig-in-Kept.ensures.stands tells stands) in
+    let same : (g.P.Platform.history c.read_node.new.platform).present.readable ≡ pages = ap (λ i. i.readable) (c.in_ok-twig-in-Kept.ensures.looks.image tells) in
+    let stands' = subst (λ p. StandsOver p c.read_node.new.reader.cache) (sym same) (c.in_ok-twig-in-Kept.ensures.stands tells stands) in
     let way = subst (λ p. OnWay c.args.block (λ end d. HeldFor (IsReadAs p c.args.order) c.args.order c.args.block (c.args.level - 1) end d c.hold_below-in-Kept.new.held.items) c.args.high twig) same (c.in_ok-left-in-Kept.ensures.reads tells stands') in
-    let lt = way_lt c.args.order c.args.least c.args.level c.args.block c.args.high (g.P.Platform.head c.args.platform.now) c.in-Kept.low c.in-Kept.addr c.in-Kept.key at in
+    let lt = way_lt c.args.order c.args.least c.args.level c.args.block c.args.high (g.P.Platform.head c.args.platform.now) c.in-Kept.low c.in-Kept.addr c.from_bytes.result at in
     let small : c.in-Kept.addr < 2 ^ 64 = omega (arith, lt, g.met.P.Platform.has_room c.args.platform.now, g.met.P.Platform.is_limited c.args.platform.now) in
-    let node = subst (λ k. IsNodeOf pages (want_at c.args.order k c.in-Kept.low c.args.high c.in-Kept.addr c.args.least) c.in-Kept.key twig) (above_it c.args.level at.one)
+    let node = subst (λ k. IsNodeOf pages (want_at c.args.order k c.in-Kept.low c.args.high c.in-Kept.addr c.args.least) c.from_bytes.result twig) (above_it c.args.level at.one)
     (c.in_ok-twig-in-Kept.ensures.reads tells stands) in
-    let reads = read_as pages c.args.order (c.args.level - 1) c.in-Kept.low c.args.high c.in-Kept.addr c.args.least c.in-Kept.key twig small node in
-    let h = way_held c.args.order c.args.least c.args.level c.args.block c.args.high (g.P.Platform.head c.args.platform.now) c.in-Kept.low c.in-Kept.addr c.in-Kept.key twig at c.in_ok-twig-in-Kept.ensures.fits
+    let reads = read_as pages c.args.order (c.args.level - 1) c.in-Kept.low c.args.high c.in-Kept.addr c.args.least c.from_bytes.result twig small node in
+    let h = way_held c.args.order c.args.least c.args.level c.args.block c.args.high (g.P.Platform.head c.args.platform.now) c.in-Kept.low c.in-Kept.addr c.from_bytes.result twig at c.in_ok-twig-in-Kept.ensures.fits
     Reads c.hold_below-in-Kept.new.held.items c.hold.new.held.items c.in_ok-hold-in-Kept.ensures.held reads way in
-    subst (λ x. HeldFrom Reads c.args.order c.args.least c.args.block (c.args.level - 1) c.args.high x c.hold.new.held.items) (sym c.in-Kept.is) h)
+    subst (λ x. HeldFrom Reads c.args.order c.args.least c.args.block (c.args.level - 1) c.args.high x c.hold.new.held.items) (sym (c.in-Kept.is ∙ ap (made.Kept c.in-Kept.low c.in-Kept.addr) (sym c.from_bytes.ensures))) h)
 
 pub hold_way-returns-in_err-twig-in-Kept-clause-bad : goal.hold_way-returns-in_err-twig-in-Kept-clause-bad
 hold_way-returns-in_err-twig-in-Kept-clause-bad g t c =
     let p = err_from_is_err_and c.from_residual.result c.from_residual.ensures.1 in
     rw (p.1, p.2) (λ tells stands addr is.
     let same : c.in_err-twig-in-Kept.field-0.0 ≡ BadRecord addr = cc in
-    let at = subst (CanHold c.args.order c.args.least c.args.level c.args.block c.args.high (g.P.Platform.head c.args.platform.now)) c.in-Kept.is c.requires.can in
+    let at = subst (CanHold c.args.order c.args.least c.args.level c.args.block c.args.high (g.P.Platform.head c.args.platform.now)) (c.in-Kept.is ∙ ap (made.Kept c.in-Kept.low c.in-Kept.addr) (sym c.from_bytes.ensures)) c.requires.can in
     let pages = (g.P.Platform.history c.args.platform.now).present.readable in
     let b = c.in_err-twig-in-Kept.ensures.bad tells stands addr (ap Err same) in
-    subst (WrongFrom pages c.args.order c.args.least c.args.block addr (c.args.level - 1) c.args.high) (sym c.in-Kept.is)
-    (wrong_kept pages c.args.order c.args.least c.args.block addr c.args.level c.args.high c.in-Kept.low c.in-Kept.addr c.in-Kept.key at.one (Here b)))
+    subst (WrongFrom pages c.args.order c.args.least c.args.block addr (c.args.level - 1) c.args.high) (sym (c.in-Kept.is ∙ ap (made.Kept c.in-Kept.low c.in-Kept.addr) (sym c.from_bytes.ensures)))
+    (wrong_kept pages c.args.order c.args.least c.args.block addr c.args.level c.args.high c.in-Kept.low c.in-Kept.addr c.from_bytes.result at.one (Here b)))
 
 pub hold_way-returns-in_err-left-in-Kept-clause-bad : goal.hold_way-returns-in_err-left-in-Kept-clause-bad
 hold_way-returns-in_err-left-in-Kept-clause-bad g t c =
     let p = err_from_is_err_and c.from_residual-in_err-left-in-Kept.result c.from_residual-in_err-left-in-Kept.ensures.1 in
     rw (p.1, p.2) (λ tells stands addr is.
     let err : c.in_err-left-in-Kept.field-0.0 ≡ BadRecord addr = cc in
-    let at = subst (CanHold c.args.order c.args.least c.args.level c.args.block c.args.high (g.P.Platform.head c.args.platform.now)) c.in-Kept.is c.requires.can in
+    let at = subst (CanHold c.args.order c.args.least c.args.level c.args.block c.args.high (g.P.Platform.head c.args.platform.now)) (c.in-Kept.is ∙ ap (made.Kept c.in-Kept.low c.in-Kept.addr) (sym c.from_bytes.ensures)) c.requires.can in
     let twig = c.in_ok-twig-in-Kept.twig in
     let pages = (g.P.Platform.history c.args.platform.now).present.readable in
     let l = above_it c.args.level at.one in
-    let same : (g.P.Platform.history c.read_kept.new.platform).present.readable ≡ pages = ap (λ i. i.readable) (c.in_ok-twig-in-Kept.ensures.looks.image tells) in
-    let stands' = subst (λ p. StandsOver p c.read_kept.new.reader.cache) (sym same) (c.in_ok-twig-in-Kept.ensures.stands tells stands) in
+    let same : (g.P.Platform.history c.read_node.new.platform).present.readable ≡ pages = ap (λ i. i.readable) (c.in_ok-twig-in-Kept.ensures.looks.image tells) in
+    let stands' = subst (λ p. StandsOver p c.read_node.new.reader.cache) (sym same) (c.in_ok-twig-in-Kept.ensures.stands tells stands) in
     let w = subst (λ p. WrongUnder p c.args.order c.args.block addr (c.args.level - 1) c.args.high twig) same (c.in_err-left-in-Kept.ensures.bad tells stands' addr (ap Err err)) in
-    let node = subst (λ k. IsNodeOf pages (want_at c.args.order k c.in-Kept.low c.args.high c.in-Kept.addr c.args.least) c.in-Kept.key twig) l
+    let node = subst (λ k. IsNodeOf pages (want_at c.args.order k c.in-Kept.low c.args.high c.in-Kept.addr c.args.least) c.from_bytes.result twig) l
     (c.in_ok-twig-in-Kept.ensures.reads tells stands) in
     let fits = subst (λ k. IsNodeFor (want_at c.args.order k c.in-Kept.low c.args.high c.in-Kept.addr c.args.least) twig) l c.in_ok-twig-in-Kept.ensures.fits in
-    let comes = wrong_below pages c.args.order c.args.block addr (c.args.level - 1) c.in-Kept.low c.args.high c.in-Kept.addr c.args.least c.args.order c.in-Kept.key twig fits node w in
-    subst (WrongFrom pages c.args.order c.args.least c.args.block addr (c.args.level - 1) c.args.high) (sym c.in-Kept.is)
-    (wrong_kept pages c.args.order c.args.least c.args.block addr c.args.level c.args.high c.in-Kept.low c.in-Kept.addr c.in-Kept.key at.one
-    (subst (λ k. ComesToWrong pages c.args.order c.args.block addr (want_at c.args.order k c.in-Kept.low c.args.high c.in-Kept.addr c.args.least) c.in-Kept.key) (sym l) comes)))
+    let comes = wrong_below pages c.args.order c.args.block addr (c.args.level - 1) c.in-Kept.low c.args.high c.in-Kept.addr c.args.least c.args.order c.from_bytes.result twig fits node w in
+    subst (WrongFrom pages c.args.order c.args.least c.args.block addr (c.args.level - 1) c.args.high) (sym (c.in-Kept.is ∙ ap (made.Kept c.in-Kept.low c.in-Kept.addr) (sym c.from_bytes.ensures)))
+    (wrong_kept pages c.args.order c.args.least c.args.block addr c.args.level c.args.high c.in-Kept.low c.in-Kept.addr c.from_bytes.result at.one
+    (subst (λ k. ComesToWrong pages c.args.order c.args.block addr (want_at c.args.order k c.in-Kept.low c.args.high c.in-Kept.addr c.args.least) c.from_bytes.result) (sym l) comes)))
 
 pub hold_way-returns-in-Grown-clause-helps : goal.hold_way-returns-in-Grown-clause-helps
 hold_way-returns-in-Grown-clause-helps g t c =
@@ -337,35 +337,35 @@ hold_way-returns-in-Grown-clause-beside g t c = λ tells stands.
 
 pub hold_way-returns-in_ok-hold-in-Kept-clause-helps : goal.hold_way-returns-in_ok-hold-in-Kept-clause-helps
 hold_way-returns-in_ok-hold-in-Kept-clause-helps g t c =
-    subst (λ x. LeftOf AnyRead c.args.order c.args.block (c.args.level - 1) c.args.high x c.hold.new.held.items c.hold_below-in-Kept.new.beside.items c.in_ok-left-in-Kept.left) (sym c.in-Kept.is)
-    (left_kept AnyRead c.args.order c.args.block (c.args.level - 1) c.args.high c.in-Kept.low c.in-Kept.addr c.in-Kept.key c.in_ok-twig-in-Kept.twig c.hold_below-in-Kept.new.held.items c.hold.new.held.items c.hold_below-in-Kept.new.beside.items c.in_ok-left-in-Kept.left
+    subst (λ x. LeftOf AnyRead c.args.order c.args.block (c.args.level - 1) c.args.high x c.hold.new.held.items c.hold_below-in-Kept.new.beside.items c.in_ok-left-in-Kept.left) (sym (c.in-Kept.is ∙ ap (made.Kept c.in-Kept.low c.in-Kept.addr) (sym c.from_bytes.ensures)))
+    (left_kept AnyRead c.args.order c.args.block (c.args.level - 1) c.args.high c.in-Kept.low c.in-Kept.addr c.from_bytes.result c.in_ok-twig-in-Kept.twig c.hold_below-in-Kept.new.held.items c.hold.new.held.items c.hold_below-in-Kept.new.beside.items c.in_ok-left-in-Kept.left
     c.in_ok-hold-in-Kept.ensures.held c.in_ok-left-in-Kept.ensures.helps)
 
 pub hold_way-returns-in_ok-hold-in-Kept-clause-beside : goal.hold_way-returns-in_ok-hold-in-Kept-clause-beside
 hold_way-returns-in_ok-hold-in-Kept-clause-beside g t c = λ tells stands.
     (let pages = (g.P.Platform.history c.args.platform.now).present.readable in
-    let same : (g.P.Platform.history c.read_kept.new.platform).present.readable ≡ pages = ap (λ i. i.readable) (c.in_ok-twig-in-Kept.ensures.looks.image tells) in
-    let stands' = subst (λ p. StandsOver p c.read_kept.new.reader.cache) (sym same) (c.in_ok-twig-in-Kept.ensures.stands tells stands) in
+    let same : (g.P.Platform.history c.read_node.new.platform).present.readable ≡ pages = ap (λ i. i.readable) (c.in_ok-twig-in-Kept.ensures.looks.image tells) in
+    let stands' = subst (λ p. StandsOver p c.read_node.new.reader.cache) (sym same) (c.in_ok-twig-in-Kept.ensures.stands tells stands) in
     let twig = c.in_ok-twig-in-Kept.twig in
     let left = subst (λ p. IsLeft (λ loses. HelpsBelow (IsReadAs p c.args.order) c.args.order c.args.block (c.args.level - 1) c.args.high twig c.hold_below-in-Kept.new.held.items c.hold_below-in-Kept.new.beside.items loses) c.args.order (length (children_of twig)) c.in_ok-left-in-Kept.left) same
     (c.in_ok-left-in-Kept.ensures.beside tells stands') in
-    subst (λ x. LeftOf (IsReadAs pages c.args.order) c.args.order c.args.block (c.args.level - 1) c.args.high x c.hold.new.held.items c.hold_below-in-Kept.new.beside.items c.in_ok-left-in-Kept.left) (sym c.in-Kept.is)
-    (left_kept (IsReadAs pages c.args.order) c.args.order c.args.block (c.args.level - 1) c.args.high c.in-Kept.low c.in-Kept.addr c.in-Kept.key twig c.hold_below-in-Kept.new.held.items c.hold.new.held.items c.hold_below-in-Kept.new.beside.items c.in_ok-left-in-Kept.left
+    subst (λ x. LeftOf (IsReadAs pages c.args.order) c.args.order c.args.block (c.args.level - 1) c.args.high x c.hold.new.held.items c.hold_below-in-Kept.new.beside.items c.in_ok-left-in-Kept.left) (sym (c.in-Kept.is ∙ ap (made.Kept c.in-Kept.low c.in-Kept.addr) (sym c.from_bytes.ensures)))
+    (left_kept (IsReadAs pages c.args.order) c.args.order c.args.block (c.args.level - 1) c.args.high c.in-Kept.low c.in-Kept.addr c.from_bytes.result twig c.hold_below-in-Kept.new.held.items c.hold.new.held.items c.hold_below-in-Kept.new.beside.items c.in_ok-left-in-Kept.left
     c.in_ok-hold-in-Kept.ensures.held left))
 
 pub hold_way-returns-in_ok-hold-in-Kept-clause-mapped : goal.hold_way-returns-in_ok-hold-in-Kept-clause-mapped
 hold_way-returns-in_ok-hold-in-Kept-clause-mapped g t c = λ tells stands mapped m.
-    (let at = subst (CanHold c.args.order c.args.least c.args.level c.args.block c.args.high (g.P.Platform.head c.args.platform.now)) c.in-Kept.is c.requires.can in
+    (let at = subst (CanHold c.args.order c.args.least c.args.level c.args.block c.args.high (g.P.Platform.head c.args.platform.now)) (c.in-Kept.is ∙ ap (made.Kept c.in-Kept.low c.in-Kept.addr) (sym c.from_bytes.ensures)) c.requires.can in
     let twig = c.in_ok-twig-in-Kept.twig in
     let pages = (g.P.Platform.history c.args.platform.now).present.readable in
-    let same : (g.P.Platform.history c.read_kept.new.platform).present.readable ≡ pages = ap (λ i. i.readable) (c.in_ok-twig-in-Kept.ensures.looks.image tells) in
-    let stands' = subst (λ p. StandsOver p c.read_kept.new.reader.cache) (sym same) (c.in_ok-twig-in-Kept.ensures.stands tells stands) in
-    let lt = way_lt c.args.order c.args.least c.args.level c.args.block c.args.high (g.P.Platform.head c.args.platform.now) c.in-Kept.low c.in-Kept.addr c.in-Kept.key at in
+    let same : (g.P.Platform.history c.read_node.new.platform).present.readable ≡ pages = ap (λ i. i.readable) (c.in_ok-twig-in-Kept.ensures.looks.image tells) in
+    let stands' = subst (λ p. StandsOver p c.read_node.new.reader.cache) (sym same) (c.in_ok-twig-in-Kept.ensures.stands tells stands) in
+    let lt = way_lt c.args.order c.args.least c.args.level c.args.block c.args.high (g.P.Platform.head c.args.platform.now) c.in-Kept.low c.in-Kept.addr c.from_bytes.result at in
     let small : c.in-Kept.addr < 2 ^ 64 = omega (arith, lt, g.met.P.Platform.has_room c.args.platform.now, g.met.P.Platform.is_limited c.args.platform.now) in
-    let node = subst (λ k. IsNodeOf pages (want_at c.args.order k c.in-Kept.low c.args.high c.in-Kept.addr c.args.least) c.in-Kept.key twig) (above_it c.args.level at.one)
+    let node = subst (λ k. IsNodeOf pages (want_at c.args.order k c.in-Kept.low c.args.high c.in-Kept.addr c.args.least) c.from_bytes.result twig) (above_it c.args.level at.one)
     (c.in_ok-twig-in-Kept.ensures.reads tells stands) in
-    let reads = read_as pages c.args.order (c.args.level - 1) c.in-Kept.low c.args.high c.in-Kept.addr c.args.least c.in-Kept.key twig small node in
-    let k = kept_mapped pages c.args.order c.args.least (c.args.level - 1) c.args.high c.in-Kept.low c.in-Kept.addr c.in-Kept.key twig reads mapped (subst (λ x. MapsFrom pages c.args.order c.args.least (c.args.level - 1) c.args.high x mapped) c.in-Kept.is m) in
+    let reads = read_as pages c.args.order (c.args.level - 1) c.in-Kept.low c.args.high c.in-Kept.addr c.args.least c.from_bytes.result twig small node in
+    let k = kept_mapped pages c.args.order c.args.least (c.args.level - 1) c.args.high c.in-Kept.low c.in-Kept.addr c.from_bytes.result twig reads mapped (subst (λ x. MapsFrom pages c.args.order c.args.least (c.args.level - 1) c.args.high x mapped) (c.in-Kept.is ∙ ap (made.Kept c.in-Kept.low c.in-Kept.addr) (sym c.from_bytes.ensures)) m) in
     c.in_ok-left-in-Kept.ensures.mapped tells stands' mapped (subst (λ p. Maps p c.args.order (stubs_below (c.args.level - 1) c.args.high twig) mapped) (sym same) k))
 
 pub hold_way-returns-in-Grown-clause-mapped : goal.hold_way-returns-in-Grown-clause-mapped
@@ -411,19 +411,19 @@ hold_below-returns-clause-finds g t c = λ tells stands.
 pub hold_way-returns-in_ok-hold-in-Kept-clause-finds : goal.hold_way-returns-in_ok-hold-in-Kept-clause-finds
 hold_way-returns-in_ok-hold-in-Kept-clause-finds g t c = λ tells stands.
     (let head = g.P.Platform.head c.args.platform.now in
-    let at = subst (CanHold c.args.order c.args.least c.args.level c.args.block c.args.high head) c.in-Kept.is c.requires.can in
+    let at = subst (CanHold c.args.order c.args.least c.args.level c.args.block c.args.high head) (c.in-Kept.is ∙ ap (made.Kept c.in-Kept.low c.in-Kept.addr) (sym c.from_bytes.ensures)) c.requires.can in
     let l = above_it c.args.level at.one in
     let twig = c.in_ok-twig-in-Kept.twig in
     let pages = (g.P.Platform.history c.args.platform.now).present.readable in
-    let same : (g.P.Platform.history c.read_kept.new.platform).present.readable ≡ pages = ap (λ i. i.readable) (c.in_ok-twig-in-Kept.ensures.looks.image tells) in
-    let stands' = subst (λ p. StandsOver p c.read_kept.new.reader.cache) (sym same) (c.in_ok-twig-in-Kept.ensures.stands tells stands) in
-    let can = way_read c.args.order c.args.least c.args.level c.args.block c.args.high head c.in-Kept.low c.in-Kept.addr c.in-Kept.key twig at c.in_ok-twig-in-Kept.ensures.fits in
+    let same : (g.P.Platform.history c.read_node.new.platform).present.readable ≡ pages = ap (λ i. i.readable) (c.in_ok-twig-in-Kept.ensures.looks.image tells) in
+    let stands' = subst (λ p. StandsOver p c.read_node.new.reader.cache) (sym same) (c.in_ok-twig-in-Kept.ensures.stands tells stands) in
+    let can = way_read c.args.order c.args.least c.args.level c.args.block c.args.high head c.in-Kept.low c.in-Kept.addr c.from_bytes.result twig at c.in_ok-twig-in-Kept.ensures.fits in
     let fits = subst (λ k. IsNodeFor (want_at c.args.order k c.in-Kept.low c.args.high c.in-Kept.addr c.args.least) twig) l c.in_ok-twig-in-Kept.ensures.fits in
-    let node = subst (λ k. IsNodeOf pages (want_at c.args.order k c.in-Kept.low c.args.high c.in-Kept.addr c.args.least) c.in-Kept.key twig) l (c.in_ok-twig-in-Kept.ensures.reads tells stands) in
+    let node = subst (λ k. IsNodeOf pages (want_at c.args.order k c.in-Kept.low c.args.high c.in-Kept.addr c.args.least) c.from_bytes.result twig) l (c.in_ok-twig-in-Kept.ensures.reads tells stands) in
     let below = subst (λ p. IsFoundBy (FindsAmong (FitsAt p) c.args.order c.args.block (stubs_below (c.args.level - 1) c.args.high twig)) c.in_ok-left-in-Kept.left) same (c.in_ok-left-in-Kept.ensures.finds tells stands') in
-    subst (λ x. IsFoundBy (ChildFinds (FitsAt pages) c.args.order c.args.least c.args.block (c.args.level - 1) c.args.high x) c.in_ok-left-in-Kept.left) (sym c.in-Kept.is)
-    (found_as (FindsAmong (FitsAt pages) c.args.order c.args.block (stubs_below (c.args.level - 1) c.args.high twig)) (ChildFinds (FitsAt pages) c.args.order c.args.least c.args.block (c.args.level - 1) c.args.high (made.Kept c.in-Kept.low c.in-Kept.addr c.in-Kept.key)) c.in_ok-left-in-Kept.left
-    (λ found f. kept_finds pages c.args.order c.args.least c.args.block (c.args.level - 1) c.args.high head c.in-Kept.low c.in-Kept.addr c.in-Kept.key twig found can fits node f) below))
+    subst (λ x. IsFoundBy (ChildFinds (FitsAt pages) c.args.order c.args.least c.args.block (c.args.level - 1) c.args.high x) c.in_ok-left-in-Kept.left) (sym (c.in-Kept.is ∙ ap (made.Kept c.in-Kept.low c.in-Kept.addr) (sym c.from_bytes.ensures)))
+    (found_as (FindsAmong (FitsAt pages) c.args.order c.args.block (stubs_below (c.args.level - 1) c.args.high twig)) (ChildFinds (FitsAt pages) c.args.order c.args.least c.args.block (c.args.level - 1) c.args.high (made.Kept c.in-Kept.low c.in-Kept.addr c.from_bytes.result)) c.in_ok-left-in-Kept.left
+    (λ found f. kept_finds pages c.args.order c.args.least c.args.block (c.args.level - 1) c.args.high head c.in-Kept.low c.in-Kept.addr c.from_bytes.result twig found can fits node f) below))
 
 -- the child on the way is among these places with the node
 on_way_among : (pages : List (List ℕ)) (places : List Place) (order block level high n end : ℕ) (twig : Twig) (c : Child) (w : IsOnWay order block level high (children_of twig) n c) → end ≡ start_by low_of (drop (suc w.at) (children_of twig)) high →
@@ -456,28 +456,28 @@ hold_way-returns-in-Grown-clause-caches g t c =
 
 pub hold_way-returns-in_err-twig-in-Kept-clause-caches : goal.hold_way-returns-in_err-twig-in-Kept-clause-caches
 hold_way-returns-in_err-twig-in-Kept-clause-caches g t c =
-    caches_read g.P.Platform c.args.level c.args.high c.in-Kept.low c.in-Kept.addr c.in-Kept.key c.args.child.now c.args.platform.now c.args.reader.now.cache c.read_kept.new.reader.cache c.in-Kept.is c.requires.can.one c.in_err-twig-in-Kept.ensures.capacity c.in_err-twig-in-Kept.ensures.stands c.in_err-twig-in-Kept.ensures.but
+    caches_read g.P.Platform c.args.level c.args.high c.in-Kept.low c.in-Kept.addr c.from_bytes.result c.args.child.now c.args.platform.now c.args.reader.now.cache c.read_node.new.reader.cache (c.in-Kept.is ∙ ap (made.Kept c.in-Kept.low c.in-Kept.addr) (sym c.from_bytes.ensures)) c.requires.can.one c.in_err-twig-in-Kept.ensures.capacity c.in_err-twig-in-Kept.ensures.stands c.in_err-twig-in-Kept.ensures.but
 
 pub hold_way-returns-in_err-left-in-Kept-clause-caches : goal.hold_way-returns-in_err-left-in-Kept-clause-caches
 hold_way-returns-in_err-left-in-Kept-clause-caches g t c =
-    let one = caches_read g.P.Platform c.args.level c.args.high c.in-Kept.low c.in-Kept.addr c.in-Kept.key c.args.child.now c.args.platform.now c.args.reader.now.cache c.read_kept.new.reader.cache c.in-Kept.is c.requires.can.one c.in_ok-twig-in-Kept.ensures.capacity c.in_ok-twig-in-Kept.ensures.stands c.in_ok-twig-in-Kept.ensures.but in
-    caches_then g.P.Platform (λ pages. HaveNodes pages (stubs c.args.level c.args.high c.args.child.now)) (λ pages. HaveNodes pages (stubs_below (c.args.level - 1) c.args.high c.in_ok-twig-in-Kept.twig)) c.args.platform.now c.read_kept.new.platform c.args.reader.now.cache c.read_kept.new.reader.cache c.hold_below-in-Kept.new.reader.cache
+    let one = caches_read g.P.Platform c.args.level c.args.high c.in-Kept.low c.in-Kept.addr c.from_bytes.result c.args.child.now c.args.platform.now c.args.reader.now.cache c.read_node.new.reader.cache (c.in-Kept.is ∙ ap (made.Kept c.in-Kept.low c.in-Kept.addr) (sym c.from_bytes.ensures)) c.requires.can.one c.in_ok-twig-in-Kept.ensures.capacity c.in_ok-twig-in-Kept.ensures.stands c.in_ok-twig-in-Kept.ensures.but in
+    caches_then g.P.Platform (λ pages. HaveNodes pages (stubs c.args.level c.args.high c.args.child.now)) (λ pages. HaveNodes pages (stubs_below (c.args.level - 1) c.args.high c.in_ok-twig-in-Kept.twig)) c.args.platform.now c.read_node.new.platform c.args.reader.now.cache c.read_node.new.reader.cache c.hold_below-in-Kept.new.reader.cache
     c.in_ok-twig-in-Kept.ensures.looks.image
-    (λ tells stands places such. nodes_below_read _ places c.args.level c.args.high c.in-Kept.low c.in-Kept.addr c.in-Kept.key _ c.in_ok-twig-in-Kept.twig c.args.child.now refl c.in-Kept.is c.requires.can.one (c.in_ok-twig-in-Kept.ensures.reads tells stands) such)
+    (λ tells stands places such. nodes_below_read _ places c.args.level c.args.high c.in-Kept.low c.in-Kept.addr c.from_bytes.result _ c.in_ok-twig-in-Kept.twig c.args.child.now refl (c.in-Kept.is ∙ ap (made.Kept c.in-Kept.low c.in-Kept.addr) (sym c.from_bytes.ensures)) c.requires.can.one (c.in_ok-twig-in-Kept.ensures.reads tells stands) such)
     one c.in_err-left-in-Kept.ensures.caches
 
 pub hold_way-returns-in_err-hold-in-Kept-clause-caches : goal.hold_way-returns-in_err-hold-in-Kept-clause-caches
 hold_way-returns-in_err-hold-in-Kept-clause-caches g t c =
-    let one = caches_read g.P.Platform c.args.level c.args.high c.in-Kept.low c.in-Kept.addr c.in-Kept.key c.args.child.now c.args.platform.now c.args.reader.now.cache c.read_kept.new.reader.cache c.in-Kept.is c.requires.can.one c.in_ok-twig-in-Kept.ensures.capacity c.in_ok-twig-in-Kept.ensures.stands c.in_ok-twig-in-Kept.ensures.but in
-    caches_then g.P.Platform (λ pages. HaveNodes pages (stubs c.args.level c.args.high c.args.child.now)) (λ pages. HaveNodes pages (stubs_below (c.args.level - 1) c.args.high c.in_ok-twig-in-Kept.twig)) c.args.platform.now c.read_kept.new.platform c.args.reader.now.cache c.read_kept.new.reader.cache c.hold_below-in-Kept.new.reader.cache
+    let one = caches_read g.P.Platform c.args.level c.args.high c.in-Kept.low c.in-Kept.addr c.from_bytes.result c.args.child.now c.args.platform.now c.args.reader.now.cache c.read_node.new.reader.cache (c.in-Kept.is ∙ ap (made.Kept c.in-Kept.low c.in-Kept.addr) (sym c.from_bytes.ensures)) c.requires.can.one c.in_ok-twig-in-Kept.ensures.capacity c.in_ok-twig-in-Kept.ensures.stands c.in_ok-twig-in-Kept.ensures.but in
+    caches_then g.P.Platform (λ pages. HaveNodes pages (stubs c.args.level c.args.high c.args.child.now)) (λ pages. HaveNodes pages (stubs_below (c.args.level - 1) c.args.high c.in_ok-twig-in-Kept.twig)) c.args.platform.now c.read_node.new.platform c.args.reader.now.cache c.read_node.new.reader.cache c.hold_below-in-Kept.new.reader.cache
     c.in_ok-twig-in-Kept.ensures.looks.image
-    (λ tells stands places such. nodes_below_read _ places c.args.level c.args.high c.in-Kept.low c.in-Kept.addr c.in-Kept.key _ c.in_ok-twig-in-Kept.twig c.args.child.now refl c.in-Kept.is c.requires.can.one (c.in_ok-twig-in-Kept.ensures.reads tells stands) such)
+    (λ tells stands places such. nodes_below_read _ places c.args.level c.args.high c.in-Kept.low c.in-Kept.addr c.from_bytes.result _ c.in_ok-twig-in-Kept.twig c.args.child.now refl (c.in-Kept.is ∙ ap (made.Kept c.in-Kept.low c.in-Kept.addr) (sym c.from_bytes.ensures)) c.requires.can.one (c.in_ok-twig-in-Kept.ensures.reads tells stands) such)
     one c.in_ok-left-in-Kept.ensures.caches
 
 pub hold_way-returns-in_ok-hold-in-Kept-clause-caches : goal.hold_way-returns-in_ok-hold-in-Kept-clause-caches
 hold_way-returns-in_ok-hold-in-Kept-clause-caches g t c =
-    let one = caches_read g.P.Platform c.args.level c.args.high c.in-Kept.low c.in-Kept.addr c.in-Kept.key c.args.child.now c.args.platform.now c.args.reader.now.cache c.read_kept.new.reader.cache c.in-Kept.is c.requires.can.one c.in_ok-twig-in-Kept.ensures.capacity c.in_ok-twig-in-Kept.ensures.stands c.in_ok-twig-in-Kept.ensures.but in
-    caches_then g.P.Platform (λ pages. HaveNodes pages (stubs c.args.level c.args.high c.args.child.now)) (λ pages. HaveNodes pages (stubs_below (c.args.level - 1) c.args.high c.in_ok-twig-in-Kept.twig)) c.args.platform.now c.read_kept.new.platform c.args.reader.now.cache c.read_kept.new.reader.cache c.hold_below-in-Kept.new.reader.cache
+    let one = caches_read g.P.Platform c.args.level c.args.high c.in-Kept.low c.in-Kept.addr c.from_bytes.result c.args.child.now c.args.platform.now c.args.reader.now.cache c.read_node.new.reader.cache (c.in-Kept.is ∙ ap (made.Kept c.in-Kept.low c.in-Kept.addr) (sym c.from_bytes.ensures)) c.requires.can.one c.in_ok-twig-in-Kept.ensures.capacity c.in_ok-twig-in-Kept.ensures.stands c.in_ok-twig-in-Kept.ensures.but in
+    caches_then g.P.Platform (λ pages. HaveNodes pages (stubs c.args.level c.args.high c.args.child.now)) (λ pages. HaveNodes pages (stubs_below (c.args.level - 1) c.args.high c.in_ok-twig-in-Kept.twig)) c.args.platform.now c.read_node.new.platform c.args.reader.now.cache c.read_node.new.reader.cache c.hold_below-in-Kept.new.reader.cache
     c.in_ok-twig-in-Kept.ensures.looks.image
-    (λ tells stands places such. nodes_below_read _ places c.args.level c.args.high c.in-Kept.low c.in-Kept.addr c.in-Kept.key _ c.in_ok-twig-in-Kept.twig c.args.child.now refl c.in-Kept.is c.requires.can.one (c.in_ok-twig-in-Kept.ensures.reads tells stands) such)
+    (λ tells stands places such. nodes_below_read _ places c.args.level c.args.high c.in-Kept.low c.in-Kept.addr c.from_bytes.result _ c.in_ok-twig-in-Kept.twig c.args.child.now refl (c.in-Kept.is ∙ ap (made.Kept c.in-Kept.low c.in-Kept.addr) (sym c.from_bytes.ensures)) c.requires.can.one (c.in_ok-twig-in-Kept.ensures.reads tells stands) such)
     one c.in_ok-left-in-Kept.ensures.caches

@@ -5,7 +5,8 @@ use Rattle.node_cache.specs.Kept.{Cached, Uses, kept_node, filled}
 use Rattle.btree_walk.specs.Sights.{KeepsOnly}
 use Rattle.btree_walk.proofs.SightLaws.{keeps_filled, keeps_used}
 use Rattle.btree_update.specs.declared.refusals.ReadyRefusal.TheVariants.{BadRecord}
-use Rattle.btree_update.proofs.CacheLaws.{stands_on, kept_is_page, nothing_else}
+use Rattle.std.proofs.lemmas.Result.{err_from_is_err_and}
+use Rattle.btree_update.proofs.CacheLaws.{stands_on, kept_is_page, nothing_else, refused_bad}
 use Rattle.btree_walk.specs.Among.{KeepsBut}
 use Rattle.btree_walk.proofs.AmongLaws.{but_same, but_filled, but_used}
 use Rattle.btree_update.proofs.reading.read_node.Goals as goal
@@ -32,21 +33,21 @@ returns-in-Some-clause-stands g c = λ tells stands.
     stands_on (g.P.Platform.history c.args.platform.now).present.readable c.args.reader.now.cache c.get.follows.lender-at-none stands
     (keeps_used (g.P.Platform.history c.args.platform.now).present.readable c.args.reader.now.cache c.get.follows.lender-at-none c.args.want.now.addr c.args.key.now c.in-Some.node.now uses))
 
-pub returns-in-Ok-clause-stands : goal.returns-in-Ok-clause-stands
-returns-in-Ok-clause-stands g c = λ tells stands.
+pub returns-clause-stands : goal.returns-clause-stands
+returns-clause-stands g c = λ tells stands.
     (let uses = subst (λ (r : Option (Bor _)). Uses c.args.reader.now.cache c.args.want.now.addr c.args.key.now (option_copied r) c.get.follows.lender-at-none) c.in_default.is c.get.follows.holds-at-none in
     let kept = kept_node c.args.want.now.addr c.args.key.now (record { level = c.args.want.now.level; entries = c.fetch_node.new.entries }) in
     let pages = (g.P.Platform.history c.args.platform.now).present.readable in
-    let fits = c.in-Ok.ensures.fits tells in
+    let fits = c.in_ok-fetch_node.ensures.fits tells in
     let keeps = subst (KeepsOnly pages c.args.reader.now.cache) (sym (c.put.ensures.kept ∙ ap (λ (old : Cached). filled old kept) uses.0)) (keeps_filled pages c.args.reader.now.cache kept (inr fits.0)) in
     stands_on pages c.args.reader.now.cache c.put.new.self stands keeps)
 
-pub returns-in-Err-BadRecord-clause-bad : goal.returns-in-Err-BadRecord-clause-bad
-returns-in-Err-BadRecord-clause-bad g c = rw c.in-Err-BadRecord.field-0-is (λ tells stands addr is.
-    let same : BadRecord c.in-Err-BadRecord.addr ≡ BadRecord addr = cc in
-    let addr_is : c.in-Err-BadRecord.addr ≡ addr = cc in
-    let told = ap Err c.in-Err-BadRecord.field-0-is in
-    (sym addr_is ∙ c.in-Err-BadRecord.ensures.bad c.in-Err-BadRecord.addr told, c.in-Err-BadRecord.ensures.nothing_fits tells c.in-Err-BadRecord.addr told))
+pub returns-in_err-fetch_node-clause-bad : goal.returns-in_err-fetch_node-clause-bad
+returns-in_err-fetch_node-clause-bad g c =
+    let p = err_from_is_err_and c.from_residual.result c.from_residual.ensures.1 in
+    rw (p.1, p.2) (λ tells stands addr is.
+    let told = ap Err (refused_bad c.in_err-fetch_node.field-0.0 addr (cc)) in
+    (c.in_err-fetch_node.ensures.bad addr told, c.in_err-fetch_node.ensures.nothing_fits tells addr told))
 
 -- ---- the room stays
 
@@ -60,8 +61,8 @@ returns-in-Some-clause-capacity g c =
     let uses = subst (λ (r : Option (Bor _)). Uses c.args.reader.now.cache c.args.want.now.addr c.args.key.now (option_copied r) c.get.follows.lender-at-none) c.in-Some.is c.get.follows.holds-at-none in
     ap (λ (cache : Cached). cache.capacity) uses.1
 
-pub returns-in-Ok-clause-capacity : goal.returns-in-Ok-clause-capacity
-returns-in-Ok-clause-capacity g c =
+pub returns-clause-capacity : goal.returns-clause-capacity
+returns-clause-capacity g c =
     let uses = subst (λ (r : Option (Bor _)). Uses c.args.reader.now.cache c.args.want.now.addr c.args.key.now (option_copied r) c.get.follows.lender-at-none) c.in_default.is c.get.follows.holds-at-none in
     ap (λ (cache : Cached). cache.capacity) c.put.ensures.kept ∙ ap (λ (cache : Cached). cache.capacity) uses.0
 
@@ -75,18 +76,13 @@ returns-in-Some-clause-but g c =
     let uses = subst (λ (r : Option (Bor _)). Uses c.args.reader.now.cache c.args.want.now.addr c.args.key.now (option_copied r) c.get.follows.lender-at-none) c.in-Some.is c.get.follows.holds-at-none in
     but_used c.args.reader.now.cache c.get.follows.lender-at-none c.args.want.now.addr c.args.key.now c.in-Some.node.now uses
 
-pub returns-in-Ok-clause-but : goal.returns-in-Ok-clause-but
-returns-in-Ok-clause-but g c =
+pub returns-clause-but : goal.returns-clause-but
+returns-clause-but g c =
     let uses = subst (λ (r : Option (Bor _)). Uses c.args.reader.now.cache c.args.want.now.addr c.args.key.now (option_copied r) c.get.follows.lender-at-none) c.in_default.is c.get.follows.holds-at-none in
     let kept = kept_node c.args.want.now.addr c.args.key.now (record { level = c.args.want.now.level; entries = c.fetch_node.new.entries }) in
     subst (KeepsBut c.args.want.now.addr c.args.key.now c.args.reader.now.cache) (sym (c.put.ensures.kept ∙ ap (λ (old : Cached). filled old kept) uses.0)) (but_filled c.args.reader.now.cache kept)
 
-pub returns-in-Err-BadRecord-clause-but : goal.returns-in-Err-BadRecord-clause-but
-returns-in-Err-BadRecord-clause-but g c =
-    let uses = subst (λ (r : Option (Bor _)). Uses c.args.reader.now.cache c.args.want.now.addr c.args.key.now (option_copied r) c.get.follows.lender-at-none) c.in_default.is c.get.follows.holds-at-none in
-    subst (KeepsBut c.args.want.now.addr c.args.key.now c.args.reader.now.cache) (sym uses.0) (but_same c.args.want.now.addr c.args.key.now c.args.reader.now.cache)
-
-pub returns-in-Err-PlatformFault-clause-but : goal.returns-in-Err-PlatformFault-clause-but
-returns-in-Err-PlatformFault-clause-but g c =
+pub returns-in_err-fetch_node-clause-but : goal.returns-in_err-fetch_node-clause-but
+returns-in_err-fetch_node-clause-but g c =
     let uses = subst (λ (r : Option (Bor _)). Uses c.args.reader.now.cache c.args.want.now.addr c.args.key.now (option_copied r) c.get.follows.lender-at-none) c.in_default.is c.get.follows.holds-at-none in
     subst (KeepsBut c.args.want.now.addr c.args.key.now c.args.reader.now.cache) (sym uses.0) (but_same c.args.want.now.addr c.args.key.now c.args.reader.now.cache)

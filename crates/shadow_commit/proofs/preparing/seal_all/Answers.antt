@@ -6,6 +6,7 @@ use Rattle.btree_twigs.specs.declared.twigs.Twig.{out-Twig}
 use Rattle.btree_twigs.specs.Stubs.{children_of, stubs, stubs_below}
 use Rattle.btree_twigs.specs.Top.{top_least}
 use Rattle.shadow_commit.specs.Sealed.{Sealed, SealsNode, Seals}
+use Rattle.shadow_commit.specs.Caching.{AreCached}
 use Rattle.shadow_commit.specs.NewTree.{AreNodesOver, KeysAreFrom, keys_at}
 use Rattle.shadow_commit.proofs.SealLaws.{child_count}
 use Rattle.shadow_commit.specs.Ready.{IsNextRoot}
@@ -64,7 +65,7 @@ overflow_add-result-2 g c =
     let s = root_twig c.args.root.now.order c.args.root.now.blocks at.level head c.in-Grown.low c.args.top.now c.in-Grown.twig c.in-Grown.is at.shaped at.below in
     let can = can_root head (g.P.Platform.capacity c.args.platform.now) c.args.root.now c.args.mapped c.args.top.now c.in-Grown.twig at s in
     let A = c.in_ok-placed.ensures.sealed can in
-    let up = one_more at.level head (children_of c.in-Grown.twig) A.nodes c.in_ok-placed.placed.addr c.in_ok-placed.placed.key A.is in
+    let up = one_more at.level head (children_of c.in-Grown.twig) A.nodes c.in_ok-placed.placed.addr c.in_ok-placed.placed.key A.is.0 in
     let small : c.in_ok-placed.placed.addr + 1 ≤ 2 ^ 32 = omega (arith, up, A.head, c.seal_twig.ensures.within can, at.room, s.count, g.met.P.Platform.is_limited c.args.platform.now) in
     search rules
 
@@ -97,32 +98,33 @@ returns-clause-sealed g c at =
     let A = c.in_ok-placed.ensures.sealed can in
     let ns = A.nodes in
     let next : Root = record { order = root.order; level = (out-Twig twig).level; blocks = root.blocks; commit = root.commit + 1; addr = placed.addr; key = placed.key; mapped = c.args.mapped; head = placed.addr + 1 } in
-    let up = one_more at.level head (children_of twig) ns placed.addr placed.key A.is in
+    let up = one_more at.level head (children_of twig) ns placed.addr placed.key A.is.0 in
     let heads : new_head ≡ head + length ns = c.sync.ensures.head ∙ A.head in
     let next_by : (n : ℕ) → placed.addr + 1 ≡ n → IsNextRoot root c.args.mapped (suc at.level) n next = λ n e. record { order = refl; blocks = refl; commit = refl; level_is = s.shaped.level_is; mapped_is = refl; addr = e; head_is = e } in
     let small : head + length ns ≤ 2 ^ 32 = omega (arith, A.head, c.seal_twig.ensures.within can, at.room, s.count, g.met.P.Platform.is_limited c.args.platform.now) in
-    let fits = next_fits root next c.args.mapped at.level head (length ns) at.in_range at.within at.most at.level_most (next_by (head + length ns) up) (omega (arith, up, A.is.addr_is)) small in
+    let fits = next_fits root next c.args.mapped at.level head (length ns) at.in_range at.within at.most at.level_most (next_by (head + length ns) up) (omega (arith, up, A.is.0.addr_is)) small in
     let seals : (ms : List Sealed) → SealsNode (Seals at.level) at.level head (children_of twig) ms placed.addr placed.key → Seals (suc at.level) head top ms (record { low = 0; addr = placed.addr; key = placed.key })
     = λ ms h. subst (λ low. Seals (suc at.level) head top ms (record { low = low; addr = placed.addr; key = placed.key })) (top_low root.order root.blocks at.level c.in-Grown.low top twig c.in-Grown.is at.shaped)
     (seals_grown (suc at.level) at.level head top c.in-Grown.low twig ms placed.addr placed.key c.in-Grown.is refl h) in
     let old = (history c.args.platform.now).present in
     let mid = (history c.seal_twig.new.platform).present in
     let new = (history c.sync.new.self).present in
-    let is = seals ns A.is in
+    let is = seals ns A.is.0 in
     record {
       written = mid;
       adds = record { nodes = ns; is = is; image = A.image; head = heads; drew = A.drew };
       over = record {
-        order = node_in_order root.order at.level (top_least at.level) head head 0 root.blocks placed.addr placed.key twig ns A.is s.shaped at.in_range.order_most at.level_most at.in_range.blocks_most s.under (omega arith);
-        keys = subst (λ ss. KeysAreFrom (keys_at ss) ns) (sym s.places) (node_keys at.level head root.blocks (children_of twig) ns placed.addr placed.key A.is);
+        order = node_in_order root.order at.level (top_least at.level) head head 0 root.blocks placed.addr placed.key twig ns A.is.0 s.shaped at.in_range.order_most at.level_most at.in_range.blocks_most s.under (omega arith);
+        keys = subst (λ ss. KeysAreFrom (keys_at ss) ns) (sym s.places) (node_keys at.level head root.blocks (children_of twig) ns placed.addr placed.key A.is.0);
       };
+      cached = A.is.1;
       synced = λ told. c.in-Ok.ensures.synced told;
       next_is = next_by new_head (up ∙ sym heads);
       in_range = fits;
       grown = heads ∙ ap (λ n. head + n) (child_count (suc at.level) head top ns (record { low = 0; addr = placed.addr; key = placed.key }) is);
       stands = λ told each h.
           stands_with old new root next c.args.mapped at.level head top twig ns each (whole-now (history c.args.platform.now)) (sym (g.met.P.Platform.counts_pages told c.args.platform.now))
-          at.in_range at.level_most s A.is small (next_by (head + length ns) up) fits A.is.key_is (c.in-Ok.ensures.synced told ∙ ap all_synced (A.image told)) h;
+          at.in_range at.level_most s A.is.0 small (next_by (head + length ns) up) fits A.is.0.key_is (c.in-Ok.ensures.synced told ∙ ap all_synced (A.image told)) h;
     }
 
 pub returns-in_default-sync-clause-stops : goal.returns-in_default-sync-clause-stops
@@ -143,10 +145,10 @@ returns-in_default-sync-clause-stops g c at = λ err.
     let ns = A.nodes in
     let places = stubs (suc at.level) root.blocks top in
     let over : AreNodesOver head places ns = record {
-      order = node_in_order root.order at.level (top_least at.level) head head 0 root.blocks placed.addr placed.key twig ns A.is s.shaped at.in_range.order_most at.level_most at.in_range.blocks_most s.under (omega arith);
-      keys = subst (λ ss. KeysAreFrom (keys_at ss) ns) (sym s.places) (node_keys at.level head root.blocks (children_of twig) ns placed.addr placed.key A.is);
+      order = node_in_order root.order at.level (top_least at.level) head head 0 root.blocks placed.addr placed.key twig ns A.is.0 s.shaped at.in_range.order_most at.level_most at.in_range.blocks_most s.under (omega arith);
+      keys = subst (λ ss. KeysAreFrom (keys_at ss) ns) (sym s.places) (node_keys at.level head root.blocks (children_of twig) ns placed.addr placed.key A.is.0);
     } in
-    let stops = adds_stops (λ ms. SealsNode (Seals at.level) at.level head (children_of twig) ms placed.addr placed.key) (λ ms. ms ≡ []) (AreNodesOver head places) tells (history c.args.platform.now).present mid mid head now (drawn c.args.tape.now) (drawn c.seal_twig.new.tape) (drawn c.seal_twig.new.tape) A
+    let stops = adds_stops (AreCached (λ ms. SealsNode (Seals at.level) at.level head (children_of twig) ms placed.addr placed.key) c.args.reader.now.cache c.seal_twig.new.reader.cache) (λ ms. ms ≡ []) (AreNodesOver head places) tells (history c.args.platform.now).present mid mid head now (drawn c.args.tape.now) (drawn c.seal_twig.new.tape) (drawn c.seal_twig.new.tape) A
     (λ ms none. subst (AreNodesOver head places) (sym (ap (λ xs. ns ++ xs) none ∙ append-nil ns)) over)
     (stops_none (λ ms. ms ≡ []) tells mid mid (drawn c.seal_twig.new.tape) (drawn c.seal_twig.new.tape) refl (λ told. refl) refl) in
     record { written = mid; stops = stops; synced = λ told. c.sync.ensures.either told }

@@ -7,21 +7,24 @@ use Rattle.std.proofs.lemmas.List.{take_all}
 use Rattle.std.proofs.lemmas.List.Elements.{All-from_recursion}
 use Rattle.node_codec.specs.declared.body.Entry.{Entry}
 use Rattle.node_codec.specs.Record.{NodeRecord, FitsNode, record_bytes}
-use Rattle.page_store.specs.Appending.{IsPlaced}
 use Rattle.page_store.specs.Buffer.{Held}
 use Rattle.sdbt_base.specs.Bytes.{IsBytes}
 use Rattle.sdbt_base.proofs.FaultLaws.{tells_then, tells_on}
 use Rattle.page_store.specs.declared.refusals.AppendFault.TheVariants.{TapeFault, PlatformFault}
-use Rattle.std.specs.Prelude.{IfOk}
+use Rattle.std.specs.Prelude.{is_err}
+use Rattle.btree_twigs.specs.declared.twigs.Child.{Child}
 use Rattle.btree_twigs.specs.Stubs.{children_of, sum_by, nodes, stubs, stubs_by, stubs_below, low_of}
 use Rattle.btree_twigs.specs.Shape.{EachBy, IsChild}
 use Rattle.shadow_commit.specs.NewTree.{AreNodesOver}
 use Rattle.shadow_commit.proofs.OrderLaws.{over_append, over_node, so_far_over}
 use Rattle.shadow_commit.specs.Sealed.{Sealed, SealsEach, SealsNode, Seals}
+use Rattle.node_cache.specs.Kept.{kept_node, node_of, filled}
+use Rattle.shadow_commit.specs.Caching.{AreCached, with_sealed}
 use Rattle.shadow_commit.specs.Handing.{Adds, Stops}
 use Rattle.btree_update.specs.Held.{AreBelow}
 use Rattle.shadow_commit.proofs.SealLaws.{grows_by, keeps_front, entries_are, children_count, each_snoc, node_fits}
-use Rattle.shadow_commit.proofs.StepLaws.{adds_none, adds_as, adds_then, adds_page, grown_at, can_below, seals_grown, seals_kept, loop_child, can_child, end_at, beside_start, beside_call, beside_then, if_ok, fits_as, body_as, adds_stops, stops_as, stops_none, stops_one, fault_cases, grown_level, level_within}
+use Rattle.shadow_commit.proofs.CachingLaws.{sealed_then}
+use Rattle.shadow_commit.proofs.StepLaws.{adds_none, adds_as, adds_then, adds_page, grown_at, can_below, seals_grown, seals_kept, loop_child, can_child, end_at, beside_start, beside_call, beside_then, fits_as, body_as, adds_stops, stops_as, stops_none, stops_one, fault_cases, grown_level, level_within}
 use Rattle.shadow_commit.proofs.sealing.+seal.Goals as goal
 
 pub seal_child-seal_twig-requires : goal.seal_child-seal_twig-requires
@@ -39,16 +42,18 @@ seal_child-returns-in_err-placed-in-Grown-clause-within g t c at =
 
 pub seal_child-returns-in-Kept-clause-sealed : goal.seal_child-returns-in-Kept-clause-sealed
 seal_child-returns-in-Kept-clause-sealed g t c at =
-    adds_none (λ ns. Seals at.level (g.P.Platform.head c.args.platform.now) c.args.child.now ns c.kept_entry.result) g.P.Platform.tells (g.P.Platform.history c.args.platform.now).present (g.P.Platform.head c.args.platform.now) (g.T.Tape.drawn c.args.tape.now)
-    (seals_kept at.level (g.P.Platform.head c.args.platform.now) c.args.child.now c.in-Kept.low c.in-Kept.addr c.in-Kept.key [] c.kept_entry.result c.in-Kept.is
-    (record { none = refl; key_is = c.kept_entry.ensures.key; entry_is = c.kept_entry.ensures.entry }))
+    adds_none (AreCached (λ ns. Seals at.level (g.P.Platform.head c.args.platform.now) c.args.child.now ns c.kept_entry.result) c.args.reader.now.cache c.args.reader.now.cache) g.P.Platform.tells (g.P.Platform.history c.args.platform.now).present (g.P.Platform.head c.args.platform.now) (g.T.Tape.drawn c.args.tape.now) (
+      seals_kept at.level (g.P.Platform.head c.args.platform.now) c.args.child.now c.in-Kept.low c.in-Kept.addr c.in-Kept.key [] c.kept_entry.result c.in-Kept.is
+          (record { none = refl; key_is = c.kept_entry.ensures.key; entry_is = c.kept_entry.ensures.entry }),
+      refl,
+    )
 
 pub seal_child-returns-in_ok-placed-in-Grown-clause-sealed : goal.seal_child-returns-in_ok-placed-in-Grown-clause-sealed
 seal_child-returns-in_ok-placed-in-Grown-clause-sealed g t c at =
     let head = g.P.Platform.head c.args.platform.now in
     let placed = c.in_ok-placed-in-Grown.placed in
     let s = grown_at at.order at.level at.high head c.args.child.now c.in-Grown.low c.in-Grown.twig c.in-Grown.is at.shaped at.below in
-    adds_as _ _ _ _ _ _ _ _ _ (λ ns h. seals_grown at.level s.below head c.args.child.now c.in-Grown.low c.in-Grown.twig ns placed.addr placed.key c.in-Grown.is s.level_is h)
+    adds_as _ _ _ _ _ _ _ _ _ (λ ns h. (seals_grown at.level s.below head c.args.child.now c.in-Grown.low c.in-Grown.twig ns placed.addr placed.key c.in-Grown.is s.level_is h.0, h.1))
     (c.in_ok-placed-in-Grown.ensures.sealed (can_below head (g.P.Platform.capacity c.args.platform.now) c.args.child.now c.in-Grown.low c.in-Grown.twig at s))
 
 pub seal_child-returns-in_ok-placed-in-Grown-clause-within : goal.seal_child-returns-in_ok-placed-in-Grown-clause-within
@@ -67,7 +72,7 @@ seal_twig-seal_child-requires g t c =
     let i = c.loop-child.child-index in
     let inv = c.loop-child.invariant in
     let so_far = inv.sealed at in
-    let count = children_count at.level head (take i cs) so_far.nodes (drop (length c.args.entries.now.items) c.loop-child.entries.items) so_far.is in
+    let count = children_count at.level head (take i cs) so_far.nodes (drop (length c.args.entries.now.items) c.loop-child.entries.items) so_far.is.0 in
     let s = loop_child head (g.P.Platform.capacity c.args.platform.now) c.args.twig.now cs i c.child-item.result at inv.same c.loop-child-test.true c.child-item.is in
     let can = can_child head (g.P.Platform.capacity c.args.platform.now) now (g.P.Platform.capacity c.loop-child.platform) c.args.twig.now cs i c.child-item.result at s inv.same inv.beside.head (omega (arith, so_far.head, count)) inv.beside.capacity in
     let within = level_within at.order at.level _ c.child-item.result s.shaped in
@@ -84,7 +89,7 @@ seal_twig-returns-in_err-entry-clause-within g t c at =
     let i = c.loop-child.child-index in
     let inv = c.loop-child.invariant in
     let so_far = inv.sealed at in
-    let count = children_count at.level head (take i cs) so_far.nodes (drop (length c.args.entries.now.items) c.loop-child.entries.items) so_far.is in
+    let count = children_count at.level head (take i cs) so_far.nodes (drop (length c.args.entries.now.items) c.loop-child.entries.items) so_far.is.0 in
     let s = loop_child head (g.P.Platform.capacity c.args.platform.now) c.args.twig.now cs i c.child-item.result at inv.same c.loop-child-test.true c.child-item.is in
     let can = can_child head (g.P.Platform.capacity c.args.platform.now) now (g.P.Platform.capacity c.loop-child.platform) c.args.twig.now cs i c.child-item.result at s inv.same inv.beside.head (omega (arith, so_far.head, count)) inv.beside.capacity in
     omega (arith, c.seal_child.ensures.within can, so_far.head, count, s.count, ap (sum_by (nodes at.level)) inv.same)
@@ -101,7 +106,7 @@ seal_twig-loop-child-preserved g t c =
           let i = c.loop-child.child-index in
           let inv = c.loop-child.invariant in
           let so_far = inv.sealed at in
-          let count = children_count at.level head (take i cs) so_far.nodes (drop (length c.args.entries.now.items) c.loop-child.entries.items) so_far.is in
+          let count = children_count at.level head (take i cs) so_far.nodes (drop (length c.args.entries.now.items) c.loop-child.entries.items) so_far.is.0 in
           let s = loop_child head (g.P.Platform.capacity c.args.platform.now) c.args.twig.now cs i c.child-item.result at inv.same c.loop-child-test.true c.child-item.is in
           let can = can_child head (g.P.Platform.capacity c.args.platform.now) now (g.P.Platform.capacity c.loop-child.platform) c.args.twig.now cs i c.child-item.result at s inv.same inv.beside.head (omega (arith, so_far.head, count)) inv.beside.capacity in
           let es = (drop (length c.args.entries.now.items) c.loop-child.entries.items) in
@@ -109,13 +114,19 @@ seal_twig-loop-child-preserved g t c =
           let history = g.P.Platform.history in
           let drawn = g.T.Tape.drawn in
           let more = grows_by c.args.entries.now.items c.loop-child.entries.items c.seal_child.new.entries.items c.add.new.entries.items entry (omega (arith, inv.count)) c.in_ok-entry.ensures.entries c.add.ensures.items in
-          adds_then (λ ns. SealsEach (Seals at.level) head (take i cs) ns es) (λ ms. Seals at.level now c.child-item.result ms entry) (λ ns. SealsEach (Seals at.level) head (take (i + 1) cs) ns (drop (length c.args.entries.now.items) c.add.new.entries.items))
+          let first = c.args.reader.now.cache in
+          let mid = c.loop-child.reader.cache in
+          let last = c.seal_child.new.reader.cache in
+          adds_then (AreCached (λ ns. SealsEach (Seals at.level) head (take i cs) ns es) first mid) (AreCached (λ ms. Seals at.level now c.child-item.result ms entry) mid last)
+          (AreCached (λ ns. SealsEach (Seals at.level) head (take (i + 1) cs) ns (drop (length c.args.entries.now.items) c.add.new.entries.items)) first last)
           g.P.Platform.tells (history c.args.platform.now).present (history c.loop-child.platform).present (history c.seal_child.new.platform).present head now (g.P.Platform.head c.seal_child.new.platform)
           (drawn c.args.tape.now) (drawn c.loop-child.tape) (drawn c.seal_child.new.tape)
-          (λ ns ms up is one.
-          subst (λ xs. SealsEach (Seals at.level) head (take (i + 1) cs) (ns ++ ms) xs) (sym more)
-          (subst (λ ds. SealsEach (Seals at.level) head ds (ns ++ ms) (es ++ entry ∷ [])) (sym s.more)
-          (each_snoc (Seals at.level) head (take i cs) c.child-item.result ns ms es entry is (subst (λ n. Seals at.level n c.child-item.result ms entry) up one))))
+          (λ ns ms up is one. (
+            subst (λ xs. SealsEach (Seals at.level) head (take (i + 1) cs) (ns ++ ms) xs) (sym more)
+                (subst (λ ds. SealsEach (Seals at.level) head ds (ns ++ ms) (es ++ entry ∷ [])) (sym s.more)
+                (each_snoc (Seals at.level) head (take i cs) c.child-item.result ns ms es entry is.0 (subst (λ n. Seals at.level n c.child-item.result ms entry) up one.0))),
+            sealed_then first mid last ns ms is.1 one.1,
+          ))
           so_far (c.in_ok-entry.ensures.sealed can);
       front = keeps_front c.args.entries.now.items c.loop-child.entries.items c.seal_child.new.entries.items c.add.new.entries.items c.in_ok-entry.entry (omega (arith, inv.count)) inv.front c.in_ok-entry.ensures.entries c.add.ensures.items;
       count = omega (arith, inv.count, ap length c.in_ok-entry.ensures.entries, ap length c.add.ensures.items, length-append c.seal_child.new.entries.items (c.in_ok-entry.entry ∷ []));
@@ -133,9 +144,9 @@ seal_twig-put_node-requires g t c =
     let i = c.loop-child.child-index in
     let inv = c.loop-child.invariant in
     let so_far = inv.sealed at in
-    let count = children_count at.level head (take i cs) so_far.nodes (drop (length c.args.entries.now.items) c.loop-child.entries.items) so_far.is in
+    let count = children_count at.level head (take i cs) so_far.nodes (drop (length c.args.entries.now.items) c.loop-child.entries.items) so_far.is.0 in
     let all : take i cs ≡ children_of c.args.twig.now = take_all i cs (omega (arith, c.loop-child-test.false)) ∙ inv.same in
-    let each = subst (λ xs. SealsEach (Seals at.level) head xs so_far.nodes (drop (length c.args.entries.now.items) c.loop-child.entries.items)) all so_far.is in
+    let each = subst (λ xs. SealsEach (Seals at.level) head xs so_far.nodes (drop (length c.args.entries.now.items) c.loop-child.entries.items)) all so_far.is.0 in
     let fits = node_fits at.order at.level at.least at.low at.high head head c.args.twig.now so_far.nodes (drop (length c.args.entries.now.items) c.loop-child.entries.items) at.shaped at.order_most at.level_most at.blocks at.below (omega arith) each in
     fits_as _ _ _ _ _ _ (sym (c.head.ensures.value ∙ so_far.head)) (sym at.shaped.level_is) (sym (c.split_at.ensures.back ∙ (λ i. drop ((c.len-begin.ensures ∙ c.args.entries.now.ok.0) i) (c.deref.ensures.value i)))) fits
 
@@ -148,7 +159,7 @@ seal_twig-append-requires g t c =
     let i = c.loop-child.child-index in
     let inv = c.loop-child.invariant in
     let so_far = inv.sealed at in
-    let count = children_count at.level head (take i cs) so_far.nodes (drop (length c.args.entries.now.items) c.loop-child.entries.items) so_far.is in
+    let count = children_count at.level head (take i cs) so_far.nodes (drop (length c.args.entries.now.items) c.loop-child.entries.items) so_far.is.0 in
     let all : take i cs ≡ children_of c.args.twig.now = take_all i cs (omega (arith, c.loop-child-test.false)) ∙ inv.same in
     omega (arith, at.room, inv.beside.capacity, so_far.head, count, ap (sum_by (nodes at.level)) all)
 
@@ -160,7 +171,7 @@ seal_twig-returns-clause-sealed g t c at =
     let i = c.loop-child.child-index in
     let inv = c.loop-child.invariant in
     let so_far = inv.sealed at in
-    let count = children_count at.level head (take i cs) so_far.nodes (drop (length c.args.entries.now.items) c.loop-child.entries.items) so_far.is in
+    let count = children_count at.level head (take i cs) so_far.nodes (drop (length c.args.entries.now.items) c.loop-child.entries.items) so_far.is.0 in
     let all : take i cs ≡ children_of c.args.twig.now = take_all i cs (omega (arith, c.loop-child-test.false)) ∙ inv.same in
     let es = (drop (length c.args.entries.now.items) c.loop-child.entries.items) in
     let history = g.P.Platform.history in
@@ -169,21 +180,40 @@ seal_twig-returns-clause-sealed g t c at =
     let old = (history c.args.platform.now).present in
     let mid = (history c.loop-child.platform).present in
     let new = (history c.append.new.platform).present in
-    if_ok (λ placed. Adds (λ ns. SealsNode (Seals at.level) at.level head (children_of c.args.twig.now) ns placed.addr placed.key) tells old new head (g.P.Platform.head c.append.new.platform) (drawn c.args.tape.now) (drawn c.append.new.tape))
-    c.append.result (λ placed is.
-    let at_head : IsPlaced g.P.Platform g.T.Tape c.put_node.new.self.body c.loop-child.platform c.append.new.platform c.loop-child.tape c.append.new.tape placed
-    = subst (λ r. IfOk r (IsPlaced g.P.Platform g.T.Tape c.put_node.new.self.body c.loop-child.platform c.append.new.platform c.loop-child.tape c.append.new.tape)) is c.append.ensures.placed in
+    let twig = c.args.twig.now in
+    let first = c.args.reader.now.cache in
+    let before = c.loop-child.reader.cache in
+    let after = c.put_node-2.new.self in
+    let placed = c.in_ok-placed.placed in
+    let at_head = c.in_ok-placed.ensures.placed in
     let address : placed.addr ≡ now = at_head.address in
     let body = c.put_node.new.self.body in
     let node : Sealed = record { addr = placed.addr; key = placed.key; level = suc at.level; entries = es } in
-    let body_is : body ≡ record_bytes placed.addr (NodeRecord (suc at.level) es) = ap (λ (b : Held). b.body) c.put_node.ensures ∙ body_as _ _ _ _ _ _ (c.head.ensures.value ∙ sym address) at.shaped.level_is (c.split_at.ensures.back ∙ (λ i. drop ((c.len-begin.ensures ∙ c.args.entries.now.ok.0) i) (c.deref.ensures.value i))) in
-    let each : Adds (λ ns. SealsEach (Seals at.level) head (children_of c.args.twig.now) ns es) tells old mid head now (drawn c.args.tape.now) (drawn c.loop-child.tape)
-    = adds_as (λ ns. SealsEach (Seals at.level) head (take i cs) ns es) (λ ns. SealsEach (Seals at.level) head (children_of c.args.twig.now) ns es) tells old mid head now (drawn c.args.tape.now) (drawn c.loop-child.tape)
-    (λ ns h. subst (λ xs. SealsEach (Seals at.level) head xs ns es) all h) so_far in
-    adds_then (λ ns. SealsEach (Seals at.level) head (children_of c.args.twig.now) ns es) (λ ms. ms ≡ node ∷ []) (λ ns. SealsNode (Seals at.level) at.level head (children_of c.args.twig.now) ns placed.addr placed.key)
+    let own_is : c.split_at.result.1.now ≡ es = c.split_at.ensures.back ∙ (λ i. drop ((c.len-begin.ensures ∙ c.args.entries.now.ok.0) i) (c.deref.ensures.value i)) in
+    let body_is : body ≡ record_bytes placed.addr (NodeRecord (suc at.level) es) = ap (λ (b : Held). b.body) c.put_node.ensures ∙ body_as _ _ _ _ _ _ (c.head.ensures.value ∙ sym address) at.shaped.level_is own_is in
+    let cached : after ≡ with_sealed before (node ∷ []) = c.put_node-2.ensures.kept ∙ (λ i. filled before (kept_node placed.addr placed.key (node_of (at.shaped.level_is i) (own_is i)))) in
+    let Each : List Child → List Sealed → Type 0 = λ xs. AreCached (λ ns. SealsEach (Seals at.level) head xs ns es) first before in
+    let each : Adds (Each (children_of twig)) tells old mid head now (drawn c.args.tape.now) (drawn c.loop-child.tape)
+    = adds_as (Each (take i cs)) (Each (children_of twig)) tells old mid head now (drawn c.args.tape.now) (drawn c.loop-child.tape) (λ ns h. subst (λ xs. Each xs ns) all h) so_far in
+    adds_then (Each (children_of twig)) (λ ms. ms ≡ node ∷ []) (AreCached (λ ns. SealsNode (Seals at.level) at.level head (children_of twig) ns placed.addr placed.key) first after)
     tells old mid new head now (g.P.Platform.head c.append.new.platform) (drawn c.args.tape.now) (drawn c.loop-child.tape) (drawn c.append.new.tape)
-    (λ ns ms at_is each one. record { entries = es; below = ns; each = each; addr_is = address ∙ at_is; key_is = at_head.key; is = ap (λ xs. ns ++ xs) one })
-    each (adds_page tells mid new now (g.P.Platform.head c.append.new.platform) (drawn c.loop-child.tape) (drawn c.append.new.tape) node body body_is at_head.image at_head.head at_head.drew))
+    (λ ns ms at_is each one. (
+      record { entries = es; below = ns; each = each.0; addr_is = address ∙ at_is; key_is = at_head.key; is = ap (λ xs. ns ++ xs) one },
+      sealed_then first before after ns ms each.1 (subst (λ xs. after ≡ with_sealed before xs) (sym one) cached),
+    ))
+    each (adds_page tells mid new now (g.P.Platform.head c.append.new.platform) (drawn c.loop-child.tape) (drawn c.append.new.tape) node body body_is at_head.image at_head.head at_head.drew)
+
+pub seal_twig-returns-in_err-placed-clause-within : goal.seal_twig-returns-in_err-placed-clause-within
+seal_twig-returns-in_err-placed-clause-within g t c at =
+    let head = g.P.Platform.head c.args.platform.now in
+    let now = g.P.Platform.head c.loop-child.platform in
+    let cs = c.deref-child-items.result.now in
+    let i = c.loop-child.child-index in
+    let inv = c.loop-child.invariant in
+    let so_far = inv.sealed at in
+    let count = children_count at.level head (take i cs) so_far.nodes (drop (length c.args.entries.now.items) c.loop-child.entries.items) so_far.is.0 in
+    let all : take i cs ≡ children_of c.args.twig.now = take_all i cs (omega (arith, c.loop-child-test.false)) ∙ inv.same in
+    omega (arith, c.append.ensures.adds.grows.by_one, so_far.head, count, ap (sum_by (nodes at.level)) all)
 
 pub seal_twig-returns-clause-within : goal.seal_twig-returns-clause-within
 seal_twig-returns-clause-within g t c at =
@@ -193,7 +223,7 @@ seal_twig-returns-clause-within g t c at =
     let i = c.loop-child.child-index in
     let inv = c.loop-child.invariant in
     let so_far = inv.sealed at in
-    let count = children_count at.level head (take i cs) so_far.nodes (drop (length c.args.entries.now.items) c.loop-child.entries.items) so_far.is in
+    let count = children_count at.level head (take i cs) so_far.nodes (drop (length c.args.entries.now.items) c.loop-child.entries.items) so_far.is.0 in
     let all : take i cs ≡ children_of c.args.twig.now = take_all i cs (omega (arith, c.loop-child-test.false)) ∙ inv.same in
     omega (arith, c.append.ensures.adds.grows.by_one, so_far.head, count, ap (sum_by (nodes at.level)) all)
 
@@ -211,6 +241,12 @@ seal_child-returns-in_err-placed-in-Grown-clause-stops g t c at = λ err.
 pub seal_twig-returns-in_err-entry-clause-beside : goal.seal_twig-returns-in_err-entry-clause-beside
 seal_twig-returns-in_err-entry-clause-beside g t c =
     beside_then g.P.Platform g.T.Tape c.args.platform.now c.loop-child.platform c.seal_child.new.platform c.args.tape.now c.loop-child.tape c.seal_child.new.tape c.loop-child.invariant.beside c.seal_child.ensures.beside
+
+pub seal_twig-returns-in_err-placed-clause-beside : goal.seal_twig-returns-in_err-placed-clause-beside
+seal_twig-returns-in_err-placed-clause-beside g t c =
+    let E = c.append.ensures.adds in
+    let last = beside_call g.P.Platform g.T.Tape c.loop-child.platform c.append.new.platform c.loop-child.tape c.append.new.tape E.time E.cell E.grows.rises E.grows.capacity E.reads E.grows.faults E.tape_faults in
+    beside_then g.P.Platform g.T.Tape c.args.platform.now c.loop-child.platform c.append.new.platform c.args.tape.now c.loop-child.tape c.append.new.tape c.loop-child.invariant.beside last
 
 pub seal_twig-returns-clause-beside : goal.seal_twig-returns-clause-beside
 seal_twig-returns-clause-beside g t c =
@@ -234,18 +270,18 @@ seal_twig-returns-in_err-entry-clause-stops g t c at = λ err.
     let same : places ≡ stubs_below at.level at.high c.args.twig.now = ap (stubs_by low_of (stubs at.level) at.high) inv.same in
     let each = subst (EachBy low_of (IsChild at.order at.level) at.high) (sym inv.same) at.shaped.node.each in
     let below = subst (AreBelow head) (sym same) at.below in
-    let done = so_far_over at.order at.level head at.high i cs so_far.nodes es so_far.is each at.order_most (omega (arith, at.level_most)) at.blocks below in
-    let count = children_count at.level head (take i cs) so_far.nodes es so_far.is in
+    let done = so_far_over at.order at.level head at.high i cs so_far.nodes es so_far.is.0 each at.order_most (omega (arith, at.level_most)) at.blocks below in
+    let count = children_count at.level head (take i cs) so_far.nodes es so_far.is.0 in
     let s = loop_child head (g.P.Platform.capacity c.args.platform.now) c.args.twig.now cs i c.child-item.result at inv.same c.loop-child-test.true c.child-item.is in
     let can = can_child head (g.P.Platform.capacity c.args.platform.now) now (g.P.Platform.capacity c.loop-child.platform) c.args.twig.now cs i c.child-item.result at s inv.same inv.beside.head (omega (arith, so_far.head, count)) inv.beside.capacity in
     let some = stubs at.level (end_at at.high i cs) c.child-item.result in
-    adds_stops (λ ns. SealsEach (Seals at.level) head (take i cs) ns es) (AreNodesOver now some) (AreNodesOver head (stubs_below at.level at.high c.args.twig.now)) tells (history c.args.platform.now).present (history c.loop-child.platform).present (history c.seal_child.new.platform).present
+    adds_stops (AreCached (λ ns. SealsEach (Seals at.level) head (take i cs) ns es) c.args.reader.now.cache c.loop-child.reader.cache) (AreNodesOver now some) (AreNodesOver head (stubs_below at.level at.high c.args.twig.now)) tells (history c.args.platform.now).present (history c.loop-child.platform).present (history c.seal_child.new.platform).present
     head now (drawn c.args.tape.now) (drawn c.loop-child.tape) (drawn c.seal_child.new.tape) so_far
     (λ ms are. subst (λ ss. AreNodesOver head ss (so_far.nodes ++ ms)) same (over_append head places some so_far.nodes ms done.over (subst (λ n. AreNodesOver n some ms) so_far.head are) s.places))
     (c.in_err-entry.ensures.stops can refl)
 
-pub seal_twig-returns-clause-stops : goal.seal_twig-returns-clause-stops
-seal_twig-returns-clause-stops g t c at = λ err.
+pub seal_twig-returns-in_err-placed-clause-stops : goal.seal_twig-returns-in_err-placed-clause-stops
+seal_twig-returns-in_err-placed-clause-stops g t c at = λ _.
     let head = g.P.Platform.head c.args.platform.now in
     let now = g.P.Platform.head c.loop-child.platform in
     let cs = c.deref-child-items.result.now in
@@ -261,17 +297,17 @@ seal_twig-returns-clause-stops g t c at = λ err.
     let same : places ≡ stubs_below at.level at.high twig = ap (stubs_by low_of (stubs at.level) at.high) inv.same in
     let each = subst (EachBy low_of (IsChild at.order at.level) at.high) (sym inv.same) at.shaped.node.each in
     let below = subst (AreBelow head) (sym same) at.below in
-    let done = so_far_over at.order at.level head at.high i cs so_far.nodes es so_far.is each at.order_most (omega (arith, at.level_most)) at.blocks below in
+    let done = so_far_over at.order at.level head at.high i cs so_far.nodes es so_far.is.0 each at.order_most (omega (arith, at.level_most)) at.blocks below in
     let mid = (history c.loop-child.platform).present in
     let new = (history c.append.new.platform).present in
     let all : take i cs ≡ children_of twig = take_all i cs (omega (arith, c.loop-child-test.false)) ∙ inv.same in
-    let under = subst (λ xs. SealsEach (Seals at.level) head xs so_far.nodes es) all so_far.is in
+    let under = subst (λ xs. SealsEach (Seals at.level) head xs so_far.nodes es) all so_far.is.0 in
     let fits = subst (λ n. FitsNode n (suc at.level) es) (sym so_far.head) (node_fits at.order at.level at.least at.low at.high head head twig so_far.nodes es at.shaped at.order_most at.level_most at.blocks at.below (omega arith) under) in
     let keys = (entries_are at.level head head at.high (children_of twig) so_far.nodes es under at.below (omega arith)).keys in
     let Are : List Sealed → Type 0 = λ ms. AreNodesOver head (stubs_below at.level at.high twig) (so_far.nodes ++ ms) in
     let before : Are [] = subst (AreNodesOver head (stubs_below at.level at.high twig)) (sym (append-nil so_far.nodes)) (subst (λ ss. AreNodesOver head ss so_far.nodes) same done.over) in
     let stops : Stops Are tells mid new (drawn c.loop-child.tape) (drawn c.append.new.tape) =
-    fault_cases c.append.result (Stops Are tells mid new (drawn c.loop-child.tape) (drawn c.append.new.tape)) err
+    fault_cases c.append.result (Stops Are tells mid new (drawn c.loop-child.tape) (drawn c.append.new.tape)) (ap is_err c.in_err-placed.was)
     (λ is. stops_none Are tells mid new (drawn c.loop-child.tape) (drawn c.append.new.tape) before (λ told. ap (λ platform. (g.P.Platform.history platform).present) (c.append.ensures.idle is).0) (c.append.ensures.idle is).1)
     (λ is.
     let spent = c.append.ensures.spent is in
@@ -280,7 +316,7 @@ seal_twig-returns-clause-stops g t c at = λ err.
     stops_one Are tells mid new (drawn c.loop-child.tape) (drawn c.append.new.tape) node c.put_node.new.self.body
     (subst (λ ss. AreNodesOver head ss (so_far.nodes ++ node ∷ [])) same (over_node head places so_far.nodes node done.over so_far.head (fits, All-from_recursion (λ (e : Entry). IsBytes 32 e.key) es keys) done.listed)) body_is spent.image spent.drew)
     in
-    adds_stops (λ ns. SealsEach (Seals at.level) head (take i cs) ns es) Are (AreNodesOver head (stubs_below at.level at.high twig)) tells (history c.args.platform.now).present mid new
+    adds_stops (AreCached (λ ns. SealsEach (Seals at.level) head (take i cs) ns es) c.args.reader.now.cache c.loop-child.reader.cache) Are (AreNodesOver head (stubs_below at.level at.high twig)) tells (history c.args.platform.now).present mid new
     head now (drawn c.args.tape.now) (drawn c.loop-child.tape) (drawn c.append.new.tape) so_far (λ ms are. are) stops
 
 pub seal_twig-returns-in_err-entry-clause-platform_cause : goal.seal_twig-returns-in_err-entry-clause-platform_cause

@@ -16,9 +16,9 @@ returns-clause-mounts g c =
     let P = g.P.Platform in
     let pages = P.head c.args.platform.now in
     let image = (P.history c.current.new.platform).present in
-    let within = rw c.in-Some.is at c.in-Ok.ensures.within in
-    let found : P.tells → (P.history c.args.platform.now).present.cell ≡ Some (root_bytes c.in-Some.root) = λ told. rw c.in-Some.is at c.in-Ok.ensures.found told in
-    let none = ap (λ (k : Cached). k.kept) c.in-Ok-new.ensures.cache in
+    let within = rw c.in-Some.is at c.in_ok-root.ensures.within in
+    let found : P.tells → (P.history c.args.platform.now).present.cell ≡ Some (root_bytes c.in-Some.root) = λ told. rw c.in-Some.is at c.in_ok-root.ensures.found told in
+    let none = ap (λ (k : Cached). k.kept) c.in_ok-reader.ensures.cache in
     let tree = bare_tree _ _ c.of-grove.ensures.sound c.of-grove.ensures.size c.of-grove.ensures.top c.of-grove.ensures.lists in
     let fresh : IsFresh _ = record { untouched = refl; mapped = refl; tree = tree; none = none } in
     let own = fresh_pages _ pages within fresh in
@@ -29,9 +29,9 @@ returns-clause-mounts g c =
       is_open = fresh_open _ pages _ within c.of-grove.ensures.below c.current.ensures.reads_cell.head fresh;
       untouched = refl;
       pages = own;
-      empty = c.in-Ok-new.ensures.cache;
+      empty = c.in_ok-reader.ensures.cache;
       found = found;
-      follows = λ told. follows_fresh _ image refl tree (none_cached _ c.in-Ok-new.reader.cache none);
+      follows = λ told. follows_fresh _ image refl tree (none_cached _ c.in_ok-reader.reader.cache none);
       holds = holds;
       listed = λ told device stands keys. listed_fresh _ image device device.contents keys own (holds told device stands);
     }

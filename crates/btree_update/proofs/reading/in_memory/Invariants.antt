@@ -1,6 +1,6 @@
 use Rattle.std.proofs.Common.{◌≡◌, ◌<◌, take, vec_capacity}
 use Rattle.btree_update.specs.Reading.{all_kept}
-use Rattle.btree_update.proofs.reading.read_twig.Given as goal
+use Rattle.btree_update.proofs.reading.in_memory.Given as goal
 
 abbrev pub invariant-loop-entry : goal.invariant-loop-entry
 invariant-loop-entry l = record {

@@ -1,0 +1,18 @@
+-- What a cache keeps once nodes were sealed.
+use Rattle.std.specs.Prelude.{◌≡◌, List, [], ◌∷◌}
+use Rattle.node_cache.specs.declared.slots.Kept.{Kept}
+use Rattle.node_cache.specs.Kept.{Cached, kept_node, node_of, filled}
+use Rattle.shadow_commit.specs.Sealed.{Sealed}
+
+-- a sealed node as a cache keeps it
+abbrev pub cached_as : Sealed → Kept
+cached_as n = kept_node n.addr n.key (node_of n.level n.entries)
+
+-- the cache once these nodes were put, one after the other
+abbrev pub with_sealed : Cached → List Sealed → Cached
+with_sealed cache [] = cache
+with_sealed cache (n ∷ ns) = with_sealed (filled cache (cached_as n)) ns
+
+-- nodes are such, and the cache has them
+abbrev pub AreCached : (List Sealed → Type 0) → Cached → Cached → List Sealed → Type 0
+AreCached Are old new nodes = Are nodes × (new ≡ with_sealed old nodes)
