@@ -1,7 +1,8 @@
 use Rattle.std.specs.Vec.{vec_len, vec_capacity}
 use Rattle.btree_twigs.specs.Top.{child_level}
 use Rattle.std.proofs.Common.{◌≡◌, ◌≤◌, ◌*◌, suc, ◌+◌, List, [], ◌∷◌, ◌++◌, take, drop, length, refl, sym, ap, subst, ◌∙◌, arith, append-nil, length-append}
-use Rattle.std.proofs.Common.{Err}
+use Rattle.std.proofs.Common.{Ok, Err}
+use Rattle.page_store.specs.declared.appending.Placed.{Placed}
 use Rattle.std.proofs.lemmas.Result.{err_from_is_err_and}
 use Rattle.std.proofs.lemmas.List.{take_all}
 use Rattle.std.proofs.lemmas.List.Elements.{All-from_recursion}
@@ -332,7 +333,19 @@ seal_twig-returns-in_err-entry-clause-tape_cause g t c =
     rw (p.1, p.2) (tells_on TapeFault c.in_err-entry.field-0.0 _ _ told)
 
 pub seal_twig-returns-clause-platform_cause : goal.seal_twig-returns-clause-platform_cause
-seal_twig-returns-clause-platform_cause g t c = tells_then PlatformFault c.append.result _ _ _ c.loop-child.invariant.quiet.0 c.append.ensures.platform_cause
+seal_twig-returns-clause-platform_cause g t c = tells_then PlatformFault (Ok c.in_ok-placed.placed) _ _ _ c.loop-child.invariant.quiet.0 c.in_ok-placed.ensures.platform_cause
+
+pub seal_twig-returns-in_err-placed-clause-platform_cause : goal.seal_twig-returns-in_err-placed-clause-platform_cause
+seal_twig-returns-in_err-placed-clause-platform_cause g t c =
+    let p = err_from_is_err_and c.from_residual-in_err-placed.result c.from_residual-in_err-placed.ensures.1 in
+    let told = tells_then {T = Placed} PlatformFault (Err c.in_err-placed.field-0.0) _ _ _ c.loop-child.invariant.quiet.0 c.in_err-placed.ensures.platform_cause in
+    rw (p.1, p.2) (tells_on PlatformFault c.in_err-placed.field-0.0 _ _ told)
 
 pub seal_twig-returns-clause-tape_cause : goal.seal_twig-returns-clause-tape_cause
-seal_twig-returns-clause-tape_cause g t c = tells_then TapeFault c.append.result _ _ _ c.loop-child.invariant.quiet.1 c.append.ensures.tape_cause
+seal_twig-returns-clause-tape_cause g t c = tells_then TapeFault (Ok c.in_ok-placed.placed) _ _ _ c.loop-child.invariant.quiet.1 c.in_ok-placed.ensures.tape_cause
+
+pub seal_twig-returns-in_err-placed-clause-tape_cause : goal.seal_twig-returns-in_err-placed-clause-tape_cause
+seal_twig-returns-in_err-placed-clause-tape_cause g t c =
+    let p = err_from_is_err_and c.from_residual-in_err-placed.result c.from_residual-in_err-placed.ensures.1 in
+    let told = tells_then {T = Placed} TapeFault (Err c.in_err-placed.field-0.0) _ _ _ c.loop-child.invariant.quiet.1 c.in_err-placed.ensures.tape_cause in
+    rw (p.1, p.2) (tells_on TapeFault c.in_err-placed.field-0.0 _ _ told)
