@@ -1,8 +1,10 @@
 -- The cause of each answer: which comes where, and that a fault comes only where the count of that object rose.
-use Rattle.std.specs.Prelude.{◌≡◌, ◌≢◌, ◌<◌, ◌≤◌, ℕ, List, Option, None, Result, Ok, Err}
+use Rattle.std.specs.Prelude.{◌≡◌, ◌≢◌, ◌<◌, ◌≤◌, ℕ, List, Option, None, Some, Result, Ok, Err}
 use Rattle.sdbt_base.specs.Counts.{Counts, PlatformRose, TapeRose}
 use Rattle.sdbt_base.specs.Faults.{Rose}
-use Rattle.page_store.specs.Roots.{IsBadCell}
+use Rattle.root_codec.specs.RootRecord.{root_bytes}
+use Rattle.root_codec.specs.declared.root.Root.{Root}
+use Rattle.page_store.specs.Roots.{IsBadCell, IsRootWithin}
 use Rattle.device_session.specs.declared.refusals.MountRefusal.{MountRefusal}
 use Rattle.device_session.specs.declared.refusals.MountRefusal.TheVariants as mount
 use Rattle.device_session.specs.declared.refusals.ReadRefusal.{ReadRefusal}
@@ -12,12 +14,12 @@ use Rattle.device_session.specs.declared.refusals.WriteRefusal.TheVariants as wr
 use Rattle.device_session.specs.declared.refusals.TrimRefusal.{TrimRefusal}
 use Rattle.device_session.specs.declared.refusals.TrimRefusal.TheVariants as trim
 
--- the cell is empty, or it is full and its record can't be served
+-- the cell is empty, or it is full and its record can't be served; and memory is asked for where it can
 abbrev pub IsMountCause : Option (List ℕ) → ℕ → MountRefusal → Type 0
 IsMountCause cell pages mount.NoDevice = cell ≡ None
 IsMountCause cell pages mount.BadRoot = IsBadCell pages cell
 IsMountCause cell pages mount.PlatformFault = Unit {0}
-IsMountCause cell pages mount.Memory = Unit {0}
+IsMountCause cell pages mount.Memory = (root : Root) × IsRootWithin pages root × (cell ≡ Some (root_bytes root))
 
 -- the block is one of the device; and the platform failed where the answer says so, and nowhere else
 abbrev pub IsReadCause : ℕ → ℕ → ℕ → ℕ → Result (Unit {0}) ReadRefusal → Type 0

@@ -3,7 +3,9 @@ use Rattle.std.specs.Prelude.{◌≡◌, ℕ, List, Option, None, Some, Result, 
 use Rattle.sdbt_base.specs.Arrays.{Device, State, closed, session_on, mounted}
 use Rattle.platform.specs.declared.platforms.Platform.{Ghosts as PlatformGhosts}
 use Rattle.platform.specs.Image.{Image}
-use Rattle.page_store.specs.Roots.{IsBadCell}
+use Rattle.root_codec.specs.RootRecord.{root_bytes}
+use Rattle.root_codec.specs.declared.root.Root.{Root}
+use Rattle.page_store.specs.Roots.{IsBadCell, IsRootWithin}
 use Rattle.device_course.specs.States.{IsAt}
 use Rattle.device_session.specs.Mounting.{Mounts}
 use Rattle.device_session.specs.Open.{number_of}
@@ -17,10 +19,11 @@ abbrev pub IsFound : {S : Type 0} → PlatformGhosts S → ℕ → S → S → O
 IsFound P room platform platform_now None = P.tells → (P.history platform).present.cell ≡ None
 IsFound P room platform platform_now (Some session) = Mounts P room platform platform_now session × (P.tells → IsMounted (P.history platform_now).present session)
 
--- a mount stops where the platform failed, where no memory is given, or at a cell that is full, and not with the root record of a root within so many pages
+-- a mount stops where the platform failed, at a cell that is full, and not with the root record of a root within so many pages, or, with such a record in the cell, where no memory
+-- is given
 abbrev pub IsMountStop : Type 0 → Option (List ℕ) → ℕ → DeviceStop → Type 0
 IsMountStop tells cell pages stops.Platform = Unit {0}
-IsMountStop tells cell pages stops.Memory = Unit {0}
+IsMountStop tells cell pages stops.Memory = tells → (root : Root) × IsRootWithin pages root × (cell ≡ Some (root_bytes root))
 IsMountStop tells cell pages stops.BadRoot = tells → IsBadCell pages cell
 IsMountStop tells cell pages stops.Tape = ⊥
 IsMountStop tells cell pages stops.Ledger = ⊥

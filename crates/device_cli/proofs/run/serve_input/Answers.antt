@@ -179,7 +179,7 @@ returns-then-count-eq0-clause-blame g c =
     let P = g.P.Platform in let T = g.T.Tape in let I = g.I.Source in let O = g.O.Sink in let L = g.L.Sink in
     let l = c.loop-left in let e = c.serve_end.new in
     let part : ArePart (counts (P.faults l.platform) (T.faults l.tape) 0 (O.faults l.output) (L.faults l.ledger)) (counts (P.faults e.platform) (T.faults e.tape) 0 (O.faults e.output) (L.faults e.ledger))
-        (counts (P.faults l.platform) (T.faults l.tape) (I.faults l.input) (O.faults l.output) (L.faults l.ledger)) (counts (P.faults e.platform) (T.faults e.tape) (I.faults c.take.new.self) (O.faults e.output) (L.faults e.ledger))
+    (counts (P.faults l.platform) (T.faults l.tape) (I.faults l.input) (O.faults l.output) (L.faults l.ledger)) (counts (P.faults e.platform) (T.faults e.tape) (I.faults c.take.new.self) (O.faults e.output) (L.faults e.ledger))
     = record { platform = inr (refl, refl); tape = inr (refl, refl); input = inl (refl, refl, c.in-Ok.ensures.cause); output = inr (refl, refl); ledger = inr (refl, refl) } in
     blamed_then _ _ _ c.serve_end.result l.invariant.quiet (blamed_wide _ _ _ _ c.serve_end.result part c.serve_end.ensures.blame)
 
@@ -188,7 +188,7 @@ returns-in-Err-clause-blame g c =
     let P = g.P.Platform in let T = g.T.Tape in let I = g.I.Source in let O = g.O.Sink in let L = g.L.Sink in
     let l = c.loop-left in let e = c.serve_piece.new in
     let part : ArePart (counts (P.faults l.platform) (T.faults l.tape) 0 (O.faults l.output) (L.faults l.ledger)) (counts (P.faults e.platform) (T.faults e.tape) 0 (O.faults e.output) (L.faults e.ledger))
-        (counts (P.faults l.platform) (T.faults l.tape) (I.faults l.input) (O.faults l.output) (L.faults l.ledger)) (counts (P.faults e.platform) (T.faults e.tape) (I.faults c.take.new.self) (O.faults e.output) (L.faults e.ledger))
+    (counts (P.faults l.platform) (T.faults l.tape) (I.faults l.input) (O.faults l.output) (L.faults l.ledger)) (counts (P.faults e.platform) (T.faults e.tape) (I.faults c.take.new.self) (O.faults e.output) (L.faults e.ledger))
     = record { platform = inr (refl, refl); tape = inr (refl, refl); input = inl (refl, refl, c.in-Ok.ensures.cause); output = inr (refl, refl); ledger = inr (refl, refl) } in
     let stopped : Ending = Err c.in-Err.stop in
     blamed_then _ _ _ stopped l.invariant.quiet (blamed_wide _ _ _ _ stopped part c.in-Err.ensures.blame)

@@ -1,6 +1,4 @@
 use Rattle.std.proofs.Common.{ℕ, List, Err, ◌++◌, ◌∙◌, refl}
-use Rattle.std.proofs.lemmas.Grind.{common_steps}
-use Rattle.std.proofs.Common.{arith}
 use Rattle.device_cli.specs.World.{World, world_of}
 use Rattle.device_cli.proofs.Serving.{HandledBy, handling}
 use Rattle.line_run.proofs.LineLaws.{IsServing-start, IsServing-line, IsServing-stop, IsServing-end}

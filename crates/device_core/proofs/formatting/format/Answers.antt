@@ -208,8 +208,11 @@ returns-clause-discloses g c =
     format_discloses _ _ _ _ _ _ _ _ _ _ c.put_node.new.self.body c.head-addr.result _ all c.in-Ok-append.ensures.keeps (sealed_body g (goal.at.returns-clause-discloses g c).After-append) c.head-addr.ensures.value
 
 pub returns-then-is_full-clause-cause : goal.returns-then-is_full-clause-cause
-returns-then-is_full-clause-cause g c = (λ told. full_cell c.in-Ok.is_full (g.P.Platform.history c.args.platform.now).present.cell c.if-is_full.true (c.in-Ok.ensures.full told), (record { head = c.load_root.ensures.head; image = c.load_root.ensures.image; drawn = refl }, λ told. one_look _ _ (c.load_root.ensures.time told) (c.load_root.ensures.image told)),
-    ap (λ (n : ℕ). counts n (g.T.Tape.faults c.args.tape.now) 0 0 (g.L.Sink.faults c.args.ledger.now)) c.in-Ok.ensures.cause)
+returns-then-is_full-clause-cause g c = (
+  λ told. full_cell c.in-Ok.is_full (g.P.Platform.history c.args.platform.now).present.cell c.if-is_full.true (c.in-Ok.ensures.full told),
+  (record { head = c.load_root.ensures.head; image = c.load_root.ensures.image; drawn = refl }, λ told. one_look _ _ (c.load_root.ensures.time told) (c.load_root.ensures.image told)),
+  ap (λ (n : ℕ). counts n (g.T.Tape.faults c.args.tape.now) 0 0 (g.L.Sink.faults c.args.ledger.now)) c.in-Ok.ensures.cause,
+)
 
 pub returns-then-head-capacity-clause-cause : goal.returns-then-head-capacity-clause-cause
 returns-then-head-capacity-clause-cause g c = (
@@ -250,10 +253,14 @@ returns-in-Err-TapeFault-clause-cause g c = let idle = c.append.ensures.idle (cc
 )
 
 pub returns-in-Ok-publish-clause-cause : goal.returns-in-Ok-publish-clause-cause
-returns-in-Ok-publish-clause-cause g c = (λ told. empty_cell c.in-Ok.is_full (g.P.Platform.history c.args.platform.now).present.cell c.if-is_full.false (c.in-Ok.ensures.full told), λ none. absurd (omega (arith, none, c.head.ensures.value, c.capacity.ensures.value, c.load_root.ensures.head, c.load_root.ensures.capacity, c.if-head-capacity.false)), omega (arith, c.in-Ok-append.ensures.placed.head, c.load_root.ensures.head, c.publish.ensures.head),
-    let quiet = c.in-Ok-publish.ensures.cause in
-    let same : g.P.Platform.faults c.publish.new.platform ≡ g.P.Platform.faults c.args.platform.now = ap (λ (n : Counts). n.platform) quiet ∙ c.in-Ok-append.ensures.platform_cause.done ∙ c.in-Ok.ensures.cause in
-    λ k. counts (same k) (c.in-Ok-append.ensures.tape_cause.done k) 0 0 (quiet k).ledger)
+returns-in-Ok-publish-clause-cause g c = (
+  λ told. empty_cell c.in-Ok.is_full (g.P.Platform.history c.args.platform.now).present.cell c.if-is_full.false (c.in-Ok.ensures.full told),
+  λ none. absurd (omega (arith, none, c.head.ensures.value, c.capacity.ensures.value, c.load_root.ensures.head, c.load_root.ensures.capacity, c.if-head-capacity.false)),
+  omega (arith, c.in-Ok-append.ensures.placed.head, c.load_root.ensures.head, c.publish.ensures.head),
+  let quiet = c.in-Ok-publish.ensures.cause in
+      let same : g.P.Platform.faults c.publish.new.platform ≡ g.P.Platform.faults c.args.platform.now = ap (λ (n : Counts). n.platform) quiet ∙ c.in-Ok-append.ensures.platform_cause.done ∙ c.in-Ok.ensures.cause in
+      λ k. counts (same k) (c.in-Ok-append.ensures.tape_cause.done k) 0 0 (quiet k).ledger,
+)
 
 pub returns-in-Err-Ledger-clause-cause : goal.returns-in-Err-Ledger-clause-cause
 returns-in-Err-Ledger-clause-cause g c =
