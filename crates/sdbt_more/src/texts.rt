@@ -17,7 +17,7 @@ record leads no more.
 
 WORDS
   nbd FOLDER   serves the device in this folder; its files are media, root and ledger
-  nbd --root CELL FOLDER  serves one whose root is in the folder CELL, and media and ledger in FOLDER
+  nbd --root CELL FOLDER  serves one whose root is in the folder CELL, and all else in FOLDER
   -h, --help   prints this text
   --version    prints the version
 
