@@ -46,4 +46,4 @@ EXAMPLE
 ";
 
 /// The version of the program.
-pub const VERSION: &str = "sdbt_more 0.2.0\n";
+pub const VERSION: &str = "sdbt_more 0.2.1\n";
