@@ -6,11 +6,12 @@ use Rattle.nbd_lang.specs.declared.replies.Outcome.{Outcome}
 use Rattle.sdbt_base.specs.declared.tapes.Tape.{Ghosts as TapeGhosts}
 use Rattle.platform.specs.declared.platforms.Platform.{Ghosts as PlatformGhosts}
 use Rattle.session_calls.specs.Commits.{LeftAt}
-use Rattle.session_calls.specs.Blame.{Counts, HasCause, IsOfCall, NoneFell, counts}
+use Rattle.sdbt_base.specs.Counts.{Counts, NoneFell, counts}
+use Rattle.session_calls.specs.Blame.{IsOfCall}
 use Rattle.session_calls.specs.declared.stops.DeviceStop.{DeviceStop}
 use Rattle.session_calls.specs.declared.stops.DeviceStop.TheVariants as device
 use Rattle.nbd_core.proofs.CallLaws.{rose_later}
-use Rattle.nbd_core.specs.Halts.{Blames, IsDueTo, OfCommit, commit_halt, outcome_after}
+use Rattle.nbd_core.specs.Halts.{Blames, HasRisen, IsDueTo, OfCommit, commit_halt, outcome_after}
 use Rattle.nbd_core.specs.Requests.{DataEnd}
 use Rattle.nbd_core.specs.declared.stop.Stop.{Stop}
 use Rattle.nbd_core.specs.declared.stop.Stop.TheVariants as stops
@@ -24,7 +25,7 @@ blame_going rest rest_now platform platform_now x fell le = record {
   cause = tt;
 }
 
-by_stop : (before now : Counts) (stop : DeviceStop) → HasCause before now stop → IfErr (outcome_after stop) (IsDueTo before now)
+by_stop : (before now : Counts) (stop : DeviceStop) → HasRisen before now stop → IfErr (outcome_after stop) (IsDueTo before now)
 by_stop before now device.Platform cause = cause
 by_stop before now device.Tape cause = cause
 by_stop before now device.Ledger cause = cause
@@ -32,11 +33,11 @@ by_stop before now device.BadRoot cause = tt
 by_stop before now (device.BadRecord addr) cause = tt
 by_stop before now device.Memory cause = tt
 
-pub blame_stop : (before now : Counts) (stop : DeviceStop) (result : Result Outcome Halt) → NoneFell before now → HasCause before now stop → result ≡ outcome_after stop → Blames before now result
+pub blame_stop : (before now : Counts) (stop : DeviceStop) (result : Result Outcome Halt) → NoneFell before now → HasRisen before now stop → result ≡ outcome_after stop → Blames before now result
 blame_stop before now stop result fell cause is = subst (λ (r : Result Outcome Halt). Blames before now r) (sym is) (record { fell = fell; cause = by_stop before now stop cause })
 
 -- a call that draws nothing
-of_platform : (rest rest_now : Counts) (platform platform_now : ℕ) (stop : DeviceStop) → IsOfCall stop → HasCause (counts platform 0 0 0 0) (counts platform_now 0 0 0 0) stop → HasCause (record rest { platform = platform }) (record rest_now { platform = platform_now }) stop
+of_platform : (rest rest_now : Counts) (platform platform_now : ℕ) (stop : DeviceStop) → IsOfCall stop → HasRisen (counts platform 0 0 0 0) (counts platform_now 0 0 0 0) stop → HasRisen (record rest { platform = platform }) (record rest_now { platform = platform_now }) stop
 of_platform rest rest_now platform platform_now device.Platform of cause = cause
 of_platform rest rest_now platform platform_now device.Tape of (inl rose) = absurd (omega (arith, rose))
 of_platform rest rest_now platform platform_now device.Tape of (inr full) = absurd (omega (arith, full))
@@ -45,15 +46,15 @@ of_platform rest rest_now platform platform_now device.BadRoot of cause = tt
 of_platform rest rest_now platform platform_now (device.BadRecord addr) of cause = tt
 of_platform rest rest_now platform platform_now device.Memory of cause = tt
 
-pub blame_platform : (rest rest_now : Counts) (platform platform_now : ℕ) (stop : DeviceStop) (result : Result Outcome Halt) → NoneFell rest rest_now → platform ≤ platform_now → IsOfCall stop → HasCause (counts platform 0 0 0 0) (counts platform_now 0 0 0 0) stop → result ≡ outcome_after stop
+pub blame_platform : (rest rest_now : Counts) (platform platform_now : ℕ) (stop : DeviceStop) (result : Result Outcome Halt) → NoneFell rest rest_now → platform ≤ platform_now → IsOfCall stop → HasRisen (counts platform 0 0 0 0) (counts platform_now 0 0 0 0) stop → result ≡ outcome_after stop
     → Blames (record rest { platform = platform }) (record rest_now { platform = platform_now }) result
 blame_platform rest rest_now platform platform_now stop result fell le of cause is =
     blame_stop (record rest { platform = platform }) (record rest_now { platform = platform_now }) stop result (record { platform = le; tape = fell.tape; input = fell.input; output = fell.output; ledger = fell.ledger })
     (of_platform rest rest_now platform platform_now stop of cause) is
 
 -- a call that may draw
-pub cause_wide : (rest rest_now : Counts) (platform platform_now tape tape_now : ℕ) (stop : DeviceStop) → IsOfCall stop → HasCause (counts platform tape 0 0 0) (counts platform_now tape_now 0 0 0) stop
-    → HasCause (record rest { platform = platform; tape = tape }) (record rest_now { platform = platform_now; tape = tape_now }) stop
+pub cause_wide : (rest rest_now : Counts) (platform platform_now tape tape_now : ℕ) (stop : DeviceStop) → IsOfCall stop → HasRisen (counts platform tape 0 0 0) (counts platform_now tape_now 0 0 0) stop
+    → HasRisen (record rest { platform = platform; tape = tape }) (record rest_now { platform = platform_now; tape = tape_now }) stop
 cause_wide rest rest_now platform platform_now tape tape_now device.Platform of cause = cause
 cause_wide rest rest_now platform platform_now tape tape_now device.Tape of cause = cause
 cause_wide rest rest_now platform platform_now tape tape_now device.Ledger of cause = absurd of

@@ -1,7 +1,7 @@
 -- The exit status of a run, and what it says.
 use Rattle.std.proofs.Common.{◌≡◌, List, [], ◌∷◌, Err, inl, inr, refl, length, arith}
 use Rattle.std.specs.Prelude.{map}
-use Rattle.session_calls.specs.Blame.{Counts}
+use Rattle.sdbt_base.specs.Counts.{Counts}
 use Rattle.nbd_core.specs.Halts.{Blames, status_at}
 use Rattle.nbd_core.specs.Program.{IsStatus, IsBlamedAt}
 use Rattle.nbd_core.specs.declared.stop.Stop.TheVariants as stops

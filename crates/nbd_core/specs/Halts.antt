@@ -3,7 +3,7 @@ use Rattle.std.specs.Prelude.{ℕ, Result, Ok, Err, IfErr}
 use Rattle.sdbt_base.specs.Faults.{Rose}
 use Rattle.nbd_lang.specs.declared.replies.Outcome.{Outcome}
 use Rattle.nbd_lang.specs.declared.replies.Outcome.TheVariants as outcomes
-use Rattle.session_calls.specs.Blame.{Counts, NoneFell}
+use Rattle.sdbt_base.specs.Counts.{Counts, NoneFell}
 use Rattle.session_calls.specs.declared.stops.DeviceStop.{DeviceStop}
 use Rattle.session_calls.specs.declared.stops.DeviceStop.TheVariants as device
 use Rattle.nbd_core.specs.Stops.{status_of}
@@ -61,6 +61,15 @@ IsDueTo before now halts.BadRoot = Unit {0}
 IsDueTo before now halts.NoDevice = Unit {0}
 IsDueTo before now halts.Unfinished = Unit {0}
 IsDueTo before now halts.Memory = Unit {0}
+
+-- a stop of the device that names an object came where the count of that object rose
+abbrev pub HasRisen : Counts → Counts → DeviceStop → Type 0
+HasRisen before now device.Platform = Rose before.platform now.platform
+HasRisen before now device.Tape = Rose before.tape now.tape
+HasRisen before now device.Ledger = Rose before.ledger now.ledger
+HasRisen before now device.BadRoot = Unit {0}
+HasRisen before now (device.BadRecord addr) = Unit {0}
+HasRisen before now device.Memory = Unit {0}
 
 -- no count fell, and a run that ended at a fault did so where the count of that object rose
 pub record Blames {X : Type 0} (before now : Counts) (result : Result X Halt) : Type 0 where

@@ -7,7 +7,7 @@ use Rattle.sdbt_base.specs.declared.tapes.Tape.{Ghosts as TapeGhosts}
 use Rattle.platform.specs.declared.platforms.Platform.{Ghosts as PlatformGhosts}
 use Rattle.device_course.specs.States.{Outside, around}
 use Rattle.device_terms.specs.Served.{IsServedImage}
-use Rattle.session_calls.specs.Blame.{Counts, NoneFell}
+use Rattle.sdbt_base.specs.Counts.{Counts, NoneFell}
 use Rattle.nbd_core.specs.Halts.{status_at}
 use Rattle.nbd_core.specs.Serving.{counts_of}
 use Rattle.nbd_core.specs.Running.{Untouched, Talks}

@@ -16,7 +16,9 @@ use Rattle.nbd_lang.specs.declared.requests.RequestKind.TheVariants as kinds
 use Rattle.nbd_lang.specs.declared.replies.Outcome.{Outcome}
 use Rattle.nbd_lang.specs.declared.replies.Outcome.TheVariants as outcomes
 use Rattle.session_calls.specs.Along.{Along, Drawn}
-use Rattle.session_calls.specs.Blame.{Counts, HasCause, IsOfCall, counts}
+use Rattle.sdbt_base.specs.Counts.{Counts, counts}
+use Rattle.session_calls.specs.Blame.{IsOfCall}
+use Rattle.nbd_core.specs.Halts.{HasRisen}
 use Rattle.session_calls.specs.Damage.{IsMounted}
 use Rattle.session_calls.specs.declared.stops.DeviceStop.{DeviceStop}
 use Rattle.nbd_core.specs.declared.halts.Halt.{Halt}
@@ -36,7 +38,7 @@ pub record IsReady (tells : Type 0) (here : Outside) (session : Session) : Type 
 pub record Calls {S X : Type 0} (P : PlatformGhosts S) (updates : ℕ) (platform platform_now : S) (drawn drawn_now : Drawn) (session now : Session) (result : Result X DeviceStop) : Type 0 where
   pub along : Along P updates platform platform_now drawn drawn_now session now
   pub stops : IfErr result IsOfCall
-  pub cause : IfErr result (HasCause (counts (P.faults platform) drawn.faults 0 0 0) (counts (P.faults platform_now) drawn_now.faults 0 0 0))
+  pub cause : IfErr result (HasRisen (counts (P.faults platform) drawn.faults 0 0 0) (counts (P.faults platform_now) drawn_now.faults 0 0 0))
 
 -- a part of a run that began with this session, and ended with that one, if the run goes on: it is
 -- ready for more then; pages were only added; keys were kept, what was deleted stays so, and the

@@ -2,7 +2,7 @@
 ghost use Rattle.std.specs.Prelude.{Some, ◌≡◌, ◌+◌, ◌*◌, ◌≤◌, ◌<◌, ℕ, List, Option, IfErr, IfOk, IsTrue, length};
 ghost use Rattle.device_session.specs.Open.{IsOpen, blocks_of};
 ghost use Rattle.session_calls.specs.Along.{Along, Drawn};
-ghost use Rattle.session_calls.specs.Blame.{Counts, NoneFell};
+ghost use Rattle.sdbt_base.specs.Counts.{Counts, NoneFell};
 ghost use Rattle.sdbt_base.specs.Arrays.{Device, Session as OpenSession, mounted};
 ghost use Rattle.device_course.specs.States.{IsAt};
 ghost use Rattle.nbd_core.specs.Arrays.{ReadsBytes};

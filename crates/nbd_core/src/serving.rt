@@ -8,7 +8,7 @@ ghost use Rattle.nbd_lang.specs.Requests.{bytes_behind};
 ghost use Rattle.nbd_lang.specs.Refusals.{refusal};
 ghost use Rattle.nbd_lang.specs.Replies.{Reply, reply_bytes};
 ghost use Rattle.session_calls.specs.Along.{Along, drawn_by};
-ghost use Rattle.session_calls.specs.Blame.{Counts, NoneFell, counts};
+ghost use Rattle.sdbt_base.specs.Counts.{Counts, NoneFell, counts};
 ghost use Rattle.nbd_core.specs.Halts.{Blames};
 ghost use Rattle.nbd_core.specs.Requests.{DataCame, DataEnd, HeadCame};
 ghost use Rattle.nbd_core.specs.Served.{Answered, EndsByDisconnect, Served};

@@ -6,7 +6,7 @@ ghost use Rattle.device_course.specs.States.{IsAt};
 ghost use Rattle.nbd_terms.specs.Held.{trim_all};
 ghost use Rattle.sdbt_base.specs.Arrays.{Device, Session as OpenSession, mounted};
 ghost use Rattle.session_calls.specs.Along.{Along, Drawn};
-ghost use Rattle.session_calls.specs.Blame.{Counts, NoneFell};
+ghost use Rattle.sdbt_base.specs.Counts.{Counts, NoneFell};
 ghost use Rattle.nbd_core.specs.Arrays.{TrimmedSome};
 ghost use Rattle.nbd_core.specs.Halts.{Blames};
 ghost use Rattle.nbd_core.specs.Requests.{DataEnd};

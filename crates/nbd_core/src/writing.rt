@@ -6,7 +6,9 @@ ghost use Rattle.device_course.specs.States.{IsAt};
 ghost use Rattle.sdbt_base.specs.Arrays.{Device, Session as OpenSession, mounted};
 ghost use Rattle.nbd_core.specs.Arrays.{AddsOne, WritesPart};
 ghost use Rattle.session_calls.specs.Along.{Along, drawn_by};
-ghost use Rattle.session_calls.specs.Blame.{Counts, HasCause, IsOfCall, NoneFell};
+ghost use Rattle.sdbt_base.specs.Counts.{Counts, NoneFell};
+ghost use Rattle.session_calls.specs.Blame.{IsOfCall};
+ghost use Rattle.nbd_core.specs.Halts.{HasRisen};
 ghost use Rattle.nbd_core.specs.Halts.{Blames};
 ghost use Rattle.nbd_core.specs.Serving.{Calls, IsWithin};
 ghost use Rattle.nbd_core.specs.Requests.{DataCame};
@@ -110,7 +112,7 @@ fn give_up<I: Source>(
     left: u64,
 ) -> Result<Outcome, Halt>
     requires { IsOfCall stop }
-    ensures blame { (rest rest_now : Counts) → NoneFell rest rest_now → HasCause rest rest_now stop
+    ensures blame { (rest rest_now : Counts) → NoneFell rest rest_now → HasRisen rest rest_now stop
         → Blames (record rest { input = I.faults input.old })
         (record rest_now { input = I.faults input.new }) result }
     ensures bytes { DataCame (I.left input.old) (I.left input.new) intake.old intake.new left

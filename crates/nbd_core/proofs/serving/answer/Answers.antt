@@ -1,5 +1,5 @@
 use Rattle.std.proofs.Common.{List, ℕ, arith}
-use Rattle.session_calls.specs.Blame.{counts}
+use Rattle.sdbt_base.specs.Counts.{counts}
 use Rattle.nbd_core.proofs.BlameLaws.{blame_sink}
 use Rattle.nbd_core.proofs.CarryLaws.{carries_end}
 use Rattle.nbd_core.specs.Serving.{bytes_of_reply}

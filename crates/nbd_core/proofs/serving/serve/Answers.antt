@@ -1,6 +1,6 @@
 use Rattle.std.proofs.Common.{◌≡◌, ◌*◌, ◌++◌, ◌∷◌, [], ℕ, ap, true, false, refl, arith, subst, Ok, Option}
 use Rattle.std.proofs.lemmas.Result.{err_from_is_err_and}
-use Rattle.session_calls.specs.Blame.{counts, NoneFell}
+use Rattle.sdbt_base.specs.Counts.{counts, NoneFell}
 use Rattle.nbd_lang.specs.declared.requests.Request.{Request}
 use Rattle.nbd_core.specs.Requests.{HeadCame}
 use Rattle.nbd_core.proofs.BlameLaws.{blame_earlier, blame_as, fell_then}

@@ -1,6 +1,6 @@
 use Rattle.std.specs.Prelude.{◌*◌, List, ◌+◌, Some, length}
 use Rattle.device_course.specs.States.{around}
-use Rattle.session_calls.specs.Blame.{NoneFell}
+use Rattle.sdbt_base.specs.Counts.{NoneFell}
 use Rattle.device_session.specs.Open.{blocks_of}
 use Rattle.nbd_core.specs.Served.{Exchange}
 use Rattle.nbd_core.proofs.ServedLaws.{Replied}

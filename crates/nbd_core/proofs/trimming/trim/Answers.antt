@@ -8,7 +8,7 @@ use Rattle.session_calls.specs.Along.{Along}
 use Rattle.session_calls.proofs.AlongLaws.{along_start, along_then}
 use Rattle.nbd_core.proofs.ArrayLaws.{trim_halted, trim_step, trimmed_some}
 use Rattle.nbd_core.proofs.BlameLaws.{blame_going, blame_platform, stop_halts}
-use Rattle.nbd_core.proofs.CallLaws.{along_more, cause_later, no_draw}
+use Rattle.nbd_core.proofs.CallLaws.{along_more, cause_later, has_risen, no_draw}
 use Rattle.nbd_core.proofs.trimming.trim.Goals as goal
 
 pub loop-block-init : goal.loop-block-init
@@ -53,7 +53,7 @@ pub returns-in-Err-clause-blame : goal.returns-in-Err-clause-blame
 returns-in-Err-clause-blame g c rest rest_now fell =
     let goes = c.in-Err.ensures.goes no_draw in
     let before = (c.loop-block.invariant.along no_draw).fell in
-    blame_platform rest rest_now _ _ c.in-Err.stop _ fell (omega (arith, before.platform, goes.along.fell.platform)) goes.stops (cause_later _ _ _ c.in-Err.stop before goes.along.fell goes.cause) c.after_stop.ensures
+    blame_platform rest rest_now _ _ c.in-Err.stop _ fell (omega (arith, before.platform, goes.along.fell.platform)) goes.stops (cause_later _ _ _ c.in-Err.stop before goes.along.fell (has_risen _ _ c.in-Err.stop goes.cause)) c.after_stop.ensures
 
 pub returns-in-Err-clause-halts : goal.returns-in-Err-clause-halts
 returns-in-Err-clause-halts g c left came = stop_halts c.in-Err.stop _ left came (c.in-Err.ensures.goes no_draw).stops c.after_stop.ensures
