@@ -10,7 +10,7 @@ use Rattle.page_store.specs.Keeping.{DrewAll, HandedOver}
 use Rattle.page_store.specs.Floors.{IsInTree, floor_of}
 use Rattle.page_store.specs.Disclosing.{DisclosesTrees}
 use Rattle.device_terms.specs.Served.{IsServedImage}
-use Rattle.session_calls.specs.Blame.{Counts}
+use Rattle.sdbt_base.specs.Counts.{Counts}
 use Rattle.script_lang.specs.Replies.{Reply}
 use Rattle.device_cli.specs.World.{World}
 use Rattle.device_cli.specs.Represents.{StandsFor}
@@ -50,8 +50,8 @@ pub record RunsOver (old mid cut new : World) (first second : ℕ) (left left_no
   pub goes_on : (there : Option Device) → StandsFor old.history.present there → IsServedImage old.history.present
       → GoesOnOver (closed there) one.lines one.replies old mid
 
--- each run ends with a status that names an object only where the count of faults of that object rose: of the tape, the output and the ledger, which
--- both runs have, from what it was between them, or to that
+-- each run ends with a status that names an object only where the count of faults of that object rose, and that of no other; at 0 none rose: of the
+-- tape, the output and the ledger, which both runs have, from what it was between them, or to that
 pub record HaveCausesOver (first second : ℕ) (before : Counts) (platform input restarted other : ℕ) (now : Counts) : Type 0 where
   pub between : Counts
   pub one : HasCause first before (record between { platform = platform; input = input })

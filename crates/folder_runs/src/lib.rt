@@ -7,7 +7,7 @@ ghost use Rattle.device_terms.specs.Served.{IsServedImage};
 ghost use Rattle.device_course.specs.Fitting.{LeavesFitting};
 ghost use Rattle.device_cli.specs.Represents.{StandsFor};
 ghost use Rattle.device_cli.specs.World.{world_of};
-ghost use Rattle.session_calls.specs.Blame.{counts};
+ghost use Rattle.sdbt_base.specs.Counts.{counts};
 ghost use Rattle.folder_platform.specs.Files.{Files};
 ghost use Rattle.folder_platform.specs.Events.{Event};
 ghost use Rattle.folder_platform.specs.Model.{replay};

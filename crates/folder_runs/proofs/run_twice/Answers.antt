@@ -1,6 +1,6 @@
 use Rattle.std.proofs.Common.{rules, ◌≡◌, length, ap}
 use Rattle.platform.specs.History.{History, moment}
-use Rattle.session_calls.specs.Blame.{counts}
+use Rattle.sdbt_base.specs.Counts.{counts}
 use Rattle.folder_platform.specs.Told.{past_of, told_by}
 use Rattle.folder_platform.proofs.MomentLaws.{left_at}
 use Rattle.folder_runs.proofs.Together.{told_answers, goes_on, fits_over, discloses_runs}
