@@ -1,4 +1,4 @@
-//! What a program makes of folders before it serves a device in them, and what it says on standard error.
+//! What a program makes of its words and of folders before it serves a device in them, and what it says on standard error.
 //!
 //! The platform is made by `open_in_folders` of `folder_files`, first of all: it has the locks.
 #![tactic(auto)]
@@ -8,9 +8,11 @@ mod key_source;
 mod ledger_file;
 mod not_ready;
 mod watched;
+mod words;
 
 pub use failures::reason_of;
 pub use key_source::{RANDOM, open_keys};
 pub use ledger_file::{LedgerFile, open_ledger};
 pub use not_ready::NotReady;
 pub use watched::Watched;
+pub use words::{print_texts, words_of};

@@ -16,9 +16,24 @@ pub enum NotReady {
     Keys(io::Error),
 }
 
+/// The exit status where a folder, a file in it or the random source could not be made ready.
+const NOT_READY: u8 = 1;
+
+/// The exit status where memory was refused.
+const NO_MEMORY: u8 = 11;
+
 impl NotReady {
-    /// Whether no memory was given.
-    pub fn is_memory(&self) -> bool {
+    /// The exit status of a run that could not begin. What is not ready, the file and the system's reason, is said on standard error for
+    /// the program of this name, but for want of memory.
+    pub fn status_told(&self, rt: &impl Eprint, program: &str, cell: &str, folder: &str) -> u8 {
+        if self.is_memory() {
+            return NO_MEMORY;
+        }
+        let _ = self.tell(rt, program, cell, folder);
+        NOT_READY
+    }
+
+    fn is_memory(&self) -> bool {
         match self {
             NotReady::Platform(refusal) => matches!(refusal, OpenRefusal::Memory),
             NotReady::Ledger(error) | NotReady::Keys(error) => {
@@ -27,14 +42,7 @@ impl NotReady {
         }
     }
 
-    /// Says on standard error, for the program of this name, what is not ready: the file, and the system's reason.
-    pub fn tell(
-        &self,
-        rt: &impl Eprint,
-        program: &str,
-        cell: &str,
-        folder: &str,
-    ) -> io::Result<()> {
+    fn tell(&self, rt: &impl Eprint, program: &str, cell: &str, folder: &str) -> io::Result<()> {
         eprintln!(rt; "folder not ready")?;
         match self {
             NotReady::Platform(refusal) => tell_refusal(refusal, rt, program, cell, folder),

@@ -8,16 +8,13 @@ mod texts;
 
 use crate::texts::{HELP, NAME, USAGE, VERSION};
 use folder_files::{LockFile, open_in_folders};
-use folder_objects::{NotReady, open_keys, open_ledger, reason_of};
+use folder_objects::{NotReady, open_keys, open_ledger, print_texts, reason_of, words_of};
 use nbd_core::run_nbd;
-use sdbt_base::{ReadSource, Sink, WriteSink};
+use sdbt_base::{ReadSource, WriteSink};
 use std::alloc::Global;
 use std::process::ExitCode;
 use std::rt::{Env, Files};
-use std::{env, io};
-
-/// The exit status where a folder, a file in it or the random source could not be made ready.
-const NOT_READY: u8 = 1;
+use std::io;
 
 /// The exit status of a faulty command line.
 const FAULTY: u8 = 2;
@@ -84,24 +81,12 @@ where
     }
 }
 
-/// The words behind the program's own name.
-fn words_of(rt: &(impl Env + Alloc<A = Global>)) -> io::Result<Vec<String>> {
-    let mut words = Vec::new(rt.alloc());
-    for word in env::args(rt)?.skip(1) {
-        words.push(word)?;
+/// Puts texts to standard output. The answer is the exit status.
+fn print(rt: &impl Print, texts: &[&str]) -> u8 {
+    match print_texts(rt, texts) {
+        Ok(()) => 0,
+        Err(_) => OUTPUT_FAULT,
     }
-    Ok(words)
-}
-
-/// Puts a text to standard output.
-fn print(rt: &impl Print, parts: &[&str]) -> u8 {
-    let mut output = WriteSink::new(io::writer(rt));
-    for part in parts {
-        if output.put(part.as_bytes()).is_err() {
-            return OUTPUT_FAULT;
-        }
-    }
-    0
 }
 
 /// Serves the device that the words behind `nbd` name.
@@ -131,11 +116,7 @@ where
 {
     match run_in_folders(rt, cell, folder, words) {
         Ok(status) => status,
-        Err(not_ready) if not_ready.is_memory() => NO_MEMORY,
-        Err(not_ready) => {
-            let _ = not_ready.tell(rt, NAME, cell, folder);
-            NOT_READY
-        }
+        Err(not_ready) => not_ready.status_told(rt, NAME, cell, folder),
     }
 }
 
