@@ -12,8 +12,20 @@ pub fn encode_block(addr: u64, block: u64, content: &[u8], out: &mut [u8])
     requires block { block < 1048576 }
     requires content { length content.now ≤ 4096 }
     requires size { length out.old ≡ 4128 }
-    ensures record { out.new ≡ record_bytes addr (DataRecord block (content.now ++ replicate (4096 - length content.now) 0)) }
-    ensures fits { FitsRecord addr (DataRecord block (content.now ++ replicate (4096 - length content.now) 0)) }
+    ensures record { out.new ≡ record_bytes addr (DataRecord block (padded content.now)) }
+    ensures fits { FitsRecord addr (DataRecord block (padded content.now)) }
+{
+    encode_block_over(addr, block, content, RECORD, out);
+}
+
+/// The same over bytes that are zeros from the place `zeros` on: those that need not be written are left.
+pub fn encode_block_over(addr: u64, block: u64, content: &[u8], zeros: usize, out: &mut [u8])
+    requires block { block < 1048576 }
+    requires content { length content.now ≤ 4096 }
+    requires size { length out.old ≡ 4128 }
+    requires zeros { All (λ b. b ≡ 0) (drop zeros out.old) }
+    ensures record { out.new ≡ record_bytes addr (DataRecord block (padded content.now)) }
+    ensures fits { FitsRecord addr (DataRecord block (padded content.now)) }
 {
     let (front, payload) = out.split_at_mut(HEAD);
     let head = Head {
@@ -26,7 +38,8 @@ pub fn encode_block(addr: u64, block: u64, content: &[u8], out: &mut [u8])
     put_head(&head, front);
     let (start, rest) = payload.split_at_mut(content.len());
     start.copy_from_slice(content);
-    put_zeros(rest);
+    let used = zeros.saturating_sub(HEAD + content.len()).min(rest.len());
+    put_zeros(&mut rest[..used]);
 }
 
 /// Whether a node at `addr` can have this level and these entries: the level is 1 to 20, there are at most

@@ -10,17 +10,15 @@ mod texts;
 use crate::texts::{HELP, NAME, USAGE, VERSION};
 use device_cli::run_main;
 use folder_files::{LockFile, open_in_folders};
-use folder_objects::{
-    NotReady, Watched, open_keys, open_ledger, print_texts, reason_of, words_of,
-};
+use folder_objects::{NotReady, Watched, open_keys, open_ledger, print_texts, reason_of, words_of};
 use key_tape::SeedTape;
 use platform::MemPlatform;
 use sdbt_base::{MemSink, ReadSource, WriteSink};
 use std::alloc::Global;
+use std::io;
 use std::io::IsTerminal;
 use std::process::ExitCode;
 use std::rt::{Env, Files};
-use std::io;
 
 /// How many pages the medium in memory can have.
 const PAGES: u64 = 262_144;

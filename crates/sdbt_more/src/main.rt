@@ -12,9 +12,9 @@ use folder_objects::{NotReady, open_keys, open_ledger, print_texts, reason_of, w
 use nbd_core::run_nbd;
 use sdbt_base::{ReadSource, WriteSink};
 use std::alloc::Global;
+use std::io;
 use std::process::ExitCode;
 use std::rt::{Env, Files};
-use std::io;
 
 /// The exit status of a faulty command line.
 const FAULTY: u8 = 2;
