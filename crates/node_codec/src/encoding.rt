@@ -1,10 +1,10 @@
-ghost use Rattle.std.specs.Prelude.{◌≡◌, ◌-◌, ◌<◌, ◌≤◌, ◌++◌, ◌↔◌, IsTrue, length, replicate};
+ghost use Rattle.std.specs.Prelude.{◌≡◌, ◌+◌, ◌-◌, ◌<◌, ◌≤◌, ◌++◌, ◌↔◌, IsTrue, drop, length, replicate};
 ghost use Rattle.node_codec.specs.Record.{DataRecord, NodeRecord, record_bytes, FitsNode, FitsRecord};
 
 use crate::body::Entry;
-use crate::entries::{are_ascending, are_within, put_entries, put_zeros};
+use crate::entries::{are_ascending, are_within, put_entries, put_zeros_before};
 use crate::head::{DATA, HEAD, Head, NODE, put_head};
-use sdbt_base::{MAX_LEVEL, MAX_ORDER};
+use sdbt_base::{MAX_LEVEL, MAX_ORDER, RECORD};
 
 /// Writes the data record of `block` at `addr` over the 4,128 bytes of `out`, whatever they were. The
 /// content is at most 4,096 bytes, and zeros follow it.
@@ -12,20 +12,21 @@ pub fn encode_block(addr: u64, block: u64, content: &[u8], out: &mut [u8])
     requires block { block < 1048576 }
     requires content { length content.now ≤ 4096 }
     requires size { length out.old ≡ 4128 }
-    ensures record { out.new ≡ record_bytes addr (DataRecord block (padded content.now)) }
-    ensures fits { FitsRecord addr (DataRecord block (padded content.now)) }
+    ensures record { out.new ≡ record_bytes addr (DataRecord block (content.now ++ replicate (4096 - length content.now) 0)) }
+    ensures fits { FitsRecord addr (DataRecord block (content.now ++ replicate (4096 - length content.now) 0)) }
 {
     encode_block_over(addr, block, content, RECORD, out);
 }
 
 /// The same over bytes that are zeros from the place `zeros` on: those that need not be written are left.
+/// Behind head and content all are zeros then.
 pub fn encode_block_over(addr: u64, block: u64, content: &[u8], zeros: usize, out: &mut [u8])
     requires block { block < 1048576 }
     requires content { length content.now ≤ 4096 }
     requires size { length out.old ≡ 4128 }
-    requires zeros { All (λ b. b ≡ 0) (drop zeros out.old) }
-    ensures record { out.new ≡ record_bytes addr (DataRecord block (padded content.now)) }
-    ensures fits { FitsRecord addr (DataRecord block (padded content.now)) }
+    requires zeros { drop zeros out.old ≡ replicate (4128 - zeros) 0 }
+    ensures record { out.new ≡ record_bytes addr (DataRecord block (content.now ++ replicate (4096 - length content.now) 0)) }
+    ensures zeros { drop (32 + length content.now) out.new ≡ replicate (4128 - (32 + length content.now)) 0 }
 {
     let (front, payload) = out.split_at_mut(HEAD);
     let head = Head {
@@ -38,8 +39,7 @@ pub fn encode_block_over(addr: u64, block: u64, content: &[u8], zeros: usize, ou
     put_head(&head, front);
     let (start, rest) = payload.split_at_mut(content.len());
     start.copy_from_slice(content);
-    let used = zeros.saturating_sub(HEAD + content.len()).min(rest.len());
-    put_zeros(&mut rest[..used]);
+    put_zeros_before(zeros.saturating_sub(HEAD + content.len()), rest);
 }
 
 /// Whether a node at `addr` can have this level and these entries: the level is 1 to 20, there are at most

@@ -1,4 +1,4 @@
-ghost use Rattle.std.specs.Prelude.{◌≡◌, ◌*◌, ◌<◌, ◌≤◌, ◌↔◌, All, List, [], IsTrue, IsFalse, length, map, replicate, take};
+ghost use Rattle.std.specs.Prelude.{◌≡◌, ◌-◌, ◌*◌, ◌<◌, ◌≤◌, ◌↔◌, All, List, [], IsTrue, IsFalse, drop, length, map, replicate, take};
 ghost use Rattle.std.specs.List.{flat_map};
 ghost use Rattle.std.specs.List.Sorted.{IsStrictlyIncreasing};
 ghost use Rattle.sdbt_base.specs.Bytes.{IsBytes};
@@ -15,10 +15,22 @@ use sdbt_base::{Key, MAX_BLOCKS};
 pub(crate) const ENTRY: usize = 48;
 
 /// Writes zeros.
-pub(crate) fn put_zeros(out: &mut [u8])
+fn put_zeros(out: &mut [u8])
     ensures { out.new ≡ replicate (length out.old) 0 }
 {
     out.fill(0);
+}
+
+/// Writes zeros where there are none already: from the place `zeros` on all are.
+pub(crate) fn put_zeros_before(zeros: usize, out: &mut [u8])
+    requires { drop zeros out.old ≡ replicate (length out.old - zeros) 0 }
+    ensures { out.new ≡ replicate (length out.old) 0 }
+{
+    if zeros < out.len() {
+        put_zeros(&mut out[..zeros]);
+    } else {
+        put_zeros(out);
+    }
 }
 
 /// Writes an entry over the 48 bytes of `out`.

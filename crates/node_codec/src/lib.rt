@@ -15,5 +15,5 @@ mod laws;
 
 pub use body::{Body, Entry, NodeBody};
 pub use decoding::{decode, decode_block, decode_node};
-pub use encoding::{encode_block, encode_node, fits_node};
+pub use encoding::{encode_block, encode_block_over, encode_node, fits_node};
 pub use laws::one_spelling;

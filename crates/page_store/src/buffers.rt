@@ -1,4 +1,4 @@
-ghost use Rattle.std.specs.Prelude.{◌≡◌, ◌<◌, ◌≤◌, ◌+◌, Some, IfOk, OnOk, length, slice_get};
+ghost use Rattle.std.specs.Prelude.{◌≡◌, ◌<◌, ◌≤◌, ◌+◌, ◌-◌, Some, IfOk, OnOk, drop, length, replicate, slice_get};
 ghost use Rattle.sdbt_base.specs.Faults.{Tells};
 ghost use Rattle.seal_record.specs.Sealing.{masked};
 ghost use Rattle.node_codec.specs.Record.{DataRecord, NodeRecord, FitsNode, record_bytes};
@@ -6,7 +6,7 @@ ghost use Rattle.page_store.specs.Buffer.{Held, content_of, IsBlank};
 ghost use Rattle.page_store.specs.Reading.{ReadsPage};
 ghost use Rattle.sdbt_base.specs.Arrays.{padded};
 
-use node_codec::{Entry, encode_block, encode_node};
+use node_codec::{Entry, encode_block_over, encode_node};
 use platform::Platform;
 use sdbt_base::{Key, Memory, PlatformFault, RECORD};
 use seal_record::unseal;
@@ -21,6 +21,8 @@ const HEAD: usize = 32;
 pub struct Buffers {
     pub(crate) page: Vec<u8>,
     pub(crate) body: Vec<u8>,
+    // From here on the body is zeros: they need not be written anew for the next short content.
+    zeros: usize,
 }
 
 impl Model for Buffers {
@@ -28,7 +30,8 @@ impl Model for Buffers {
 
     ghost view = { λ b. record { page = b.page.items; body = b.body.items } };
 
-    ghost invariant = { λ b. (length b.page.items ≡ 4128) × (length b.body.items ≡ 4128) };
+    ghost invariant = { λ b. (length b.page.items ≡ 4128) × (length b.body.items ≡ 4128)
+        × (drop b.zeros b.body.items ≡ replicate (4128 - b.zeros) 0) };
 }
 
 impl Buffers {
@@ -38,7 +41,11 @@ impl Buffers {
     {
         let page = vec![in alloc; 0; RECORD]?;
         let body = vec![in alloc; 0; RECORD]?;
-        Ok(Buffers { page, body })
+        Ok(Buffers {
+            page,
+            body,
+            zeros: 0,
+        })
     }
 
     /// The 4,096 bytes behind the head of the last body: of a data record, its content.
@@ -56,6 +63,7 @@ impl Buffers {
     {
         self.page.fill(0);
         self.body.fill(0);
+        self.zeros = 0;
     }
 
     /// Makes the body the data record of `block` at `addr`: at most 4,096 bytes of content, and zeros behind.
@@ -66,7 +74,8 @@ impl Buffers {
           body = record_bytes addr (DataRecord block (padded content.now));
         } }
     {
-        encode_block(addr, block, content, &mut self.body);
+        encode_block_over(addr, block, content, self.zeros, &mut self.body);
+        self.zeros = HEAD + content.len();
     }
 
     /// Makes the body the node of `level` with these entries at `addr`.
@@ -77,6 +86,7 @@ impl Buffers {
         } }
     {
         encode_node(addr, level, entries, &mut self.body);
+        self.zeros = RECORD;
     }
 
     /// Reads the page at `addr` and unseals it under the key. After a fault the buffers may hold anything.
@@ -97,6 +107,7 @@ impl Buffers {
     {
         platform.read(addr, &mut self.page)?;
         unseal(key, &self.page, &mut self.body);
+        self.zeros = RECORD;
         Ok(())
     }
 }

@@ -1,10 +1,7 @@
--- Head, content and zeros are written one behind the other.
-use Rattle.std.proofs.Common.{◌≡◌, ◌-◌, length, arith}
-use Rattle.node_codec.specs.Record.{record_bytes}
+-- Behind a whole record there is nothing that has to be zero.
+use Rattle.std.proofs.Common.{arith}
+use Rattle.std.proofs.lemmas.List.{drop_all}
 use Rattle.node_codec.proofs.encoding.encode_block.Goals as goal
 
-pub returns-clause-record : goal.returns-clause-record
-unfolding record_bytes
-returns-clause-record c =
-    let left : length c.split_at_mut-start.result.1.now ≡ 4096 - length c.args.content.now = omega arith in
-    simp (c.put_head.ensures, c.copy_from_slice.ensures.after, c.put_zeros.ensures, left)
+pub encode_block_over-requires-clause-zeros : goal.encode_block_over-requires-clause-zeros
+encode_block_over-requires-clause-zeros c = drop_all 4128 c.args.out.now (omega (c.requires.size, arith))
