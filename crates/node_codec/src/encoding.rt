@@ -1,5 +1,5 @@
 ghost use Rattle.std.specs.Prelude.{◌≡◌, ◌-◌, ◌<◌, ◌≤◌, ◌++◌, ◌↔◌, IsTrue, length, replicate};
-ghost use Rattle.node_codec.specs.Record.{DataRecord, NodeRecord, record_bytes, FitsNode, FitsRecord};
+ghost use Rattle.node_codec.specs.Record.{DataRecord, NodeRecord, record_bytes, FitsNode, FitsRecord, ArePlain};
 
 use crate::body::Entry;
 use crate::entries::{are_ascending, are_within, put_entries, put_zeros};
@@ -43,6 +43,7 @@ pub fn fits_node(addr: u64, level: u8, entries: &[Entry]) -> bool
 /// Writes the node of `level` and `entries` at `addr` over the 4,128 bytes of `out`, whatever they were.
 pub fn encode_node(addr: u64, level: u8, entries: &[Entry], out: &mut [u8])
     requires fits { FitsNode addr level entries.now }
+    requires plain { ArePlain entries.now }
     requires size { length out.old ≡ 4128 }
     ensures record { out.new ≡ record_bytes addr (NodeRecord level entries.now) }
     ensures fits { FitsRecord addr (NodeRecord level entries.now) }
