@@ -89,6 +89,7 @@ first_leaf image root blocks order whole first at = record {
   cell = refl;
   in_range = first.fits;
   key = first.key;
+  version = refl;
   level = first.level;
   order = first.order_is;
   blocks = first.blocks_are;

@@ -56,6 +56,7 @@ pub record FitsNode (addr : ℕ) (level : ℕ) (entries : List Entry) : Type 0 w
   pub ascend : IsStrictlyIncreasing (map (λ e. e.low) entries)
   pub lows : All (λ e. e.low < 1048576) entries
   pub below : All (λ e. e.addr < addr) entries
+  pub plain : ArePlain entries
 
 -- a value is in range, at an address
 abbrev pub FitsRecord : ℕ → Record → Type 0

@@ -1,5 +1,5 @@
 ghost use Rattle.std.specs.Prelude.{◌≡◌, ◌-◌, ◌<◌, ◌≤◌, ◌++◌, ◌↔◌, IsTrue, length, replicate};
-ghost use Rattle.node_codec.specs.Record.{DataRecord, NodeRecord, record_bytes, FitsNode, FitsRecord, ArePlain};
+ghost use Rattle.node_codec.specs.Record.{DataRecord, NodeRecord, record_bytes, FitsNode, FitsRecord};
 
 use crate::body::Entry;
 use crate::entries::{are_ascending, are_within, put_entries, put_zeros};
@@ -30,7 +30,8 @@ pub fn encode_block(addr: u64, block: u64, content: &[u8], out: &mut [u8])
 }
 
 /// Whether a node at `addr` can have this level and these entries: the level is 1 to 20, there are at most
-/// 64 entries, their lows ascend strictly and are those of blocks, and each child has a lower address.
+/// 64 entries, their lows ascend strictly and are those of blocks, and each child has a lower address and a key without
+/// a digest.
 pub fn fits_node(addr: u64, level: u8, entries: &[Entry]) -> bool
     ensures { IsTrue result ↔ FitsNode addr level entries.now }
 {
@@ -43,7 +44,6 @@ pub fn fits_node(addr: u64, level: u8, entries: &[Entry]) -> bool
 /// Writes the node of `level` and `entries` at `addr` over the 4,128 bytes of `out`, whatever they were.
 pub fn encode_node(addr: u64, level: u8, entries: &[Entry], out: &mut [u8])
     requires fits { FitsNode addr level entries.now }
-    requires plain { ArePlain entries.now }
     requires size { length out.old ≡ 4128 }
     ensures record { out.new ≡ record_bytes addr (NodeRecord level entries.now) }
     ensures fits { FitsRecord addr (NodeRecord level entries.now) }

@@ -122,9 +122,11 @@ pub(crate) fn are_ascending(entries: &[Entry]) -> bool
     true
 }
 
-/// Whether the lows are those of blocks and the children stand before the address of the node.
+/// Whether the lows are those of blocks, and the children stand before the address of the node under keys without digests.
 pub(crate) fn are_within(entries: &[Entry], addr: u64) -> bool
-    ensures { IsTrue result ↔ All (λ e. e.low < 1048576) entries.now × All (λ e. e.addr < addr) entries.now }
+    ensures { IsTrue result ↔ All (λ e. e.low < 1048576) entries.now × All (λ e. e.addr < addr) entries.now × ArePlain entries.now }
 {
-    entries.iter().all(|e| e.low < MAX_BLOCKS && e.addr < addr)
+    entries
+        .iter()
+        .all(|e| e.low < MAX_BLOCKS && e.addr < addr && e.key.is_plain())
 }

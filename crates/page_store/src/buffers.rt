@@ -1,7 +1,7 @@
 ghost use Rattle.std.specs.Prelude.{◌≡◌, ◌<◌, ◌≤◌, ◌+◌, Some, IfOk, OnOk, length, slice_get};
 ghost use Rattle.sdbt_base.specs.Faults.{Tells};
 ghost use Rattle.seal_record.specs.Sealing.{masked};
-ghost use Rattle.node_codec.specs.Record.{DataRecord, NodeRecord, FitsNode, ArePlain, record_bytes};
+ghost use Rattle.node_codec.specs.Record.{DataRecord, NodeRecord, FitsNode, record_bytes};
 ghost use Rattle.page_store.specs.Buffer.{Held, content_of, IsBlank};
 ghost use Rattle.page_store.specs.Reading.{ReadsPage};
 ghost use Rattle.sdbt_base.specs.Arrays.{padded};
@@ -71,8 +71,7 @@ impl Buffers {
 
     /// Makes the body the node of `level` with these entries at `addr`.
     pub fn put_node(&mut self, addr: u64, level: u8, entries: &[Entry])
-        requires fits { FitsNode addr level entries.now }
-        requires plain { ArePlain entries.now }
+        requires { FitsNode addr level entries.now }
         ensures { self.new ≡ record self.old {
           body = record_bytes addr (NodeRecord level entries.now);
         } }

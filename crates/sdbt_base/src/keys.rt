@@ -1,5 +1,5 @@
 //! Keys: 32 bytes that seal one record.
-ghost use Rattle.std.specs.Prelude.{◌≡◌, ◌⊎◌, ◌++◌, ℕ, List, length, nat_eq};
+ghost use Rattle.std.specs.Prelude.{◌≡◌, ◌⊎◌, ◌↔◌, ◌++◌, ℕ, List, IsTrue, length, nat_eq};
 ghost use Rattle.std.specs.Cmp.{partial_equiv_from_equiv};
 ghost use Rattle.std.specs.Cmp.Lexicographic.{pointwise, nat_list_eq_equiv};
 ghost use Rattle.sdbt_base.specs.Keys.{bare, digest_of};
@@ -71,6 +71,13 @@ impl Key {
             bytes,
             digest: Some(digest),
         }
+    }
+
+    /// Whether it has no digest.
+    pub fn is_plain(&self) -> bool
+        ensures { IsTrue result ↔ length self.now ≡ 32 }
+    {
+        self.digest.is_none()
     }
 
     /// The digest of the page, where it is known.

@@ -143,6 +143,7 @@ stands_with old new root next mapped level head top twig ns each whole head_is f
         cell = refl;
         in_range = next_fits;
         key = key_is;
+        version = refl;
         order = refl;
         blocks = refl;
         number = refl;
