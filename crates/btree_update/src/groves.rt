@@ -67,7 +67,7 @@ impl Grove {
         ensures lists { (result.gone.items ≡ []) × (result.never.items ≡ []) }
         ensures none_held { (result.held.items ≡ []) × (result.beside.items ≡ []) × (result.spares.items ≡ []) }
         ensures levels { (pages : List (List ℕ)) (parts : Parts) → Tree pages root.now parts → (levels : ℕ → List Node) × HasLevels pages result levels }
-        ensures below { (head : ℕ) → root.now.addr < head → length root.now.key ≡ 32 → AreBelow head (places_of result) }
+        ensures below { (head : ℕ) → root.now.addr < head → AreBelow head (places_of result) }
     {
         Grove {
             order: root.order,

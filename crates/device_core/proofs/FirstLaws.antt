@@ -45,6 +45,7 @@ is_first blocks order addr key some_blocks most_blocks least most even room size
     addr = omega arith;
     mapped = omega arith;
     head = omega (arith, room);
+    plain = sized.0;
   };
   key = sized;
   order_is = refl;

@@ -14,7 +14,6 @@ pub(crate) const VERSION: u16 = 1;
 /// Writes the root record of `root` over the 128 bytes of `out`.
 pub fn encode_root(root: &Root, out: &mut [u8])
     requires fits { FitsRoot root.now }
-    requires plain { length root.now.key ≡ 32 }
     requires size { length out.old ≡ 128 }
     ensures record { out.new ≡ root_bytes root.now }
     ensures key { IsBytes 32 root.now.key }
