@@ -80,6 +80,7 @@ no_entries_fit addr = record {
   ascend = λ k inside. absurd (omega (arith, inside));
   lows = All-nil (λ (e : Entry). e.low < 1048576);
   below = All-nil (λ (e : Entry). e.addr < addr);
+  plain = All-nil (λ (e : Entry). length e.key ≡ 32);
 }
 
 pub leaf_in_range : (addr : ℕ) → FitsRecord addr (NodeRecord 1 [])
