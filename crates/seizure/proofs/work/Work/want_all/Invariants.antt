@@ -6,6 +6,6 @@ use Rattle.seizure.proofs.work.Work.want_all.Given as goal
 abbrev pub invariant-loop-i : goal.invariant-loop-i
 invariant-loop-i l = record {
   known : KnowsItsKeys l.self;
-  keys : Gains l.initial.self.keys l.self.keys (Contains (take l.i l.keys));
+  keys : Gains l.initial.self.keys l.self.keys (Contains (take l.i (map bare l.keys)));
   opened : l.self.opened ≡ l.initial.self.opened;
 }
