@@ -138,7 +138,5 @@ pub(crate) fn are_ascending(entries: &[Entry]) -> bool
 pub(crate) fn are_within(entries: &[Entry], addr: u64) -> bool
     ensures { IsTrue result ↔ All (λ e. e.low < 1048576) entries.now × All (λ e. e.addr < addr) entries.now × ArePlain entries.now }
 {
-    entries
-        .iter()
-        .all(|e| e.low < MAX_BLOCKS && e.addr < addr && e.key.is_plain())
+    entries.iter().all(|e| e.low < MAX_BLOCKS && e.addr < addr && e.key.is_plain())
 }

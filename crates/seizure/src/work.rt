@@ -137,7 +137,8 @@ fn count(body: &[u8]) -> usize
 fn key_at(body: &[u8], entry: usize) -> Key
     requires size { length body.now ≡ RECORD }
     requires within { entry < MOST }
-    ensures { result ≡ key_in body.now entry }
+    ensures value { result ≡ key_in body.now entry }
+    ensures plain { length result ≡ 32 }
 {
     let mut bytes = [0; 32];
     bytes.copy_from_slice(&body[48 * entry + 48..48 * entry + 80]);

@@ -1,5 +1,6 @@
-use Rattle.std.proofs.Common.{◌≡◌, take}
+use Rattle.std.proofs.Common.{◌≡◌, map, take}
 use Rattle.std.specs.Prelude.{Contains}
+use Rattle.sdbt_base.specs.Keys.{bare}
 use Rattle.seizure.specs.Work.{KnowsItsKeys, Gains}
 use Rattle.seizure.proofs.work.Work.want_all.Given as goal
 
