@@ -5,7 +5,7 @@ use Rattle.std.proofs.lemmas.List.Elements.{recursion_from_All}
 use Rattle.node_codec.specs.declared.body.Entry.{Entry}
 use Rattle.page_store.specs.declared.wants.Want.{Want}
 use Rattle.page_store.specs.Tree.{Place}
-use Rattle.node_cache.specs.Kept.{Cached}
+use Rattle.node_cache.specs.Cached.{Cached}
 use Rattle.btree_walk.specs.Among.{IsAmong, GoDown, KeepsAmong, KeepsBut}
 use Rattle.btree_walk.proofs.AmongLaws.{among_but}
 use Rattle.btree_twigs.specs.declared.twigs.Child.{Child}

@@ -16,8 +16,8 @@ use Rattle.node_codec.specs.Record.{NodeRecord}
 use Rattle.page_store.specs.declared.wants.Want.{Want}
 use Rattle.page_store.specs.Places.{IsRecordAt, FitsAt, NothingFits}
 use Rattle.page_store.proofs.RecordLaws.{one_record}
-use Rattle.node_cache.specs.declared.slots.Kept.{Kept}
-use Rattle.node_cache.specs.Kept.{Cached, kept_node, IsKept}
+use Rattle.node_cache.specs.declared.slots.CachedNode.{CachedNode}
+use Rattle.node_cache.specs.Cached.{Cached, cached_node, IsCached}
 use Rattle.btree_walk.specs.Sights.{NodeFits, IsOfPage, StandsOver, KeepsOnly}
 use Rattle.page_store.specs.declared.refusals.FetchRefusal.{FetchRefusal}
 use Rattle.page_store.specs.declared.refusals.FetchRefusal.TheVariants as fetches
@@ -26,15 +26,15 @@ use Rattle.btree_update.specs.Refusals.{refused}
 
 -- a cache that keeps only what it kept, and nodes of pages, stands over the pages still
 pub stands_on : (pages : List (List ℕ)) (old new : Cached) → StandsOver pages old → KeepsOnly pages old new → StandsOver pages new
-stands_on pages old new stands keeps = All-weaker (λ k. Contains old.kept k ⊎ IsOfPage pages k) (IsOfPage pages) (λ k either. by k either) new.kept keeps.kept
+stands_on pages old new stands keeps = All-weaker (λ k. Contains old.nodes k ⊎ IsOfPage pages k) (IsOfPage pages) (λ k either. by k either) new.nodes keeps.nodes
   where
-    by : (k : Kept) → Contains old.kept k ⊎ IsOfPage pages k → IsOfPage pages k
-    by k (inl before) = All-contains (IsOfPage pages) old.kept k stands before
+    by : (k : CachedNode) → Contains old.nodes k ⊎ IsOfPage pages k → IsOfPage pages k
+    by k (inl before) = All-contains (IsOfPage pages) old.nodes k stands before
     by k (inr page) = page
 
 -- a node that is kept is what its page is
-pub kept_is_page : (pages : List (List ℕ)) (cache : Cached) (addr : ℕ) (key : List ℕ) (node : NodeBody) → StandsOver pages cache → IsKept cache.kept addr key node → IsRecordAt pages addr key (NodeRecord node.level node.entries.items)
-kept_is_page pages cache addr key node stands here = All-contains (IsOfPage pages) cache.kept (kept_node addr key node) stands here
+pub kept_is_page : (pages : List (List ℕ)) (cache : Cached) (addr : ℕ) (key : List ℕ) (node : NodeBody) → StandsOver pages cache → IsCached cache.nodes addr key node → IsRecordAt pages addr key (NodeRecord node.level node.entries.items)
+kept_is_page pages cache addr key node stands here = All-contains (IsOfPage pages) cache.nodes (cached_node addr key node) stands here
 
 -- where it is not wanted nothing fits
 pub nothing_else : (pages : List (List ℕ)) (want : Want) (key : List ℕ) (node : NodeBody) → want.addr < 2 ^ 64 → IsRecordAt pages want.addr key (NodeRecord node.level node.entries.items) → ¬ (NodeFits want node) → NothingFits pages want key

@@ -3,7 +3,7 @@ use Rattle.std.specs.Prelude.{◌≡◌, ℕ, ◌≤◌, List}
 use Rattle.std.specs.List.{AllByRecursion}
 use Rattle.platform.specs.declared.platforms.Platform.{Ghosts}
 use Rattle.page_store.specs.Tree.{Place}
-use Rattle.node_cache.specs.Kept.{Cached}
+use Rattle.node_cache.specs.Cached.{Cached}
 use Rattle.btree_walk.specs.Sights.{StandsOver}
 use Rattle.btree_walk.specs.Among.{IsAmong, GoDown, StaysAmong}
 use Rattle.btree_twigs.specs.Stubs.{Stub}

@@ -5,9 +5,9 @@ use Rattle.node_codec.specs.declared.body.Entry.{Entry}
 use Rattle.node_codec.specs.Record.{Record}
 use Rattle.page_store.specs.declared.wants.Want.{Want}
 use Rattle.page_store.specs.Places.{FitsAt, NothingFits}
-use Rattle.node_cache.specs.declared.slots.Kept.{Kept as KeptNode}
-use Rattle.node_cache.specs.Kept.{Cached}
-use Rattle.btree_walk.specs.Sights.{KeptFits}
+use Rattle.node_cache.specs.declared.slots.CachedNode.{CachedNode}
+use Rattle.node_cache.specs.Cached.{Cached}
+use Rattle.btree_walk.specs.Sights.{CachedFits}
 use Rattle.btree_walk.specs.Finds.{Finds, Stops}
 use Rattle.btree_twigs.specs.declared.twigs.Child.{Child, Child-F, out-Child}
 use Rattle.btree_twigs.specs.declared.twigs.Child.TheOpen.{Kept, Grown}
@@ -93,22 +93,22 @@ abbrev pub GroveStops : List (List ℕ) → ℕ → ℕ → Grove → Type 0
 GroveStops pages block wrong grove = RootStops pages grove.order block wrong (grove.level - 1) grove.blocks grove.top
 
 -- the cache keeps each node of the way that goes on from where a search in memory ends, as what is wanted there
-abbrev pub KeepsFrom : List KeptNode → ℕ → ℕ → Spot → Type 0
-KeepsFrom kept order block spot = (found : Option Entry) × FindsFrom (KeptFits kept) order block spot found
+abbrev pub KeepsFrom : List CachedNode → ℕ → ℕ → Spot → Type 0
+KeepsFrom kept order block spot = (found : Option Entry) × FindsFrom (CachedFits kept) order block spot found
 
 -- the cache keeps each node on the way to the block below a root that isn't in memory, as what is wanted there
-abbrev pub RootKeeps : List KeptNode → ℕ → ℕ → ℕ → ℕ → Child → Type 0
-RootKeeps kept order block below high child = (found : Option Entry) × RootFinds (KeptFits kept) order block below high child found
+abbrev pub RootKeeps : List CachedNode → ℕ → ℕ → ℕ → ℕ → Child → Type 0
+RootKeeps kept order block below high child = (found : Option Entry) × RootFinds (CachedFits kept) order block below high child found
 
 -- the cache keeps each node on the way to the block that isn't in memory, as what is wanted there
-abbrev pub KeepsWay : List KeptNode → ℕ → Grove → Type 0
+abbrev pub KeepsWay : List CachedNode → ℕ → Grove → Type 0
 KeepsWay kept block grove = RootKeeps kept grove.order block (grove.level - 1) grove.blocks grove.top
 
 -- what a look-up costs with a cache: it reads nothing where the cache keeps the way, and once it is done the cache keeps it, where it has room for so many
 -- nodes
-pub record UsesCache {S T E : Type 0} (P : Ghosts S) (Keeps : List KeptNode → Type 0) (most : ℕ) (platform after : S) (old new : Cached) (told : Result T E) : Type 0 where
-  pub warm : Keeps old.kept → after ≡ platform
-  pub fills : P.tells → OnOk told (most ≤ new.capacity → Keeps new.kept)
+pub record UsesCache {S T E : Type 0} (P : Ghosts S) (Keeps : List CachedNode → Type 0) (most : ℕ) (platform after : S) (old new : Cached) (told : Result T E) : Type 0 where
+  pub warm : Keeps old.nodes → after ≡ platform
+  pub fills : P.tells → OnOk told (most ≤ new.capacity → Keeps new.nodes)
 
 -- the level of the node below which a search goes on, or 0
 abbrev pub level_from : Spot → ℕ

@@ -6,11 +6,11 @@ use Rattle.node_codec.specs.declared.body.NodeBody.{NodeBody}
 use Rattle.node_codec.specs.declared.body.Entry.{Entry}
 use Rattle.node_codec.specs.Record.{NodeRecord, FitsNode}
 use Rattle.page_store.specs.declared.wants.Want.{Want}
-use Rattle.node_cache.specs.declared.slots.Kept.{Kept}
-use Rattle.node_cache.specs.Kept.{Cached, IsOnlyKept}
+use Rattle.node_cache.specs.declared.slots.CachedNode.{CachedNode}
+use Rattle.node_cache.specs.Cached.{Cached, IsOnlyCached}
 use Rattle.btree_walk.specs.declared.turns.Turn.{Turn}
 use Rattle.btree_walk.specs.Ways.{GoesBelow}
-use Rattle.btree_walk.specs.Sights.{NodeFits, KeptFits}
+use Rattle.btree_walk.specs.Sights.{NodeFits, CachedFits}
 use Rattle.btree_walk.specs.Finds.{AsksFor, UsesNode}
 use Rattle.btree_walk.specs.Looks.{Looks}
 use Rattle.btree_walk.proofs.WayLaws.{way_entry}
@@ -28,7 +28,7 @@ looks_still P x = record {
 }
 
 -- a node that fits where another is kept is that one
-pub same_entries : (kept : List Kept) (want : Want) (key : List ℕ) (node : NodeBody) (entries : List Entry) → IsOnlyKept kept want.addr key node → KeptFits kept want key (NodeRecord want.level entries) → entries ≡ node.entries.items
+pub same_entries : (kept : List CachedNode) (want : Want) (key : List ℕ) (node : NodeBody) (entries : List Entry) → IsOnlyCached kept want.addr key node → CachedFits kept want key (NodeRecord want.level entries) → entries ≡ node.entries.items
 same_entries kept want key node entries only is =
     let same : is.node ≡ node = only.only is.node is.here in
     let value = is.is in
@@ -36,7 +36,7 @@ same_entries kept want key node entries only is =
     mine ∙ ap (λ (n : NodeBody). n.entries.items) same
 
 -- the kept node fits, where some kept node does
-pub fits_too : (kept : List Kept) (want : Want) (key : List ℕ) (node : NodeBody) (entries : List Entry) → IsOnlyKept kept want.addr key node → KeptFits kept want key (NodeRecord want.level entries) → NodeFits want node
+pub fits_too : (kept : List CachedNode) (want : Want) (key : List ℕ) (node : NodeBody) (entries : List Entry) → IsOnlyCached kept want.addr key node → CachedFits kept want key (NodeRecord want.level entries) → NodeFits want node
 fits_too kept want key node entries only is = subst (NodeFits want) (only.only is.node is.here) is.fits
 
 div_some : (n : ℕ) → 2 ≤ n → 1 ≤ n / 2

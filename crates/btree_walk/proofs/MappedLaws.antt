@@ -8,8 +8,8 @@ use Rattle.page_store.specs.declared.wants.Want.{Want}
 use Rattle.page_store.specs.Places.{FitsAt, NothingFits, child_want}
 use Rattle.page_store.specs.Tree.{Mapped, Parts, joined, data_parts, bound_of, EachChild, Subtree, SomeChild, IsMisfit, WrongBelow}
 use Rattle.page_store.proofs.RecordLaws.{one_record}
-use Rattle.node_cache.specs.declared.slots.Kept.{Kept}
-use Rattle.node_cache.specs.Kept.{Cached, kept_node}
+use Rattle.node_cache.specs.declared.slots.CachedNode.{CachedNode}
+use Rattle.node_cache.specs.Cached.{Cached, cached_node}
 use Rattle.btree_walk.specs.Ways.{IsEntryOf}
 use Rattle.btree_walk.specs.Sights.{Sees, Misses, IsOfPage, StandsOver, KeepsOnly}
 use Rattle.btree_walk.specs.Finds.{StopsHere, Finds, Stops}
@@ -41,40 +41,40 @@ stopped_is_wrong pages order (suc level) block addr want key (inr is) =
 
 -- ---- behind a cache that stands over the pages
 
-pub sees_page : (pages : List (List ℕ)) (cache : Cached) (want : Want) (key : List ℕ) (value : Record) → StandsOver pages cache → Sees cache.kept pages want key value → FitsAt pages want key value
+pub sees_page : (pages : List (List ℕ)) (cache : Cached) (want : Want) (key : List ℕ) (value : Record) → StandsOver pages cache → Sees cache.nodes pages want key value → FitsAt pages want key value
 sees_page pages cache want key value over (inr page) = page
 sees_page pages cache want key value over (inl is) =
-    subst (FitsAt pages want key) (sym is.is) (All-contains (IsOfPage pages) cache.kept (kept_node want.addr key is.node) over is.here, is.fits.wanted)
+    subst (FitsAt pages want key) (sym is.is) (All-contains (IsOfPage pages) cache.nodes (cached_node want.addr key is.node) over is.here, is.fits.wanted)
 
-pub misses_page : (pages : List (List ℕ)) (cache : Cached) (want : Want) (key : List ℕ) → want.addr < 2 ^ 64 → StandsOver pages cache → Misses cache.kept pages want key → NothingFits pages want key
+pub misses_page : (pages : List (List ℕ)) (cache : Cached) (want : Want) (key : List ℕ) → want.addr < 2 ^ 64 → StandsOver pages cache → Misses cache.nodes pages want key → NothingFits pages want key
 misses_page pages cache want key small over (inr nothing) = nothing
 misses_page pages cache want key small over (inl is) = λ value fits.
-    (let page = All-contains (IsOfPage pages) cache.kept (kept_node want.addr key is.node) over is.here in
+    (let page = All-contains (IsOfPage pages) cache.nodes (cached_node want.addr key is.node) over is.here in
     let same : value ≡ NodeRecord is.node.level is.node.entries.items = one_record pages want.addr key value (NodeRecord is.node.level is.node.entries.items) small fits.0 page in
     let fits' = subst (FitsAt pages want key) same fits in
     is.misfit record { in_range = fits'.0.in_range.0; wanted = fits'.1 })
 
-pub finds_page : (pages : List (List ℕ)) (cache : Cached) (order level block : ℕ) (want : Want) (key path : List ℕ) (found : Option Entry) → StandsOver pages cache → Finds (Sees cache.kept pages) order block found level want key path → Finds (FitsAt pages) order block found level want key path
+pub finds_page : (pages : List (List ℕ)) (cache : Cached) (order level block : ℕ) (want : Want) (key path : List ℕ) (found : Option Entry) → StandsOver pages cache → Finds (Sees cache.nodes pages) order block found level want key path → Finds (FitsAt pages) order block found level want key path
 finds_page pages cache order level block want key path found over is =
-    finds_map (Sees cache.kept pages) (FitsAt pages) order block (suc want.addr)
-    (λ w k l es s. (sees_range cache.kept pages w k l es s).below)
+    finds_map (Sees cache.nodes pages) (FitsAt pages) order block (suc want.addr)
+    (λ w k l es s. (sees_range cache.nodes pages w k l es s).below)
     (λ w k value below s. sees_page pages cache w k value over s)
     found level want key path (omega arith) is
 
-pub stops_page : (pages : List (List ℕ)) (cache : Cached) (order level block addr : ℕ) (want : Want) (key : List ℕ) → want.addr < 2 ^ 64 → StandsOver pages cache → Stops (Sees cache.kept pages) order block (Misses cache.kept pages) addr level want key → Stops (FitsAt pages) order block (NothingFits pages) addr level want key
+pub stops_page : (pages : List (List ℕ)) (cache : Cached) (order level block addr : ℕ) (want : Want) (key : List ℕ) → want.addr < 2 ^ 64 → StandsOver pages cache → Stops (Sees cache.nodes pages) order block (Misses cache.nodes pages) addr level want key → Stops (FitsAt pages) order block (NothingFits pages) addr level want key
 stops_page pages cache order level block addr want key small over is =
-    stops_map (Sees cache.kept pages) (FitsAt pages) order block (2 ^ 64)
-    (λ w k l es s. (sees_range cache.kept pages w k l es s).below)
+    stops_map (Sees cache.nodes pages) (FitsAt pages) order block (2 ^ 64)
+    (λ w k l es s. (sees_range cache.nodes pages w k l es s).below)
     (λ w k value below s. sees_page pages cache w k value over s)
-    (Misses cache.kept pages) (NothingFits pages) addr
+    (Misses cache.nodes pages) (NothingFits pages) addr
     (λ w k below m. misses_page pages cache w k below over m)
     level want key small is
 
 pub stands_over_still : (pages : List (List ℕ)) (old new : Cached) → StandsOver pages old → KeepsOnly pages old new → StandsOver pages new
-stands_over_still pages old new over keeps = All-weaker (λ (k : Kept). Contains old.kept k ⊎ IsOfPage pages k) (IsOfPage pages) from new.kept keeps.kept
+stands_over_still pages old new over keeps = All-weaker (λ (k : CachedNode). Contains old.nodes k ⊎ IsOfPage pages k) (IsOfPage pages) from new.nodes keeps.nodes
   where
-    from : (k : Kept) → Contains old.kept k ⊎ IsOfPage pages k → IsOfPage pages k
-    from k (inl in') = All-contains (IsOfPage pages) old.kept k over in'
+    from : (k : CachedNode) → Contains old.nodes k ⊎ IsOfPage pages k → IsOfPage pages k
+    from k (inl in') = All-contains (IsOfPage pages) old.nodes k over in'
     from k (inr page) = page
 
 -- ---- what lies below an entry

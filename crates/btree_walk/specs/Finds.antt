@@ -9,11 +9,11 @@ use Rattle.page_store.specs.declared.refusals.FetchRefusal.{FetchRefusal}
 use Rattle.page_store.specs.declared.refusals.FetchRefusal.TheVariants as refusals
 use Rattle.page_store.specs.declared.wants.Want.{Want}
 use Rattle.page_store.specs.Places.{child_want}
-use Rattle.node_cache.specs.declared.slots.Kept.{Kept}
-use Rattle.node_cache.specs.Kept.{Cached, kept_node, touched, filled}
+use Rattle.node_cache.specs.declared.slots.CachedNode.{CachedNode}
+use Rattle.node_cache.specs.Cached.{Cached, cached_node, touched, filled}
 use Rattle.btree_walk.specs.declared.turns.Turn.{Turn}
 use Rattle.btree_walk.specs.Ways.{IsWay, IsEntryOf, IsTurn}
-use Rattle.btree_walk.specs.Sights.{NodeFits, KeptFits, Sees, Misses, KeepsOnly}
+use Rattle.btree_walk.specs.Sights.{NodeFits, CachedFits, Sees, Misses, KeepsOnly}
 use Rattle.btree_walk.specs.Among.{KeepsBut}
 use Rattle.btree_walk.specs.Looks.{Looks}
 
@@ -65,7 +65,7 @@ module _ (Fits : Want → List ℕ → Record → Type 0) (order block : ℕ) wh
 
 -- the addresses for which a cache keeps nodes, the most recent first
 abbrev pub addresses_of : Cached → List ℕ
-addresses_of cache = map (λ k. k.addr) cache.kept
+addresses_of cache = map (λ k. k.addr) cache.nodes
 
 -- these addresses come first
 abbrev pub BeginsWith : List ℕ → List ℕ → Type 0
@@ -78,30 +78,30 @@ ComesFirst top path old new =
 
 -- of the nodes for higher addresses, those among the first few are among the first ones still, behind at most so many more, where there is room for all
 abbrev pub StaysEarly : ℕ → ℕ → Cached → Cached → Type 0
-StaysEarly top more old new = (few : ℕ) (k : Kept) → top < k.addr → few + more ≤ old.capacity → Contains (take few old.kept) k → Contains (take (few + more) new.kept) k
+StaysEarly top more old new = (few : ℕ) (k : CachedNode) → top < k.addr → few + more ≤ old.capacity → Contains (take few old.nodes) k → Contains (take (few + more) new.nodes) k
 
 -- the cache has the node as its most recent one
-abbrev pub MakesFirst : Kept → Cached → Cached → Type 0
-MakesFirst kept old new = (new ≡ touched old kept) ⊎ (new ≡ filled old kept)
+abbrev pub MakesFirst : CachedNode → Cached → Cached → Type 0
+MakesFirst node old new = (new ≡ touched old node) ⊎ (new ≡ filled old node)
 
 -- the cache has as its most recent node one that is wanted at the place, and that says this of a block
 pub record UsesNode (want : Want) (key : List ℕ) (block : ℕ) (old new : Cached) (turn : Turn) : Type 0 where
   pub node : NodeBody
   pub fits : NodeFits want node
   pub is : IsTurn want node.entries.items block turn
-  pub first : MakesFirst (kept_node want.addr key node) old new
+  pub first : MakesFirst (cached_node want.addr key node) old new
 
 -- the node that is seen at a place says this of a block
-pub record SeesTurn (kept : List Kept) (pages : List (List ℕ)) (want : Want) (key : List ℕ) (block : ℕ) (turn : Turn) : Type 0 where
+pub record SeesTurn (nodes : List CachedNode) (pages : List (List ℕ)) (want : Want) (key : List ℕ) (block : ℕ) (turn : Turn) : Type 0 where
   pub entries : List Entry
-  pub sees : Sees kept pages want key (NodeRecord want.level entries)
+  pub sees : Sees nodes pages want key (NodeRecord want.level entries)
   pub is : IsTurn want entries block turn
 
 -- a look at the node of a place for a block: what it tells of the cache and the pages that were there, and what it leaves; the one read
 -- is of the page, where the cache keeps no node for the place
 pub record LooksFor {S : Type 0} (P : Ghosts S) (want : Want) (key : List ℕ) (block : ℕ) (platform after : S) (old new : Cached) (told : Result Turn FetchRefusal) : Type 0 where
-  pub seen : P.tells → IfOk told (SeesTurn old.kept (P.history platform).present.readable want key block)
-  pub bad : P.tells → (addr : ℕ) → IsErrOf told (refusals.BadRecord addr) → StopsHere (Misses old.kept (P.history platform).present.readable) addr want key
+  pub seen : P.tells → IfOk told (SeesTurn old.nodes (P.history platform).present.readable want key block)
+  pub bad : P.tells → (addr : ℕ) → IsErrOf told (refusals.BadRecord addr) → StopsHere (Misses old.nodes (P.history platform).present.readable) addr want key
   pub used : IfOk told (UsesNode want key block old new)
   pub capacity : new.capacity ≡ old.capacity
   pub keeps : P.tells → KeepsOnly (P.history platform).present.readable old new
@@ -113,11 +113,11 @@ pub record LooksFor {S : Type 0} (P : Ghosts S) (want : Want) (key : List ℕ) (
 -- level, the cache keeps each node of the way then
 pub record IsFound (pages : List (List ℕ)) (start : Want) (key : List ℕ) (block : ℕ) (old new : Cached) (found : Option Entry) : Type 0 where
   pub path : List ℕ
-  pub finds : Finds (Sees old.kept pages) start.most block found (start.level - 1) start key path
+  pub finds : Finds (Sees old.nodes pages) start.most block found (start.level - 1) start key path
   pub levels : length path ≡ start.level
   pub recent : ComesFirst start.addr path old new
   pub early : StaysEarly start.addr start.level old new
-  pub warm : start.level ≤ old.capacity → Finds (KeptFits new.kept) start.most block found (start.level - 1) start key path
+  pub warm : start.level ≤ old.capacity → Finds (CachedFits new.nodes) start.most block found (start.level - 1) start key path
 
 -- a block can be looked for below a place
 pub record AsksFor (start : Want) (block : ℕ) : Type 0 where

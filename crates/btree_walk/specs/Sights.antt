@@ -4,8 +4,8 @@ use Rattle.node_codec.specs.declared.body.NodeBody.{NodeBody}
 use Rattle.node_codec.specs.Record.{Record, NodeRecord, FitsNode}
 use Rattle.page_store.specs.declared.wants.Want.{Want}
 use Rattle.page_store.specs.Places.{IsRecordAt, IsNodeWanted, FitsAt, NothingFits}
-use Rattle.node_cache.specs.declared.slots.Kept.{Kept}
-use Rattle.node_cache.specs.Kept.{Cached, IsKept}
+use Rattle.node_cache.specs.declared.slots.CachedNode.{CachedNode}
+use Rattle.node_cache.specs.Cached.{Cached, IsCached}
 
 -- a node is in range at the place and is what is wanted there
 pub record NodeFits (want : Want) (node : NodeBody) : Type 0 where
@@ -13,39 +13,39 @@ pub record NodeFits (want : Want) (node : NodeBody) : Type 0 where
   pub wanted : IsNodeWanted want node.level node.entries.items
 
 -- a cache keeps a node for the place, and it is wanted there
-pub record KeptFits (kept : List Kept) (want : Want) (key : List ℕ) (value : Record) : Type 0 where
+pub record CachedFits (nodes : List CachedNode) (want : Want) (key : List ℕ) (value : Record) : Type 0 where
   pub node : NodeBody
-  pub here : IsKept kept want.addr key node
+  pub here : IsCached nodes want.addr key node
   pub fits : NodeFits want node
   pub is : value ≡ NodeRecord node.level node.entries.items
 
 -- a cache keeps a node for the place that is not wanted there
-pub record KeptMisfits (kept : List Kept) (want : Want) (key : List ℕ) : Type 0 where
+pub record CachedMisfits (nodes : List CachedNode) (want : Want) (key : List ℕ) : Type 0 where
   pub node : NodeBody
-  pub here : IsKept kept want.addr key node
+  pub here : IsCached nodes want.addr key node
   pub misfit : ¬ (NodeFits want node)
 
 -- the record that is wanted at a place is seen there: the cache keeps it, or the page is it
-abbrev pub Sees : List Kept → List (List ℕ) → Want → List ℕ → Record → Type 0
-Sees kept pages want key value = KeptFits kept want key value ⊎ FitsAt pages want key value
+abbrev pub Sees : List CachedNode → List (List ℕ) → Want → List ℕ → Record → Type 0
+Sees nodes pages want key value = CachedFits nodes want key value ⊎ FitsAt pages want key value
 
 -- what is seen at a place is not wanted there
-abbrev pub Misses : List Kept → List (List ℕ) → Want → List ℕ → Type 0
-Misses kept pages want key = KeptMisfits kept want key ⊎ NothingFits pages want key
+abbrev pub Misses : List CachedNode → List (List ℕ) → Want → List ℕ → Type 0
+Misses nodes pages want key = CachedMisfits nodes want key ⊎ NothingFits pages want key
 
--- a node that is kept is what its page is
-abbrev pub IsOfPage : List (List ℕ) → Kept → Type 0
+-- a node that is cached is what its page is
+abbrev pub IsOfPage : List (List ℕ) → CachedNode → Type 0
 IsOfPage pages k = IsRecordAt pages k.addr k.key (NodeRecord k.node.level k.node.entries.items)
 
--- each node that is kept is what its page is
+-- each node that is cached is what its page is
 abbrev pub StandsOver : List (List ℕ) → Cached → Type 0
-StandsOver pages cache = All (IsOfPage pages) cache.kept
+StandsOver pages cache = All (IsOfPage pages) cache.nodes
 
--- each node that is kept now was kept before, or is what its page is
+-- each node that is cached now was cached before, or is what its page is
 pub record KeepsOnly (pages : List (List ℕ)) (old new : Cached) : Type 0 where
   pub capacity : new.capacity ≡ old.capacity
-  pub kept : All (λ k. Contains old.kept k ⊎ IsOfPage pages k) new.kept
+  pub nodes : All (λ k. Contains old.nodes k ⊎ IsOfPage pages k) new.nodes
 
--- what was kept for other addresses is kept still
+-- what was cached for other addresses is cached still
 abbrev pub StillKeeps : ℕ → Cached → Cached → Type 0
-StillKeeps addr old new = (k : Kept) → k.addr ≢ addr → Contains old.kept k → Contains new.kept k
+StillKeeps addr old new = (k : CachedNode) → k.addr ≢ addr → Contains old.nodes k → Contains new.nodes k

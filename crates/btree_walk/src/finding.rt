@@ -1,7 +1,7 @@
 ghost use Rattle.std.specs.Prelude.{◌≡◌, ◌<◌, ◌-◌, ℕ, List, Option, Ok, IfOk, IfSome, IsErrOf};
 ghost use Rattle.sdbt_base.specs.Faults.{TellsOf};
 ghost use Rattle.node_codec.specs.declared.body.Entry.{Entry};
-ghost use Rattle.btree_walk.specs.Sights.{KeptFits, Sees, Misses, StandsOver, KeepsOnly};
+ghost use Rattle.btree_walk.specs.Sights.{CachedFits, Sees, Misses, StandsOver, KeepsOnly};
 ghost use Rattle.btree_walk.specs.Among.{IsAmong, GoDown, StaysAmong};
 ghost use Rattle.btree_walk.specs.Finds.{AsksFor, Finds, Stops, IsFound};
 ghost use Rattle.btree_walk.specs.Looks.{Looks};
@@ -33,12 +33,12 @@ pub fn find<P: Platform>(
     ensures found { P.tells → IfOk result
         (IsFound (P.history platform.old).present.readable start.now key.now block reader.old.cache reader.new.cache) }
     ensures bad { P.tells → (addr : ℕ) → IsErrOf result (FetchRefusal.BadRecord addr) →
-        Stops (Sees reader.old.cache.kept (P.history platform.old).present.readable) start.now.most block
-        (Misses reader.old.cache.kept (P.history platform.old).present.readable) addr (start.now.level - 1) start.now key.now }
+        Stops (Sees reader.old.cache.nodes (P.history platform.old).present.readable) start.now.most block
+        (Misses reader.old.cache.nodes (P.history platform.old).present.readable) addr (start.now.level - 1) start.now key.now }
     // What is answered is of this block, and stands below the node, whatever the platform tells.
     ensures entry { IfOk result (λ found. IfSome found (λ e. (e.low ≡ block) × (e.addr < start.now.addr))) }
-    ensures kept { (found : Option Entry) (path : List ℕ) →
-        Finds (KeptFits reader.old.cache.kept) start.now.most block found (start.now.level - 1) start.now key.now path →
+    ensures cached { (found : Option Entry) (path : List ℕ) →
+        Finds (CachedFits reader.old.cache.nodes) start.now.most block found (start.now.level - 1) start.now key.now path →
         (platform.new ≡ platform.old) × (result ≡ Ok found) }
 
     ensures keeps { P.tells → KeepsOnly (P.history platform.old).present.readable reader.old.cache reader.new.cache }

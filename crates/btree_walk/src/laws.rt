@@ -4,7 +4,7 @@ ghost use Rattle.root_codec.specs.declared.root.Root.{Root};
 ghost use Rattle.page_store.specs.declared.wants.Want.{Want};
 ghost use Rattle.page_store.specs.Places.{FitsAt, NothingFits};
 ghost use Rattle.page_store.specs.Tree.{Parts, Subtree, Tree, WrongBelow};
-ghost use Rattle.node_cache.specs.Kept.{Cached};
+ghost use Rattle.node_cache.specs.Cached.{Cached};
 ghost use Rattle.btree_walk.specs.Sights.{Sees, Misses, StandsOver, KeepsOnly};
 ghost use Rattle.btree_walk.specs.Finds.{Finds, Stops};
 ghost use Rattle.btree_walk.specs.Mapped.{IsMappedAs};
@@ -25,9 +25,9 @@ pub fn stopped_is_wrong()
 /// stays one.
 pub fn sees_the_pages()
     ensures finds { (pages : List (List ℕ)) (cache : Cached) (order level block : ℕ) (want : Want) (key path : List ℕ) (found : Option Entry) → StandsOver pages cache →
-        Finds (Sees cache.kept pages) order block found level want key path → Finds (FitsAt pages) order block found level want key path }
+        Finds (Sees cache.nodes pages) order block found level want key path → Finds (FitsAt pages) order block found level want key path }
     ensures stops { (pages : List (List ℕ)) (cache : Cached) (order level block addr : ℕ) (want : Want) (key : List ℕ) → want.addr < 2 ^ 64 → StandsOver pages cache →
-        Stops (Sees cache.kept pages) order block (Misses cache.kept pages) addr level want key → Stops (FitsAt pages) order block (NothingFits pages) addr level want key }
+        Stops (Sees cache.nodes pages) order block (Misses cache.nodes pages) addr level want key → Stops (FitsAt pages) order block (NothingFits pages) addr level want key }
     ensures stays { (pages : List (List ℕ)) (old new : Cached) → StandsOver pages old → KeepsOnly pages old new → StandsOver pages new }
 {}
 

@@ -1,7 +1,7 @@
 //! The tree on the medium: looking for a block, and listing what there is.
 //!
 //! A look-up goes down from a node to the leaf of a block, by one page a level at most, and by none where a cache keeps
-//! the node. A node that is kept still has to fit the place that is asked for.
+//! the node. A node that is cached still has to fit the place that is asked for.
 #![tactic(auto)]
 
 mod branches;

@@ -1,10 +1,10 @@
 ghost use Rattle.std.specs.Prelude.{◌≡◌, ◌<◌, List, IsOkAnd};
 ghost use Rattle.node_codec.specs.declared.body.Entry.{Entry};
 ghost use Rattle.node_codec.specs.declared.body.NodeBody.{NodeBody};
-ghost use Rattle.node_cache.specs.Kept.{IsKept};
+ghost use Rattle.node_cache.specs.Cached.{IsCached};
 ghost use Rattle.node_codec.specs.Record.{NodeRecord};
 ghost use Rattle.btree_walk.specs.Ways.{IsTurn};
-ghost use Rattle.btree_walk.specs.Sights.{KeptFits, StillKeeps};
+ghost use Rattle.btree_walk.specs.Sights.{CachedFits, StillKeeps};
 ghost use Rattle.btree_walk.specs.Finds.{AsksFor, LooksFor};
 
 use crate::reader::NodeReader;
@@ -27,10 +27,10 @@ pub(crate) fn look<P: Platform>(
     requires asks { AsksFor want.now block }
 
     ensures look { LooksFor P.Platform want.now key.now block platform.old platform.new reader.old.cache reader.new.cache result }
-    ensures kept { (entries : List Entry) → KeptFits reader.old.cache.kept want.now key.now (NodeRecord want.now.level entries) →
+    ensures cached { (entries : List Entry) → CachedFits reader.old.cache.nodes want.now key.now (NodeRecord want.now.level entries) →
         (platform.new ≡ platform.old) × IsOkAnd result (IsTurn want.now entries block) }
 
-    ensures still { (node : NodeBody) → IsKept reader.old.cache.kept want.now.addr key.now node → StillKeeps want.now.addr reader.old.cache reader.new.cache }
+    ensures still { (node : NodeBody) → IsCached reader.old.cache.nodes want.now.addr key.now node → StillKeeps want.now.addr reader.old.cache reader.new.cache }
 {
     if let Some(node) = reader.cache.get(want.addr, key) {
         return if fits(want, node) {

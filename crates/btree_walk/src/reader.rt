@@ -24,7 +24,7 @@ impl NodeReader {
     /// A reader whose cache keeps none yet of at most 4,096 nodes. All memory that it ever takes is taken here.
     pub fn new(alloc: Global, capacity: usize) -> Result<NodeReader, Memory>
         requires { capacity ≤ 4096 }
-        ensures cache { IfOk result (λ reader. reader.cache ≡ record { capacity = capacity; kept = [] }) }
+        ensures cache { IfOk result (λ reader. reader.cache ≡ record { capacity = capacity; nodes = [] }) }
         ensures buffers { IfOk result (λ reader. IsBlank reader.buffers) }
     {
         let node = Box::new(alloc, blank_node())?;

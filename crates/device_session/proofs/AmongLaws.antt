@@ -15,8 +15,8 @@ use Rattle.page_store.specs.declared.wants.Want.{Want}
 use Rattle.page_store.specs.Places.{IsRecordAt, root_want, child_want}
 use Rattle.page_store.specs.Tree.{Parts, Place, Subtree, EachChild, Tree, joined, bound_of}
 use Rattle.page_store.proofs.RecordLaws.{one_record}
-use Rattle.node_cache.specs.declared.slots.Kept.{Kept}
-use Rattle.node_cache.specs.Kept.{Cached, without_all, forgotten}
+use Rattle.node_cache.specs.declared.slots.CachedNode.{CachedNode}
+use Rattle.node_cache.specs.Cached.{Cached, without_all, forgotten}
 use Rattle.node_cache.proofs.CacheLaws.{All-without_all, none-without_all}
 use Rattle.btree_twigs.specs.Stubs.{Stub}
 use Rattle.btree_walk.specs.Among.{IsAmong, GoDown, KeepsAmong}
@@ -175,8 +175,8 @@ taken_among session now cache root committed places after ns taken sealed left s
     let gone = session.grove.gone.items in
     let Is : Kept → Type 0 = λ k. IsAmong after k.addr k.key in
     let new = sealed_among ns after (λ p has. Contains-permutation (map place_of ns ++ places) after p same (Contains-append_left (map place_of ns) places p has)) in
-    let all = All-sealed Is (forgotten gone session.cache) ns (still_among gone session.cache.kept committed places (map place_of ns) after left same kept) new in
-    subst (KeepsAmong after) (sym taken.cached) (All-without_all Is gone cache.kept (subst (KeepsAmong after) (sym sealed) all))
+    let all = All-sealed Is (forgotten gone session.cache) ns (still_among gone session.cache.nodes committed places (map place_of ns) after left same kept) new in
+    subst (KeepsAmong after) (sym taken.cached) (All-without_all Is gone cache.nodes (subst (KeepsAmong after) (sym sealed) all))
 
 -- what a session has the keys of whose tree is its root record's
 pub held_knows : (session : Session) (image : Image) (device : Device) (contents : Blocks) → IsTreeOf session.root session.grove → HoldsNone session.grove → Holds session image device contents → HasTreeKeys session image.readable

@@ -25,7 +25,7 @@ use Rattle.btree_twigs.specs.declared.twigs.Child.TheOpen.{Kept as KeptChild, Gr
 use Rattle.btree_twigs.specs.declared.twigs.Twig.{Twig}
 use Rattle.btree_twigs.specs.Top.{IsTop, IsTopBy}
 use Rattle.node_codec.specs.declared.body.Entry.{Entry}
-use Rattle.node_cache.specs.Kept.{Cached}
+use Rattle.node_cache.specs.Cached.{Cached}
 use Rattle.btree_update.specs.Groves.{places_of}
 use Rattle.btree_update.proofs.GroveLaws.{above_it}
 use Rattle.grove_accounts.specs.Accounts.{IsOwn, HasAddress, LacksAddress}

@@ -6,7 +6,7 @@ use Rattle.node_codec.specs.declared.body.Entry.{Entry}
 use Rattle.node_codec.specs.declared.body.NodeBody.{NodeBody}
 use Rattle.page_store.specs.Buffer.{Held}
 use Rattle.page_store.specs.declared.refusals.FetchRefusal.{FetchRefusal}
-use Rattle.node_cache.specs.Kept.{Cached}
+use Rattle.node_cache.specs.Cached.{Cached}
 use Rattle.btree_walk.specs.Looks.{Looks}
 use Rattle.btree_update.specs.Finding.{KeepsWay, UsesCache}
 use Rattle.device_session.specs.declared.refusals.ReadRefusal.{ReadRefusal}
@@ -24,13 +24,13 @@ few_none P block platform session result refused = record {
   most = λ tells. omega arith;
   none = λ tells past. refl;
   warm = λ tells keeps. omega arith;
-  fills = λ tells. never result refused (session.grove.level ≤ session.cache.capacity → KeepsWay session.cache.kept block session.grove);
+  fills = λ tells. never result refused (session.grove.level ≤ session.cache.capacity → KeepsWay session.cache.nodes block session.grove);
 }
 
 -- a look-up, and then at most one page
 pub few_found : {S : Type 0} (P : Ghosts S) (block : ℕ) (platform mid after : S) (was session : Session) (cache : Cached) (buffers : Held) (node : NodeBody) (told : Result (Option Entry) FetchRefusal) (result : Result (Unit {0}) ReadRefusal) → session ≡ was → block < blocks_of session
     → Looks P session.grove.level platform mid → UsesCache P (λ kept. KeepsWay kept block session.grove) session.grove.level platform mid session.cache cache told
-    → (P.tells → P.reads after ≤ P.reads mid + 1) → (P.tells → OnOk result (session.grove.level ≤ cache.capacity → KeepsWay cache.kept block session.grove))
+    → (P.tells → P.reads after ≤ P.reads mid + 1) → (P.tells → OnOk result (session.grove.level ≤ cache.capacity → KeepsWay cache.nodes block session.grove))
     → ReadsFew P block platform after was (record session { cache = cache; buffers = buffers; node = node }) result
 few_found P block platform mid after was session cache buffers node told result same within looks uses more filled =
     subst (λ (s : Session). ReadsFew P block platform after s (record session { cache = cache; buffers = buffers; node = node }) result) same (record {

@@ -10,7 +10,7 @@ use Rattle.node_codec.specs.declared.body.NodeBody.{NodeBody}
 use Rattle.page_store.specs.Buffer.{Held}
 use Rattle.page_store.specs.Places.{IsRecordAt}
 use Rattle.page_store.specs.Tree.{Parts, Mapped, Tree, Wrong, joined}
-use Rattle.node_cache.specs.Kept.{Cached}
+use Rattle.node_cache.specs.Cached.{Cached}
 use Rattle.btree_twigs.specs.Stubs.{Stub}
 use Rattle.btree_walk.specs.Sights.{StandsOver}
 use Rattle.btree_update.specs.declared.groves.Grove.{Grove}

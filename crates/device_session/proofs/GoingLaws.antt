@@ -8,7 +8,7 @@ use Rattle.platform.proofs.CallLaws.{looks_start}
 use Rattle.device_terms.proofs.MomentLaws.{stays_then}
 use Rattle.node_codec.specs.declared.body.NodeBody.{NodeBody}
 use Rattle.page_store.specs.Buffer.{Held}
-use Rattle.node_cache.specs.Kept.{Cached}
+use Rattle.node_cache.specs.Cached.{Cached}
 use Rattle.btree_twigs.specs.Stubs.{nodes}
 use Rattle.btree_walk.specs.Looks.{Looks as WalkLooks}
 use Rattle.btree_walk.specs.Sights.{StandsOver}

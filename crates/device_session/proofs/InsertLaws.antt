@@ -18,8 +18,8 @@ use Rattle.page_store.specs.Stands.{StandsBy}
 use Rattle.page_store.specs.Tree.{Parts, Place, Mapped, joined}
 use Rattle.page_store.proofs.RecordLaws.{record_appended, slice_get-end}
 use Rattle.page_store.proofs.StandsLaws.{stands_kept}
-use Rattle.node_cache.specs.declared.slots.Kept.{Kept}
-use Rattle.node_cache.specs.Kept.{Cached}
+use Rattle.node_cache.specs.declared.slots.CachedNode.{CachedNode}
+use Rattle.node_cache.specs.Cached.{Cached}
 use Rattle.btree_twigs.specs.Stubs.{Stub, Puts, datum}
 use Rattle.btree_twigs.specs.Top.{IsTop}
 use Rattle.btree_walk.specs.Sights.{StandsOver, IsOfPage}
@@ -72,7 +72,7 @@ cached_later image later cache whole earlier h = All-weaker (IsOfPage image.read
   reads = alike (length image.recorded) image.readable later.readable k.addr earlier.readable (let within = get_within image.readable k.addr is.page is.reads in omega (arith, within, whole.as_many)) ∙ is.reads;
   in_range = is.in_range;
   spelled = is.spelled;
-}) cache.kept h
+}) cache.nodes h
 
 -- the session over a later image with the same cell, with other bytes in its buffers
 pub later_holds : (session : Session) (buffers : Held) (image later : Image) (device : Device) (contents : Blocks) → IsWhole image → IsEarlier image later → later.cell ≡ image.cell → Holds session image device contents → Holds (record session { buffers = buffers }) later device contents

@@ -15,7 +15,7 @@ use Rattle.node_codec.specs.declared.body.NodeBody.{NodeBody}
 use Rattle.page_store.specs.Buffer.{Held}
 use Rattle.page_store.proofs.KeptLaws.{root_of_stands}
 use Rattle.btree_twigs.specs.Stubs.{Stub}
-use Rattle.node_cache.specs.Kept.{Cached}
+use Rattle.node_cache.specs.Cached.{Cached}
 use Rattle.btree_walk.specs.Sights.{StandsOver}
 use Rattle.btree_walk.specs.Among.{StaysAmong}
 use Rattle.btree_update.specs.Among.{HaveNodes}

@@ -35,7 +35,7 @@ use Rattle.btree_update.specs.Roots.{IsRoot, IsRootBy}
 use Rattle.btree_update.specs.Groves.{IsSound, GroveMaps, places_of}
 use Rattle.btree_update.proofs.FoundLaws.{up_twig}
 use Rattle.btree_update.proofs.GroveLaws.{above_it}
-use Rattle.node_cache.specs.Kept.{Cached}
+use Rattle.node_cache.specs.Cached.{Cached}
 use Rattle.grove_accounts.specs.Below.{HaveParts}
 use Rattle.grove_accounts.proofs.ListLaws.{each_append, each_weaker}
 use Rattle.grove_accounts.proofs.PartsLaws.{parts_each}

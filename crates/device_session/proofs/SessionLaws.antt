@@ -21,8 +21,8 @@ use Rattle.btree_twigs.specs.declared.twigs.Child.TheVariants.{Kept as KeptChild
 use Rattle.btree_walk.specs.Looks.{Looks as WalkLooks}
 use Rattle.btree_walk.specs.Sights.{StandsOver, IsOfPage}
 use Rattle.btree_walk.specs.Among.{IsAmong, KeepsAmong}
-use Rattle.node_cache.specs.declared.slots.Kept.{Kept}
-use Rattle.node_cache.specs.Kept.{Cached}
+use Rattle.node_cache.specs.declared.slots.CachedNode.{CachedNode}
+use Rattle.node_cache.specs.Cached.{Cached}
 use Rattle.btree_update.specs.declared.groves.Grove.{Grove}
 use Rattle.btree_update.specs.Held.{AreBelow}
 use Rattle.btree_update.specs.Groves.{IsSound, places_of}
@@ -58,7 +58,7 @@ pub record IsFresh (session : Session) : Type 0 where
   pub untouched : session.is_touched ≡ false
   pub mapped : session.mapped ≡ session.root.mapped
   pub tree : IsTreeOf session.root session.grove
-  pub none : session.cache.kept ≡ []
+  pub none : session.cache.nodes ≡ []
 
 -- a tree with no node in memory has no data record of its own
 pub no_own : (session : Session) → 1 ≤ session.root.level → IsTreeOf session.root session.grove → (s : Stub) → Contains (places_of session.grove) s → IsOwnStub session.root.head s → ⊥
@@ -84,10 +84,10 @@ fresh_open session pages now within below same fresh = record {
   below = below now (omega (arith, within.in_range.addr, within.within, same));
 }
 
-pub none_cached : (pages : List (List ℕ)) (cache : Cached) → cache.kept ≡ [] → StandsOver pages cache
+pub none_cached : (pages : List (List ℕ)) (cache : Cached) → cache.nodes ≡ [] → StandsOver pages cache
 none_cached pages cache none = subst (All (IsOfPage pages)) (sym none) (All-nil (IsOfPage pages))
 
-pub none_among : (places : List Place) (cache : Cached) → cache.kept ≡ [] → KeepsAmong places cache
+pub none_among : (places : List Place) (cache : Cached) → cache.nodes ≡ [] → KeepsAmong places cache
 none_among places cache none = subst (All (λ k. IsAmong places k.addr k.key)) (sym none) (All-nil (λ (k : Kept). IsAmong places k.addr k.key))
 
 -- over an image that stands the session has the device's array

@@ -19,7 +19,7 @@ use Rattle.page_store.proofs.FloorLaws.{forgets_still}
 use Rattle.btree_walk.specs.Sights.{StandsOver, IsOfPage}
 use Rattle.node_codec.specs.Record.{NodeRecord}
 use Rattle.page_store.proofs.RecordLaws.{record_stays}
-use Rattle.node_cache.specs.Kept.{Cached, without_all, forgotten}
+use Rattle.node_cache.specs.Cached.{Cached, without_all, forgotten}
 use Rattle.node_cache.proofs.CacheLaws.{All-without_all, none-without_all}
 use Rattle.std.proofs.lemmas.List.Elements.{All-weaker}
 use Rattle.shadow_commit.proofs.OrderLaws.{records_at}
@@ -232,8 +232,8 @@ committed_cached P T L platform mid new tape tape_now ledger ledger_now session 
     let reads : (P.history new).present.readable ≡ old.readable ++ more
     = ap (λ (i : Image). i.readable) published ∙ ap (λ (i : Image). i.readable) (is.synced told) ∙ ap (λ (i : Image). i.readable) (is.adds.image told) in
     let gone = session.grove.gone.items in
-    let kept = All-weaker (IsOfPage old.readable) (IsOfPage (old.readable ++ more)) (λ k of. record_stays old.readable more k.addr k.key (NodeRecord k.node.level k.node.entries.items) of) (without_all gone session.cache.kept)
-    (All-without_all (IsOfPage old.readable) gone session.cache.kept stands) in
+    let kept = All-weaker (IsOfPage old.readable) (IsOfPage (old.readable ++ more)) (λ k of. record_stays old.readable more k.addr k.key (NodeRecord k.node.level k.node.entries.items) of) (without_all gone session.cache.nodes)
+    (All-without_all (IsOfPage old.readable) gone session.cache.nodes stands) in
     let from : P.head platform ≡ length old.readable = sym (all.readied.counts told) ∙ sym (whole-now (P.history platform)).as_many in
     let small : P.head platform + length ns ≤ 2 ^ 64 = omega (arith, is.adds.head, is.next_is.head_is, is.in_range.head) in
     let sealed = All-sealed (IsOfPage (old.readable ++ more)) (forgotten gone session.cache) ns kept (records_at (P.head platform) old.readable ns from is.over.order.from is.over.order.fits small) in
@@ -302,7 +302,7 @@ commits_raised P T L platform mid new tape tape_now ledger ledger_now session no
       tree = subst (λ (root : Root). IsTreeOf root now.grove) (sym taken.root_is) taken.tree;
       wiped = taken.wiped;
       cached = record { nodes = is.adds.nodes; from = is.over.order.from; many = omega (arith, is.grown, is.adds.head); is = taken.cached ∙ ap (forgotten session.grove.gone.items) is.cached };
-      forgot = subst (λ (k : Cached). All (λ addr. All (λ node. node.addr ≢ addr) k.kept) session.grove.gone.items) (sym taken.cached) (none-without_all session.grove.gone.items r.cache.kept);
+      forgot = subst (λ (k : Cached). All (λ addr. All (λ node. node.addr ≢ addr) k.nodes) session.grove.gone.items) (sym taken.cached) (none-without_all session.grove.gone.items r.cache.nodes);
       head = all.swaps.head ∙ is.grown;
       names = subst (NamesLast (T.drawn tape) (T.drawn tape_now) (P.head new)) (sym taken.root_is) (record {
         earlier = last.earlier;

@@ -12,7 +12,7 @@ use Rattle.page_store.specs.Tree.{Parts, joined}
 use Rattle.page_store.specs.Stands.{StandsBy}
 use Rattle.btree_walk.specs.Sights.{StandsOver, IsOfPage}
 use Rattle.btree_walk.specs.Among.{KeepsAmong}
-use Rattle.node_cache.specs.Kept.{Cached}
+use Rattle.node_cache.specs.Cached.{Cached}
 use Rattle.node_cache.proofs.CacheLaws.{All-without_all}
 use Rattle.grove_accounts.specs.Holding.{IsTreeOf}
 use Rattle.grove_accounts.proofs.HoldingLaws.{holds_start, tree_place}
@@ -27,7 +27,7 @@ use Rattle.device_session.proofs.SessionLaws.{no_own}
 -- what is left of a cache whose nodes are what the pages are
 pub taken_cached : (session now : Session) (cache : Cached) (root : Root) (pages : List (List ℕ)) → TakesUp session cache root now → StandsOver pages cache → StandsOver pages now.cache
 taken_cached session now cache root pages taken stands =
-    subst (StandsOver pages) (sym taken.cached) (All-without_all (IsOfPage pages) session.grove.gone.items cache.kept stands)
+    subst (StandsOver pages) (sym taken.cached) (All-without_all (IsOfPage pages) session.grove.gone.items cache.nodes stands)
 
 taken_tree : (session now : Session) (cache : Cached) (root : Root) → TakesUp session cache root now → IsTreeOf now.root now.grove
 taken_tree session now cache root taken = subst (λ (r : Root). IsTreeOf r now.grove) (sym taken.root_is) taken.tree

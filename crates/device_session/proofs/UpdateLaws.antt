@@ -23,7 +23,7 @@ use Rattle.btree_update.specs.Opens.{HasWay}
 use Rattle.btree_update.specs.Groves.{IsSound, IsReadBeside, IsReadBesideAt, GroveMaps, KeepsTree, places_of}
 use Rattle.btree_update.specs.Beside.{IsReadWhere}
 use Rattle.btree_update.proofs.HelpingLaws.{from_weaker}
-use Rattle.node_cache.specs.Kept.{Cached}
+use Rattle.node_cache.specs.Cached.{Cached}
 use Rattle.grove_accounts.specs.Holding.{Turns, IsSameSize}
 use Rattle.sdbt_base.specs.declared.lists.Unkept.{Unkept}
 use Rattle.grove_accounts.specs.Certs.{AreWritten}

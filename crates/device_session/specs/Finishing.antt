@@ -5,7 +5,7 @@ use Rattle.sdbt_base.specs.Told.{Got, GotPart}
 use Rattle.platform.specs.History.{History, CellStays}
 use Rattle.root_codec.specs.declared.root.Root.{Root}
 use Rattle.root_codec.specs.RootRecord.{root_bytes}
-use Rattle.node_cache.specs.Kept.{Cached, forgotten}
+use Rattle.node_cache.specs.Cached.{Cached, forgotten}
 use Rattle.btree_walk.specs.Readers.{IsWiped}
 use Rattle.btree_update.specs.declared.groves.Grove.{Grove}
 use Rattle.grove_accounts.specs.Holding.{IsTreeOf}

@@ -4,7 +4,7 @@ use Rattle.sdbt_base.specs.Arrays.{Device}
 use Rattle.platform.specs.declared.platforms.Platform.{Ghosts}
 use Rattle.root_codec.specs.RootRecord.{root_bytes}
 use Rattle.page_store.specs.Stands.{Stands}
-use Rattle.node_cache.specs.Kept.{cached}
+use Rattle.node_cache.specs.Cached.{cached}
 use Rattle.device_session.specs.Sessions.{Session}
 use Rattle.device_session.specs.Open.{IsOpen, AreDataPages, is_touched}
 use Rattle.device_session.specs.Holds.{Holds}

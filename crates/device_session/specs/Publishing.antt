@@ -14,7 +14,7 @@ use Rattle.btree_walk.specs.Among.{IsAmong, KeepsAmong}
 use Rattle.btree_walk.specs.Readers.{IsWiped}
 use Rattle.btree_update.specs.Groves.{places_of}
 use Rattle.grove_accounts.specs.Holding.{IsTreeOf}
-use Rattle.node_cache.specs.Kept.{Cached, forgotten}
+use Rattle.node_cache.specs.Cached.{Cached, forgotten}
 use Rattle.shadow_commit.specs.Sealed.{Sealed}
 use Rattle.shadow_commit.specs.Caching.{with_sealed}
 use Rattle.shadow_commit.specs.NewTree.{AreFrom}
@@ -61,7 +61,7 @@ pub record HasRaised {S R : Type 0} (P : PlatformGhosts S) (T : TapeGhosts R) (p
   pub tree : IsTreeOf now.root now.grove
   pub wiped : IsWiped now.buffers now.node
   pub cached : Recaches (P.head platform) (needed_by session) session.grove.gone.items session.cache now.cache
-  pub forgot : All (λ addr. All (λ node. node.addr ≢ addr) now.cache.kept) session.grove.gone.items
+  pub forgot : All (λ addr. All (λ node. node.addr ≢ addr) now.cache.nodes) session.grove.gone.items
   pub head : P.head platform_now ≡ P.head platform + needed_by session
   pub names : NamesLast (T.drawn tape) (T.drawn tape_now) (P.head platform_now) (root_of now)
   pub cell : P.tells → (P.history platform_now).present.cell ≡ Some (root_bytes (root_of now))

@@ -35,7 +35,7 @@ room_of session = session.cache.capacity
 
 -- it keeps each node on the way to the block that isn't in memory
 abbrev pub KeepsWayTo : Session → ℕ → Type 0
-KeepsWayTo session block = KeepsWay session.cache.kept block session.grove
+KeepsWayTo session block = KeepsWay session.cache.nodes block session.grove
 
 -- what a read costs: one page for each level of the tree and one for the block at most, and none where the device has no such block; one alone where the cache
 -- keeps the way to the block, as it does after a read that was done, where it has room for a node of each level

@@ -2,7 +2,7 @@
 use Rattle.std.specs.Prelude.{ℕ, Bool}
 use Rattle.root_codec.specs.declared.root.Root.{Root}
 use Rattle.node_codec.specs.declared.body.NodeBody.{NodeBody}
-use Rattle.node_cache.specs.Kept.{Cached}
+use Rattle.node_cache.specs.Cached.{Cached}
 use Rattle.page_store.specs.Buffer.{Held}
 use Rattle.btree_update.specs.declared.groves.Grove.{Grove}
 

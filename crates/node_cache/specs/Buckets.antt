@@ -1,6 +1,6 @@
 -- The buckets of a cache: which slots may have a node of an address.
 use Rattle.std.specs.Prelude.{◌≡◌, ◌%◌, ◌<◌, ℕ, List, Option, None, Some, length, slice_get}
-use Rattle.node_cache.specs.declared.slots.Kept.{Kept}
+use Rattle.node_cache.specs.declared.slots.CachedNode.{CachedNode}
 use Rattle.node_cache.specs.Slots.{IsTied}
 use Rattle.node_cache.specs.declared.buckets.Bucket.{Bucket}
 use Rattle.node_cache.specs.declared.buckets.Bucket.TheVariants.{Empty, One, Many}
@@ -17,7 +17,7 @@ abbrev pub Covers : List Bucket → List (Option ℕ) → Type 0
 Covers buckets addrs = (slot addr : ℕ) → slice_get addrs slot ≡ Some (Some addr) → MayHave (slice_get buckets (addr % length buckets)) slot
 
 -- numbered slots in the order of their use, the addresses of the nodes in them, and buckets that rule out none of these
-pub record IsKeptBy (slots : List (ℕ × Option Kept)) (addrs : List (Option ℕ)) (buckets : List Bucket) : Type 0 where
+pub record IsCachedBy (slots : List (ℕ × Option CachedNode)) (addrs : List (Option ℕ)) (buckets : List Bucket) : Type 0 where
   pub tied : IsTied slots addrs
   pub covers : Covers buckets addrs
   pub some : 0 < length addrs → 0 < length buckets

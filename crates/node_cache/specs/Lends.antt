@@ -4,7 +4,7 @@ use Rattle.std.specs.Borrow.{Fml, Bor, MutBor, follows_so}
 use Rattle.std.specs.Option.{option_copied}
 use mathlib.Core.Option.{none}
 use Rattle.node_codec.specs.declared.body.NodeBody.{NodeBody}
-use Rattle.node_cache.specs.Kept.{Cached, Uses}
+use Rattle.node_cache.specs.Cached.{Cached, Uses}
 use Rattle.node_cache.specs.contracts.cache.NodeCache.{the_row}
 
 -- a look-up answered the result, and the cache ends with that node as its most recent one, or as it was

@@ -1,4 +1,4 @@
 pub mod Buckets
-pub mod Kept
+pub mod Cached
 pub mod Lends
 pub mod Slots

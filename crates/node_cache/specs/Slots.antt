@@ -3,35 +3,35 @@ use Rattle.std.specs.Prelude.{◌≡◌, ◌≢◌, ◌<◌, ◌⊎◌, ℕ, Lis
 use Rattle.std.specs.List.{IsDistinct}
 use Rattle.std.specs.Map.{keys_of, lookup}
 use Rattle.lru.specs.LruCache.{last_entry}
-use Rattle.node_cache.specs.declared.slots.Kept.{Kept}
+use Rattle.node_cache.specs.declared.slots.CachedNode.{CachedNode}
 
 -- the nodes in slots, in their order
-abbrev pub kept_in : List (ℕ × Option Kept) → List Kept
-kept_in [] = []
-kept_in ((number, None) ∷ slots) = kept_in slots
-kept_in ((number, Some kept) ∷ slots) = kept ∷ kept_in slots
+abbrev pub nodes_in : List (ℕ × Option CachedNode) → List CachedNode
+nodes_in [] = []
+nodes_in ((number, None) ∷ slots) = nodes_in slots
+nodes_in ((number, Some node) ∷ slots) = node ∷ nodes_in slots
 
 -- the address of the node in a slot
-abbrev pub address_in : Option Kept → Option ℕ
+abbrev pub address_in : Option CachedNode → Option ℕ
 address_in None = None
-address_in (Some kept) = Some kept.addr
+address_in (Some node) = Some node.addr
 
 -- behind an empty slot no node stands
-abbrev pub IsFullFirst : List (ℕ × Option Kept) → Type 0
+abbrev pub IsFullFirst : List (ℕ × Option CachedNode) → Type 0
 IsFullFirst [] = Unit {0}
-IsFullFirst ((number, None) ∷ slots) = kept_in slots ≡ []
-IsFullFirst ((number, Some kept) ∷ slots) = IsFullFirst slots
+IsFullFirst ((number, None) ∷ slots) = nodes_in slots ≡ []
+IsFullFirst ((number, Some node) ∷ slots) = IsFullFirst slots
 
 -- no two nodes have one address
-abbrev pub AreApart : List Kept → Type 0
+abbrev pub AreApart : List CachedNode → Type 0
 AreApart [] = Unit {0}
-AreApart (kept ∷ others) = All (λ other. other.addr ≢ kept.addr) others × AreApart others
+AreApart (node ∷ others) = All (λ other. other.addr ≢ node.addr) others × AreApart others
 
 -- numbered slots in the order of their use, and for each number the address of the node that stands there
-pub record IsTied (slots : List (ℕ × Option Kept)) (addrs : List (Option ℕ)) : Type 0 where
+pub record IsTied (slots : List (ℕ × Option CachedNode)) (addrs : List (Option ℕ)) : Type 0 where
   pub listed : All (λ slot. slice_get addrs slot.0 ≡ Some (address_in slot.1)) slots
   pub each : (number : ℕ) → number < length addrs → IsSome (lookup (nat_eq number) slots)
-  pub apart : AreApart (kept_in slots)
+  pub apart : AreApart (nodes_in slots)
   pub full_first : IsFullFirst slots
   pub count : length slots ≡ length addrs
 
@@ -40,12 +40,12 @@ abbrev pub IsUnlisted : List (Option ℕ) → ℕ → Type 0
 IsUnlisted addrs addr = (number : ℕ) → slice_get addrs number ≢ Some (Some addr)
 
 -- the slots have numbers of their own, and the last one has this
-pub record IsLeastUsed (slots : List (ℕ × Option Kept)) (number : ℕ) : Type 0 where
-  pub content : Option Kept
+pub record IsLeastUsed (slots : List (ℕ × Option CachedNode)) (number : ℕ) : Type 0 where
+  pub content : Option CachedNode
   pub is : last_entry slots ≡ Some (number, content)
   pub distinct : IsDistinct nat_eq (keys_of slots)
 
 -- the slot that a node of an address is to have: its own, or the one that was used least
-abbrev pub IsSlotFor : List (ℕ × Option Kept) → List (Option ℕ) → ℕ → ℕ → Type 0
+abbrev pub IsSlotFor : List (ℕ × Option CachedNode) → List (Option ℕ) → ℕ → ℕ → Type 0
 IsSlotFor slots addrs addr number =
     (slice_get addrs number ≡ Some (Some addr)) ⊎ (IsUnlisted addrs addr × IsLeastUsed slots number)

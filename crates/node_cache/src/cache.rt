@@ -6,8 +6,8 @@ ghost use Rattle.std.specs.Map.{keys_of, lookup, remove_entry};
 ghost use Rattle.lru.specs.LruCache.{lru_cache, promoted};
 ghost use Rattle.std.specs.NonZero.{non_zero_usize_get};
 ghost use Rattle.node_codec.specs.declared.body.NodeBody.{NodeBody};
-ghost use Rattle.node_cache.specs.declared.slots.Kept.{Kept};
-ghost use Rattle.node_cache.specs.Kept.{kept_node, node_of};
+ghost use Rattle.node_cache.specs.declared.slots.CachedNode.{CachedNode};
+ghost use Rattle.node_cache.specs.Cached.{cached_node, node_of};
 ghost use Rattle.node_cache.specs.Slots.{IsLeastUsed, IsSlotFor};
 ghost use Rattle.node_cache.specs.Buckets.{Covers};
 
@@ -26,7 +26,7 @@ const BUCKETS: usize = 4;
 /// Whether a node was put into a cache.
 #[derive(Clone, Copy, Debug, PartialEq, Eq)]
 pub enum Put {
-    /// The node is kept.
+    /// The node is cached.
     Stored,
     /// The cache keeps nothing.
     Off,
@@ -42,26 +42,26 @@ pub struct NodeCache {
 
 impl Model for NodeCache {
     ghost use Rattle.std.specs.Prelude.{length};
-    ghost use Rattle.node_cache.specs.Kept.{Cached};
-    ghost use Rattle.node_cache.specs.Slots.{kept_in};
-    ghost use Rattle.node_cache.specs.Buckets.{IsKeptBy};
+    ghost use Rattle.node_cache.specs.Cached.{Cached};
+    ghost use Rattle.node_cache.specs.Slots.{nodes_in};
+    ghost use Rattle.node_cache.specs.Buckets.{IsCachedBy};
 
     ghost Value = { Cached };
 
-    ghost view = { λ c. record { capacity = length c.addrs.items; kept = kept_in c.slots.entries } };
+    ghost view = { λ c. record { capacity = length c.addrs.items; nodes = nodes_in c.slots.entries } };
 
-    ghost invariant = { λ c. IsKeptBy c.slots.entries c.addrs.items c.buckets.items };
+    ghost invariant = { λ c. IsCachedBy c.slots.entries c.addrs.items c.buckets.items };
 }
 
 impl NodeCache {
-    ghost use Rattle.node_cache.specs.Kept.{filled, without, forgotten, IsKept, IsOnlyKept, Uses};
+    ghost use Rattle.node_cache.specs.Cached.{filled, without, forgotten, IsCached, IsOnlyCached, Uses};
     ghost use Rattle.node_cache.specs.Lends.{EndsUsed};
 
     /// A cache of at most 4,096 nodes that keeps none yet. All memory that it ever takes is taken here. With
     /// a capacity of 0 it keeps nothing.
     pub fn new(alloc: Global, capacity: usize) -> Result<NodeCache, Memory>
         requires { capacity ≤ 4096 }
-        ensures { IfOk result (λ cache. cache ≡ record { capacity = capacity; kept = [] }) }
+        ensures { IfOk result (λ cache. cache ≡ record { capacity = capacity; nodes = [] }) }
     {
         let mut slots = LruCache::new(alloc, room_for(capacity))?;
         let mut addrs = Vec::with_capacity(alloc, capacity)?;
@@ -77,12 +77,12 @@ impl NodeCache {
         })
     }
 
-    /// Keeps a node for its address under its key, as the most recent one, in the place of one that was kept
+    /// Keeps a node for its address under its key, as the most recent one, in the place of one that was cached
     /// for that address; else, where all places are taken, in that of the least recent one. `Off` comes
     /// exactly where the capacity is 0.
     pub fn put(&mut self, addr: u64, key: &Key, node: &NodeBody) -> Put
         ensures off { (result ≡ Put.Off) ↔ (self.old.capacity ≡ 0) }
-        ensures kept { self.new ≡ filled self.old (kept_node addr key.now node.now) }
+        ensures cached { self.new ≡ filled self.old (cached_node addr key.now node.now) }
     {
         self.put_node(addr, key, node.level, &node.entries)
     }
@@ -91,7 +91,7 @@ impl NodeCache {
     pub fn put_node(&mut self, addr: u64, key: &Key, level: u8, entries: &[Entry]) -> Put
         requires { length entries.now ≤ 64 }
         ensures off { (result ≡ Put.Off) ↔ (self.old.capacity ≡ 0) }
-        ensures kept { self.new ≡ filled self.old (kept_node addr key.now (node_of level entries.now)) }
+        ensures cached { self.new ≡ filled self.old (cached_node addr key.now (node_of level entries.now)) }
     {
         if self.addrs.is_empty() {
             return Put::Off;
@@ -103,12 +103,12 @@ impl NodeCache {
         Put::Stored
     }
 
-    /// The node that is kept for an address under this key, which becomes the most recent one. `None` comes
+    /// The node that is cached for an address under this key, which becomes the most recent one. `None` comes
     /// exactly where none is, and changes nothing.
     pub fn get(&mut self, addr: u64, key: &Key) -> Option<&NodeBody>
         ensures* used { sem 𝓛 (EndsUsed self.entry addr key.now result) }
-        ensures found { IfSome result (λ node. IsOnlyKept self.old.kept addr key.now node.now) }
-        ensures none { IfNone result ((node : NodeBody) → ¬ (IsKept self.old.kept addr key.now node)) }
+        ensures found { IfSome result (λ node. IsOnlyCached self.old.nodes addr key.now node.now) }
+        ensures none { IfNone result ((node : NodeBody) → ¬ (IsCached self.old.nodes addr key.now node)) }
     {
         if self.use_again(addr, key) {
             self.latest()
@@ -117,7 +117,7 @@ impl NodeCache {
         }
     }
 
-    /// Whether a node is kept for an address under this key, which then becomes the most recent one.
+    /// Whether a node is cached for an address under this key, which then becomes the most recent one.
     fn use_again(&mut self, addr: u64, key: &Key) -> bool
         ensures used { IsTrue result → (node : NodeBody) × Uses self.old addr key.now (Some node) self.new }
         ensures none { ¬ (IsTrue result) → Uses self.old addr key.now None self.new }
@@ -134,31 +134,31 @@ impl NodeCache {
 
     /// The most recent node, if there is one.
     fn latest(&self) -> Option<&NodeBody>
-        ensures { (first : Kept) (others : List Kept) → self.now.kept ≡ first ∷ others → option_copied result ≡ Some first.node }
+        ensures { (first : CachedNode) (others : List CachedNode) → self.now.nodes ≡ first ∷ others → option_copied result ≡ Some first.node }
     {
         let (_, slot) = self.slots.peek_mru()?;
-        let kept = slot.kept()?;
+        let kept = slot.node()?;
         Some(&kept.node)
     }
 
-    /// The addresses for which nodes are kept, the most recent first.
+    /// The addresses for which nodes are cached, the most recent first.
     pub fn addresses(&self, alloc: Global) -> Result<Addrs, Memory>
-        ensures { IfOk result (λ addrs. addrs ≡ map (λ k. k.addr) self.now.kept) }
+        ensures { IfOk result (λ addrs. addrs ≡ map (λ k. k.addr) self.now.nodes) }
     {
         let mut addrs = Addrs::new(alloc);
         for (_, slot) in self.slots.iter() {
-            if let Some(kept) = slot.kept() {
+            if let Some(kept) = slot.node() {
                 addrs.push(kept.addr)?;
             }
         }
         Ok(addrs)
     }
 
-    /// Forgets what is kept for an address. The other nodes and their order stay.
+    /// Forgets what is cached for an address. The other nodes and their order stay.
     pub fn forget(&mut self, addr: u64)
         ensures { self.new ≡ record {
           capacity = self.old.capacity;
-          kept = without addr self.old.kept;
+          nodes = without addr self.old.nodes;
         } }
     {
         if let Some(number) = slot_of(&self.buckets, &self.addrs, addr) {
@@ -168,7 +168,7 @@ impl NodeCache {
         }
     }
 
-    /// Forgets what is kept for each of these addresses. The other nodes and their order stay.
+    /// Forgets what is cached for each of these addresses. The other nodes and their order stay.
     pub fn forget_all(&mut self, addrs: &[u64])
         ensures { self.new ≡ forgotten addrs.now self.old }
     {
@@ -226,7 +226,7 @@ fn fill(
 )
     requires there { IsSome (lookup (nat_eq number) slots.old.entries) }
     requires count { length entries.now ≤ 64 }
-    ensures written { slots.new ≡ lru_cache ((number, Some (kept_node addr key.now (node_of level entries.now))) ∷ remove_entry (nat_eq number) slots.old.entries) slots.old.cap }
+    ensures written { slots.new ≡ lru_cache ((number, Some (cached_node addr key.now (node_of level entries.now))) ∷ remove_entry (nat_eq number) slots.old.entries) slots.old.cap }
     ensures distinct { IsDistinct nat_eq (keys_of slots.new.entries) }
 {
     match slots.get_mut(&number) {
@@ -251,14 +251,14 @@ fn empty(slots: &mut LruCache<usize, Slot>, number: usize)
     prove!(count > 0);
 }
 
-/// Whether the node in a slot, if there is one, is kept under this key.
+/// Whether the node in a slot, if there is one, is cached under this key.
 fn has_key(slots: &LruCache<usize, Slot>, number: usize, key: &Key) -> bool
-    ensures { IsTrue result ↔ ((kept : Kept) × (lookup (nat_eq number) slots.now.entries ≡ Some (Some kept)) × (kept.key ≡ key.now)) }
+    ensures { IsTrue result ↔ ((kept : CachedNode) × (lookup (nat_eq number) slots.now.entries ≡ Some (Some kept)) × (kept.key ≡ key.now)) }
 {
     let Some(slot) = slots.peek(&number) else {
         return false;
     };
-    match slot.kept() {
+    match slot.node() {
         Some(kept) => kept.key == *key,
         None => false,
     }

@@ -1,8 +1,8 @@
 ghost use Rattle.std.specs.Prelude.{◌≡◌, ◌≤◌, [], None, Some, Option, IfOk, length, replicate};
 ghost use Rattle.std.specs.Option.{option_copied};
 ghost use Rattle.node_codec.specs.declared.body.NodeBody.{NodeBody};
-ghost use Rattle.node_cache.specs.declared.slots.Kept.{Kept};
-ghost use Rattle.node_cache.specs.Kept.{kept_node, node_of};
+ghost use Rattle.node_cache.specs.declared.slots.CachedNode.{CachedNode};
+ghost use Rattle.node_cache.specs.Cached.{cached_node, node_of};
 
 use arrayvec::ArrayVec;
 use node_codec::{Entry, NodeBody};
@@ -10,9 +10,9 @@ use sdbt_base::{Key, Memory};
 use std::alloc::Global;
 use std::marker::Model;
 
-/// A node that is kept, with the address and the key that it was read or written under.
+/// A node that is cached, with the address and the key that it was read or written under.
 #[derive(Drop)]
-pub struct Kept {
+pub struct CachedNode {
     /// The address of its page.
     pub addr: u64,
     /// Its key.
@@ -26,27 +26,27 @@ pub struct Kept {
 #[derive(Drop)]
 pub struct Slot {
     is_full: bool,
-    room: Vec<Kept>,
+    room: Vec<CachedNode>,
 }
 
 impl Model for Slot {
     ghost use Rattle.std.specs.Prelude.{◌≤◌, None, Option, cond, slice_get, vec_capacity};
-    ghost use Rattle.node_cache.specs.declared.slots.Kept.{Kept};
+    ghost use Rattle.node_cache.specs.declared.slots.CachedNode.{CachedNode};
 
-    ghost Value = { Option Kept };
+    ghost Value = { Option CachedNode };
 
     ghost view = { λ s. cond s.is_full (slice_get s.room.items 0) None };
 
     ghost invariant = { λ s. 1 ≤ vec_capacity s.room };
 }
 
-impl Kept {
+impl CachedNode {
     /// The node of a level with a copy of these entries, for its address under its key.
-    fn of(addr: u64, key: &Key, level: u8, entries: &[Entry]) -> Kept
+    fn of(addr: u64, key: &Key, level: u8, entries: &[Entry]) -> CachedNode
         requires { length entries.now ≤ 64 }
-        ensures { result ≡ kept_node addr key.now (node_of level entries.now) }
+        ensures { result ≡ cached_node addr key.now (node_of level entries.now) }
     {
-        let mut kept = Kept {
+        let mut kept = CachedNode {
             addr,
             key: *key,
             node: NodeBody {
@@ -61,7 +61,7 @@ impl Kept {
     /// Becomes the node of a level with a copy of these entries, for its address under its key.
     fn copy(&mut self, addr: u64, key: &Key, level: u8, entries: &[Entry])
         requires { length entries.now ≤ 64 }
-        ensures { self.new ≡ kept_node addr key.now (node_of level entries.now) }
+        ensures { self.new ≡ cached_node addr key.now (node_of level entries.now) }
     {
         self.addr = addr;
         self.key = *key;
@@ -95,7 +95,7 @@ impl Slot {
     }
 
     /// The node that stands here.
-    pub(crate) fn kept(&self) -> Option<&Kept>
+    pub(crate) fn node(&self) -> Option<&CachedNode>
         ensures { option_copied result ≡ self.now }
     {
         if self.is_full {
@@ -108,10 +108,10 @@ impl Slot {
     /// Writes the node of a level with these entries over what stands here, for its address under its key.
     pub(crate) fn fill(&mut self, addr: u64, key: &Key, level: u8, entries: &[Entry])
         requires { length entries.now ≤ 64 }
-        ensures { self.new ≡ Some (kept_node addr key.now (node_of level entries.now)) }
+        ensures { self.new ≡ Some (cached_node addr key.now (node_of level entries.now)) }
     {
         if self.room.is_empty() {
-            let _room = self.room.push(Kept::of(addr, key, level, entries));
+            let _room = self.room.push(CachedNode::of(addr, key, level, entries));
         } else {
             self.room[0].copy(addr, key, level, entries);
         }

@@ -1,8 +1,8 @@
 -- What a cache keeps once nodes were sealed.
 use Rattle.std.proofs.Common.{◌≡◌, List, [], ◌∷◌, ◌++◌, All, refl, sym, ap, ◌∙◌}
 use Rattle.std.specs.List.{AllByRecursion}
-use Rattle.node_cache.specs.declared.slots.Kept.{Kept}
-use Rattle.node_cache.specs.Kept.{Cached, filled}
+use Rattle.node_cache.specs.declared.slots.CachedNode.{CachedNode}
+use Rattle.node_cache.specs.Cached.{Cached, filled}
 use Rattle.node_cache.proofs.CacheLaws.{All-filled}
 use Rattle.shadow_commit.specs.Sealed.{Sealed}
 use Rattle.shadow_commit.specs.Caching.{cached_as, with_sealed}
@@ -20,6 +20,6 @@ capacity_sealed cache [] = refl
 capacity_sealed cache (n ∷ ns) = capacity_sealed (filled cache (cached_as n)) ns
 
 -- what holds of all nodes that were kept and of those that are put holds of all that are kept then
-pub All-sealed : (P : Kept → Type 0) (cache : Cached) (ns : List Sealed) → All P cache.kept → AllByRecursion (λ n. P (cached_as n)) ns → All P (with_sealed cache ns).kept
+pub All-sealed : (P : CachedNode → Type 0) (cache : Cached) (ns : List Sealed) → All P cache.nodes → AllByRecursion (λ n. P (cached_as n)) ns → All P (with_sealed cache ns).nodes
 All-sealed P cache [] all each = all
 All-sealed P cache (n ∷ ns) all each = All-sealed P (filled cache (cached_as n)) ns (All-filled P cache (cached_as n) all each.0) each.1

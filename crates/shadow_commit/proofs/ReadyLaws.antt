@@ -26,7 +26,7 @@ use Rattle.btree_update.specs.GroveTree.{HasEach}
 use Rattle.btree_update.specs.Roots.{IsRootBy, IsRoot}
 use Rattle.btree_update.specs.Groves.{IsSound, places_of, grown_in}
 use Rattle.btree_update.specs.declared.groves.Grove.{Grove}
-use Rattle.node_cache.specs.Kept.{Cached}
+use Rattle.node_cache.specs.Cached.{Cached}
 use Rattle.cert_maker.specs.Cert.{Cert}
 use Rattle.sdbt_base.specs.Traces.{Traced}
 use Rattle.sdbt_base.specs.declared.lists.Unkept.{Unkept}

@@ -1,12 +1,12 @@
 -- What a cache keeps once nodes were sealed.
 use Rattle.std.specs.Prelude.{◌≡◌, List, [], ◌∷◌}
-use Rattle.node_cache.specs.declared.slots.Kept.{Kept}
-use Rattle.node_cache.specs.Kept.{Cached, kept_node, node_of, filled}
+use Rattle.node_cache.specs.declared.slots.CachedNode.{CachedNode}
+use Rattle.node_cache.specs.Cached.{Cached, cached_node, node_of, filled}
 use Rattle.shadow_commit.specs.Sealed.{Sealed}
 
 -- a sealed node as a cache keeps it
-abbrev pub cached_as : Sealed → Kept
-cached_as n = kept_node n.addr n.key (node_of n.level n.entries)
+abbrev pub cached_as : Sealed → CachedNode
+cached_as n = cached_node n.addr n.key (node_of n.level n.entries)
 
 -- the cache once these nodes were put, one after the other
 abbrev pub with_sealed : Cached → List Sealed → Cached

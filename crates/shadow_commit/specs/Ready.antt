@@ -14,7 +14,7 @@ use Rattle.key_graph.specs.Trace.{Entries}
 use Rattle.page_store.specs.Tree.{Parts, joined}
 use Rattle.page_store.specs.Kept.{KnowsTree}
 use Rattle.page_store.specs.Stands.{StandsBy, pairs_of}
-use Rattle.node_cache.specs.Kept.{Cached, forgotten}
+use Rattle.node_cache.specs.Cached.{Cached, forgotten}
 use Rattle.cert_maker.specs.Cert.{Cert}
 use Rattle.cert_maker.specs.CertOf.{CertOf}
 use Rattle.cert_maker.specs.Differ.{Differ}

@@ -33,19 +33,19 @@ returns-in-Below-clause-bad g c = λ tells stands addr is.
 pub returns-in-Found-clause-uses : goal.returns-in-Found-clause-uses
 returns-in-Found-clause-uses g c = record {
   warm = λ keeps. refl;
-  fills = λ tells room. subst (KeepsFrom c.args.reader.now.cache.kept c.args.order c.args.block) (sym c.in-Found.is) (Some (record { low = c.args.block; addr = c.in-Found.addr; key = c.in-Found.key }), refl);
+  fills = λ tells room. subst (KeepsFrom c.args.reader.now.cache.nodes c.args.order c.args.block) (sym c.in-Found.is) (Some (record { low = c.args.block; addr = c.in-Found.addr; key = c.in-Found.key }), refl);
 }
 
 pub returns-in-Absent-clause-uses : goal.returns-in-Absent-clause-uses
 returns-in-Absent-clause-uses g c = record {
   warm = λ keeps. refl;
-  fills = λ tells room. subst (KeepsFrom c.args.reader.now.cache.kept c.args.order c.args.block) (sym c.in-Absent.is) (None, refl);
+  fills = λ tells room. subst (KeepsFrom c.args.reader.now.cache.nodes c.args.order c.args.block) (sym c.in-Absent.is) (None, refl);
 }
 
 pub returns-in-Below-clause-uses : goal.returns-in-Below-clause-uses
 returns-in-Below-clause-uses g c =
-    let old = c.args.reader.now.cache.kept in
-    let new = c.find.new.reader.cache.kept in
+    let old = c.args.reader.now.cache.nodes in
+    let new = c.find.new.reader.cache.nodes in
     let want = want_of c.args.order (stub_at c.in-Below.level c.in-Below.low c.in-Below.high c.in-Below.addr c.in-Below.key) in
     record {
       warm = λ keeps.

@@ -1,6 +1,6 @@
 use Rattle.std.proofs.Common.{◌≡◌, ◌<◌, ◌≤◌, ◌-◌, ◌^◌, ℕ, suc, List, IfOk, sym, subst, arith}
 use Rattle.page_store.specs.Places.{FitsAt}
-use Rattle.btree_walk.specs.Sights.{KeptFits}
+use Rattle.btree_walk.specs.Sights.{CachedFits}
 use Rattle.btree_walk.proofs.OnLaws.{IfOk_map, entry_below}
 use Rattle.btree_walk.proofs.MappedLaws.{finds_page, stops_page}
 use Rattle.btree_twigs.specs.declared.twigs.Child.{Child}
@@ -113,8 +113,8 @@ returns-in-Kept-clause-entry g c =
 
 pub returns-in-Grown-clause-uses : goal.returns-in-Grown-clause-uses
 returns-in-Grown-clause-uses g c =
-    let old = c.args.reader.now.cache.kept in
-    let new = c.find_from.new.reader.cache.kept in
+    let old = c.args.reader.now.cache.nodes in
+    let new = c.find_from.new.reader.cache.nodes in
     let order = c.args.order in let block = c.args.block in let below = c.args.level - 1 in let high = c.args.high in
     let spot = c.find-spot.result in
     let twig = c.in-Grown.twig in
@@ -122,34 +122,34 @@ returns-in-Grown-clause-uses g c =
     record {
       warm = λ keeps.
           (let at = subst (RootKeeps old order block below high) c.in-Grown.is keeps in
-          let among = subst (λ y. RootFindsBy (KeptFits old) order block below high y at.0) (made.outs-Grown c.in-Grown.low twig) at.1 in
-          c.find_from.ensures.uses.warm (at.0, finds_there (KeptFits old) order block (stubs_below below high twig) spot at.0 is among));
+          let among = subst (λ y. RootFindsBy (CachedFits old) order block below high y at.0) (made.outs-Grown c.in-Grown.low twig) at.1 in
+          c.find_from.ensures.uses.warm (at.0, finds_there (CachedFits old) order block (stubs_below below high twig) spot at.0 is among));
       fills = λ tells. OnOk_map _ _ c.find_from.result
           (λ keeps room.
           let at = keeps (omega (arith, room, from_level block below (stubs_below below high twig) spot is (up_twig below high twig))) in
           subst (RootKeeps new order block below high) (sym c.in-Grown.is)
-          (at.0, subst (λ y. RootFindsBy (KeptFits new) order block below high y at.0) (sym (made.outs-Grown c.in-Grown.low twig)) (record { spot = spot; is = is; finds = at.1 })))
+          (at.0, subst (λ y. RootFindsBy (CachedFits new) order block below high y at.0) (sym (made.outs-Grown c.in-Grown.low twig)) (record { spot = spot; is = is; finds = at.1 })))
           (c.find_from.ensures.uses.fills tells);
     }
 
 pub returns-in-Kept-clause-uses : goal.returns-in-Kept-clause-uses
 returns-in-Kept-clause-uses g c =
-    let old = c.args.reader.now.cache.kept in
-    let new = c.find.new.reader.cache.kept in
+    let old = c.args.reader.now.cache.nodes in
+    let new = c.find.new.reader.cache.nodes in
     let order = c.args.order in let block = c.args.block in let below = c.args.level - 1 in let high = c.args.high in
     let want = want_at order c.args.level c.in-Kept.low high c.in-Kept.addr c.least_of_root.result in
     let same = root_want_is order c.args.level block high (g.P.Platform.head c.args.platform.now) c.in-Kept.low c.in-Kept.addr c.least_of_root.result c.in-Kept.key c.args.top.now c.requires.can c.in-Kept.is c.least_of_root.ensures in
     record {
       warm = λ keeps.
           (let at = subst (RootKeeps old order block below high) c.in-Kept.is keeps in
-          let by = subst (λ y. RootFindsBy (KeptFits old) order block below high y at.0) (made.outs-Kept c.in-Kept.low c.in-Kept.addr c.in-Kept.key) at.1 in
-          let from = subst (λ w. FindsBelow (KeptFits old) block w c.in-Kept.key at.0) (sym same) by in
+          let by = subst (λ y. RootFindsBy (CachedFits old) order block below high y at.0) (made.outs-Kept c.in-Kept.low c.in-Kept.addr c.in-Kept.key) at.1 in
+          let from = subst (λ w. FindsBelow (CachedFits old) block w c.in-Kept.key at.0) (sym same) by in
           (c.find.ensures.kept at.0 from.0 from.1).0);
       fills = λ tells. OnOk_from _ _ c.find.result
           (λ found h room.
-          let from : FindsBelow (KeptFits new) block want c.in-Kept.key found = (h.path, h.warm (omega (arith, room, c.find.ensures.capacity))) in
+          let from : FindsBelow (CachedFits new) block want c.in-Kept.key found = (h.path, h.warm (omega (arith, room, c.find.ensures.capacity))) in
           subst (RootKeeps new order block below high) (sym c.in-Kept.is)
-          (found, subst (λ y. RootFindsBy (KeptFits new) order block below high y found) (sym (made.outs-Kept c.in-Kept.low c.in-Kept.addr c.in-Kept.key)) (subst (λ w. FindsBelow (KeptFits new) block w c.in-Kept.key found) same from)))
+          (found, subst (λ y. RootFindsBy (CachedFits new) order block below high y found) (sym (made.outs-Kept c.in-Kept.low c.in-Kept.addr c.in-Kept.key)) (subst (λ w. FindsBelow (CachedFits new) block w c.in-Kept.key found) same from)))
           (c.find.ensures.found tells);
     }
 

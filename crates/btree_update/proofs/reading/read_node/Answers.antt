@@ -1,7 +1,7 @@
 use Rattle.std.proofs.Common.{◌≡◌, ap, sym, subst, inr, ◌∙◌, Option, Bor, Err}
 use Rattle.std.proofs.lemmas.Bool.{false≢true}
 use Rattle.std.specs.Option.{option_copied}
-use Rattle.node_cache.specs.Kept.{Cached, Uses, kept_node, filled}
+use Rattle.node_cache.specs.Cached.{Cached, Uses, cached_node, filled}
 use Rattle.btree_walk.specs.Sights.{KeepsOnly}
 use Rattle.btree_walk.proofs.SightLaws.{keeps_filled, keeps_used}
 use Rattle.btree_update.specs.declared.refusals.ReadyRefusal.TheVariants.{BadRecord}
@@ -36,7 +36,7 @@ returns-in-Some-clause-stands g c = λ tells stands.
 pub returns-clause-stands : goal.returns-clause-stands
 returns-clause-stands g c = λ tells stands.
     (let uses = subst (λ (r : Option (Bor _)). Uses c.args.reader.now.cache c.args.want.now.addr c.args.key.now (option_copied r) c.get.follows.lender-at-none) c.in_default.is c.get.follows.holds-at-none in
-    let kept = kept_node c.args.want.now.addr c.args.key.now (record { level = c.args.want.now.level; entries = c.fetch_node.new.entries }) in
+    let kept = cached_node c.args.want.now.addr c.args.key.now (record { level = c.args.want.now.level; entries = c.fetch_node.new.entries }) in
     let pages = (g.P.Platform.history c.args.platform.now).present.readable in
     let fits = c.in_ok-fetch_node.ensures.fits tells in
     let keeps = subst (KeepsOnly pages c.args.reader.now.cache) (sym (c.put.ensures.kept ∙ ap (λ (old : Cached). filled old kept) uses.0)) (keeps_filled pages c.args.reader.now.cache kept (inr fits.0)) in
@@ -79,7 +79,7 @@ returns-in-Some-clause-but g c =
 pub returns-clause-but : goal.returns-clause-but
 returns-clause-but g c =
     let uses = subst (λ (r : Option (Bor _)). Uses c.args.reader.now.cache c.args.want.now.addr c.args.key.now (option_copied r) c.get.follows.lender-at-none) c.in_default.is c.get.follows.holds-at-none in
-    let kept = kept_node c.args.want.now.addr c.args.key.now (record { level = c.args.want.now.level; entries = c.fetch_node.new.entries }) in
+    let kept = cached_node c.args.want.now.addr c.args.key.now (record { level = c.args.want.now.level; entries = c.fetch_node.new.entries }) in
     subst (KeepsBut c.args.want.now.addr c.args.key.now c.args.reader.now.cache) (sym (c.put.ensures.kept ∙ ap (λ (old : Cached). filled old kept) uses.0)) (but_filled c.args.reader.now.cache kept)
 
 pub returns-in_err-fetch_node-clause-but : goal.returns-in_err-fetch_node-clause-but

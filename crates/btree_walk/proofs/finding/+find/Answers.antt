@@ -5,7 +5,7 @@ use Rattle.node_codec.specs.Record.{NodeRecord}
 use Rattle.page_store.specs.declared.refusals.FetchRefusal.TheVariants.{BadRecord}
 use Rattle.btree_walk.specs.declared.turns.Turn.{Turn}
 use Rattle.btree_walk.specs.Ways.{IsTurn}
-use Rattle.btree_walk.specs.Sights.{KeptFits, Sees, Misses, StandsOver, KeepsOnly}
+use Rattle.btree_walk.specs.Sights.{CachedFits, Sees, Misses, StandsOver, KeepsOnly}
 use Rattle.btree_walk.specs.Finds.{SeesTurn, UsesNode, Stops, IsFound}
 use Rattle.btree_walk.specs.Among.{GoDown}
 use Rattle.btree_walk.proofs.FindLaws.{stops_first}
@@ -18,15 +18,15 @@ use Rattle.btree_walk.proofs.finding.+find.Goals as goal
 pub returns-in_err-found-clause-bad : goal.returns-in_err-found-clause-bad
 returns-in_err-found-clause-bad g t c =
     let p = err_from_is_err_and c.from_residual.result c.from_residual.ensures.1 in
-    let kept = c.args.reader.now.cache.kept in let start = c.args.start.now in let pages = (g.P.Platform.history c.args.platform.now).present.readable in
+    let kept = c.args.reader.now.cache.nodes in let start = c.args.start.now in let pages = (g.P.Platform.history c.args.platform.now).present.readable in
     rw (p.1, p.2) (λ tells addr is.
     let same : c.in_err-found.field-0.0 ≡ BadRecord addr = cc in
     stops_first (Sees kept pages) start.most c.args.block (Misses kept pages) addr (start.level - 1) start c.args.key.now (c.in_err-found.ensures.look.bad tells addr (ap Err same)))
 
-pub returns-in_err-found-clause-kept : goal.returns-in_err-found-clause-kept
-returns-in_err-found-clause-kept g t c = λ found path is.
+pub returns-in_err-found-clause-cached : goal.returns-in_err-found-clause-cached
+returns-in_err-found-clause-cached g t c = λ found path is.
     (let first = first_kept c.args.start.now c.args.key.now c.args.block c.args.reader.now.cache c.requires.asks.level found path is in
-    absurd (c.in_err-found.ensures.kept first.0 first.1).1)
+    absurd (c.in_err-found.ensures.cached first.0 first.1).1)
 
 pub find-requires : goal.find-requires
 find-requires g t c =
@@ -42,21 +42,21 @@ find-requires g t c =
 
 pub returns-in-Found-clause-found : goal.returns-in-Found-clause-found
 returns-in-Found-clause-found g t c = λ tells.
-    (let kept = c.args.reader.now.cache.kept in let start = c.args.start.now in let pages = (g.P.Platform.history c.args.platform.now).present.readable in
+    (let kept = c.args.reader.now.cache.nodes in let start = c.args.start.now in let pages = (g.P.Platform.history c.args.platform.now).present.readable in
     let seen = subst (λ (turn : Turn). SeesTurn kept pages start c.args.key.now c.args.block turn) c.in-Found.is (c.in_ok-found.ensures.look.seen tells) in
     found_leaf pages start c.args.key.now c.args.block c.args.reader.now.cache c.look.new.reader.cache c.in-Found.found (subst (UsesNode start c.args.key.now c.args.block c.args.reader.now.cache c.look.new.reader.cache) c.in-Found.is c.in_ok-found.ensures.look.used) seen)
 
-pub returns-in-Found-clause-kept : goal.returns-in-Found-clause-kept
-returns-in-Found-clause-kept g t c = λ found path is.
+pub returns-in-Found-clause-cached : goal.returns-in-Found-clause-cached
+returns-in-Found-clause-cached g t c = λ found path is.
     (let start = c.args.start.now in
     let first = first_kept start c.args.key.now c.args.block c.args.reader.now.cache c.requires.asks.level found path is in
-    let turned = λ (entries : List Entry) (fits : KeptFits c.args.reader.now.cache.kept start c.args.key.now (NodeRecord start.level entries)). subst (λ (turn : Turn). IsTurn start entries c.args.block turn) c.in-Found.is (c.in_ok-found.ensures.kept entries fits).1 in
+    let turned = λ (entries : List Entry) (fits : CachedFits c.args.reader.now.cache.nodes start c.args.key.now (NodeRecord start.level entries)). subst (λ (turn : Turn). IsTurn start entries c.args.block turn) c.in-Found.is (c.in_ok-found.ensures.cached entries fits).1 in
     let same = same_found start c.args.key.now c.args.block c.args.reader.now.cache c.requires.asks.level c.in-Found.found found path turned is in
-    ((c.in_ok-found.ensures.kept first.0 first.1).0, ap Ok same))
+    ((c.in_ok-found.ensures.cached first.0 first.1).0, ap Ok same))
 
 pub returns-in-Below-clause-found : goal.returns-in-Below-clause-found
 returns-in-Below-clause-found g t c = λ tells.
-    (let kept = c.args.reader.now.cache.kept in let start = c.args.start.now in let pages = (g.P.Platform.history c.args.platform.now).present.readable in
+    (let kept = c.args.reader.now.cache.nodes in let start = c.args.start.now in let pages = (g.P.Platform.history c.args.platform.now).present.readable in
     let next = c.in-Below.next in let key = c.in-Below.next_key in
     let seen = subst (λ (turn : Turn). SeesTurn kept pages start c.args.key.now c.args.block turn) c.in-Below.is (c.in_ok-found.ensures.look.seen tells) in
     let same : (g.P.Platform.history c.look.new.platform).present.readable ≡ pages = ap (λ i. i.readable) (c.in_ok-found.ensures.look.looks.image tells) in
@@ -68,13 +68,13 @@ returns-in-Below-clause-found g t c = λ tells.
 
 pub returns-in-Below-clause-bad : goal.returns-in-Below-clause-bad
 returns-in-Below-clause-bad g t c = λ tells addr is.
-    (let kept = c.args.reader.now.cache.kept in let start = c.args.start.now in let pages = (g.P.Platform.history c.args.platform.now).present.readable in
+    (let kept = c.args.reader.now.cache.nodes in let start = c.args.start.now in let pages = (g.P.Platform.history c.args.platform.now).present.readable in
     let next = c.in-Below.next in let key = c.in-Below.next_key in
     let seen = subst (λ (turn : Turn). SeesTurn kept pages start c.args.key.now c.args.block turn) c.in-Below.is (c.in_ok-found.ensures.look.seen tells) in
     let same : (g.P.Platform.history c.look.new.platform).present.readable ≡ pages = ap (λ i. i.readable) (c.in_ok-found.ensures.look.looks.image tells) in
     let small : start.addr < 2 ^ 64 = omega (arith, c.requires.within, g.met.P.Platform.has_room c.args.platform.now, g.met.P.Platform.is_limited c.args.platform.now) in
     stopped_on pages start c.args.key.now c.args.block c.args.reader.now.cache c.look.new.reader.cache next key (c.in_ok-found.ensures.look.keeps tells) seen addr small
-    (subst (λ (p : List (List ℕ)). Stops (Sees c.look.new.reader.cache.kept p) next.most c.args.block (Misses c.look.new.reader.cache.kept p) addr (next.level - 1) next key) same (c.find.ensures.bad tells addr is)))
+    (subst (λ (p : List (List ℕ)). Stops (Sees c.look.new.reader.cache.nodes p) next.most c.args.block (Misses c.look.new.reader.cache.nodes p) addr (next.level - 1) next key) same (c.find.ensures.bad tells addr is)))
 
 pub returns-in-Below-clause-entry : goal.returns-in-Below-clause-entry
 returns-in-Below-clause-entry g t c =
@@ -83,15 +83,15 @@ returns-in-Below-clause-entry g t c =
     let below = next_below start next key told.node.entries.items c.args.block (used_range start c.args.key.now c.args.block c.args.reader.now.cache c.look.new.reader.cache _ told) told.is in
     IfOk_map _ _ c.find.result (entry_below c.args.block next.addr start.addr below) c.find.ensures.entry
 
-pub returns-in-Below-clause-kept : goal.returns-in-Below-clause-kept
-returns-in-Below-clause-kept g t c = λ found path is.
+pub returns-in-Below-clause-cached : goal.returns-in-Below-clause-cached
+returns-in-Below-clause-cached g t c = λ found path is.
     (let start = c.args.start.now in let next = c.in-Below.next in let key = c.in-Below.next_key in
     let first = first_kept start c.args.key.now c.args.block c.args.reader.now.cache c.requires.asks.level found path is in
-    let turned = λ (entries : List Entry) (fits : KeptFits c.args.reader.now.cache.kept start c.args.key.now (NodeRecord start.level entries)). subst (λ (turn : Turn). IsTurn start entries c.args.block turn) c.in-Below.is (c.in_ok-found.ensures.kept entries fits).1 in
+    let turned = λ (entries : List Entry) (fits : CachedFits c.args.reader.now.cache.nodes start c.args.key.now (NodeRecord start.level entries)). subst (λ (turn : Turn). IsTurn start entries c.args.block turn) c.in-Below.is (c.in_ok-found.ensures.cached entries fits).1 in
     let still = c.in_ok-found.ensures.still first.1.node first.1.here in
     let on = kept_on start c.args.key.now c.args.block c.args.reader.now.cache c.requires.asks.level next key c.look.new.reader.cache found path still turned is in
-    let rest = c.find.ensures.kept found on.0 on.1 in
-    (rest.0 ∙ (c.in_ok-found.ensures.kept first.0 first.1).0, rest.1))
+    let rest = c.find.ensures.cached found on.0 on.1 in
+    (rest.0 ∙ (c.in_ok-found.ensures.cached first.0 first.1).0, rest.1))
 
 pub returns-in_err-found-clause-among : goal.returns-in_err-found-clause-among
 returns-in_err-found-clause-among g t c = λ tells stands places such kept.
@@ -105,7 +105,7 @@ pub returns-in-Below-clause-among : goal.returns-in-Below-clause-among
 returns-in-Below-clause-among g t c = λ tells stands places such kept.
     (let start = c.args.start.now in let pages = (g.P.Platform.history c.args.platform.now).present.readable in
     let next = c.in-Below.next in let key = c.in-Below.next_key in
-    let seen = subst (λ (turn : Turn). SeesTurn c.args.reader.now.cache.kept pages start c.args.key.now c.args.block turn) c.in-Below.is (c.in_ok-found.ensures.look.seen tells) in
+    let seen = subst (λ (turn : Turn). SeesTurn c.args.reader.now.cache.nodes pages start c.args.key.now c.args.block turn) c.in-Below.is (c.in_ok-found.ensures.look.seen tells) in
     let same : (g.P.Platform.history c.look.new.platform).present.readable ≡ pages = ap (λ i. i.readable) (c.in_ok-found.ensures.look.looks.image tells) in
     let stands' = subst (λ (p : List (List ℕ)). StandsOver p c.look.new.reader.cache) (sym same) (stands_over_still pages c.args.reader.now.cache c.look.new.reader.cache stands (c.in_ok-found.ensures.look.keeps tells)) in
     let down = subst (λ (p : List (List ℕ)). GoDown p places) (sym same) such.0 in

@@ -2,7 +2,7 @@ use Rattle.std.proofs.Common.{rules, ◌≡◌, true, refl, sym, ap, subst, inl}
 use Rattle.std.proofs.Common.{Option, Bor}
 use Rattle.std.specs.Option.{option_copied}
 use Rattle.node_codec.specs.declared.body.NodeBody.{NodeBody}
-use Rattle.node_cache.specs.Kept.{Cached, Uses}
+use Rattle.node_cache.specs.Cached.{Cached, Uses}
 use Rattle.btree_walk.specs.Ways.{IsTurn}
 use Rattle.btree_walk.specs.Finds.{LooksFor}
 use Rattle.btree_walk.proofs.SightLaws.{keeps_used}
@@ -11,9 +11,9 @@ use Rattle.btree_walk.proofs.RecentLaws.{still_used}
 use Rattle.btree_walk.proofs.LookLaws.{looks_still, same_entries, fits_too}
 use Rattle.btree_walk.proofs.looking.look.Goals as goal
 
-pub returns-then-fits-clause-kept : goal.returns-then-fits-clause-kept
-returns-then-fits-clause-kept g c = λ entries is.
-    (let same = same_entries c.args.reader.now.cache.kept c.args.want.now c.args.key.now c.in-Some.node.now entries c.in-Some.ensures.found is in
+pub returns-then-fits-clause-cached : goal.returns-then-fits-clause-cached
+returns-then-fits-clause-cached g c = λ entries is.
+    (let same = same_entries c.args.reader.now.cache.nodes c.args.want.now c.args.key.now c.in-Some.node.now entries c.in-Some.ensures.found is in
     (refl, subst (λ es. IsTurn c.args.want.now es c.args.block c.turn_at.result) (sym same) c.turn_at.ensures))
 
 pub returns-then-fits-clause-look : goal.returns-then-fits-clause-look
@@ -30,8 +30,8 @@ returns-then-fits-clause-look g c =
       cause = search rules;
     }
 
-pub returns-else-fits-clause-kept : goal.returns-else-fits-clause-kept
-returns-else-fits-clause-kept g c = λ entries is. absurd (let no_fit : c.fits.result ≡ true = c.fits.ensures.1 (fits_too c.args.reader.now.cache.kept c.args.want.now c.args.key.now c.in-Some.node.now entries c.in-Some.ensures.found is) in cc)
+pub returns-else-fits-clause-cached : goal.returns-else-fits-clause-cached
+returns-else-fits-clause-cached g c = λ entries is. absurd (let no_fit : c.fits.result ≡ true = c.fits.ensures.1 (fits_too c.args.reader.now.cache.nodes c.args.want.now c.args.key.now c.in-Some.node.now entries c.in-Some.ensures.found is) in cc)
 
 pub returns-else-fits-clause-look : goal.returns-else-fits-clause-look
 returns-else-fits-clause-look g c =
@@ -65,5 +65,5 @@ returns-clause-look g c =
 pub returns-clause-still : goal.returns-clause-still
 returns-clause-still g c = λ node kept. absurd (c.in_default.ensures.none node kept)
 
-pub returns-clause-kept : goal.returns-clause-kept
-returns-clause-kept g c = λ entries is. absurd (c.in_default.ensures.none is.node is.here)
+pub returns-clause-cached : goal.returns-clause-cached
+returns-clause-cached g c = λ entries is. absurd (c.in_default.ensures.none is.node is.here)

@@ -2,7 +2,7 @@ use Rattle.std.proofs.Common.{rules, ◌≡◌, ap, sym, subst, inr, Err}
 use Rattle.std.proofs.lemmas.Result.{err_from_is_err_and}
 use Rattle.page_store.specs.declared.refusals.FetchRefusal.TheVariants.{BadRecord}
 use Rattle.node_codec.specs.declared.body.NodeBody.{NodeBody}
-use Rattle.node_cache.specs.Kept.{Cached, kept_node}
+use Rattle.node_cache.specs.Cached.{Cached, cached_node}
 use Rattle.btree_walk.specs.Sights.{KeepsOnly}
 use Rattle.btree_walk.specs.Among.{KeepsBut}
 use Rattle.btree_walk.proofs.SightLaws.{keeps_filled}
@@ -28,15 +28,15 @@ returns-in_err-fetch_node g c =
 pub returns : goal.returns
 returns g c =
     let node : NodeBody = record { level = c.args.want.now.level; entries = c.fetch_node.new.entries } in
-    let kept = kept_node c.args.want.now.addr c.args.key.now node in
+    let kept = cached_node c.args.want.now.addr c.args.key.now node in
     let pages = (g.P.Platform.history c.args.platform.now).present.readable in
     record {
       seen = search rules;
       bad = search rules;
-      used = record { node = node; fits = search rules; is = c.turn_at-turn.ensures; first = inr c.put.ensures.kept };
-      capacity = ap (λ (c : Cached). c.capacity) c.put.ensures.kept;
-      keeps = λ tells. subst (KeepsOnly pages c.args.reader.now.cache) (sym c.put.ensures.kept) (keeps_filled pages c.args.reader.now.cache kept (inr (c.in_ok-fetch_node.ensures.fits tells).0));
-      but = subst (KeepsBut c.args.want.now.addr c.args.key.now c.args.reader.now.cache) (sym c.put.ensures.kept) (but_filled c.args.reader.now.cache kept);
+      used = record { node = node; fits = search rules; is = c.turn_at-turn.ensures; first = inr c.put.ensures.cached };
+      capacity = ap (λ (c : Cached). c.capacity) c.put.ensures.cached;
+      keeps = λ tells. subst (KeepsOnly pages c.args.reader.now.cache) (sym c.put.ensures.cached) (keeps_filled pages c.args.reader.now.cache kept (inr (c.in_ok-fetch_node.ensures.fits tells).0));
+      but = subst (KeepsBut c.args.want.now.addr c.args.key.now c.args.reader.now.cache) (sym c.put.ensures.cached) (but_filled c.args.reader.now.cache kept);
       looks = search rules;
       cause = search rules;
     }

@@ -6,7 +6,7 @@ use Rattle.btree_update.specs.Groves.{places_of, grown_in}
 use Rattle.shadow_commit.specs.Sealed.{SealsNode, Seals}
 use Rattle.shadow_commit.specs.Handing.{KnowsPlaces}
 use Rattle.shadow_commit.specs.Planned.{added_by}
-use Rattle.node_cache.specs.Kept.{forgotten}
+use Rattle.node_cache.specs.Cached.{forgotten}
 use Rattle.shadow_commit.specs.Ready.{ListsNewTree}
 use Rattle.shadow_commit.proofs.KeyLaws.{AreKnown, keeps_sealed, keeps_stopped, places_more_keys}
 use Rattle.shadow_commit.proofs.PlanLaws.{grown_is}

@@ -18,7 +18,7 @@ use Rattle.btree_twigs.specs.Shape.{EachBy, IsChild}
 use Rattle.shadow_commit.specs.NewTree.{AreNodesOver}
 use Rattle.shadow_commit.proofs.OrderLaws.{over_append, over_node, so_far_over}
 use Rattle.shadow_commit.specs.Sealed.{Sealed, SealsEach, SealsNode, Seals}
-use Rattle.node_cache.specs.Kept.{kept_node, node_of, filled}
+use Rattle.node_cache.specs.Cached.{cached_node, node_of, filled}
 use Rattle.shadow_commit.specs.Caching.{AreCached, with_sealed}
 use Rattle.shadow_commit.specs.Handing.{Adds, Stops}
 use Rattle.btree_update.specs.Held.{AreBelow}
@@ -197,7 +197,7 @@ seal_twig-returns-clause-sealed g t c at =
     let node : Sealed = record { addr = placed.addr; key = placed.key; level = suc at.level; entries = es } in
     let own_is : c.split_at.result.1.now ≡ es = c.split_at.ensures.back ∙ (λ i. drop ((c.len-begin.ensures ∙ c.args.entries.now.ok.0) i) (c.deref.ensures.value i)) in
     let body_is : body ≡ record_bytes placed.addr (NodeRecord (suc at.level) es) = ap (λ (b : Held). b.body) c.put_node.ensures ∙ body_as _ _ _ _ _ _ (c.head.ensures.value ∙ sym address) at.shaped.level_is own_is in
-    let cached : after ≡ with_sealed before (node ∷ []) = c.put_node-2.ensures.kept ∙ (λ i. filled before (kept_node placed.addr placed.key (node_of (at.shaped.level_is i) (own_is i)))) in
+    let cached : after ≡ with_sealed before (node ∷ []) = c.put_node-2.ensures.cached ∙ (λ i. filled before (cached_node placed.addr placed.key (node_of (at.shaped.level_is i) (own_is i)))) in
     let Each : List Child → List Sealed → Type 0 = λ xs. AreCached (λ ns. SealsEach (Seals at.level) head xs ns es) first before in
     let each : Adds (Each (children_of twig)) tells old mid head now (drawn c.args.tape.now) (drawn c.loop-child.tape)
     = adds_as (Each (take i cs)) (Each (children_of twig)) tells old mid head now (drawn c.args.tape.now) (drawn c.loop-child.tape) (λ ns h. subst (λ xs. Each xs ns) all h) so_far in

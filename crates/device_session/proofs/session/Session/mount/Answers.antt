@@ -4,7 +4,7 @@ use Rattle.platform.specs.Image.{Image}
 use Rattle.platform.proofs.Moments.{whole-now}
 use Rattle.root_codec.specs.RootRecord.{root_bytes}
 use Rattle.page_store.specs.Stands.{Stands}
-use Rattle.node_cache.specs.Kept.{Cached}
+use Rattle.node_cache.specs.Cached.{Cached}
 use Rattle.device_session.specs.Holds.{Holds}
 use Rattle.device_session.proofs.SessionLaws.{IsFresh, bare_tree, fresh_open, fresh_pages, fresh_holds, none_cached}
 use Rattle.device_session.proofs.DamageLaws.{follows_fresh}
@@ -18,7 +18,7 @@ returns-clause-mounts g c =
     let image = (P.history c.current.new.platform).present in
     let within = rw c.in-Some.is at c.in_ok-root.ensures.within in
     let found : P.tells → (P.history c.args.platform.now).present.cell ≡ Some (root_bytes c.in-Some.root) = λ told. rw c.in-Some.is at c.in_ok-root.ensures.found told in
-    let none = ap (λ (k : Cached). k.kept) c.in_ok-reader.ensures.cache in
+    let none = ap (λ (k : Cached). k.nodes) c.in_ok-reader.ensures.cache in
     let tree = bare_tree _ _ c.of-grove.ensures.sound c.of-grove.ensures.size c.of-grove.ensures.top c.of-grove.ensures.lists in
     let fresh : IsFresh _ = record { untouched = refl; mapped = refl; tree = tree; none = none } in
     let own = fresh_pages _ pages within fresh in

@@ -1,5 +1,5 @@
 use Rattle.std.proofs.Common.{◌∙◌, ap, refl}
-use Rattle.node_cache.specs.Kept.{forgotten}
+use Rattle.node_cache.specs.Cached.{forgotten}
 use Rattle.device_session.specs.contracts.session.Session.{the_view}
 use Rattle.device_session.proofs.SessionLaws.{bare_tree}
 use Rattle.device_session.proofs.session.Session.take_up.Goals as goal

@@ -1,5 +1,5 @@
 use Rattle.std.proofs.Common.{◌≡◌, take}
-use Rattle.node_cache.specs.Kept.{forgotten}
+use Rattle.node_cache.specs.Cached.{forgotten}
 use Rattle.node_cache.proofs.cache.NodeCache.forget_all.Given as goal
 
 abbrev pub invariant-loop-addr : goal.invariant-loop-addr

@@ -1,6 +1,6 @@
 use Rattle.node_cache.proofs.BucketLaws.{covers_blank}
 use Rattle.std.proofs.Common.{◌≡◌, arith, length}
-use Rattle.node_cache.specs.Kept.{cached}
+use Rattle.node_cache.specs.Cached.{cached}
 use Rattle.node_cache.proofs.SlotLaws.{filled_more, filled_tied, filled_kept}
 use Rattle.node_cache.proofs.cache.NodeCache.new.Goals as goal
 
