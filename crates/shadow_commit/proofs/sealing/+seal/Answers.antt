@@ -11,7 +11,7 @@ use Rattle.page_store.specs.Buffer.{Held}
 use Rattle.sdbt_base.specs.Bytes.{IsBytes}
 use Rattle.sdbt_base.proofs.FaultLaws.{tells_then, tells_on}
 use Rattle.page_store.specs.declared.refusals.AppendFault.TheVariants.{TapeFault, PlatformFault}
-use Rattle.std.specs.Prelude.{IfOk, is_err}
+use Rattle.std.specs.Prelude.{is_err}
 use Rattle.btree_twigs.specs.declared.twigs.Child.{Child}
 use Rattle.btree_twigs.specs.Stubs.{children_of, sum_by, nodes, stubs, stubs_by, stubs_below, low_of}
 use Rattle.btree_twigs.specs.Shape.{EachBy, IsChild}
