@@ -13,7 +13,6 @@ use sdbt_base::{Line, PlatformFault, ROOT};
 
 /// A commit whose pages are on the medium and synced: what is left to do is to replace the root record. Its certificate's
 /// line comes first.
-#[derive(Drop)]
 pub struct Prepared {
     pub(crate) root: Root,
     pub(crate) cert: Cert,

@@ -8,8 +8,8 @@ loop-slot-init c = rw (← c.self.view_is, c.new-addrs.ensures, c.into_iter-slot
 
 pub loop-slot-preserved-in-Continue-1 : goal.loop-slot-preserved-in-Continue-1
 loop-slot-preserved-in-Continue-1 c =
-    let left = rw (← c.in-Some-kept.ensures) at c.in-Some.ensures.steps in
-    c.loop-slot.invariant ∙ ap (λ es. c.loop-slot.addrs ++ map (λ (k : CachedNode). k.addr) (nodes_in es)) left ∙ rw c.in_ok-push.ensures (sym (append_assoc c.loop-slot.addrs (c.in-Some-kept.nodes.now.addr ∷ []) (map (λ (k : CachedNode). k.addr) (nodes_in c.next.new.self))))
+    let left = rw (← c.in-Some-node.ensures) at c.in-Some.ensures.steps in
+    c.loop-slot.invariant ∙ ap (λ es. c.loop-slot.addrs ++ map (λ (k : CachedNode). k.addr) (nodes_in es)) left ∙ rw c.in_ok-push.ensures (sym (append_assoc c.loop-slot.addrs (c.in-Some-node.kept.now.addr ∷ []) (map (λ (k : CachedNode). k.addr) (nodes_in c.next.new.self))))
 
 pub loop-slot-preserved : goal.loop-slot-preserved
 loop-slot-preserved c =

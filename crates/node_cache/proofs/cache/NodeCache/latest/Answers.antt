@@ -13,6 +13,6 @@ returns-in_err-kept c = rw (← c.self.view_is) (λ first others kept.
 
 pub returns : goal.returns
 returns c = rw (← c.self.view_is) (λ first others kept.
-    let is : Some c.in_ok-kept.nodes.now ≡ Some first = c.in_ok-kept.ensures ∙ first_slot c.self.inside.slots.entries first others (c.in_ok-slot.field-0-0.now, c.in_ok-slot.slot.now) c.self.invariant.tied.full_first kept (sym c.in_ok-slot.ensures) in
-    let same : c.in_ok-kept.nodes.now ≡ first = cc in
+    let is : Some c.in_ok-kept.kept.now ≡ Some first = c.in_ok-kept.ensures ∙ first_slot c.self.inside.slots.entries first others (c.in_ok-slot.field-0-0.now, c.in_ok-slot.slot.now) c.self.invariant.tied.full_first kept (sym c.in_ok-slot.ensures) in
+    let same : c.in_ok-kept.kept.now ≡ first = cc in
     ap (λ (k : CachedNode). Some k.node) same)
