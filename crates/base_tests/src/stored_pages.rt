@@ -1,4 +1,6 @@
 //! Pages that are appended and fetched, and the root record that is looked for.
+ghost use Rattle.std.specs.Prelude.{◌≡◌, length};
+
 use arrayvec::ArrayVec;
 use node_codec::Entry;
 use page_store::{
@@ -21,7 +23,9 @@ struct Fixture {
 }
 
 /// A key of one byte.
-fn key(byte: u8) -> Key {
+fn key(byte: u8) -> Key
+    ensures { length result ≡ 32 }
+{
     Key::from_bytes([byte; 32])
 }
 

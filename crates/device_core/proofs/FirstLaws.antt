@@ -45,6 +45,7 @@ is_first blocks order addr key some_blocks most_blocks least most even room size
     addr = omega arith;
     mapped = omega arith;
     head = omega (arith, room);
+    plain = sized.0;
   };
   key = sized;
   order_is = refl;
@@ -79,6 +80,7 @@ no_entries_fit addr = record {
   ascend = λ k inside. absurd (omega (arith, inside));
   lows = All-nil (λ (e : Entry). e.low < 1048576);
   below = All-nil (λ (e : Entry). e.addr < addr);
+  plain = All-nil (λ (e : Entry). length e.key ≡ 32);
 }
 
 pub leaf_in_range : (addr : ℕ) → FitsRecord addr (NodeRecord 1 [])
@@ -89,6 +91,7 @@ first_leaf image root blocks order whole first at = record {
   cell = refl;
   in_range = first.fits;
   key = first.key;
+  version = refl;
   level = first.level;
   order = first.order_is;
   blocks = first.blocks_are;

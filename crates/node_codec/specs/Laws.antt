@@ -12,7 +12,7 @@ use Rattle.sdbt_base.specs.Bytes.{IsBytes}
 use Rattle.record_fields.specs.Fields.{fields_from, fields_whole, fields_again, pieces_same, append_same, number_same_2, number_same_8}
 use Rattle.node_codec.specs.declared.body.Entry.{Entry}
 use Rattle.node_codec.specs.declared.head.Head.{Head}
-use Rattle.node_codec.specs.Record.{Record, DataRecord, NodeRecord, FitsRecord, head_fields, head_bytes, entry_fields, entry_bytes, entries_bytes, record_bytes}
+use Rattle.node_codec.specs.Record.{Record, DataRecord, NodeRecord, FitsRecord, ArePlain, head_fields, head_bytes, entry_fields, entry_bytes, entries_bytes, record_bytes}
 use Rattle.node_codec.specs.Parts.{part, bytes_of_head, IsFramed, SpellsHead, IsEntry, FitsEntries, HasParts, AscendBelow}
 
 -- ---- heads
@@ -112,6 +112,9 @@ entries_fit addr entries addr-below fits = λ k d inside. record {
   addr = omega (arith, fits.below k d inside, addr-below);
   key = fits.keys k d inside;
 }
+
+pub entries_plain : (addr : ℕ) (entries : List Entry) → FitsEntries addr entries → ArePlain entries
+entries_plain addr entries fits = λ k d inside. (fits.keys k d inside).0
 
 -- the entries that were read are those whose bytes the payload has, and zeros follow
 pub entries_known : (addr : ℕ) (payload : List ℕ) (read entries : List Entry) (count : ℕ) → addr < 2 ^ 64 → length read ≡ count → All IsEntry read → take (48 * count) payload ≡ flat_map entry_bytes read → length entries ≡ count → payload ≡ entries_bytes entries → FitsEntries addr entries → (read ≡ entries) × (drop (48 * count) payload ≡ replicate (length (drop (48 * count) payload)) 0)

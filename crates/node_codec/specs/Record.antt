@@ -1,5 +1,5 @@
 -- What a record says, and its one spelling.
-use Rattle.std.specs.Prelude.{ℕ, ◌-◌, ◌*◌, ◌<◌, ◌≤◌, List, [], ◌∷◌, ◌++◌, All, length, map, replicate, codes}
+use Rattle.std.specs.Prelude.{◌≡◌, ℕ, ◌-◌, ◌*◌, ◌<◌, ◌≤◌, List, [], ◌∷◌, ◌++◌, All, length, map, replicate, codes}
 use Rattle.std.specs.Int.{w16, w64, to_be_bytes}
 use Rattle.std.specs.List.{concat, flat_map}
 use Rattle.std.specs.List.Sorted.{IsStrictlyIncreasing}
@@ -44,6 +44,10 @@ unfoldable pub record_bytes : ℕ → Record → List ℕ
 record_bytes addr (DataRecord block content) = head_bytes addr 1 0 0 block ++ content
 record_bytes addr (NodeRecord level entries) = head_bytes addr 2 level (length entries) 0 ++ entries_bytes entries
 
+-- the keys have no digests
+abbrev pub ArePlain : List Entry → Type 0
+ArePlain entries = All (λ e. length e.key ≡ 32) entries
+
 -- a node's level and entries are in range, at an address
 pub record FitsNode (addr : ℕ) (level : ℕ) (entries : List Entry) : Type 0 where
   pub level_least : 1 ≤ level
@@ -52,6 +56,7 @@ pub record FitsNode (addr : ℕ) (level : ℕ) (entries : List Entry) : Type 0 w
   pub ascend : IsStrictlyIncreasing (map (λ e. e.low) entries)
   pub lows : All (λ e. e.low < 1048576) entries
   pub below : All (λ e. e.addr < addr) entries
+  pub plain : ArePlain entries
 
 -- a value is in range, at an address
 abbrev pub FitsRecord : ℕ → Record → Type 0

@@ -30,7 +30,8 @@ pub fn encode_block(addr: u64, block: u64, content: &[u8], out: &mut [u8])
 }
 
 /// Whether a node at `addr` can have this level and these entries: the level is 1 to 20, there are at most
-/// 64 entries, their lows ascend strictly and are those of blocks, and each child has a lower address.
+/// 64 entries, their lows ascend strictly and are those of blocks, and each child has a lower address and a key without
+/// a digest.
 pub fn fits_node(addr: u64, level: u8, entries: &[Entry]) -> bool
     ensures { IsTrue result ↔ FitsNode addr level entries.now }
 {

@@ -2,7 +2,7 @@ ghost use Rattle.std.specs.Prelude.{◌≡◌, ◌*◌, ◌<◌, ◌≤◌, ◌�
 ghost use Rattle.std.specs.List.{flat_map};
 ghost use Rattle.std.specs.List.Sorted.{IsStrictlyIncreasing};
 ghost use Rattle.sdbt_base.specs.Bytes.{IsBytes};
-ghost use Rattle.node_codec.specs.Record.{entry_bytes, entries_bytes};
+ghost use Rattle.node_codec.specs.Record.{entry_bytes, entries_bytes, ArePlain};
 ghost use Rattle.node_codec.specs.Parts.{IsEntry, FitsEntries};
 ghost use Rattle.node_codec.specs.declared.body.Entry.{Entry};
 
@@ -23,7 +23,8 @@ pub(crate) fn put_zeros(out: &mut [u8])
 
 /// Writes an entry over the 48 bytes of `out`.
 fn put_entry(entry: &Entry, out: &mut [u8])
-    requires { length out.old ≡ 48 }
+    requires size { length out.old ≡ 48 }
+    requires plain { length entry.now.key ≡ 32 }
     ensures spelled { out.new ≡ entry_bytes entry.now }
     ensures key { IsBytes 32 entry.now.key }
 {
@@ -98,6 +99,7 @@ pub(crate) fn entries_in(
 /// Writes the entries over the 4,096 bytes of `out`, and zeros behind them.
 pub(crate) fn put_entries(entries: &[Entry], out: &mut [u8])
     requires count { length entries.now ≤ 64 }
+    requires plain { ArePlain entries.now }
     requires size { length out.old ≡ 4096 }
     ensures spelled { out.new ≡ entries_bytes entries.now }
     ensures keys { All (λ e. IsBytes 32 e.key) entries.now }
@@ -120,9 +122,9 @@ pub(crate) fn are_ascending(entries: &[Entry]) -> bool
     true
 }
 
-/// Whether the lows are those of blocks and the children stand before the address of the node.
+/// Whether the lows are those of blocks, and the children stand before the address of the node under keys without digests.
 pub(crate) fn are_within(entries: &[Entry], addr: u64) -> bool
-    ensures { IsTrue result ↔ All (λ e. e.low < 1048576) entries.now × All (λ e. e.addr < addr) entries.now }
+    ensures { IsTrue result ↔ All (λ e. e.low < 1048576) entries.now × All (λ e. e.addr < addr) entries.now × ArePlain entries.now }
 {
-    entries.iter().all(|e| e.low < MAX_BLOCKS && e.addr < addr)
+    entries.iter().all(|e| e.low < MAX_BLOCKS && e.addr < addr && e.key.is_plain())
 }

@@ -29,8 +29,8 @@ one_parts_of image device other root root' parts parts' stands stands' =
     let roots = one_root_of image device other root root' parts parts' stands stands' in
     one_tree image.readable root parts parts' stands.in_range stands.tree (subst (λ (r : Root). Tree image.readable r parts') (sym roots) stands'.tree)
 
-same_device : (device other : Device) → device.blocks ≡ other.blocks → device.order ≡ other.order → device.number ≡ other.number → device.contents ≡ other.contents → device ≡ other
-same_device device other blocks order number same = λ i. record { blocks = blocks i; order = order i; number = number i; contents = same i }
+same_device : (device other : Device) → device.version ≡ other.version → device.blocks ≡ other.blocks → device.order ≡ other.order → device.number ≡ other.number → device.contents ≡ other.contents → device ≡ other
+same_device device other version blocks order number same = λ i. record { version = version i; blocks = blocks i; order = order i; number = number i; contents = same i }
 
 -- an image stands for one device at most
 pub one_device : (image : Image) (one other : Option Device) → Stands image one → Stands image other → one ≡ other
@@ -41,6 +41,7 @@ one_device image (Some device) (Some other) (root, parts, stands) (root', parts'
     let roots = one_root_of image device other root root' parts parts' stands stands' in
     let all = one_parts_of image device other root root' parts parts' stands stands' in
     ap (λ (d : Device). Some d) (same_device device other
+    (stands.version ∙ sym stands'.version)
     (sym stands.blocks ∙ ap (λ (r : Root). r.blocks) roots ∙ stands'.blocks)
     (sym stands.order ∙ ap (λ (r : Root). r.order) roots ∙ stands'.order)
     (sym stands.number ∙ ap (λ (r : Root). r.commit) roots ∙ stands'.number)
@@ -54,6 +55,7 @@ stands_kept image other device root parts stands cell head readable recorded = r
   cell = cell ∙ stands.cell;
   in_range = stands.in_range;
   key = stands.key;
+  version = stands.version;
   order = stands.order;
   blocks = stands.blocks;
   number = stands.number;

@@ -38,6 +38,7 @@ pub record StandsByLeaf (image : Image) (device : Device) (root : Root) (entries
   pub cell : image.cell ≡ Some (root_bytes root)
   pub in_range : FitsRoot root
   pub key : IsBytes 32 root.key
+  pub version : device.version ≡ 1
   pub level : root.level ≡ 1
   pub order : root.order ≡ device.order
   pub blocks : root.blocks ≡ device.blocks

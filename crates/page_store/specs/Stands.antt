@@ -17,6 +17,7 @@ pub record StandsBy (image : Image) (device : Device) (root : Root) (parts : Par
   pub cell : image.cell ≡ Some (root_bytes root)
   pub in_range : FitsRoot root
   pub key : IsBytes 32 root.key
+  pub version : device.version ≡ 1
   pub order : root.order ≡ device.order
   pub blocks : root.blocks ≡ device.blocks
   pub number : root.commit ≡ device.number

@@ -1,4 +1,4 @@
-ghost use Rattle.std.specs.Prelude.{◌≡◌, ◌<◌, All, Contains, IfOk, IsErrOf};
+ghost use Rattle.std.specs.Prelude.{◌≡◌, ◌<◌, All, Contains, IfOk, IsErrOf, length};
 ghost use Rattle.sdbt_base.specs.Faults.{TellsOf};
 ghost use Rattle.sdbt_base.specs.Bytes.{IsBytes};
 ghost use Rattle.seal_record.specs.Sealing.{masked};
@@ -77,6 +77,7 @@ impl Buffers {
 
 /// A fact: a key is 32 bytes.
 fn are_key(key: &Key)
+    requires { length key.now ≡ 32 }
     ensures { IsBytes 32 key.now }
 {
     let bytes = key.bytes();

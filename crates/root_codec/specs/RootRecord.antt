@@ -1,10 +1,10 @@
 -- What a root record says, and its one spelling.
-use Rattle.std.specs.Prelude.{◌≡◌, ℕ, ◌%◌, ◌^◌, ◌<◌, ◌≤◌, List, [], ◌∷◌, replicate, codes}
+use Rattle.std.specs.Prelude.{◌≡◌, ℕ, ◌%◌, ◌^◌, ◌<◌, ◌≤◌, List, [], ◌∷◌, length, replicate, codes}
 use Rattle.std.specs.Int.{w16, w64, to_be_bytes}
 use Rattle.std.specs.List.{concat}
 use Rattle.root_codec.specs.declared.root.Root.{Root}
 
--- the fields are in range
+-- the fields are in range, and the key has no digest
 pub record FitsRoot (root : Root) : Type 0 where
   pub order_even : root.order % 2 ≡ 0
   pub order_least : 4 ≤ root.order
@@ -17,6 +17,7 @@ pub record FitsRoot (root : Root) : Type 0 where
   pub addr : root.addr < root.head
   pub mapped : root.mapped ≤ root.blocks
   pub head : root.head ≤ 2 ^ 32
+  pub plain : length root.key ≡ 32
 
 -- the fields of a root record, in order
 unfoldable pub root_fields : Root → List (List ℕ)

@@ -47,7 +47,8 @@ fn put_front(root: &Root, out: &mut [u8])
 
 /// Writes the key and what stands behind it: how many blocks are mapped, the head, and zeros.
 fn put_back(root: &Root, out: &mut [u8])
-    requires { length out.old ≡ 88 }
+    requires size { length out.old ≡ 88 }
+    requires plain { length root.now.key ≡ 32 }
     ensures fields { out.new ≡ concat (drop 8 (root_fields root.now)) }
     ensures key { IsBytes 32 root.now.key }
 {

@@ -17,7 +17,7 @@ pub struct Root {
     pub commit: u64,
     /// The address of the root node: below the head.
     pub addr: u64,
-    /// The key of the root node.
+    /// The key of the root node, without a digest.
     pub key: Key,
     /// The number of mapped blocks: at most the number of blocks.
     pub mapped: u64,
@@ -38,6 +38,7 @@ impl Root {
             && self.addr < self.head
             && self.mapped <= self.blocks
             && self.head <= MAX_PAGES
+            && self.key.is_plain()
     }
 }
 

@@ -9,9 +9,9 @@ blocks_code = map.code coded_ℕ (coded_list coded_ℕ)
 
 abbrev pub device_code : Coded Device
 device_code =
-    code_by (ℕ × (ℕ × (ℕ × Blocks))) (coded× coded_ℕ (coded× coded_ℕ (coded× coded_ℕ blocks_code)))
-    (λ d. (d.blocks, (d.order, (d.number, d.contents))))
-    (λ p. record { blocks = p.0; order = p.1.0; number = p.1.1.0; contents = p.1.1.1 }) (λ _. refl)
+    code_by (ℕ × (ℕ × (ℕ × (ℕ × Blocks)))) (coded× coded_ℕ (coded× coded_ℕ (coded× coded_ℕ (coded× coded_ℕ blocks_code))))
+    (λ d. (d.version, (d.blocks, (d.order, (d.number, d.contents)))))
+    (λ p. record { version = p.0; blocks = p.1.0; order = p.1.1.0; number = p.1.1.1.0; contents = p.1.1.1.1 }) (λ _. refl)
 
 abbrev pub session_code : Coded Session
 session_code =

@@ -78,7 +78,7 @@ impl Contents {
     }
 }
 
-/// A device: an array of blocks, of which a commit makes a new version.
+/// A device of version 1: an array of blocks, which a commit makes anew.
 #[derive(Drop)]
 pub struct Device {
     /// How many blocks it has.
@@ -99,7 +99,7 @@ impl Model for Device {
 
     ghost coded = { device_code };
 
-    ghost view = { λ d. record { blocks = d.blocks; order = d.order; number = d.number; contents = d.contents } };
+    ghost view = { λ d. record { version = 1; blocks = d.blocks; order = d.order; number = d.number; contents = d.contents } };
 }
 
 /// A session: a device's blocks, with changes that are not committed.

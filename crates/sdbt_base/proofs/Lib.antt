@@ -1,3 +1,4 @@
 pub mod CountLaws
 pub mod FaultLaws
+pub mod KeyLaws
 pub mod ToldLaws

@@ -7,8 +7,9 @@ use Rattle.std.specs.FinMap as map
 abbrev pub Blocks : Type 0
 Blocks = map.FinMap nat_cmp (List ℕ)
 
--- so many blocks, the order of the tree, the number of the last commit, and what the blocks hold
+-- the version of its records, so many blocks, the order of the tree, the number of the last commit, and what the blocks hold
 pub record Device : Type 0 where
+  pub version : ℕ
   pub blocks : ℕ
   pub order : ℕ
   pub number : ℕ
@@ -34,7 +35,7 @@ padded bytes = bytes ++ replicate (4096 - length bytes) 0
 
 -- a device of so many blocks, none of which is mapped
 abbrev pub new_device : ℕ → ℕ → Device
-new_device blocks order = record { blocks = blocks; order = order; number = 0; contents = map.empty }
+new_device blocks order = record { version = 1; blocks = blocks; order = order; number = 0; contents = map.empty }
 
 -- a session without a change
 abbrev pub session_on : Device → Session

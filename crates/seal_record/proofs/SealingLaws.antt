@@ -8,6 +8,7 @@ use Rattle.std.proofs.lemmas.Nat.{from_be_bytes-to_be_bytes_8}
 use Rattle.std.proofs.lemmas.Simd.{length-zip2}
 use Rattle.rand_chacha.specs.ChaCha.{key_of}
 use Rattle.sdbt_base.specs.Bytes.{IsBytes}
+use Rattle.sdbt_base.specs.Keys.{bare}
 use Rattle.seal_record.specs.Keystream.{stream}
 use Rattle.seal_record.specs.Sealing.{masked, stamp_of, Opens}
 use Rattle.chacha_words.proofs.WordLaws.{length-words, All-words}
@@ -16,12 +17,12 @@ use Rattle.seal_record.proofs.XorLemmas.{take-zip2, xor_twice, xor_back, All-xor
 -- the keystream is as long as a record
 pub length-stream : (key : List ℕ) → length (stream key) ≡ 4128
 unfolding stream
-length-stream key = length-words (key_of key) 0 0 1032
+length-stream key = length-words (key_of (bare key)) 0 0 1032
 
 -- and it is bytes
 pub All-stream : (key : List ℕ) → All (λ b. b < 256) (stream key)
 unfolding stream
-All-stream key = All-words (key_of key) 0 0 1032
+All-stream key = All-words (key_of (bare key)) 0 0 1032
 
 -- a front as long as a record is the whole of it
 pub whole_stream : (key : List ℕ) → take 4128 (stream key) ≡ stream key

@@ -16,6 +16,7 @@ pub fn seal(key: FreshKey, body: &[u8], out: &mut [u8]) -> Key
     requires out { length out.old ≡ RECORD }
     ensures page { out.new ≡ masked key body.now }
     ensures used { result ≡ key }
+    ensures plain { length result ≡ 32 }
     ensures whole { IsBytes RECORD out.new }
 {
     let used = key.spend();

@@ -1,7 +1,7 @@
 -- The entries that were read are the only ones that the payload can have.
 use Rattle.std.proofs.Common.{arith, refl, sym, subst}
 use Rattle.node_codec.specs.Parts.{FitsEntries}
-use Rattle.node_codec.specs.Laws.{entries_known, zeros_along}
+use Rattle.node_codec.specs.Laws.{entries_known, entries_plain, zeros_along}
 use Rattle.node_codec.proofs.entries.entries_in.Goals as goal
 use Rattle.node_codec.proofs.entries.entries_in.Goals.{else-are_zero-via-then-are_zero+then-are_ascending+else-are_within, else-are_zero-via-then-are_zero+else-are_ascending, else-are_zero-via-else-are_zero}
 
@@ -17,7 +17,7 @@ returns-else-are_zero-clause-only c = λ items len same fits.
     elim c.else-are_zero.branch [
       | else-are_zero-via-then-are_zero+then-are_ascending+else-are_within w ↦
           let fits-slice : FitsEntries c.args.addr w.as_slice-then-are_ascending.result.now = subst (FitsEntries c.args.addr) (sym w.as_slice-then-are_ascending.ensures.value) fits-read in
-          grind (arith, w.are_within.ensures.1 (fits-slice.lows, fits-slice.below))
+          grind (arith, w.are_within.ensures.1 (fits-slice.lows, fits-slice.below, entries_plain c.args.addr _ fits-slice))
       | else-are_zero-via-then-are_zero+else-are_ascending w ↦
           let fits-slice : FitsEntries c.args.addr w.as_slice.result.now = subst (FitsEntries c.args.addr) (sym w.as_slice.ensures.value) fits-read in
           grind (arith, w.are_ascending.ensures.1 fits-slice.ascend)
