@@ -145,7 +145,7 @@ way_never pages order block addr (suc level) high c mapped small m wrong = here 
         AreBelow (2 ^ 64) (stubs_in (stubs level) (suc level) high x) → Maps pages order (stubs_in (stubs level) (suc level) high x) mapped → WrongChildBy pages order (order / 2) block addr (WrongOnWay pages order block addr level) level high x → ⊥
     here (Kept low at key) rest small m w =
         let one = one_place pages order (stub_at (suc level) low high at key) mapped m in
-        comes_never pages order block addr (suc level) (want_of order (stub_at (suc level) low high at key)) key one.0 refl small.0 one.1 w
+        comes_never pages order block addr (suc level) (want_of order (stub_at (suc level) low high at key)) key one.0 refl small.0.0 one.1 w
     here (Grown low twig) rest small m w = twig_never pages order block addr level high twig mapped rest small m w
 
 -- from a child over children of a level on, whose node has so many at least
@@ -154,5 +154,5 @@ unfolding stubs
 from_never pages order least block addr below high c mapped small m wrong = here (out-Child c) small m wrong
   where
     here : (x : Child-F Child Twig) → AreBelow (2 ^ 64) (stubs_in (stubs below) (suc below) high x) → MapsIn pages order least below high x mapped → WrongChildBy pages order least block addr (WrongOnWay pages order block addr below) below high x → ⊥
-    here (Kept low at key) small m w = comes_never pages order block addr (suc below) (want_at order (suc below) low high at least) key m.0 refl small.0 m.1 w
+    here (Kept low at key) small m w = comes_never pages order block addr (suc below) (want_at order (suc below) low high at least) key m.0 refl small.0.0 m.1 w
     here (Grown low twig) small m w = twig_never pages order block addr below high twig mapped (way_never pages order block addr below) small m w

@@ -67,7 +67,7 @@ up_twig level high twig = up_each level high (stubs level) (children_of twig) (u
 
 -- what holds of all places holds of the one at the block
 here_below : (block head : ℕ) (ss : List Stub) (s : Stub) → IsAt block ss (s ∷ []) → AreBelow head ss → s.addr < head
-here_below block head ss s at h = (below_back head at.front (s ∷ at.back) (subst (AreBelow head) at.all h)).0
+here_below block head ss s at h = (below_back head at.front (s ∷ at.back) (subst (AreBelow head) at.all h)).0.0
 
 here_up : (block most : ℕ) (ss : List Stub) (s : Stub) → IsAt block ss (s ∷ []) → AreUpTo most ss → s.level ≤ most
 here_up block most ss s at h = (up_back most at.front (s ∷ at.back) (subst (AreUpTo most) at.all h)).0

@@ -129,7 +129,7 @@ module _ (pages : List (List ℕ)) (order block : ℕ) where
   spot_maps high ss mapped (Below level low end addr key) found tiles lt small is maps f =
       let s = stub_at level low end addr key in
       let at = is.3 in
-      let lt' = (below_back (2 ^ 64) at.front (s ∷ at.back) (subst (AreBelow (2 ^ 64)) at.all small)).0 in
+      let lt' = (below_back (2 ^ 64) at.front (s ∷ at.back) (subst (AreBelow (2 ^ 64)) at.all small)).0.0 in
       at_maps pages order block high ss (s ∷ []) mapped found tiles lt at maps
       (λ m h. (let one = one_place pages order s m h in
       let tree = subst (λ n. Subtree pages order n (want_of order s) key one.0) (above_it level is.0) one.1 in
@@ -141,7 +141,7 @@ module _ (pages : List (List ℕ)) (order block : ℕ) where
   spot_fits addr ss mapped (Below level low end at key) small is maps stops =
       let s = stub_at level low end at key in
       let spot = is.3 in
-      let lt = (below_back (2 ^ 64) spot.front (s ∷ spot.back) (subst (AreBelow (2 ^ 64)) spot.all small)).0 in
+      let lt = (below_back (2 ^ 64) spot.front (s ∷ spot.back) (subst (AreBelow (2 ^ 64)) spot.all small)).0.0 in
       let one = maps_split pages order spot.front ((s ∷ []) ++ spot.back) mapped (subst (λ xs. Maps pages order xs mapped) spot.all maps) in
       let two = maps_split pages order (s ∷ []) spot.back one.right one.on_right in
       let here = one_place pages order s two.left two.on_left in
@@ -158,14 +158,14 @@ module _ (pages : List (List ℕ)) (order block level high : ℕ) where
   root_maps_by : (x : Child-F Child Twig) (mapped : List Mapped) (found : Option Entry) → IsRootBy order level high x → block < high → AreBelow (2 ^ 64) (stubs_in (stubs level) (suc level) high x) →
       MapsIn pages order (top_least level) level high x mapped → RootFindsBy (FitsAt pages) order block level high x found → IsMappedAs mapped block found
   root_maps_by (Kept low addr key) mapped found root lt small maps f =
-      subst (λ m. IsMappedAs m block found) (sym maps.2) (found_is_mapped pages order level block (top_want order high (suc level) addr) key f.0 maps.0 found small.0 (subst (λ w. Subtree pages order (suc level) w key maps.0) (root_want order level low high addr root) maps.1)
+      subst (λ m. IsMappedAs m block found) (sym maps.2) (found_is_mapped pages order level block (top_want order high (suc level) addr) key f.0 maps.0 found small.0.0 (subst (λ w. Subtree pages order (suc level) w key maps.0) (root_want order level low high addr root) maps.1)
       (subst (λ n. Finds (FitsAt pages) order block found n (top_want order high (suc level) addr) key f.0) (one_less level) f.1))
   root_maps_by (Grown low twig) mapped found root lt small maps f =
       spot_maps pages order block high (stubs_below level high twig) mapped f.spot found (twig_tiles order level (top_least level) order high twig root.1) lt small f.is maps f.finds
 
   root_fits_by : (x : Child-F Child Twig) (mapped : List Mapped) (addr : ℕ) → IsRootBy order level high x → AreBelow (2 ^ 64) (stubs_in (stubs level) (suc level) high x) →
       MapsIn pages order (top_least level) level high x mapped → RootStopsBy pages order block addr level high x → ⊥
-  root_fits_by (Kept low at key) mapped addr root small maps stops = never_stops pages order level block addr (top_want order high (suc level) at) key maps.0 small.0 (subst (λ w. Subtree pages order (suc level) w key maps.0) (root_want order level low high at root) maps.1)
+  root_fits_by (Kept low at key) mapped addr root small maps stops = never_stops pages order level block addr (top_want order high (suc level) at) key maps.0 small.0.0 (subst (λ w. Subtree pages order (suc level) w key maps.0) (root_want order level low high at root) maps.1)
       (subst (λ n. Stops (FitsAt pages) order block (NothingFits pages) addr n (top_want order high (suc level) at) key) (one_less level) stops)
   root_fits_by (Grown low twig) mapped addr root small maps stops = spot_fits pages order block addr (stubs_below level high twig) mapped stops.spot small stops.is maps stops.stops
 

@@ -77,15 +77,15 @@ spares_push order spares spare le empty room h = record { many = omega arith; ea
 pub spares_many : (order count : ℕ) (spares : List (Vec Child Global)) → count ≤ length spares → HasSpares order 0 spares → HasSpares order count spares
 spares_many order count spares le h = record { many = le; each = h.each }
 
-pub puts_below : (low high block addr head : ℕ) (key : List ℕ) (old new : List Stub) → Puts low high (datum block addr key) old new → AreBelow head old → addr < head → AreBelow head new
-puts_below low high block addr head key old new p h lt =
+pub puts_below : (low high block addr head : ℕ) (key : List ℕ) (old new : List Stub) → Puts low high (datum block addr key) old new → AreBelow head old → addr < head → length key ≡ 32 → AreBelow head new
+puts_below low high block addr head key old new p h lt plain =
     let all = subst (AreBelow head) p.was h in
-    subst (AreBelow head) (sym p.now) (below_append head p.front (datum block addr key ∷ p.back) (below_front head p.front (p.mid ++ p.back) all) (lt, below_back head p.mid p.back (below_back head p.front (p.mid ++ p.back) all)))
+    subst (AreBelow head) (sym p.now) (below_append head p.front (datum block addr key ∷ p.back) (below_front head p.front (p.mid ++ p.back) all) ((lt, plain), below_back head p.mid p.back (below_back head p.front (p.mid ++ p.back) all)))
 
-pub kept_place : (level high low addr head : ℕ) (key : List ℕ) → 1 ≤ level → addr < head → AreBelow head (stubs level high (made.Kept low addr key))
+pub kept_place : (level high low addr head : ℕ) (key : List ℕ) → 1 ≤ level → addr < head → length key ≡ 32 → AreBelow head (stubs level high (made.Kept low addr key))
 unfolding stubs
-kept_place zero high low addr head key one lt = absurd (omega (arith, one))
-kept_place (suc level) high low addr head key one lt = subst (λ x. AreBelow head (stubs_in (stubs level) (suc level) high x)) (sym (made.outs-Kept low addr key)) (lt, tt)
+kept_place zero high low addr head key one lt plain = absurd (omega (arith, one))
+kept_place (suc level) high low addr head key one lt plain = subst (λ x. AreBelow head (stubs_in (stubs level) (suc level) high x)) (sym (made.outs-Kept low addr key)) ((lt, plain), tt)
 
 pub takes_below : (low high block head : ℕ) (old new : List Stub) → Takes low high block old new → AreBelow head old → AreBelow head new
 takes_below low high block head old new p h =

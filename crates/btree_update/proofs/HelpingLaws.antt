@@ -43,7 +43,7 @@ up order l loses end (Kept low addr key) new node gone more h p = record {
   low_is = ap low_in p.0;
   shaped = subst (IsChildBy (IsChild order l) order l end) (sym p.0) h.0.shaped;
   lends = subst (λ (y : Child-F Child Twig). IsHeldIn y × ((order / 2 < width_in y) ⊎ (1 ≤ loses))) (sym p.0) (tt, lends_by order loses _ h.1);
-  below = λ head b. subst (λ y. AreBelow head (stubs_in (stubs l) (suc l) end y)) (sym p.0) (lower addr head _ (omega (arith, b.0)) h.0.lower);
+  below = λ head b. subst (λ y. AreBelow head (stubs_in (stubs l) (suc l) end y)) (sym p.0) (lower addr head _ (omega (arith, b.0.0)) h.0.lower);
   few = omega (arith, ap (nodes_in (nodes l)) p.0, h.0.bare);
 }
 

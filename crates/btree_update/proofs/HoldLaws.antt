@@ -1,5 +1,5 @@
 -- What is held of the way to a block.
-use Rattle.std.proofs.Common.{◌≡◌, ℕ, zero, suc, ◌-◌, ◌/◌, ◌<◌, ◌≤◌, ◌^◌, List, [], ◌∷◌, ◌++◌, take, drop, refl, sym, ap, subst, ◌∙◌, arith}
+use Rattle.std.proofs.Common.{◌≡◌, ℕ, zero, suc, ◌-◌, ◌/◌, ◌<◌, ◌≤◌, ◌^◌, List, [], ◌∷◌, ◌++◌, length, take, drop, refl, sym, ap, subst, ◌∙◌, arith}
 use Rattle.std.specs.List.{AllByRecursion}
 use Rattle.std.proofs.lemmas.List.Elements.{recursion_from_All}
 use Rattle.node_codec.specs.declared.body.Entry.{Entry}
@@ -84,22 +84,25 @@ kept_nodes level (e ∷ es) = omega (arith, kept_nodes_of level e, kept_nodes le
 pub bare_of : (level : ℕ) (want : Want) (twig : Twig) → IsNodeFor want twig → nodes_below level twig ≡ 0
 bare_of level want twig h = ap (sum_by (nodes level)) h.children ∙ kept_nodes level h.entries
 
--- its places have addresses below its own
-entries_below : (level high head : ℕ) (es : List Entry) → AllByRecursion (λ (e : Entry). e.addr < head) es → AreBelow head (stubs_at level high es)
+-- its places have addresses below its own, and keys without digests
+entries_below : (level high head : ℕ) (es : List Entry) → AllByRecursion (λ (e : Entry). (e.addr < head) × (length e.key ≡ 32)) es → AreBelow head (stubs_at level high es)
 entries_below zero high head [] h = tt
 entries_below (suc level) high head [] h = tt
 entries_below zero high head (e ∷ es) h = (h.0, entries_below zero high head es h.1)
 entries_below (suc level) high head (e ∷ es) h = (h.0, entries_below (suc level) high head es h.1)
 
+want_below : (want : Want) (twig : Twig) (h : IsNodeFor want twig) → AllByRecursion (λ (e : Entry). (e.addr < want.addr) × (length e.key ≡ 32)) h.entries
+want_below want twig h = recursion_from_All (λ (e : Entry). (e.addr < want.addr) × (length e.key ≡ 32)) h.entries (λ k d inside. (h.in_range.below k d inside, h.in_range.plain k d inside))
+
 pub read_below : (level high head : ℕ) (want : Want) (twig : Twig) → IsNodeFor want twig → want.addr < head → AreBelow head (stubs_below level high twig)
 read_below level high head want twig h lt =
     subst (AreBelow head) (sym (ap (stubs_under level high) h.children ∙ kept_stubs level high h.entries))
-    (lower want.addr head _ (omega (arith, lt)) (entries_below level high want.addr h.entries (recursion_from_All (λ (e : Entry). e.addr < want.addr) h.entries h.in_range.below)))
+    (lower want.addr head _ (omega (arith, lt)) (entries_below level high want.addr h.entries (want_below want twig h)))
 
 pub read_lower : (level high : ℕ) (want : Want) (twig : Twig) → IsNodeFor want twig → AreBelow want.addr (stubs_below level high twig)
 read_lower level high want twig h =
     subst (AreBelow want.addr) (sym (ap (stubs_under level high) h.children ∙ kept_stubs level high h.entries))
-    (entries_below level high want.addr h.entries (recursion_from_All (λ (e : Entry). e.addr < want.addr) h.entries h.in_range.below))
+    (entries_below level high want.addr h.entries (want_below want twig h))
 
 -- a node that was read is a node in memory
 pub node_is_twig : (order level least low high addr : ℕ) (twig : Twig) → order ≤ 64 → (1 ≤ level → 1 ≤ least) → low ≤ high →
@@ -119,7 +122,7 @@ read_as pages order level low high addr least key twig small h = record {
 -- the place of a child on the medium
 pub kept_below : (head level high low addr : ℕ) (key : List ℕ) → AreBelow head (stubs (suc level) high (made.Kept low addr key)) → addr < head
 unfolding stubs
-kept_below head level high low addr key h = (subst (λ x. AreBelow head (stubs_in (stubs level) (suc level) high x)) (made.outs-Kept low addr key) h).0
+kept_below head level high low addr key h = (subst (λ x. AreBelow head (stubs_in (stubs level) (suc level) high x)) (made.outs-Kept low addr key) h).0.0
 
 above : (level : ℕ) → 1 ≤ level → level ≡ suc (level - 1)
 above level one = omega (arith, one)

@@ -50,7 +50,7 @@ below_append head (x ∷ xs) ys h k = (h.0, below_append head xs ys h.1 k)
 
 pub lower : (head head' : ℕ) (ss : List Stub) → head ≤ head' → AreBelow head ss → AreBelow head' ss
 lower head head' [] le h = tt
-lower head head' (s ∷ ss) le h = (omega (arith, h.0, le), lower head head' ss le h.1)
+lower head head' (s ∷ ss) le h = ((omega (arith, h.0.0, le), h.0.1), lower head head' ss le h.1)
 
 -- nothing is on the way
 pub open_first : (order level least low high block : ℕ) (cs : List Child) → IsNode order level least order low high cs → block < start_by low_of cs high → IsOpen block (stubs_under level high cs)
@@ -184,7 +184,7 @@ up_below_by order least block l high head Rest (Kept low' addr key) new held res
     let same = same_from_push h.rest rest h.twig t.0 (sym h.is ∙ t.1) in
     let grown : grown_of low' t.0 ≡ grown_of low twig = sym t.2 ∙ is in
     let twigs : t.0 ≡ twig = cc in
-    subst (λ w. AreBelow head (stubs_below l high w)) (same.1 ∙ twigs) (lower addr head _ (omega (arith, below.0)) h.lower)
+    subst (λ w. AreBelow head (stubs_below l high w)) (same.1 ∙ twigs) (lower addr head _ (omega (arith, below.0.0)) h.lower)
 up_below_by order least block l high head Rest (Grown low' twig') new held rest low twig h t is below =
     let grown : grown_of low' twig' ≡ grown_of low twig = sym t.0 ∙ is in
     let twigs : twig' ≡ twig = cc in

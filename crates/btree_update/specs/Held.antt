@@ -16,9 +16,9 @@ use Rattle.btree_update.specs.Reading.{all_kept}
 abbrev pub stub_at : ℕ → ℕ → ℕ → ℕ → List ℕ → Stub
 stub_at level low high addr key = record { level = level; low = low; high = high; addr = addr; key = key }
 
--- these places have addresses below this one
+-- these places have addresses below this one, and keys without digests
 abbrev pub AreBelow : ℕ → List Stub → Type 0
-AreBelow head = AllByRecursion (λ s. s.addr < head)
+AreBelow head = AllByRecursion (λ s. (s.addr < head) × (length s.key ≡ 32))
 
 -- the node in memory has the entries of the page at its place as children
 pub record IsReadAs (pages : List (List ℕ)) (order below : ℕ) (stub : Stub) (twig : Twig) : Type 0 where

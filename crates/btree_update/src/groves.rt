@@ -1,4 +1,4 @@
-ghost use Rattle.std.specs.Prelude.{◌≡◌, ◌⊎◌, ◌<◌, ◌≤◌, ◌+◌, ◌-◌, ◌*◌, ℕ, List, [], suc, vec_len, vec_capacity, IfOk, IfSome, IsErrOf, IsTrue, Bool, Contains};
+ghost use Rattle.std.specs.Prelude.{◌≡◌, ◌⊎◌, ◌<◌, ◌≤◌, ◌+◌, ◌-◌, ◌*◌, ℕ, List, [], suc, vec_len, vec_capacity, IfOk, IfSome, IsErrOf, IsTrue, Bool, Contains, length};
 ghost use Rattle.root_codec.specs.RootRecord.{FitsRoot};
 ghost use Rattle.node_codec.specs.declared.body.Entry.{Entry};
 ghost use Rattle.node_codec.specs.Record.{DataRecord};
@@ -237,7 +237,7 @@ impl Grove {
             (places_of self.old) self.old.gone.items self.new.gone.items self.old.never.items self.new.never.items }
         ensures levels { (pages : List (List ℕ)) (levels : ℕ → List Node) → IsReadFrom pages block self.old → HasLevels pages self.old levels
             → (after : ℕ → List Node) × HasLevels pages self.new after × Reshape self.old.order block self.old.level self.new.level levels after }
-        ensures below { (head : ℕ) → AreBelow head (places_of self.old) → addr < head → AreBelow head (places_of self.new) }
+        ensures below { (head : ℕ) → AreBelow head (places_of self.old) → addr < head → length key ≡ 32 → AreBelow head (places_of self.new) }
         ensures grown { grown_in self.new ≤ grown_in self.old + (2 * self.old.level + 1) }
     {
         open_root(

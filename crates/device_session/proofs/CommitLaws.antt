@@ -123,9 +123,10 @@ pub next_tree : (tells : Type 0) (old mid : History) (drawn drawn_now : Option (
 next_tree tells old mid drawn drawn_now session pages now prepared device contents r told h = r.ready.is.stands told h.each (stand session pages old.present device contents r.is_open r.touched h)
 
 -- the device that it is
-next_device : (device : Device) (contents : Blocks) (root next : Root) (each : List Parts) → (next.order ≡ root.order) → (next.blocks ≡ root.blocks) → next.commit ≡ root.commit + 1 → (root.order ≡ device.order) → (root.blocks ≡ device.blocks) → root.commit ≡ device.number →
+next_device : (device : Device) (contents : Blocks) (root next : Root) (each : List Parts) → (next.order ≡ root.order) → (next.blocks ≡ root.blocks) → next.commit ≡ root.commit + 1 → (device.version ≡ 1) → (root.order ≡ device.order) → (root.blocks ≡ device.blocks) → root.commit ≡ device.number →
     contents ≡ (device_with next each).contents → device_with next each ≡ committed_with device contents
-next_device device contents root next each order blocks commit was_order was_blocks was_number are = λ i. record {
+next_device device contents root next each order blocks commit version was_order was_blocks was_number are = λ i. record {
+  version = sym version i;
   blocks = (blocks ∙ was_blocks) i;
   order = (order ∙ was_order) i;
   number = (commit ∙ ap (λ (n : ℕ). n + 1) was_number) i;
@@ -138,7 +139,7 @@ next_stands tells old mid drawn drawn_now session pages now prepared device cont
     let with = next_tree tells old mid drawn drawn_now session pages now prepared device contents r told h in
     let next = r.ready.is.next_is in
     subst (λ (d : Device). StandsBy (with_next mid prepared) d prepared.root with.parts)
-    (next_device device contents session.root prepared.root h.each next.order next.blocks next.commit h.stands.order h.stands.blocks h.stands.number h.contents_are) with.stands
+    (next_device device contents session.root prepared.root h.each next.order next.blocks next.commit h.stands.version h.stands.order h.stands.blocks h.stands.number h.contents_are) with.stands
 
 -- ---- a commit whose last step was taken or failed
 

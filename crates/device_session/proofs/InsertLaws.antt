@@ -99,7 +99,7 @@ later_listed session buffers image later keys whole earlier cell h = record {
 
 below_later : (pages now : ℕ) (ss : List Stub) → pages ≤ now → AreBelow pages ss → AreBelow now ss
 below_later pages now [] le h = tt
-below_later pages now (s ∷ ss) le h = (omega (arith, h.0, le), below_later pages now ss le h.1)
+below_later pages now (s ∷ ss) le h = ((omega (arith, h.0.0, le), h.0.1), below_later pages now ss le h.1)
 
 pub later_open : (session : Session) (buffers : Held) (pages now : ℕ) → pages ≤ now → IsOpen session pages → IsOpen (record session { buffers = buffers }) now
 later_open session buffers pages now le o = record {

@@ -57,11 +57,11 @@ each_alike n pages others order [] [] alike below has = tt
 each_alike n pages others order [] (p ∷ ps) alike below has = absurd has
 each_alike n pages others order (s ∷ ss) [] alike below has = absurd has
 each_alike n pages others order (s ∷ ss) (p ∷ ps) alike below has =
-    (subtree_alike n pages others order s.level (want_of order s) s.key p alike below.0 has.0, each_alike n pages others order ss ps alike below.1 has.1)
+    (subtree_alike n pages others order s.level (want_of order s) s.key p alike below.0.0 has.0, each_alike n pages others order ss ps alike below.1 has.1)
 
 root_alike : (n : ℕ) (pages others : List (List ℕ)) (order below high : ℕ) (x : Child-F Child Twig) (mapped : List Mapped) → AreAlike n pages others → AreBelow n (stubs_in (stubs below) (suc below) high x) → MapsIn pages order (top_least below) below high x mapped →
     MapsIn others order (top_least below) below high x mapped
-root_alike n pages others order below high (Kept low addr key) mapped alike lower m = (m.0, subtree_alike n pages others order (suc below) (want_at order (suc below) low high addr (top_least below)) key m.0 alike lower.0 m.1, m.2)
+root_alike n pages others order below high (Kept low addr key) mapped alike lower m = (m.0, subtree_alike n pages others order (suc below) (want_at order (suc below) low high addr (top_least below)) key m.0 alike lower.0.0 m.1, m.2)
 root_alike n pages others order below high (Grown low twig) mapped alike lower m = record { each = m.each; has = each_alike n pages others order (stubs_below below high twig) m.each alike lower m.has; is = m.is }
 
 below_in : (n level high : ℕ) (c : Child) → AreBelow n (stubs (suc level) high c) → AreBelow n (stubs_in (stubs level) (suc level) high (out-Child c))

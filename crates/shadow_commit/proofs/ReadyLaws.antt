@@ -143,6 +143,7 @@ stands_with old new root next mapped level head top twig ns each whole head_is f
         cell = refl;
         in_range = next_fits;
         key = key_is;
+        version = refl;
         order = refl;
         blocks = refl;
         number = refl;
@@ -163,8 +164,8 @@ stands_with old new root next mapped level head top twig ns each whole head_is f
     }
 
 -- the next root record is in range
-pub next_fits : (root next : Root) (mapped level head count : ℕ) → FitsRoot root → root.head ≤ head → mapped ≤ root.blocks → level < 20 → IsNextRoot root mapped (suc level) (head + count) next → 1 ≤ count → head + count ≤ 2 ^ 32 → FitsRoot next
-next_fits root next mapped level head count fits within most deep is some small = record {
+pub next_fits : (root next : Root) (mapped level head count : ℕ) → FitsRoot root → root.head ≤ head → mapped ≤ root.blocks → level < 20 → IsNextRoot root mapped (suc level) (head + count) next → 1 ≤ count → head + count ≤ 2 ^ 32 → length next.key ≡ 32 → FitsRoot next
+next_fits root next mapped level head count fits within most deep is some small plain = record {
   order_even = subst (λ (n : ℕ). n % 2 ≡ 0) (sym is.order) fits.order_even;
   order_least = omega (arith, is.order, fits.order_least);
   order_most = omega (arith, is.order, fits.order_most);
@@ -176,6 +177,7 @@ next_fits root next mapped level head count fits within most deep is some small 
   addr = omega (arith, is.addr, is.head_is);
   mapped = omega (arith, is.mapped_is, is.blocks, most);
   head = omega (arith, is.head_is, small);
+  plain = plain;
 }
 
 pub one_more : (level first : ℕ) (cs : List Child) (ns : List Sealed) (addr : ℕ) (key : List ℕ) → SealsNode (Seals level) level first cs ns addr key → addr + 1 ≡ first + length ns

@@ -96,12 +96,12 @@ unfolding Seals stubs
 child_entry zero first head high c ns e h below le = here (out-Child c) refl h below
   where
     here : (x : Child-F Child Twig) → low_in x ≡ low_of c → SealsDatum x ns e → AreBelow head (datum_in x) → IsEntryOf first c ns e
-    here (Kept low addr key) is h below = kept_entry head first low addr key c ns e is below.0 le h
+    here (Kept low addr key) is h below = kept_entry head first low addr key c ns e is below.0.0 le h
     here (Grown low twig) is h below = absurd h
 child_entry (suc level) first head high c ns e h below le = here (out-Child c) refl h below
   where
     here : (x : Child-F Child Twig) → low_in x ≡ low_of c → SealsIn (Seals level) level first x ns e → AreBelow head (stubs_in (stubs level) (suc level) high x) → IsEntryOf first c ns e
-    here (Kept low addr key) is h below = kept_entry head first low addr key c ns e is below.0 le h
+    here (Kept low addr key) is h below = kept_entry head first low addr key c ns e is below.0.0 le h
     here (Grown low twig) is h below = record {
       low_is = h.low_is ∙ is;
       below = omega (arith, h.node.addr_is, ap length h.node.is, length-append h.node.below (record { addr = e.addr; key = e.key; level = suc level; entries = h.node.entries } ∷ []));
@@ -168,6 +168,7 @@ node_fits order level least low high first head twig ns es shaped most deep bloc
       ascend = subst IsStrictlyIncreasing (sym are.lows) (ascends (IsChild order level) high (children_of twig) each);
       lows = All-from_recursion (λ (e : Entry). e.low < 1048576) es (lows_all high 1048576 es blocks (subst (AllByRecursion (λ n. n < high)) (sym are.lows) (lows_below (IsChild order level) high (children_of twig) each)));
       below = All-from_recursion (λ (e : Entry). e.addr < first + length ns) es are.below;
+      plain = λ k d inside. (All-from_recursion (λ (e : Entry). IsBytes 32 e.key) es are.keys k d inside).0;
     }
 
 -- ---- entries behind those that were there

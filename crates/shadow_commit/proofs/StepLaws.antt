@@ -18,7 +18,7 @@ use Rattle.btree_twigs.specs.declared.twigs.Child.{Child, Child-F, out-Child}
 use Rattle.btree_twigs.specs.declared.twigs.Child.TheOpen.{Kept, Grown}
 use Rattle.btree_twigs.specs.declared.twigs.Child.TheVariants as made
 use Rattle.btree_twigs.specs.declared.twigs.Twig.{Twig}
-use Rattle.btree_twigs.specs.Stubs.{Stub, start_by, stubs_by, stubs_in, low_of, level_of, children_of, stubs, stubs_below, sum_by, nodes_in, nodes, nodes_below}
+use Rattle.btree_twigs.specs.Stubs.{Stub, start_by, stubs_by, stubs_in, datum_in, low_of, level_of, children_of, stubs, stubs_below, sum_by, nodes_in, nodes, nodes_below}
 use Rattle.btree_twigs.specs.Top.{level_in, child_level}
 use Rattle.btree_twigs.specs.Shape.{EachBy, IsDatum, IsChildBy, IsChild, IsTwig}
 use Rattle.btree_twigs.proofs.ListLaws.{each_back, each_le, stubs_append, split_here}
@@ -107,6 +107,13 @@ grown_at order (suc level) high head c low twig is shaped under =
       count = ap (nodes_in (nodes level)) out;
     }
 
+-- the key of a child on the medium has no digest
+pub kept_plain : (level high head : ℕ) (c : Child) (low addr : ℕ) (key : List ℕ) → c ≡ made.Kept low addr key → AreBelow head (stubs level high c) → length key ≡ 32
+unfolding stubs
+kept_plain zero high head c low addr key is under = (subst (λ x. AreBelow head (datum_in x)) (ap out-Child is ∙ made.outs-Kept low addr key) under).0.1
+kept_plain (suc level) high head c low addr key is under =
+    (subst (λ x. AreBelow head (stubs_in (stubs level) (suc level) high x)) (ap out-Child is ∙ made.outs-Kept low addr key) under).0.1
+
 abbrev pub can_below : (head capacity : ℕ) (c : Child) (low : ℕ) (twig : Twig) (at : CanSealChild head capacity c) → IsGrownAt at.order at.level at.high head c low twig → CanSeal head capacity twig
 can_below head capacity c low twig at s = record {
   order = at.order;
@@ -140,7 +147,7 @@ seals_kept (suc level) first c low addr key ns e is h = subst (λ x. SealsIn (Se
 
 pub below_later : (head head' : ℕ) (ss : List Stub) → head ≤ head' → AreBelow head ss → AreBelow head' ss
 below_later head head' [] le h = tt
-below_later head head' (s ∷ ss) le h = (omega (arith, h.0, le), below_later head head' ss le h.1)
+below_later head head' (s ∷ ss) le h = ((omega (arith, h.0.0, le), h.0.1), below_later head head' ss le h.1)
 
 abbrev pub end_at : ℕ → ℕ → List Child → ℕ
 end_at high i cs = start_by low_of (drop (suc i) cs) high

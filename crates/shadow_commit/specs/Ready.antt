@@ -79,7 +79,7 @@ pub record IsNextRoot (root : Root) (mapped level head : ℕ) (next : Root) : Ty
 
 -- the device that a commit makes
 abbrev pub device_with : Root → List Parts → Device
-device_with root each = record { blocks = root.blocks; order = root.order; number = root.commit; contents = from_entries (pairs_of (joined each)) }
+device_with root each = record { version = 1; blocks = root.blocks; order = root.order; number = root.commit; contents = from_entries (pairs_of (joined each)) }
 
 -- with the root record in the cell the image stands for the device, by the sealed nodes and the parts below them
 pub record StandsWith (image : Image) (root : Root) (ns : List Sealed) (each : List Parts) : Type 0 where

@@ -1,5 +1,5 @@
 //! How the nodes in memory are sealed.
-ghost use Rattle.std.specs.Prelude.{◌≡◌, ◌<◌, ◌≤◌, ◌+◌, ◌*◌, ◌++◌, [], ◌∷◌, suc, vec_len, vec_capacity, IfOk, IsErr, All};
+ghost use Rattle.std.specs.Prelude.{◌≡◌, ◌<◌, ◌≤◌, ◌+◌, ◌*◌, ◌++◌, [], ◌∷◌, suc, vec_len, vec_capacity, IfOk, IsErr, All, length};
 ghost use Rattle.sdbt_base.specs.Bytes.{IsBytes};
 ghost use Rattle.sdbt_base.specs.Faults.{TellsOf};
 ghost use Rattle.btree_twigs.specs.Top.{child_level};
@@ -104,6 +104,7 @@ fn add(entries: &mut Vec<Entry>, entry: Entry)
 
 /// The entry of a child on the medium.
 fn kept_entry(low: u64, addr: u64, key: &Key) -> Entry
+    requires { length key.now ≡ 32 }
     ensures entry { result ≡ record { low = low; addr = addr; key = key.now } }
     ensures key { IsBytes 32 key.now }
 {

@@ -1,5 +1,5 @@
 //! A device in memory that tests build page by page, and seal trees on.
-ghost use Rattle.std.specs.Prelude.{◌≤◌, length};
+ghost use Rattle.std.specs.Prelude.{◌≡◌, ◌≤◌, length};
 ghost use Rattle.platform.specs.Mem.{image_of_now};
 
 use btree_twigs::{Child, Twig};
@@ -28,7 +28,9 @@ fn key_bytes(addr: u64) -> [u8; 32] {
 }
 
 /// The key of the page at an address.
-pub(crate) fn key_of(addr: u64) -> Key {
+pub(crate) fn key_of(addr: u64) -> Key
+    ensures { length result ≡ 32 }
+{
     Key::from_bytes(key_bytes(addr))
 }
 

@@ -102,7 +102,7 @@ returns-clause-sealed g c at =
     let heads : new_head ≡ head + length ns = c.sync.ensures.head ∙ A.head in
     let next_by : (n : ℕ) → placed.addr + 1 ≡ n → IsNextRoot root c.args.mapped (suc at.level) n next = λ n e. record { order = refl; blocks = refl; commit = refl; level_is = s.shaped.level_is; mapped_is = refl; addr = e; head_is = e } in
     let small : head + length ns ≤ 2 ^ 32 = omega (arith, A.head, c.seal_twig.ensures.within can, at.room, s.count, g.met.P.Platform.is_limited c.args.platform.now) in
-    let fits = next_fits root next c.args.mapped at.level head (length ns) at.in_range at.within at.most at.level_most (next_by (head + length ns) up) (omega (arith, up, A.is.0.addr_is)) small in
+    let fits = next_fits root next c.args.mapped at.level head (length ns) at.in_range at.within at.most at.level_most (next_by (head + length ns) up) (omega (arith, up, A.is.0.addr_is)) small A.is.0.key_is.0 in
     let seals : (ms : List Sealed) → SealsNode (Seals at.level) at.level head (children_of twig) ms placed.addr placed.key → Seals (suc at.level) head top ms (record { low = 0; addr = placed.addr; key = placed.key })
     = λ ms h. subst (λ low. Seals (suc at.level) head top ms (record { low = low; addr = placed.addr; key = placed.key })) (top_low root.order root.blocks at.level c.in-Grown.low top twig c.in-Grown.is at.shaped)
     (seals_grown (suc at.level) at.level head top c.in-Grown.low twig ms placed.addr placed.key c.in-Grown.is refl h) in

@@ -11,7 +11,7 @@ use Rattle.page_store.specs.Buffer.{Held}
 use Rattle.sdbt_base.specs.Bytes.{IsBytes}
 use Rattle.sdbt_base.proofs.FaultLaws.{tells_then, tells_on}
 use Rattle.page_store.specs.declared.refusals.AppendFault.TheVariants.{TapeFault, PlatformFault}
-use Rattle.std.specs.Prelude.{IfOk, is_err}
+use Rattle.std.specs.Prelude.{is_err}
 use Rattle.btree_twigs.specs.declared.twigs.Child.{Child}
 use Rattle.btree_twigs.specs.Stubs.{children_of, sum_by, nodes, stubs, stubs_by, stubs_below, low_of}
 use Rattle.btree_twigs.specs.Shape.{EachBy, IsChild}
@@ -24,8 +24,14 @@ use Rattle.shadow_commit.specs.Handing.{Adds, Stops}
 use Rattle.btree_update.specs.Held.{AreBelow}
 use Rattle.shadow_commit.proofs.SealLaws.{grows_by, keeps_front, entries_are, children_count, each_snoc, node_fits}
 use Rattle.shadow_commit.proofs.CachingLaws.{sealed_then}
-use Rattle.shadow_commit.proofs.StepLaws.{adds_none, adds_as, adds_then, adds_page, grown_at, can_below, seals_grown, seals_kept, loop_child, can_child, end_at, beside_start, beside_call, beside_then, fits_as, body_as, adds_stops, stops_as, stops_none, stops_one, fault_cases, grown_level, level_within}
+use Rattle.shadow_commit.proofs.StepLaws.{adds_none, adds_as, adds_then, adds_page, grown_at, kept_plain, can_below, seals_grown, seals_kept, loop_child, can_child, end_at, beside_start, beside_call, beside_then, fits_as, body_as, adds_stops, stops_as, stops_none, stops_one, fault_cases, grown_level, level_within}
 use Rattle.shadow_commit.proofs.sealing.+seal.Goals as goal
+
+pub seal_child-kept_entry-requires : goal.seal_child-kept_entry-requires
+seal_child-kept_entry-requires g t c =
+    let at = c.requires.can in
+    let head = g.P.Platform.head c.args.platform.now in
+    kept_plain at.level at.high head c.args.child.now c.in-Kept.low c.in-Kept.addr c.in-Kept.key c.in-Kept.is at.below
 
 pub seal_child-seal_twig-requires : goal.seal_child-seal_twig-requires
 seal_child-seal_twig-requires g t c =

@@ -7,7 +7,7 @@ use Rattle.btree_update.proofs.MediumLaws.{tree_told, kept_told}
 use Rattle.btree_update.proofs.groves.Grove.of.Goals as goal
 
 pub returns-clause-below : goal.returns-clause-below
-returns-clause-below c head lt = kept_place c.args.root.now.level c.args.root.now.blocks 0 c.args.root.now.addr head _ c.requires.level_least lt
+returns-clause-below c head lt = kept_place c.args.root.now.level c.args.root.now.blocks 0 c.args.root.now.addr head _ c.requires.level_least lt c.requires.plain
 
 pub returns-clause-levels : goal.returns-clause-levels
 returns-clause-levels c pages parts tree =

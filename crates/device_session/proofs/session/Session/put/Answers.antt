@@ -205,7 +205,7 @@ returns-clause-goes_on g c =
     let now = g.P.Platform.head c.append.new.platform in
     let o = is_open g at.After-append in
     let grown : head + 1 ≡ now = omega (arith, c.in-Ok.ensures.placed.head) in
-    let below = c.insert.ensures.below now (below_more head now c.self.inside.grove (omega (arith, grown)) o.below) (omega (arith, c.in-Ok.ensures.placed.address, grown)) in
+    let below = c.insert.ensures.below now (below_more head now c.self.inside.grove (omega (arith, grown)) o.below) (omega (arith, c.in-Ok.ensures.placed.address, grown)) c.in-Ok.ensures.placed.key.0 in
     let limit = subst (λ (s : Session). OnFalse c.args.is_mapped (HasRoom s)) (sym c.self.view_is) c.requires.limit in
     let can = subst (λ (s : Session). CanInsert c.args.block s.grove × (IsTrue c.args.is_mapped → CanRemove c.args.block s.grove)) (sym c.self.view_is) c.requires.can in
     record {
