@@ -7,6 +7,7 @@ use Rattle.platform.proofs.Moments.{earlier-now}
 use Rattle.root_codec.specs.declared.root.Root.{Root}
 use Rattle.root_codec.specs.Laws.{one_root}
 use Rattle.sdbt_base.specs.Arrays.{Device}
+use Rattle.sdbt_base.specs.Keys.{bare}
 use Rattle.key_graph.specs.Chains.{Link, link, ChainEnds, KeyPremises}
 use Rattle.key_graph.proofs.SeizureLaws.{chains_found}
 use Rattle.page_store.specs.Kept.{Kept}
@@ -52,7 +53,7 @@ counted_map keys image device pages nodes blocks stands kept premises same is =
     cases (Some d) None (root, parts, s) holds exact = absurd (no_some _ (sym holds ∙ s.cell))
     cases (Some d) (Some other) (root, parts, s) holds exact =
         let roots : root ≡ other = one_root root other s.in_range holds.0.in_range s.key.0 (same_some _ _ (sym s.cell ∙ holds.1)) in
-        let of_root : IsSeizure (root.key ∷ []) image.readable is.seized = subst (λ (r : Root). IsSeizure (r.key ∷ []) image.readable is.seized) (sym roots) exact in
+        let of_root : IsSeizure (bare root.key ∷ []) image.readable is.seized = subst (λ (r : Root). IsSeizure (bare r.key ∷ []) image.readable is.seized) (sym roots) exact in
         mapped_counted keys image d root parts is.seized s kept premises same of_root ∙ mapped_len image d root parts s
 
 -- ---- the moments of a run

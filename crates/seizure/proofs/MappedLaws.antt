@@ -1,4 +1,6 @@
 -- How many data records a seizure counts of an image that stands for a device: as many as blocks are mapped, under the premises on keys.
+use Rattle.sdbt_base.specs.Keys.{bare}
+use Rattle.sdbt_base.proofs.KeyLaws.{bare_plain}
 use Rattle.std.proofs.Common.{◌≡◌, ◌==◌, ◌<◌, true, Bool, ℕ, zero, suc, List, [], ◌∷◌, ◌++◌, Some, map, length, refl, sym, ◌∙◌, ap, subst, arith}
 use Rattle.std.specs.Prelude.{◌≢◌, All, AllPairs, Contains, slice_get}
 use Rattle.std.specs.List.{filter}
@@ -223,6 +225,7 @@ is_known keys image device root parts stands kept premises same =
     }
 
 pub mapped_counted : (keys : List (List ℕ)) (image : Image) (device : Device) (root : Root) (parts : Parts) (seized : Seized) → StandsBy image device root parts → Kept keys image
-    → KeyPremises keys image.recorded → image.readable ≡ image.recorded → IsSeizure (root.key ∷ []) image.readable seized → count_of_kind 1 seized.opened ≡ length parts.mapped
+    → KeyPremises keys image.recorded → image.readable ≡ image.recorded → IsSeizure (bare root.key ∷ []) image.readable seized → count_of_kind 1 seized.opened ≡ length parts.mapped
 mapped_counted keys image device root parts seized stands kept premises same is =
-    known_counted keys image.readable (root.key ∷ []) parts seized (is_known keys image device root parts stands kept premises same) is
+    known_counted keys image.readable (root.key ∷ []) parts seized (is_known keys image device root parts stands kept premises same)
+    (subst (λ (k : List ℕ). IsSeizure (k ∷ []) image.readable seized) (bare_plain root.key stands.key.0) is)

@@ -6,6 +6,7 @@ use Rattle.std.proofs.lemmas.Bool.{cases_lt}
 use Rattle.std.proofs.lemmas.List.{get_or_default}
 use Rattle.std.proofs.lemmas.List.Elements.{All-nil, All-head, All-append, All-weaker, All-map, All-contains, All-get_or, All-contains_itself, Contains-append_left, Contains-append_right, Contains-push, Contains-push_cases}
 use Rattle.std.proofs.lemmas.Option.{get_or_from_slice_get}
+use Rattle.sdbt_base.specs.Keys.{bare}
 use Rattle.seal_record.specs.Sealing.{masked}
 use Rattle.key_graph.specs.Opening.{kind_of, block_of}
 use Rattle.key_graph.specs.Chains.{Link, link, OpensAt, YieldsAt, ChainEnds, ReachedBody}
@@ -147,13 +148,15 @@ reported roots pages opened seized all order count = record {
 }
 
 -- the root record's key, after those that were given
-pub gains_root : (keys wanted more : List (List ℕ)) (root : Option Root) → Gains [] wanted (Contains keys)
-    → MatchOption root (more ≡ wanted) (λ r. Gains wanted more (λ key. key ≡ r.key)) → Gains [] more (Contains (roots_of keys root))
-gains_root keys wanted more None gains same = subst (λ (l : List (List ℕ)). Gains [] l (Contains keys)) (sym same) gains
+pub gains_root : (keys wanted more : List (List ℕ)) (root : Option Root) → Gains [] wanted (Contains (map bare keys))
+    → MatchOption root (more ≡ wanted) (λ r. Gains wanted more (λ key. key ≡ bare r.key)) → Gains [] more (Contains (roots_of keys root))
+gains_root keys wanted more None gains same = subst (λ (l : List (List ℕ)). Gains [] l (Contains (map bare keys))) (sym same) gains
 gains_root keys wanted more (Some root) gains one =
-    gains_then [] wanted more (Contains keys) (λ key. key ≡ root.key) (Contains (keys ++ root.key ∷ [])) gains one (Contains-append_left keys (root.key ∷ []))
-    (λ key same. subst (Contains (keys ++ root.key ∷ [])) (sym same) (Contains-push keys root.key))
-    (λ key has. elim (Contains-push_cases keys root.key key has) [ inl before ↦ inl before | inr same ↦ inr (sym same) ])
+    let given = map bare keys in
+    let own = bare root.key in
+    gains_then [] wanted more (Contains given) (λ key. key ≡ own) (Contains (given ++ own ∷ [])) gains one (Contains-append_left given (own ∷ []))
+    (λ key same. subst (Contains (given ++ own ∷ [])) (sym same) (Contains-push given own))
+    (λ key has. elim (Contains-push_cases given own key has) [ inl before ↦ inl before | inr same ↦ inr (sym same) ])
 
 -- with no key and an empty cell, none is wanted
 no_more : (more : List (List ℕ)) → All (Contains []) more → more ≡ []

@@ -1,5 +1,6 @@
 -- What a seizure reports.
-use Rattle.std.specs.Prelude.{◌≡◌, ◌↔◌, ◌∷◌, ◌++◌, [], ℕ, List, Option, None, Some, AllPairs, Contains, length}
+use Rattle.std.specs.Prelude.{◌≡◌, ◌↔◌, ◌∷◌, ◌++◌, [], ℕ, List, Option, None, Some, AllPairs, Contains, length, map}
+use Rattle.sdbt_base.specs.Keys.{bare}
 use Rattle.root_codec.specs.declared.root.Root.{Root}
 use Rattle.root_codec.specs.RootRecord.{root_bytes}
 use Rattle.page_store.specs.Roots.{IsRootWithin}
@@ -18,10 +19,10 @@ pub record IsSeizure (keys readable : List (List ℕ)) (seized : Seized) : Type 
   pub exact : (o : Opened) → Contains seized.opened o ↔ ReachedBody keys readable o.addr o.kind o.block
   pub ascends : AllPairs IsBefore seized.opened
 
--- chains begin with these keys, and with that of the root record, if there is one
+-- chains begin with these keys, and with that of the root record, if there is one; their digests are left out
 abbrev pub roots_of : List (List ℕ) → Option Root → List (List ℕ)
-roots_of keys None = keys
-roots_of keys (Some root) = keys ++ root.key ∷ []
+roots_of keys None = map bare keys
+roots_of keys (Some root) = map bare keys ++ bare root.key ∷ []
 
 -- the cell is empty, or holds the root record of a root within its range
 abbrev pub Holds : ℕ → Option (List ℕ) → Option Root → Type 0

@@ -2,6 +2,7 @@
 ghost use Rattle.std.specs.Prelude.{◌≡◌, ◌≢◌, ◌↔◌, ℕ, List, [], ◌∷◌, AllPairs, Contains, length};
 ghost use Rattle.std.specs.FinMap as map;
 ghost use Rattle.sdbt_base.specs.Arrays.{Device};
+ghost use Rattle.sdbt_base.specs.Keys.{bare};
 ghost use Rattle.platform.specs.Image.{Image};
 ghost use Rattle.root_codec.specs.declared.root.Root.{Root};
 ghost use Rattle.key_graph.specs.Chains.{ReachedBody, KeyPremises};
@@ -25,7 +26,7 @@ pub fn counted_by_address()
 /// many data records as the tree has entries, under the premises on keys; and these are as many as the device has blocks.
 pub fn a_seizure_counts_mapped_blocks()
     ensures entries { (keys : List (List ℕ)) (image : Image) (device : Device) (root : Root) (parts : Parts) (seized : Seized) → StandsBy image device root parts →
-        Kept keys image → KeyPremises keys image.recorded → image.readable ≡ image.recorded → IsSeizure (root.key ∷ []) image.readable seized →
+        Kept keys image → KeyPremises keys image.recorded → image.readable ≡ image.recorded → IsSeizure (bare root.key ∷ []) image.readable seized →
         count_of_kind 1 seized.opened ≡ length parts.mapped }
     ensures blocks { (image : Image) (device : Device) (root : Root) (parts : Parts) → StandsBy image device root parts →
         length parts.mapped ≡ map.len device.contents }

@@ -1,5 +1,6 @@
 //! A seizure of pages in memory.
-ghost use Rattle.std.specs.Prelude.{◌≡◌, ◌<◌, ◌∷◌, [], ℕ, List, All, Contains, IfOk, OnOk, length};
+ghost use Rattle.std.specs.Prelude.{◌≡◌, ◌<◌, ◌∷◌, [], ℕ, List, All, Contains, IfOk, OnOk, length, map};
+ghost use Rattle.sdbt_base.specs.Keys.{bare};
 ghost use Rattle.seizure.specs.Index.{AreMarks, AreBelow, AreRising};
 ghost use Rattle.seizure.specs.Report.{IsSeizure};
 ghost use Rattle.seizure.specs.Work.{KnowsItsKeys, Gains, Tried, IsAllReached};
@@ -17,7 +18,7 @@ use std::alloc::Global;
 ///
 /// It is [`seize_pages_all`] of that key alone.
 pub fn seize_pages(alloc: Global, pages: &Pages, key: &Key) -> Result<Report, Memory>
-    ensures { IfOk result (IsSeizure (key.now ∷ []) pages.now) }
+    ensures { IfOk result (IsSeizure (bare key.now ∷ []) pages.now) }
 {
     let mut keys = KeyList::new(alloc);
     keys.push(*key)?;
@@ -30,7 +31,7 @@ pub fn seize_pages(alloc: Global, pages: &Pages, key: &Key) -> Result<Report, Me
 /// these, each key opens the page at its address, and each next one stands in an entry there. Every key that a chain
 /// yields is tried on every page. The pages may be any: nothing of them is believed. With no key no page is looked at.
 pub fn seize_pages_all(alloc: Global, pages: &Pages, keys: &KeyList) -> Result<Report, Memory>
-    ensures { IfOk result (IsSeizure keys.now pages.now) }
+    ensures { IfOk result (IsSeizure (map bare keys.now) pages.now) }
 {
     let mut work = Work::new(alloc);
     work.want_all(keys)?;

@@ -1,5 +1,6 @@
 //! What a search has found: keys to try, and bodies that were opened.
-ghost use Rattle.std.specs.Prelude.{◌≡◌, ◌<◌, ◌++◌, ◌∷◌, [], Contains, OnOk, length};
+ghost use Rattle.std.specs.Prelude.{◌≡◌, ◌<◌, ◌++◌, ◌∷◌, [], Contains, OnOk, length, map};
+ghost use Rattle.sdbt_base.specs.Keys.{bare};
 ghost use Rattle.key_graph.specs.Opening.{kind_of, count_of, key_in};
 ghost use Rattle.seizure.specs.Opened.{told_of, IsOrderOf};
 ghost use Rattle.seizure.specs.Work.{KnowsItsKeys, Gains, HasKey};
@@ -40,15 +41,15 @@ impl Work {
         }
     }
 
-    /// A key is to be tried, if it was not found before.
+    /// A key is to be tried, without its digest, if it was not found before.
     pub(crate) fn want(&mut self, key: &Key) -> Result<(), Memory>
         requires { KnowsItsKeys self.old }
         ensures known { OnOk result (KnowsItsKeys self.new) }
-        ensures keys { OnOk result (Gains self.old.keys self.new.keys (λ other. other ≡ key.now)) }
+        ensures keys { OnOk result (Gains self.old.keys self.new.keys (λ other. other ≡ bare key.now)) }
         ensures opened { self.new.opened ≡ self.old.opened }
     {
         if self.known.insert(key.bytes())? {
-            self.keys.push(*key)?;
+            self.keys.push(key.bare())?;
         }
         Ok(())
     }
@@ -57,7 +58,7 @@ impl Work {
     pub(crate) fn want_all(&mut self, keys: &KeyList) -> Result<(), Memory>
         requires { KnowsItsKeys self.old }
         ensures known { OnOk result (KnowsItsKeys self.new) }
-        ensures keys { OnOk result (Gains self.old.keys self.new.keys (Contains keys.now)) }
+        ensures keys { OnOk result (Gains self.old.keys self.new.keys (Contains (map bare keys.now))) }
         ensures opened { self.new.opened ≡ self.old.opened }
     {
         for i in 0..keys.len() {
@@ -136,7 +137,8 @@ fn count(body: &[u8]) -> usize
 fn key_at(body: &[u8], entry: usize) -> Key
     requires size { length body.now ≡ RECORD }
     requires within { entry < MOST }
-    ensures { result ≡ key_in body.now entry }
+    ensures value { result ≡ key_in body.now entry }
+    ensures plain { length result ≡ 32 }
 {
     let mut bytes = [0; 32];
     bytes.copy_from_slice(&body[48 * entry + 48..48 * entry + 80]);

@@ -1,5 +1,6 @@
-use Rattle.std.proofs.Common.{ℕ, List, [], sym, subst, ◌∙◌}
+use Rattle.std.proofs.Common.{ℕ, List, [], map, sym, subst, ◌∙◌}
 use Rattle.std.specs.Prelude.{Contains}
+use Rattle.sdbt_base.specs.Keys.{bare}
 use Rattle.seizure.specs.declared.work.Work.{Work}
 use Rattle.seizure.specs.Work.{Gains, IsAllReached}
 use Rattle.seizure.proofs.SearchLaws.{none_wanted, reported}
@@ -8,7 +9,7 @@ use Rattle.seizure.proofs.paging.seize_pages_all.Goals as goal
 
 pub returns : goal.returns
 returns c =
-    let keys = c.args.keys.now in let pages = c.args.pages.now in
+    let keys = map bare c.args.keys.now in let pages = c.args.pages.now in
     let wanted = c.want_all.new.self in
     let gains : Gains [] wanted.keys (Contains keys) = subst (λ (l : List (List ℕ)). Gains l wanted.keys (Contains keys)) c.new-work.ensures.keys c.in_ok-want_all.ensures.keys in
     let all : IsAllReached keys pages c.if-not-is_empty.work.opened =

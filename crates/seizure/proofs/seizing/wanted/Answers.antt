@@ -1,5 +1,6 @@
-use Rattle.std.proofs.Common.{◌≡◌, ℕ, List, [], sym, subst, ap}
+use Rattle.std.proofs.Common.{◌≡◌, ℕ, List, [], map, sym, subst, ap}
 use Rattle.std.specs.Prelude.{Contains, Option, None, Some}
+use Rattle.sdbt_base.specs.Keys.{bare}
 use Rattle.root_codec.specs.declared.root.Root.{Root}
 use Rattle.seizure.specs.declared.work.Work.{Work}
 use Rattle.seizure.specs.Report.{roots_of}
@@ -11,11 +12,11 @@ use Rattle.seizure.proofs.seizing.wanted.Goals as goal
 pub returns-clause-keys : goal.returns-clause-keys
 returns-clause-keys c =
     let keys = c.args.keys.now in let wanted = c.want_all.new.self in let more = c.match-root.work in
-    let gains : Gains [] wanted.keys (Contains keys) = subst (λ (l : List (List ℕ)). Gains l wanted.keys (Contains keys)) c.new-work.ensures.keys c.in_ok-want_all.ensures.keys in
+    let gains : Gains [] wanted.keys (Contains (map bare keys)) = subst (λ (l : List (List ℕ)). Gains l wanted.keys (Contains (map bare keys))) c.new-work.ensures.keys c.in_ok-want_all.ensures.keys in
     elim c.match-root.branch [
       | in-Some+in_ok-want w ↦ subst (λ (root : Option Root). Gains [] more.keys (Contains (roots_of keys root))) (sym w.in-Some.is)
           (gains_root keys wanted.keys more.keys (Some w.in-Some.root) gains
-          (subst (λ (work : Work). Gains wanted.keys work.keys (λ key. key ≡ w.in-Some.root.key)) (sym w.work-is) w.in_ok-want.ensures.keys))
+          (subst (λ (work : Work). Gains wanted.keys work.keys (λ key. key ≡ bare w.in-Some.root.key)) (sym w.work-is) w.in_ok-want.ensures.keys))
       | in_default w ↦ subst (λ (root : Option Root). Gains [] more.keys (Contains (roots_of keys root))) (sym w.in_default.is)
           (gains_root keys wanted.keys more.keys None gains (ap (λ (work : Work). work.keys) w.work-is))
     ]
