@@ -15,7 +15,7 @@ use Rattle.device_cli.proofs.PassLaws.{AreMarks-none}
 use Rattle.script_lang.specs.Replies.{line_of, Reply}
 use Rattle.device_cli.specs.Run.{Took}
 use Rattle.line_run.specs.Stops.{TookUntil, Ending, IsSound, exit_of}
-use Rattle.device_cli.specs.Replied.{IsDamageAt, IsAhead, Answered}
+use Rattle.device_cli.specs.Replied.{IsEndingAt, IsAhead, Answered}
 use Rattle.line_run.specs.Puts.{IsBehind, no_line, damage_line}
 use Rattle.device_cli.specs.Ran.{Ran}
 use Rattle.line_run.specs.declared.stop.Stop.{Stop}
@@ -63,7 +63,7 @@ Ran-other tells old new ending left left_now a b other r = let p = r.handled.rep
   handled = record {
     put = r.handled.put;
     got = r.handled.got;
-    replied = record { replies = p.replies; part = p.part; put_is = p.put_is; behind = IsBehind-other ending p.part other p.behind; many = p.many; damage = p.damage; later = p.later; full = p.full; enough = p.enough; looks = p.looks; answered = p.answered };
+    replied = record { replies = p.replies; part = p.part; put_is = p.put_is; behind = IsBehind-other ending p.part other p.behind; many = p.many; stopped = p.stopped; later = p.later; full = p.full; enough = p.enough; looks = p.looks; answered = p.answered };
   };
   prompt = r.prompt;
 }
@@ -92,7 +92,7 @@ Ran-last tells old new stop left left_now a b c r got = let p = r.handled.replie
       put_is = grind (arith, common_steps, p.put_is, p.behind);
       behind = refl;
       many = p.many;
-      damage = p.damage;
+      stopped = p.stopped;
       later = p.later;
       full = p.full;
       enough = p.enough;
@@ -122,7 +122,7 @@ Ran-cut tells old new stop left left_now a b c r (n, got) damaged = let p = r.ha
       put_is = grind (arith, common_steps, p.put_is, p.behind);
       behind = inr (stop, (n, refl));
       many = p.many;
-      damage = tt;
+      stopped = tt;
       later = p.later;
       full = p.full;
       enough = p.enough;
@@ -137,7 +137,7 @@ Ran-cut tells old new stop left left_now a b c r (n, got) damaged = let p = r.ha
 abbrev pub IsEarly : DeviceStop → Type 0
 IsEarly device.BadRoot = Unit {0}
 IsEarly device.Platform = Unit {0}
-IsEarly device.Memory = Unit {0}
+IsEarly device.Memory = ⊥
 IsEarly device.Tape = ⊥
 IsEarly device.Ledger = ⊥
 IsEarly (device.BadRecord addr) = ⊥
@@ -163,7 +163,7 @@ Ran-refused tells old new stop left written which later same unread still sound 
       put_is = refl;
       behind = refl;
       many = omega arith;
-      damage = no_damage stop which;
+      stopped = early_end stop which;
       later = later;
       full = λ updates enough. tt;
       enough = λ updates enough. tt;
@@ -186,18 +186,18 @@ Ran-refused tells old new stop left written which later same unread still sound 
   prompt = record { before = []; last = []; parts = refl; piece = omega arith; served = omega arith };
 }
   where
-    no_damage : (s : DeviceStop) → IsEarly s → IsDamageAt tells new.history.present [] [] (Err (stops.Device s))
-    no_damage device.BadRoot w = tt
-    no_damage device.Platform w = tt
-    no_damage device.Memory w = tt
-    no_damage device.Tape w = tt
-    no_damage device.Ledger w = tt
-    no_damage (device.BadRecord addr) w = absurd w
+    early_end : (s : DeviceStop) → IsEarly s → IsEndingAt tells new.history.present [] [] (Err (stops.Device s))
+    early_end device.BadRoot w = tt
+    early_end device.Platform w = tt
+    early_end device.Memory w = absurd w
+    early_end device.Tape w = absurd w
+    early_end device.Ledger w = absurd w
+    early_end (device.BadRecord addr) w = absurd w
 
     none_ahead : (s : DeviceStop) → IsEarly s → IsAhead (Err (stops.Device s)) []
     none_ahead device.BadRoot w = refl
     none_ahead device.Platform w = omega arith
-    none_ahead device.Memory w = refl
+    none_ahead device.Memory w = absurd w
     none_ahead device.Tape w = refl
     none_ahead device.Ledger w = refl
     none_ahead (device.BadRecord addr) w = refl

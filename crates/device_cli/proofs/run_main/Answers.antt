@@ -24,7 +24,7 @@ use Rattle.device_cli.proofs.GivenLaws.{few_records}
 use Rattle.line_run.proofs.StopLaws.{ArePart, cause_wide}
 use Rattle.device_cli.proofs.SeizeWordLaws.{only_word, at_eight}
 use Rattle.device_cli.proofs.WordLaws.{one_script, not_run, at_most}
-use Rattle.device_cli.proofs.WorkLaws.{working_of}
+use Rattle.device_cli.proofs.WorkLaws.{ended_work, working_of}
 use Rattle.device_cli.proofs.run_main.Goals as goal
 
 -- a run that was stopped has another status than 0
@@ -294,7 +294,7 @@ returns-in-Ok-work-clause-forgets g c =
     let new = around g.P.Platform g.T.Tape g.L.Sink c.work.new.platform c.work.new.tape c.work.new.ledger in
     let was : World = world_of g.P.Platform None c.args.platform.now in
     let worked = c.in-Ok-work.ensures.worked in
-    let ended = ended_run g.P.Platform.tells old new _ was worked.0 _ worked.1.serving _ _ _ _ refl refl refl refl worked.1.ran c.in-Ok-work.ensures.keeps in
+    let ended = ended_work g.P.Platform.tells old new _ c.in-Some-Work.seed c.in-Some-Work.count was worked.0 _ _ _ _ refl refl refl refl (g.met.P.Platform.has_room c.work.new.platform) worked.1 c.in-Ok-work.ensures.keeps in
     forgets g.P.Platform.tells old new _ ended
 
 pub returns-in-Ok-work-clause-ledger : goal.returns-in-Ok-work-clause-ledger
@@ -303,7 +303,7 @@ returns-in-Ok-work-clause-ledger g c =
     let new = around g.P.Platform g.T.Tape g.L.Sink c.work.new.platform c.work.new.tape c.work.new.ledger in
     let was : World = world_of g.P.Platform None c.args.platform.now in
     let worked = c.in-Ok-work.ensures.worked in
-    let ended = ended_run g.P.Platform.tells old new _ was worked.0 _ worked.1.serving _ _ _ _ refl refl refl refl worked.1.ran c.in-Ok-work.ensures.keeps in
+    let ended = ended_work g.P.Platform.tells old new _ c.in-Some-Work.seed c.in-Some-Work.count was worked.0 _ _ _ _ refl refl refl refl (g.met.P.Platform.has_room c.work.new.platform) worked.1 c.in-Ok-work.ensures.keeps in
     keeps_ledger g.P.Platform.tells old new _ _ (λ zero. refl) ended
 
 pub returns-in-Ok-work-clause-works : goal.returns-in-Ok-work-clause-works
@@ -328,7 +328,7 @@ returns-in-Err-work-clause-forgets g c =
     let new = around g.P.Platform g.T.Tape g.L.Sink c.work.new.platform c.work.new.tape c.work.new.ledger in
     let was : World = world_of g.P.Platform None c.args.platform.now in
     let worked = c.in-Err-work.ensures.worked in
-    let ended = ended_run g.P.Platform.tells old new _ was worked.0 _ worked.1.serving _ _ _ _ refl refl refl refl worked.1.ran c.in-Err-work.ensures.keeps in
+    let ended = ended_work g.P.Platform.tells old new _ c.in-Some-Work.seed c.in-Some-Work.count was worked.0 _ _ _ _ refl refl refl refl (g.met.P.Platform.has_room c.work.new.platform) worked.1 c.in-Err-work.ensures.keeps in
     forgets g.P.Platform.tells old new _ ended
 
 pub returns-in-Err-work-clause-ledger : goal.returns-in-Err-work-clause-ledger
@@ -337,7 +337,7 @@ returns-in-Err-work-clause-ledger g c =
     let new = around g.P.Platform g.T.Tape g.L.Sink c.work.new.platform c.work.new.tape c.work.new.ledger in
     let was : World = world_of g.P.Platform None c.args.platform.now in
     let worked = c.in-Err-work.ensures.worked in
-    let ended = ended_run g.P.Platform.tells old new _ was worked.0 _ worked.1.serving _ _ _ _ refl refl refl refl worked.1.ran c.in-Err-work.ensures.keeps in
+    let ended = ended_work g.P.Platform.tells old new _ c.in-Some-Work.seed c.in-Some-Work.count was worked.0 _ _ _ _ refl refl refl refl (g.met.P.Platform.has_room c.work.new.platform) worked.1 c.in-Err-work.ensures.keeps in
     keeps_ledger g.P.Platform.tells old new _ _ (λ zero. absurd (never_zero c.in-Err-work.stop (sym c.status-in-Err-work.ensures ∙ zero))) ended
 
 pub returns-in-Err-work-clause-works : goal.returns-in-Err-work-clause-works

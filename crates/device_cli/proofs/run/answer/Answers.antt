@@ -65,7 +65,7 @@ returns-in-Err-clause-handled g c text kept =
     let later : IsLater old new = record { capacity = c.serve.ensures.after.capacity; rises = c.serve.ensures.after.rises; within = g.met.P.Platform.has_room c.serve.new.platform } in
     let command = asked c.in-Some.command c.read_line.new.buffer in
     Handled-stop P.tells old new text command c.in-Err.stop (g.O.Sink.written c.args.output.now) (c.in-Some.ensures.found text kept) later c.in-Err.ensures.after.added
-    (λ addr e. (c.in-Err.ensures.of_block addr (cc), λ told. c.in-Err.ensures.damage told addr (cc)))
+    c.in-Err.ensures.any
     (looks_line P.tells old new text command _ (c.in-Some.ensures.found text kept) (λ told before warm look. ((c.in-Err.ensures.looks told before warm look).0, λ done. absurd cc)))
     (λ told. served_at _ _ (c.serve.ensures.keeps.serves told (c.requires.cell told))) (λ told entry rep. c.in-Err.ensures.answered told entry rep.there)
 
