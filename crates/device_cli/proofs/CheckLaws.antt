@@ -21,7 +21,7 @@ use Rattle.line_run.specs.Stops.{HasCause}
 use Rattle.sdbt_base.specs.Counts.{Counts, NoneRose}
 use Rattle.line_run.specs.Puts.{damage_line}
 use Rattle.device_cli.specs.Checks.{Checks, Finds, HoldsRoot, IsJudgeable, IsSaid, IsSilent, IsSo, finding_line, status_at, status_of_finding}
-use Rattle.session_calls.specs.Cells.{IsInCell}
+use Rattle.session_calls.specs.Cells.{IsInCell, IsUntouched}
 use Rattle.device_cli.specs.declared.checking.Finding.{Finding}
 use Rattle.device_cli.specs.declared.checking.Finding.TheVariants as findings
 use Rattle.session_calls.specs.declared.stops.DeviceStop.TheVariants as device
@@ -220,3 +220,13 @@ module _ (tells : Type 0) (image : Image) (written written_now : Option (List �
 
 pub image_stays : (old new : History) → Steps old new → new.present ≡ old.present → During old new (λ image. image ≡ old.present)
 image_stays old new steps same = During-step old new (λ image. image ≡ old.present) steps refl same
+
+-- all that an order was handed is as it was, where it only looked
+pub untouched_of : {T I L : Type 0} {tape tape_now : T} {input input_now : I} {ledger ledger_now : L} {head head_now : ℕ} {old new : History} → tape_now ≡ tape → input_now ≡ input → ledger_now ≡ ledger → head_now ≡ head
+    → During old new (λ image. image ≡ old.present) → IsUntouched tape tape_now input input_now ledger ledger_now head head_now old new
+untouched_of undrawn untaken unput pages image = record { undrawn = undrawn; untaken = untaken; unput = unput; pages = pages; image = image }
+
+-- the cell can't be served, where that was found, and where it is known
+pub not_served : {A X : Type 0} → (A → X → ⊥) → A ⊎ (X → ⊥) → X → ⊥
+not_served found (inl a) = found a
+not_served found (inr known) = known

@@ -202,7 +202,7 @@ is_exit (Err (stops.Device device.Memory)) = inr (inr (inr (inr (inr (inr (inr (
 is_exit (Err stops.Limit) = inr (inr (inr (inr (inr (inr (inr (inr (inr (inr (inr refl))))))))))
 
 -- a run never ends as a check that refuses
-never_ten : (ending : Ending) → exit_of ending ≡ 10 → ⊥
+pub never_ten : (ending : Ending) → exit_of ending ≡ 10 → ⊥
 never_ten (Ok done) is = omega (arith, is)
 never_ten (Err stops.Source) is = omega (arith, is)
 never_ten (Err stops.Sink) is = omega (arith, is)

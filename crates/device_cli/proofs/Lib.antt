@@ -25,3 +25,4 @@ pub mod WorkLaws
 pub mod WordLaws
 pub mod LookLaws
 pub mod EndLaws
+pub mod StatusLaws

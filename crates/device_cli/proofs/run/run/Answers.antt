@@ -131,5 +131,5 @@ not_eight stops.Sink other is = omega (arith, is)
 not_eight stops.Limit other is = omega (arith, is)
 not_eight (stops.Device device_stop) other is = other device_stop refl
 
-pub returns-clause-unserved : goal.returns-clause-unserved
-returns-clause-unserved g c = λ told is. absurd (not_eight c.in-Err-serve_input.stop c.in_default-stop.not-Device is)
+pub returns-clause-said : goal.returns-clause-said
+returns-clause-said g c = λ told is. absurd (not_eight c.in-Err-serve_input.stop c.in_default-stop.not-Device is)
