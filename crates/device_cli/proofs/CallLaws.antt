@@ -13,6 +13,7 @@ use Rattle.device_course.specs.States as states
 use Rattle.device_session.specs.declared.refusals.CommitReply.TheVariants as replies
 use Rattle.device_course.proofs.KeysLaws.{on_done}
 use Rattle.device_session.specs.Open.{blocks_of}
+use Rattle.device_session.specs.Reading.{room_of}
 use Rattle.device_session.specs.Sessions.{Session}
 use Rattle.script_lang.specs.Answers.{answer, none_counted}
 use Rattle.script_lang.specs.Commands.{Command, Commit, Mount, Read, Trim, Write}
@@ -111,6 +112,7 @@ pub after_stopped : {S : Type 0} (P : Ghosts S) (before desk : Desk) (old new : 
     → P.head new ≤ P.head old + left_by stop command (needed_of before.session) → After P before desk old new command (Err stop)
 after_stopped P before desk old new command stop none capacity rises added = record {
   ready = tt;
+  room = tt;
   mounted = λ told. tt;
   reply = tt;
   short = tt;
@@ -134,6 +136,9 @@ no_draw keys = record { keys = keys; faults = 0 }
 -- what holds of the session that is held
 pub if_held : (held : Option Session) (session : Session) (P : Session → Type 0) → held ≡ Some session → P session → IfSome held P
 if_held held session P is h = subst (λ (s : Option Session). IfSome s P) (sym is) h
+
+pub room_held : (held : Option Session) (session : Session) → held ≡ Some session → IfSome held (λ s. room_of s ≡ 256) → room_of session ≡ 256
+room_held held session is room = subst (λ (h : Option Session). IfSome h (λ s. room_of s ≡ 256)) is room
 
 pub past_held : (held : Option Session) (session : Session) (block : ℕ) → held ≡ Some session → blocks_of session ≤ block → IsPast held block
 past_held held session block is past = subst (λ (s : Option Session). IsPast s block) (sym is) past

@@ -15,7 +15,7 @@ use Rattle.device_cli.specs.Pages.{updates_after}
 use Rattle.device_cli.specs.Parts.{added_by}
 use Rattle.device_cli.specs.Replied.{Serves}
 use Rattle.device_cli.specs.World.{AreEnough, World, is_full, needed_of, world_of}
-use Rattle.device_cli.proofs.CallLaws.{after_stopped, halts_led, if_held, mounted_held, no_draw, no_root, on_held, past_device, past_held, read_sound, read_stops, serves_led, within_device}
+use Rattle.device_cli.proofs.CallLaws.{after_stopped, halts_led, if_held, mounted_held, no_draw, no_root, on_held, past_device, past_held, room_held, read_sound, read_stops, serves_led, within_device}
 use Rattle.device_cli.proofs.EnoughLaws.{enough_less}
 use Rattle.device_cli.proofs.LookLaws.{has_room, read_cost, warm_after}
 use Rattle.device_cli.proofs.ServedLaws.{gives_unmounted_read, gives_content, gives_read_range}
@@ -52,6 +52,7 @@ pub returns-clause-after : goal.returns-clause-after
 returns-clause-after g c =
     let along = (c.in_ok-read_block.ensures.goes (no_draw None)).along in record {
       ready = along.is_open;
+      room = along.room ∙ room_held c.args.self.now.session c.in-Some.session c.in-Some.is c.requires.room;
       mounted = λ told. along.mounted told (mounted_held _ c.in-Some.session _ c.in-Some.is (c.requires.mounted told));
       reply = search rules;
       short = search rules;

@@ -7,7 +7,7 @@ use Rattle.device_session.specs.Open.{blocks_of}
 use Rattle.script_lang.specs.Commands.{Trim}
 use Rattle.script_lang.specs.Replies as replies
 use Rattle.device_cli.specs.World.{World, is_full, world_of}
-use Rattle.device_cli.proofs.CallLaws.{after_stopped, halts_led, if_held, mounted_held, no_draw, no_root, on_held, past_device, past_held, serves_led, trim_sound, trim_stops, within_device}
+use Rattle.device_cli.proofs.CallLaws.{after_stopped, halts_led, if_held, mounted_held, no_draw, no_root, on_held, past_device, past_held, room_held, serves_led, trim_sound, trim_stops, within_device}
 use Rattle.device_cli.proofs.EnoughLaws.{enough_more}
 use Rattle.device_cli.proofs.ServedLaws.{gives_unmounted_trim, gives_trimmed, gives_trim_range}
 use Rattle.device_cli.proofs.ServingLaws.{keeps_same, serves_unmounted}
@@ -43,6 +43,7 @@ pub returns-clause-after : goal.returns-clause-after
 returns-clause-after g c =
     let along = (c.in_ok-trim_block.ensures.goes (no_draw None)).along in record {
       ready = along.is_open;
+      room = along.room ∙ room_held c.args.self.now.session c.in-Some.session c.in-Some.is c.requires.room;
       mounted = λ told. along.mounted told (mounted_held _ c.in-Some.session _ c.in-Some.is (c.requires.mounted told));
       reply = search rules;
       short = search rules;

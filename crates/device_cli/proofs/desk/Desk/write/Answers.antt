@@ -7,7 +7,7 @@ use Rattle.device_session.specs.Open.{blocks_of}
 use Rattle.script_lang.specs.Commands.{Write}
 use Rattle.script_lang.specs.Replies as replies
 use Rattle.device_cli.specs.World.{World, is_full, world_of}
-use Rattle.device_cli.proofs.CallLaws.{after_stopped, halts_led, if_held, mounted_held, no_root, on_held, past_device, past_held, serves_led, within_device, write_added, write_sound, write_stops}
+use Rattle.device_cli.proofs.CallLaws.{after_stopped, halts_led, if_held, mounted_held, no_root, on_held, past_device, past_held, room_held, serves_led, within_device, write_added, write_sound, write_stops}
 use Rattle.device_cli.proofs.EnoughLaws.{enough_more}
 use Rattle.device_cli.proofs.ServedLaws.{gives_unmounted_write, gives_write_full, gives_write_range, gives_written, is_full_false, is_full_true}
 use Rattle.device_cli.proofs.ServingLaws.{keeps_same, serves_unmounted}
@@ -60,6 +60,7 @@ pub returns-clause-after : goal.returns-clause-after
 returns-clause-after g c =
     let along = c.in_ok-write_block.ensures.goes.along in record {
       ready = along.is_open;
+      room = along.room ∙ room_held c.args.self.now.session c.in-Some.session c.in-Some.is c.requires.before.room;
       mounted = λ told. along.mounted told (mounted_held _ c.in-Some.session _ c.in-Some.is (c.requires.before.mounted told));
       reply = search rules;
       short = search rules;
