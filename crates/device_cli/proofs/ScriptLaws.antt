@@ -402,6 +402,7 @@ answers_script tells old session history head capacity reads ending left left_no
   no_memory = no_memory tells history.present ending p.replies r.lines p.stopped;
   cut = cut ending p.part p.behind;
   full = p.full 0 (enough_alone old.session alone);
+  ranges = λ told. (p.ranges told).1;
   looks = λ told most last h. (p.looks told None last most (subst (λ (held : Option Session). IsWarmFor held None) (sym alone) tt) h).0;
   answered = λ told there stands served.
       forget old session history head capacity reads (exit_of ending) (closed there) r.lines p.replies p.part
@@ -449,6 +450,7 @@ answers_nothing tells w left written = record {
   no_memory = λ e. absurd (omega (arith, e));
   cut = λ e. absurd (omega (arith, e));
   full = tt;
+  ranges = λ told. tt;
   looks = λ told most last h. omega (arith, h.0);
   answered = λ told there stands served. record {
     now = closed there;

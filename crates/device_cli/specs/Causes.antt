@@ -1,6 +1,9 @@
 -- Why a command is answered so, on any image, forged ones too.
-use Rattle.std.specs.Prelude.{◌≡◌, ◌≤◌, ◌⊎◌, ℕ, true, false, List, Option, None, Some, Result, Ok, Err, IfSome}
+use Rattle.std.specs.Prelude.{◌≡◌, ◌≤◌, ◌⊎◌, ℕ, true, false, List, [], ◌∷◌, Option, None, Some, Result, Ok, Err, IfSome}
 use Rattle.platform.specs.Image.{Image}
+use Rattle.platform.specs.History.{History, Extends, image_at, moment}
+use Rattle.root_codec.specs.declared.root.Root.{Root}
+use Rattle.root_codec.specs.RootRecord.{FitsRoot, root_bytes}
 use Rattle.device_session.specs.Damage.{IsFound, HasRoom}
 use Rattle.device_session.specs.Open.{blocks_of}
 use Rattle.device_session.specs.Reading.{FindsContent}
@@ -10,7 +13,7 @@ use Rattle.script_lang.specs.Grammar.{Spells}
 use Rattle.script_lang.specs.Commands.{Command}
 use Rattle.script_lang.specs.Commands as commands
 use Rattle.script_lang.specs.Replies.{Reply}
-use Rattle.script_lang.specs.Replies as replies
+use Rattle.script_lang.specs.Replies as given
 use Rattle.session_calls.specs.Damage.{IsWrongPlace, IsWrongPage}
 use Rattle.session_calls.specs.declared.stops.DeviceStop.{DeviceStop}
 use Rattle.session_calls.specs.declared.stops.DeviceStop.TheVariants as device
@@ -103,9 +106,9 @@ CanBeDone tells image held _ = ⊥
 
 -- the command may have the reply
 abbrev pub MayReply : Type 0 → Image → Option Session → Command → Reply → Type 0
-MayReply tells image held command replies.Range = IsOutOfRange held command
-MayReply tells image held command (replies.Content bytes) = HasContent tells image held command bytes
-MayReply tells image held command replies.Done = CanBeDone tells image held command
+MayReply tells image held command given.Range = IsOutOfRange held command
+MayReply tells image held command (given.Content bytes) = HasContent tells image held command bytes
+MayReply tells image held command given.Done = CanBeDone tells image held command
 MayReply tells image held command _ = Unit {0}
 
 -- the one table of a command's answers on any image, over which there was this session before
@@ -118,3 +121,30 @@ AnswersAny tells image after held command (Err stop) = MayStop tells after comma
 -- the line is such a command's
 abbrev pub IsOf : (Command → Type 0) → List ℕ → Type 0
 IsOf P line = (command : Command) × Spells line command × P command
+
+-- at a moment the cell held a root record of a device without the block
+pub record WasPast (history : History) (block : ℕ) : Type 0 where
+  pub at : ℕ
+  pub within : at ≤ moment history
+  pub root : Root
+  pub in_range : FitsRoot root
+  pub cell : (image_at history at).cell ≡ Some (root_bytes root)
+  pub past : root.blocks ≤ block
+
+-- the command's numbers are those of no device, or of no block of the device in the cell at a moment
+abbrev pub WasOutOfRange : History → Command → Type 0
+WasOutOfRange history (commands.Format blocks order) = in_limits blocks order ≡ false
+WasOutOfRange history (commands.Read block) = WasPast history block
+WasOutOfRange history (commands.Write block content) = WasPast history block
+WasOutOfRange history (commands.Trim block) = WasPast history block
+WasOutOfRange history _ = ⊥
+
+-- what the replies to these lines say that are `range`, was so at moments of the history
+abbrev pub AreOutOfRange : History → List (List ℕ) → List Reply → Type 0
+AreOutOfRange history lines [] = Unit {0}
+AreOutOfRange history [] (reply ∷ replies) = ⊥
+AreOutOfRange history (line ∷ lines) (reply ∷ replies) = (reply ≡ given.Range → IsOf (WasOutOfRange history) line) × AreOutOfRange history lines replies
+
+-- the same of a part of a run
+abbrev pub RangesOn : Type 0 → History → History → List (List ℕ) → List Reply → Type 0
+RangesOn tells old new lines replies = tells → Extends old new × AreOutOfRange new lines replies

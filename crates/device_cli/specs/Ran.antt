@@ -7,7 +7,7 @@ use Rattle.text_lines.specs.Lines.{whole_lines_of, lines_of}
 use Rattle.script_lang.specs.Replies.{line_of, Reply, Full}
 use Rattle.sdbt_base.specs.Arrays.{State, Device, closed}
 use Rattle.script_lang.specs.Answers.{Answers}
-use Rattle.device_cli.specs.Causes.{Draws, PutsEntry, TakesMemory, MeetsRecord, IsOf}
+use Rattle.device_cli.specs.Causes.{Draws, PutsEntry, TakesMemory, MeetsRecord, IsOf, AreOutOfRange}
 use Rattle.device_cli.specs.Looks.{AreLooks}
 use Rattle.device_cli.specs.World.{World}
 use Rattle.device_cli.specs.Represents.{StandsFor}
@@ -87,6 +87,8 @@ pub record AnswersScript (tells : Type 0) (old new : World) (status : ℕ) (left
   pub cut : status ≡ 4 → ((reply : Reply) × IsFirstPart (line_of reply) part) ⊎ ((stop : DeviceStop) × IsFirstPart (damage_line stop) part)
   -- a reply that too few pages were free is true for good
   pub full : AreShort new.head new.capacity 0 lines replies
+  -- and one that says `range` was true at a moment of the run
+  pub ranges : tells → AreOutOfRange new.history lines replies
   -- where the lines only look, no more pages are read than these: one for a read of the block that was read just before, 21 for another one, and else none
   pub looks : tells → (most : ℕ) (last : Option ℕ) → AreLooks None lines most last → new.reads ≤ old.reads + most
   -- over an image that stands for a device which can be served, from that device on without a session

@@ -10,7 +10,7 @@ use Rattle.script_lang.specs.Answers.{IsMark, IsAnswer, answer, none_counted}
 use Rattle.script_lang.specs.Commands.{Command}
 use Rattle.line_run.specs.Puts.{IsBehind, IsFirstPart}
 use Rattle.line_run.specs.Stops.{Ending, IsSound}
-use Rattle.device_cli.specs.Causes.{Draws, PutsEntry, TakesMemory, MeetsRecord, IsOf}
+use Rattle.device_cli.specs.Causes.{Draws, PutsEntry, TakesMemory, MeetsRecord, IsOf, RangesOn}
 use Rattle.device_cli.specs.Looks.{LooksOn}
 use Rattle.device_cli.specs.World.{World, is_full, AreEnough, IsLater}
 use Rattle.device_course.specs.Marks.{Leaves, mark_at, last_mark}
@@ -109,6 +109,7 @@ pub record Replied (tells : Type 0) (old new : World) (last : DeviceStop → Lis
   pub behind : IsBehind line_of last part ending
   pub many : AreMany (length replies) (length lines) ending
   pub stopped : IsEndingAt tells new.history.present replies lines ending
+  pub ranges : RangesOn tells old.history new.history lines replies
   pub later : IsLater old new
   pub full : (updates : ℕ) → AreEnough old.session updates → AreShort new.head new.capacity updates lines replies
   pub enough : (updates : ℕ) → AreEnough old.session updates → OnOk ending (AreEnough new.session (updates_of updates replies))
