@@ -1,5 +1,5 @@
 -- What follows of a check, by its exit status.
-use Rattle.std.proofs.Common.{◌≡◌, ℕ, [], ◌≤◌, List, ◌++◌, Option, None, Some, Result, Ok, Err, length, ◌⊎◌, inl, inr, refl, sym, ◌∙◌, subst, ap, arith, length-append}
+use Rattle.std.proofs.Common.{◌≡◌, ℕ, ◌≤◌, List, ◌++◌, Option, None, Some, Result, Ok, Err, length, ◌⊎◌, inl, inr, refl, sym, ◌∙◌, subst, ap, arith, length-append}
 use Rattle.std.specs.Prelude.{◌≢◌, IfErr}
 use Rattle.std.proofs.lemmas.List.{append-nil}
 use Rattle.sdbt_base.specs.Told.{Gave, Got, GotPart, IsAtEnd}
@@ -88,16 +88,18 @@ pub complete_check : (tells : Type 0) (image : Image) (before now : Counts) (lef
     → IsJudgeable image left root text certs → NoneRose before now
     → (Accepted (chain_of certs root.commit) root → (status_at ending ≡ 0) ⊎ (status_at ending ≡ 11))
     × ((number value : ℕ) → First (chain_of certs root.commit) root number value → (status_at ending ≡ 10) ⊎ (status_at ending ≡ 11))
-complete_check tells image before now left left_now written written_now ending checks cause told root text certs able quiet =
-    (λ accepted. elim (go ending checks.is cause) [
-      | inl zero ↦ inl zero.0
-      | inr (inl ten) ↦ absurd (none_first (chain_of certs root.commit) root ten.1.0 ten.1.1 accepted ten.1.2)
-      | inr (inr eleven) ↦ inr eleven
-    ], λ number value first. elim (go ending checks.is cause) [
-      | inl zero ↦ absurd (none_first (chain_of certs root.commit) root number value zero.1 first)
-      | inr (inl ten) ↦ inl ten.0
-      | inr (inr eleven) ↦ inr eleven
-    ])
+complete_check tells image before now left left_now written written_now ending checks cause told root text certs able quiet = (
+  λ accepted. elim (go ending checks.is cause) [
+    | inl zero ↦ inl zero.0
+    | inr (inl ten) ↦ absurd (none_first (chain_of certs root.commit) root ten.1.0 ten.1.1 accepted ten.1.2)
+    | inr (inr eleven) ↦ inr eleven
+  ],
+  λ number value first. elim (go ending checks.is cause) [
+    | inl zero ↦ absurd (none_first (chain_of certs root.commit) root number value zero.1 first)
+    | inr (inl ten) ↦ inl ten.0
+    | inr (inr eleven) ↦ inr eleven
+  ],
+)
   where
     go : (e : Result Finding Stop) → IsSaid tells image written written_now checks.taken left_now e → IfErr e (HasCause before now)
         → ((status_at e ≡ 0) × Accepted (chain_of certs root.commit) root) ⊎ (((status_at e ≡ 10) × ((number : ℕ) × (value : ℕ) × First (chain_of certs root.commit) root number value)) ⊎ (status_at e ≡ 11))

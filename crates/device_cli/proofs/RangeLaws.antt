@@ -1,8 +1,8 @@
 -- Replies that say that a number is out of range, over lines that are handled one after another.
-use Rattle.std.proofs.Common.{◌≡◌, ℕ, ◌≤◌, List, [], ◌∷◌, ◌++◌, Option, None, Some, length, refl, sym, ◌∙◌, ap, subst, arith}
+use Rattle.std.proofs.Common.{◌≡◌, ℕ, List, [], ◌∷◌, ◌++◌, Option, None, Some, length, ◌∙◌, ap, subst, arith}
 use Rattle.std.specs.Prelude.{IfSome}
 use Rattle.platform.specs.Image.{Image}
-use Rattle.platform.specs.History.{History, Extends, image_at, moment}
+use Rattle.platform.specs.History.{History, Extends, moment}
 use Rattle.platform.proofs.Moments.{image_at-now, Extends-trans}
 use Rattle.device_session.specs.Open.{IsOpen, root_of}
 use Rattle.device_session.specs.Sessions.{Session}

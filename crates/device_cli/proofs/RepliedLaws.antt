@@ -34,7 +34,7 @@ use Rattle.device_cli.specs.Pages.{needed_for, updates_after, updates_of, TurnOn
 use Rattle.device_cli.specs.Replied.{AreMany, IsStopAt, IsEndingAt, IsAhead, AreMarks, EndsIn, Answered, Replied, Handled, Halts, Serves}
 use Rattle.line_run.specs.Puts.{no_line, IsBehind, HasPut}
 use Rattle.device_cli.specs.Causes.{MayStop, RangesOn}
-use Rattle.device_cli.proofs.RangeLaws.{ranges_line, ranges_longer, ranges_none, ranges_then}
+use Rattle.device_cli.proofs.RangeLaws.{ranges_longer, ranges_none, ranges_then}
 use Rattle.device_cli.specs.Seen.{Saw, SeenOn}
 use Rattle.device_cli.proofs.SeenLaws.{saw_plain, SeenOn-append, SeenOn-longer}
 use Rattle.line_run.specs.declared.stop.Stop.{Stop}

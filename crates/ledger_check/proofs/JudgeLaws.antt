@@ -1,5 +1,5 @@
 -- Why a ledger that was read whole isn't accepted.
-use Rattle.std.proofs.Common.{◌≡◌, ℕ, List, [], ◌∷◌, Result, Ok, Err, inl, inr, refl, sym, ◌∙◌, ap, subst}
+use Rattle.std.proofs.Common.{◌≡◌, ℕ, List, [], Ok, Err, refl, ◌∙◌, ap, subst}
 use Rattle.std.specs.Prelude.{◌≢◌, Option}
 use Rattle.text_lines.specs.Lines.{lines_of}
 use Rattle.root_codec.specs.declared.root.Root.{Root}

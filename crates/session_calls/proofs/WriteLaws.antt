@@ -1,5 +1,5 @@
 -- What a written block says, by what the session's write says.
-use Rattle.std.proofs.Common.{◌≡◌, ◌+◌, ◌<◌, ◌≤◌, ℕ, List, Some, Result, Ok, Err, refl, sym, ◌∙◌, subst, ap, arith}
+use Rattle.std.proofs.Common.{◌≡◌, ◌+◌, ◌<◌, ◌≤◌, ℕ, List, Some, Result, Ok, Err, refl, sym, subst, ap, arith}
 use Rattle.std.specs.Prelude.{◌≢◌, ◌⊎◌, true}
 use Rattle.sdbt_base.specs.Arrays.{Device, Session as OpenSession, State, written, mounted}
 use Rattle.sdbt_base.specs.declared.tapes.Tape.{Ghosts as TapeGhosts}

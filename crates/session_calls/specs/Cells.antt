@@ -1,5 +1,5 @@
 -- What is found in a cell before anything is served, and a run that touches nothing.
-use Rattle.std.specs.Prelude.{◌≡◌, ℕ, List, Option, None, Some, length}
+use Rattle.std.specs.Prelude.{◌≡◌, ℕ, Option, None, Some, length}
 use Rattle.platform.specs.Image.{Image}
 use Rattle.platform.specs.History.{History, During}
 use Rattle.root_codec.specs.declared.root.Root.{Root}

@@ -3,7 +3,7 @@ use Rattle.std.specs.Prelude.{map, string_bytes}
 use Rattle.std.proofs.lemmas.List.{length-map}
 use Rattle.sdbt_base.specs.Told.{Got}
 use Rattle.sdbt_base.proofs.ToldLaws.{Gave-nothing}
-use Rattle.device_terms.specs.Served.{IsServedCell, IsServedImage}
+use Rattle.device_terms.specs.Served.{IsServedCell}
 use Rattle.device_course.specs.States.{IsLater, around}
 use Rattle.device_course.proofs.ProgramLaws.{keeps_ledger, ended_not, ended_look}
 use Rattle.device_cli.specs.Given.{HasBadRecord}
@@ -106,7 +106,7 @@ returns-in-Err-clause-ledger g c =
 
 pub returns-in-Ok-clause-exits : goal.returns-in-Ok-clause-exits
 returns-in-Ok-clause-exits g c =
-        let asked : AreRunWords (map string_bytes c.args.words.now) = rw c.in-Some-Run.field-0-is at c.in-Some-Run.ensures in
+    let asked : AreRunWords (map string_bytes c.args.words.now) = rw c.in-Some-Run.field-0-is at c.in-Some-Run.ensures in
     record {
       is = search rules;
       forms = search rules;
@@ -117,7 +117,7 @@ returns-in-Ok-clause-exits g c =
 
 pub returns-in-Err-clause-exits : goal.returns-in-Err-clause-exits
 returns-in-Err-clause-exits g c =
-        let asked : AreRunWords (map string_bytes c.args.words.now) = rw c.in-Some-Run.field-0-is at c.in-Some-Run.ensures in
+    let asked : AreRunWords (map string_bytes c.args.words.now) = rw c.in-Some-Run.field-0-is at c.in-Some-Run.ensures in
     record {
       is = search rules;
       forms = search rules;
@@ -217,7 +217,7 @@ returns-in-Ok-check-clause-refuses g c =
 
 pub returns-in-Ok-check-clause-exits : goal.returns-in-Ok-check-clause-exits
 returns-in-Ok-check-clause-exits g c =
-        let asked : AreCheckWords (map string_bytes c.args.words.now) = rw c.in-Some-Check.field-0-is at c.in-Some-Check.ensures in
+    let asked : AreCheckWords (map string_bytes c.args.words.now) = rw c.in-Some-Check.field-0-is at c.in-Some-Check.ensures in
     record {
       is = search rules;
       forms = search rules;
@@ -228,7 +228,7 @@ returns-in-Ok-check-clause-exits g c =
 
 pub returns-in-Err-check-clause-exits : goal.returns-in-Err-check-clause-exits
 returns-in-Err-check-clause-exits g c =
-        let asked : AreCheckWords (map string_bytes c.args.words.now) = rw c.in-Some-Check.field-0-is at c.in-Some-Check.ensures in
+    let asked : AreCheckWords (map string_bytes c.args.words.now) = rw c.in-Some-Check.field-0-is at c.in-Some-Check.ensures in
     record {
       is = search rules;
       forms = search rules;

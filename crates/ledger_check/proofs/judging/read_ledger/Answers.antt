@@ -1,4 +1,4 @@
-use Rattle.std.proofs.Common.{ℕ, ◌≡◌, ◌<◌, ◌≤◌, List, take, length, arith, rules, length-take, length-take-le}
+use Rattle.std.proofs.Common.{ℕ, ◌≡◌, ◌≤◌, List, take, length, arith, rules, length-take, length-take-le}
 use Rattle.std.proofs.lemmas.Grind.{common_steps}
 use Rattle.ledger_check.proofs.TakingLaws.{took_fewer, took_last, took_less}
 use Rattle.ledger_check.proofs.judging.read_ledger.Goals as goal

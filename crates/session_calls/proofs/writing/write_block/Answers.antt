@@ -1,4 +1,4 @@
-use Rattle.std.proofs.Common.{◌≡◌, Some, Ok, Err, inl, inr, refl, ap, ◌∙◌}
+use Rattle.std.proofs.Common.{Ok, Err, inl, inr, refl, ap, ◌∙◌}
 use Rattle.sdbt_base.specs.Arrays.{padded, written}
 use Rattle.btree_update.specs.Groves.{places_of}
 use Rattle.sdbt_base.specs.Counts.{counts}
