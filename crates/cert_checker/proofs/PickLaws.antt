@@ -1,6 +1,6 @@
 -- Which certificates of a ledger are its chain, place by place.
 use Rattle.std.proofs.Common.{◌≡◌, inl, inr, if◌then◌else◌, ℕ, zero, suc, ◌+◌, ◌-◌, ◌<◌, ◌≤◌, eqb, not, Bool, true, false, List, [], ◌∷◌, ◌++◌, length, get_or, take, drop, refl, sym, ap, subst, ◌∙◌, arith, append-nil}
-use Rattle.std.specs.Prelude.{None, Some, Result, Ok, Err, slice_get}
+use Rattle.std.specs.Prelude.{◌≢◌, None, Some, Result, Ok, Err, slice_get}
 use Rattle.std.proofs.lemmas.Bool.{cases_eq, eq-eqb, ne_eqb}
 use Rattle.std.proofs.lemmas.List.{take_more, drop_more, drop_at, drop-append-le, drop_all, length-take-le}
 use Rattle.std.proofs.lemmas.Option.{slice_get_within, get_or_from_slice_get}
@@ -138,10 +138,19 @@ went_on run done before left cert (Ok x) same after = record { more = cert ∷ [
 went_on run done before left cert (Err (Rule number value)) same breaks = subst (λ (cs : List Cert). FirstBroken (live_after done) (last_or None done) cs number value) (sym same) (inl breaks)
 went_on run done before left cert (Err Memory) same none = tt
 
-pub refused_at : (W : Type 0) (run : Run) (done rest chain : List Cert) (e : CheckRefusal) → IsAfter run done → done ++ rest ≡ chain
+-- a certificate that stays is one of those that are left
+pub there_are : (cert : Cert) (left here : List Cert) → here ≡ cert ∷ left → here ≢ []
+there_are cert left here is = λ none. absurd (let no : cert ∷ left ≡ [] = sym is ∙ none in cc)
+
+-- and of the chain
+some_then : (done rest chain : List Cert) → done ++ rest ≡ chain → rest ≢ [] → chain ≢ []
+some_then [] rest chain same some = λ none. some (same ∙ none)
+some_then (cert ∷ done) rest chain same some = λ none. absurd (let no : cert ∷ (done ++ rest) ≡ [] = same ∙ none in cc)
+
+pub refused_at : (W : Type 0) (run : Run) (done rest chain : List Cert) (e : CheckRefusal) → IsAfter run done → done ++ rest ≡ chain → rest ≢ []
     → Settles {A = Unit {0}} W (FirstBroken (live_after done) (last_or None done) rest) (Err e) → RunsAll chain (Err e)
-refused_at W run done left chain (Rule number value) is same broken = subst (λ (cs : List Cert). FirstBroken nothing None cs number value) same (broken_after nothing None done left number value is.keeps broken)
-refused_at W run done left chain Memory is same none = tt
+refused_at W run done left chain (Rule number value) is same some broken = subst (λ (cs : List Cert). FirstBroken nothing None cs number value) same (broken_after nothing None done left number value is.keeps broken)
+refused_at W run done left chain Memory is same some none = some_then done left chain same some
 
 pub went_all : (run : Run) (done chain : List Cert) (certs : List Cert) (i n : ℕ) → length certs ≤ i → IsAfter run done → done ++ picks n (drop i certs) ≡ chain → IsAfter run chain
 went_all run done chain certs i n most is same =

@@ -1,6 +1,6 @@
 -- The run of a chain: where it stands, and what is concluded at its end.
 use Rattle.std.proofs.Common.{◌≡◌, inr, ◌↔◌, ℕ, ◌+◌, ◌<◌, ◌≤◌, true, is_some, List, [], ◌∷◌, ◌++◌, length, refl, sym, ap, subst, ◌∙◌, arith}
-use Rattle.std.specs.Prelude.{Option, None, Some, Err, option_map, Contains, AllPairs}
+use Rattle.std.specs.Prelude.{◌≢◌, Option, None, Some, Err, option_map, Contains, AllPairs}
 use Rattle.std.specs.Ordering.{nat_cmp}
 use Rattle.std.specs.BTreeMap.{get}
 use Rattle.std.proofs.lemmas.Option.{none-some}
@@ -99,6 +99,10 @@ pub ends_at : (run : Run) (chain : List Cert) (root : Root) → IsAfter run chai
 ends_at run chain root is on =
     let at = ends (last_or None chain) root (subst (λ (o : Option Last). EndsOn o root) is.numbers on) in
     record { each = is.keeps; ends = record { last = at.0; is = at.1; number = at.2; top = at.3; end = at.4 } }
+
+-- a chain that is accepted has a certificate
+pub some_ended : (chain : List Cert) (root : Root) → Accepted chain root → chain ≢ []
+some_ended chain root accepted = λ none. absurd (none-some accepted.ends.last (sym (ap (λ (cs : List Cert). last_or None cs) none) ∙ accepted.ends.is))
 
 some_is : (o : Option Held) (t : TraceEntry) → option_map trace_of_held o ≡ Some t → is_some o ≡ true
 some_is None t is = absurd (none-some t is)

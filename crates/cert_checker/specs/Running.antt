@@ -1,5 +1,5 @@
 -- Where the run of a chain stands, and what is concluded from it.
-use Rattle.std.specs.Prelude.{◌≡◌, List, length, None, Result, Ok, Err, option_map}
+use Rattle.std.specs.Prelude.{◌≡◌, ◌≢◌, [], List, length, None, Result, Ok, Err, option_map}
 use Rattle.root_codec.specs.declared.root.Root.{Root}
 use Rattle.cert_maker.specs.Cert.{Cert}
 use Rattle.cert_checker.specs.declared.run.Run.{Run}
@@ -25,8 +25,8 @@ pub record IsAfter (run : Run) (done : List Cert) : Type 0 where
 abbrev pub IsAfterSome : Run → Type 0
 IsAfterSome run = (done : List Cert) × IsAfter run done
 
--- the chain is accepted, with what is said of it; or refused by the first broken rule. Want of memory says nothing
+-- the chain is accepted, with what is said of it; or refused by the first broken rule. Memory is wanted only where there is a certificate
 abbrev pub Concludes : List Cert → Root → Result Verdict CheckRefusal → Type 0
 Concludes chain root (Ok verdict) = Accepted chain root × IsVerdict chain root verdict.commit verdict.live verdict.deleted
 Concludes chain root (Err (Rule number value)) = First chain root number value
-Concludes chain root (Err Memory) = Unit {0}
+Concludes chain root (Err Memory) = chain ≢ []

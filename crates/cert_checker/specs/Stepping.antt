@@ -1,5 +1,5 @@
 -- How a run goes through the certificates of a ledger.
-use Rattle.std.specs.Prelude.{◌≡◌, List, ◌++◌, None, Result, Ok, Err}
+use Rattle.std.specs.Prelude.{◌≡◌, ◌≢◌, [], List, ◌++◌, None, Result, Ok, Err}
 use Rattle.cert_maker.specs.Cert.{Cert}
 use Rattle.cert_checker.specs.declared.run.Run.{Run}
 use Rattle.cert_checker.specs.declared.verdict.CheckRefusal.{CheckRefusal}
@@ -14,8 +14,9 @@ pub record WentOn (run : Run) (done before left : List Cert) : Type 0 where
   pub after : IsAfter run (done ++ more)
   pub rest : before ≡ more ++ left
 
--- the run stands after the whole chain; or the chain breaks a rule of its certificates, this one first
+-- the run stands after the whole chain; or the chain breaks a rule of its certificates, this one first; and memory is wanted only
+-- where there is a certificate
 abbrev pub RunsAll : List Cert → Result Run CheckRefusal → Type 0
 RunsAll chain (Ok run) = IsAfter run chain
 RunsAll chain (Err (Rule number value)) = FirstBroken nothing None chain number value
-RunsAll chain (Err Memory) = Unit {0}
+RunsAll chain (Err Memory) = chain ≢ []

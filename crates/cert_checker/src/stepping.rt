@@ -1,5 +1,5 @@
 //! The run of a ledger's chain.
-ghost use Rattle.std.specs.Prelude.{◌<◌, ◌+◌, List, None, drop, length};
+ghost use Rattle.std.specs.Prelude.{◌≢◌, ◌<◌, ◌+◌, [], List, None, IsErr, drop, length};
 ghost use Rattle.cert_maker.specs.Cert as said;
 ghost use Rattle.cert_checker.specs.Chain.{chain_of, last_or, live_after, picks};
 ghost use Rattle.cert_checker.specs.First.{FirstBroken};
@@ -23,9 +23,10 @@ pub(crate) fn step(
 ) -> Result<(), CheckRefusal>
     requires after { IsAfterSome run.old }
     requires inside { i < length certs.now }
-    ensures { (done : List said.Cert) → IsAfter run.old done →
+    ensures steps { (done : List said.Cert) → IsAfter run.old done →
         Settles (WentOn run.new done (picks number (drop i certs.now)) (picks number (drop (i + 1) certs.now)))
         (FirstBroken (live_after done) (last_or None done) (picks number (drop i certs.now))) result }
+    ensures some { IsErr result → picks number (drop i certs.now) ≢ [] }
 {
     if !stays(certs, i, number) {
         return Ok(());

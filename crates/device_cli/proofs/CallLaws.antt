@@ -1,5 +1,5 @@
 -- What a desk has of a call of its session.
-use Rattle.std.proofs.Common.{◌≡◌, ℕ, ◌+◌, ◌<◌, ◌≤◌, Bool, true, false, List, Option, None, Some, Ok, Err, refl, sym, ◌∙◌, subst, ap, arith}
+use Rattle.std.proofs.Common.{◌≡◌, ℕ, ◌+◌, ◌<◌, ◌≤◌, Bool, true, false, List, Option, None, Some, Ok, Err, inl, inr, refl, sym, ◌∙◌, subst, ap, arith}
 use Rattle.platform.specs.Image.{Image}
 use Rattle.platform.specs.History.{History, Turns}
 use Rattle.platform.specs.declared.platforms.Platform.{Ghosts}
@@ -13,22 +13,24 @@ use Rattle.device_course.specs.States as states
 use Rattle.device_session.specs.declared.refusals.CommitReply.TheVariants as replies
 use Rattle.device_course.proofs.KeysLaws.{on_done}
 use Rattle.device_session.specs.Open.{blocks_of}
+use Rattle.device_session.specs.Reading.{room_of}
 use Rattle.device_session.specs.Sessions.{Session}
 use Rattle.script_lang.specs.Answers.{answer, none_counted}
-use Rattle.script_lang.specs.Commands.{Command, Commit, Write}
+use Rattle.script_lang.specs.Commands.{Command, Commit, Mount, Read, Trim, Write}
 use Rattle.script_lang.specs.Replies.{Committed, Full, Reply}
 use Rattle.script_lang.specs.declared.replies.Reply.{Reply as Given}
-use Rattle.std.specs.Prelude.{IfSome, IsErrOf}
+use Rattle.std.specs.Prelude.{◌⊎◌, IfSome, IsErrOf}
 use Rattle.session_calls.specs.Along.{Drawn}
-use Rattle.session_calls.specs.Damage.{IsMounted}
+use Rattle.session_calls.specs.Damage.{IsMounted, ReadsAny, TrimsAny, WritesAny}
 use Rattle.session_calls.specs.Blame.{IsOfCall}
 use Rattle.session_calls.specs.Commits.{CommitLeads, HasNumber, IsShort, ReplyLeads, StopsAt}
-use Rattle.session_calls.specs.Mounts.{MountLeads}
+use Rattle.session_calls.specs.Mounts.{IsMountStop, MountLeads}
 use Rattle.session_calls.specs.Goes.{AddsBlock, ReadsBlock, TrimsBlock, WritesBlock}
 use Rattle.session_calls.specs.declared.stops.DeviceStop.{DeviceStop}
 use Rattle.session_calls.specs.declared.stops.DeviceStop.TheVariants as stops
 use Rattle.session_calls.proofs.StateLaws.{at_array}
 use Rattle.device_cli.specs.Added.{left_by}
+use Rattle.device_cli.specs.Causes.{IsPast, MayStop}
 use Rattle.device_cli.specs.Desk.{After}
 use Rattle.device_cli.specs.Replied.{Halts, Serves}
 use Rattle.line_run.specs.Stops.{IsSound}
@@ -110,6 +112,7 @@ pub after_stopped : {S : Type 0} (P : Ghosts S) (before desk : Desk) (old new : 
     → P.head new ≤ P.head old + left_by stop command (needed_of before.session) → After P before desk old new command (Err stop)
 after_stopped P before desk old new command stop none capacity rises added = record {
   ready = tt;
+  room = tt;
   mounted = λ told. tt;
   reply = tt;
   short = tt;
@@ -127,6 +130,64 @@ mounted_held held session image is mounted = subst (λ (s : Option Session). IfS
 -- nothing that a call draws
 abbrev pub no_draw : Option (List (List ℕ)) → Drawn
 no_draw keys = record { keys = keys; faults = 0 }
+
+-- ---- any image
+
+-- what holds of the session that is held
+pub if_held : (held : Option Session) (session : Session) (P : Session → Type 0) → held ≡ Some session → P session → IfSome held P
+if_held held session P is h = subst (λ (s : Option Session). IfSome s P) (sym is) h
+
+pub room_held : (held : Option Session) (session : Session) → held ≡ Some session → IfSome held (λ s. room_of s ≡ 256) → room_of session ≡ 256
+room_held held session is room = subst (λ (h : Option Session). IfSome h (λ s. room_of s ≡ 256)) is room
+
+pub past_held : (held : Option Session) (session : Session) (block : ℕ) → held ≡ Some session → blocks_of session ≤ block → IsPast held block
+past_held held session block is past = subst (λ (s : Option Session). IsPast s block) (sym is) past
+
+-- how a call of the session stops a command
+pub read_stops : (tells Known : Type 0) (image after : Image) (session : Session) (block : ℕ) (bytes : List ℕ) (stop : DeviceStop) → (tells → Known) → ReadsAny Known image after session block bytes (Err stop) → MayStop tells after (Read block) stop
+read_stops tells Known image after session block bytes stops.Platform known any = tt
+read_stops tells Known image after session block bytes (stops.BadRecord addr) known any = λ told. any (known told)
+read_stops tells Known image after session block bytes stops.Memory known any = absurd any
+read_stops tells Known image after session block bytes stops.Tape known any = absurd any
+read_stops tells Known image after session block bytes stops.Ledger known any = absurd any
+read_stops tells Known image after session block bytes stops.BadRoot known any = absurd any
+
+-- a wrong place, or the root node
+wrong_one : {A B C : Type 0} → A ⊎ (B × C) → A ⊎ B
+wrong_one (inl place) = inl place
+wrong_one (inr node) = inr node.0
+
+pub write_stops : (tells Known : Type 0) (image after : Image) (session : Session) (block : ℕ) (content : List ℕ) (stop : DeviceStop) → (tells → Known) → WritesAny Known image after session block (Err stop) → MayStop tells after (Write block content) stop
+write_stops tells Known image after session block content stops.Platform known any = tt
+write_stops tells Known image after session block content (stops.BadRecord addr) known any = λ told. wrong_one (any (known told))
+write_stops tells Known image after session block content stops.Memory known any = tt
+write_stops tells Known image after session block content stops.Tape known any = tt
+write_stops tells Known image after session block content stops.Ledger known any = absurd any
+write_stops tells Known image after session block content stops.BadRoot known any = absurd any
+
+pub trim_stops : (tells Known : Type 0) (image after : Image) (session : Session) (block : ℕ) (stop : DeviceStop) → (tells → Known) → TrimsAny Known image after session block (Err stop) → MayStop tells after (Trim block) stop
+trim_stops tells Known image after session block stops.Platform known any = tt
+trim_stops tells Known image after session block (stops.BadRecord addr) known any = λ told. wrong_one (any (known told))
+trim_stops tells Known image after session block stops.Memory known any = tt
+trim_stops tells Known image after session block stops.Tape known any = absurd any
+trim_stops tells Known image after session block stops.Ledger known any = absurd any
+trim_stops tells Known image after session block stops.BadRoot known any = absurd any
+
+pub mount_stops : (tells : Type 0) (image : Image) (cell : Option (List ℕ)) (pages : ℕ) (stop : DeviceStop) → IsMountStop tells cell pages stop → MayStop tells image Mount stop
+mount_stops tells image cell pages stops.Platform is = tt
+mount_stops tells image cell pages stops.Memory is = tt
+mount_stops tells image cell pages stops.BadRoot is = tt
+mount_stops tells image cell pages stops.Tape is = absurd is
+mount_stops tells image cell pages stops.Ledger is = absurd is
+mount_stops tells image cell pages (stops.BadRecord addr) is = absurd is
+
+pub commit_stops : {S R : Type 0} (P : Ghosts S) (T : TapeGhosts R) (platform platform_now : S) (tape tape_now : R) (session : Session) (image : Image) (stop : DeviceStop) → StopsAt P T platform platform_now tape tape_now session stop → MayStop P.tells image Commit stop
+commit_stops P T platform platform_now tape tape_now session image stops.Platform stopped = tt
+commit_stops P T platform platform_now tape tape_now session image stops.Tape stopped = tt
+commit_stops P T platform platform_now tape tape_now session image stops.Ledger stopped = tt
+commit_stops P T platform platform_now tape tape_now session image stops.Memory stopped = tt
+commit_stops P T platform platform_now tape tape_now session image stops.BadRoot stopped = absurd stopped.left
+commit_stops P T platform platform_now tape tape_now session image (stops.BadRecord addr) stopped = absurd stopped.left
 
 -- one stop, whatever the answers are beside it
 pub same_stop : {X Y : Type 0} (stop other : DeviceStop) → IsErrOf {T = X} {E = DeviceStop} (Err stop) other → IsErrOf {T = Y} {E = DeviceStop} (Err stop) other

@@ -139,6 +139,13 @@ complete_at tells old new left left_now written written_now text there script fr
           (omega (arith, ample.room, ap (λ (l : List (List ℕ)). length l) lines)) from.answers;
     }
 
+-- and with its replies
+pub complete_with : (tells : Type 0) (old new : World) (left left_now written written_now : Option (List ℕ)) (text : List ℕ) (there : Option Device)
+    → (script : AnswersScript tells old new 0 left left_now written written_now) → AnswersFrom old new 0 (closed there) script.lines script.replies script.part
+    → IsAmple left text old.head old.capacity → (all : IsComplete (closed there) text written written_now) × (all.replies ≡ script.replies)
+unfolding complete_at
+complete_with tells old new left left_now written written_now text there script from ample = (complete_at tells old new left left_now written written_now text there script from ample, refl)
+
 pub complete : (tells : Type 0) (old new : World) (status : ℕ) (left left_now written written_now : Option (List ℕ)) (text : List ℕ) (there : Option Device)
     → tells → StandsFor old.history.present there → IsServedImage old.history.present
     → (script : AnswersScript tells old new status left left_now written written_now)
@@ -195,7 +202,7 @@ is_exit (Err (stops.Device device.Memory)) = inr (inr (inr (inr (inr (inr (inr (
 is_exit (Err stops.Limit) = inr (inr (inr (inr (inr (inr (inr (inr (inr (inr (inr refl))))))))))
 
 -- a run never ends as a check that refuses
-never_ten : (ending : Ending) → exit_of ending ≡ 10 → ⊥
+pub never_ten : (ending : Ending) → exit_of ending ≡ 10 → ⊥
 never_ten (Ok done) is = omega (arith, is)
 never_ten (Err stops.Source) is = omega (arith, is)
 never_ten (Err stops.Sink) is = omega (arith, is)

@@ -1,9 +1,11 @@
 -- What the end of an order gives: what is forgotten, and what the words `check` and `seize` say.
 use Rattle.std.proofs.Common.{◌≡◌, ◌≤◌, ◌⊎◌, ℕ, List, Option, None, Result, sym, ◌∙◌, ap, subst}
-use Rattle.std.specs.Prelude.{IfErr}
+use Rattle.std.specs.Prelude.{◌≢◌, IfErr}
 use Rattle.sdbt_base.specs.Arrays.{Device, closed}
 use Rattle.platform.specs.History.{History, Steps}
 use Rattle.page_store.specs.Stands.{Stands}
+use Rattle.cert_checker.specs.Chain.{Accepted, chain_of}
+use Rattle.cert_checker.specs.First.{First}
 use Rattle.device_session.specs.Sessions.{Session}
 use Rattle.device_terms.specs.Served.{IsServedImage}
 use Rattle.device_course.specs.Keys.{KeepsOn}
@@ -12,7 +14,7 @@ use Rattle.device_course.specs.Course.{Made}
 use Rattle.device_course.specs.Marks.{last_mark}
 use Rattle.device_course.proofs.ProgramLaws.{Ended}
 use Rattle.device_course.proofs.ReachingLaws.{discloses}
-use Rattle.device_cli.specs.Checks.{Checked, Checks, status_at}
+use Rattle.device_cli.specs.Checks.{Checked, Checks, IsSilent, status_at}
 use Rattle.device_cli.specs.Handed.{Handed}
 use Rattle.device_cli.specs.Program.{ServesScript, Forgets}
 use Rattle.device_cli.specs.Ran.{Ran, AnswersScript, IsComplete}
@@ -22,7 +24,7 @@ use Rattle.device_cli.specs.Seizing.{Seizing, Seizes, ReadsFewFor}
 use Rattle.device_cli.specs.World.{World, world}
 use Rattle.device_cli.specs.declared.checking.Finding.{Finding}
 use Rattle.line_run.specs.declared.stop.Stop.{Stop}
-use Rattle.device_cli.proofs.CheckLaws.{complete_check, image_stays}
+use Rattle.device_cli.proofs.CheckLaws.{accepted_at, complete_check, cut_at, empty_at, image_stays, refused_at, silent_at, unserved_at}
 use Rattle.device_cli.proofs.CompleteLaws.{complete_ending}
 use Rattle.device_cli.proofs.MappedLaws.{seizes_maps}
 use Rattle.device_cli.proofs.ScriptLaws.{answers_script, made_by}
@@ -74,10 +76,17 @@ checked_at tells status old new ending undrawn unput pages steps same is checks 
   unput = unput;
   pages = pages;
   image = λ told. image_stays old.world.history new.world.history (steps told) (same told);
-  ending = ending;
-  status_is = is;
-  checks = checks;
-  complete = λ told root text certs able quiet. subst (λ (n : ℕ). (n ≡ 0) ⊎ (n ≡ 11)) (sym is)
+  taken = checks.taken;
+  gave = checks.gave;
+  accepted = λ e. accepted_at tells old.world.history.present old.written new.written checks.taken new.left ending checks.is (sym is ∙ e);
+  refused = λ e. refused_at tells old.world.history.present old.written new.written checks.taken new.left ending checks.is (sym is ∙ e);
+  unserved = λ e. unserved_at tells old.world.history.present old.written new.written checks.taken new.left ending checks.is (sym is ∙ e);
+  cut = λ e. cut_at tells old.world.history.present old.written new.written checks.taken new.left ending checks.is (sym is ∙ e);
+  silent = subst (λ (n : ℕ). n ≢ 0 → n ≢ 4 → n ≢ 8 → n ≢ 10 → (new.written ≡ old.written) × IsSilent tells old.world.history.present checks.taken n) (sym is)
+      (silent_at tells old.world.history.present old.written new.written checks.taken new.left ending checks.is);
+  empty = λ told none. subst (λ (n : ℕ). (n ≡ 10) ⊎ (n ≡ 4) ⊎ (n ≡ 5)) (sym is) (empty_at tells old.world.history.present old.written new.written checks.taken new.left ending checks.is told none);
+  complete = λ told root text certs able quiet. subst (λ (n : ℕ). (Accepted (chain_of certs root.commit) root → (n ≡ 0) ⊎ (n ≡ 11))
+      × ((number value : ℕ) → First (chain_of certs root.commit) root number value → (n ≡ 10) ⊎ (n ≡ 11))) (sym is)
       (complete_check tells old.world.history.present old.counts new.counts old.left new.left old.written new.written ending checks cause told root text certs able quiet);
 }
 

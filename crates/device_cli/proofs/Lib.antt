@@ -7,6 +7,7 @@ pub mod TurnLaws
 pub mod EnoughLaws
 pub mod PassLaws
 pub mod SeenLaws
+pub mod RangeLaws
 pub mod RepliedLaws
 pub mod Serving
 pub mod Reading
@@ -25,3 +26,4 @@ pub mod WorkLaws
 pub mod WordLaws
 pub mod LookLaws
 pub mod EndLaws
+pub mod StatusLaws

@@ -5,17 +5,18 @@ use Rattle.sdbt_base.specs.Told.{Got, GotPart}
 use Rattle.sdbt_base.proofs.ToldLaws.{Gave-nothing, Got-nothing, Got-then}
 use Rattle.text_lines.specs.Lines.{whole_lines_of}
 use Rattle.sdbt_base.specs.Arrays.{State}
-use Rattle.platform.specs.History.{During}
+use Rattle.platform.specs.History.{During, Extends}
 use Rattle.device_cli.specs.World.{World, IsLater}
 use Rattle.device_cli.proofs.LookLaws.{looks_none}
 use Rattle.device_course.specs.Marks.{Leaves}
 use Rattle.device_cli.specs.Represents.{Stood}
 use Rattle.device_cli.proofs.RepliedLaws.{made_idle, Replied-idle, Handled-then, count-then}
 use Rattle.device_cli.proofs.PassLaws.{AreMarks-none}
+use Rattle.device_cli.proofs.RangeLaws.{ranges_none}
 use Rattle.script_lang.specs.Replies.{line_of, Reply}
 use Rattle.device_cli.specs.Run.{Took}
 use Rattle.line_run.specs.Stops.{TookUntil, Ending, IsSound, exit_of}
-use Rattle.device_cli.specs.Replied.{IsDamageAt, IsAhead, Answered}
+use Rattle.device_cli.specs.Replied.{IsEndingAt, IsAhead, Answered}
 use Rattle.line_run.specs.Puts.{IsBehind, no_line, damage_line}
 use Rattle.device_cli.specs.Ran.{Ran}
 use Rattle.line_run.specs.declared.stop.Stop.{Stop}
@@ -27,18 +28,18 @@ use Rattle.line_run.proofs.StopLaws.{TookUntil-line}
 -- the same after the platform stood still
 pub Ran-after : (tells : Type 0) (old mid new : World) (last : DeviceStop → List ℕ) (ending : Ending) (left left_now a b : Option (List ℕ))
     → IsLater old mid → mid.head ≡ old.head → (tells → mid.reads ≡ old.reads) → mid.session ≡ old.session
-    → (tells → (entry : State) → Stood old entry → Stood mid entry × During old.history mid.history (Leaves entry.device))
+    → (tells → Extends old.history mid.history) → (tells → (entry : State) → Stood old entry → Stood mid entry × During old.history mid.history (Leaves entry.device))
     → Ran tells mid new last ending left left_now a b → Ran tells old new last ending left left_now a b
-Ran-after tells old mid new last ending left left_now a b later same unread held still r = record {
+Ran-after tells old mid new last ending left left_now a b later same unread held extends still r = record {
   taken = r.taken;
   lines = r.lines;
   gave = r.gave;
   took = r.took;
   come = r.come;
   handled = Handled-then tells old mid new last ending [] r.lines a a b
-      (record { put = []; got = Got-nothing a; replied = Replied-idle tells old mid last later same unread held still }) r.handled;
+      (record { put = []; got = Got-nothing a; replied = Replied-idle tells old mid last later same unread held extends still }) r.handled;
   prompt =
-      let more = count-then tells old mid new last ending [] r.lines a a b (record { put = []; got = Got-nothing a; replied = Replied-idle tells old mid last later same unread held still }) r.handled in
+      let more = count-then tells old mid new last ending [] r.lines a a b (record { put = []; got = Got-nothing a; replied = Replied-idle tells old mid last later same unread held extends still }) r.handled in
       let p = r.prompt in
       record { before = p.before; last = p.last; parts = p.parts; piece = p.piece; served = omega (arith, p.served, more) };
 }
@@ -63,7 +64,7 @@ Ran-other tells old new ending left left_now a b other r = let p = r.handled.rep
   handled = record {
     put = r.handled.put;
     got = r.handled.got;
-    replied = record { replies = p.replies; part = p.part; put_is = p.put_is; behind = IsBehind-other ending p.part other p.behind; many = p.many; damage = p.damage; later = p.later; full = p.full; enough = p.enough; looks = p.looks; answered = p.answered };
+    replied = record { replies = p.replies; part = p.part; put_is = p.put_is; behind = IsBehind-other ending p.part other p.behind; many = p.many; stopped = p.stopped; ranges = p.ranges; later = p.later; full = p.full; enough = p.enough; looks = p.looks; answered = p.answered };
   };
   prompt = r.prompt;
 }
@@ -92,7 +93,8 @@ Ran-last tells old new stop left left_now a b c r got = let p = r.handled.replie
       put_is = grind (arith, common_steps, p.put_is, p.behind);
       behind = refl;
       many = p.many;
-      damage = p.damage;
+      stopped = p.stopped;
+      ranges = p.ranges;
       later = p.later;
       full = p.full;
       enough = p.enough;
@@ -122,7 +124,8 @@ Ran-cut tells old new stop left left_now a b c r (n, got) damaged = let p = r.ha
       put_is = grind (arith, common_steps, p.put_is, p.behind);
       behind = inr (stop, (n, refl));
       many = p.many;
-      damage = tt;
+      stopped = tt;
+      ranges = p.ranges;
       later = p.later;
       full = p.full;
       enough = p.enough;
@@ -137,7 +140,7 @@ Ran-cut tells old new stop left left_now a b c r (n, got) damaged = let p = r.ha
 abbrev pub IsEarly : DeviceStop → Type 0
 IsEarly device.BadRoot = Unit {0}
 IsEarly device.Platform = Unit {0}
-IsEarly device.Memory = Unit {0}
+IsEarly device.Memory = ⊥
 IsEarly device.Tape = ⊥
 IsEarly device.Ledger = ⊥
 IsEarly (device.BadRecord addr) = ⊥
@@ -145,10 +148,10 @@ IsEarly (device.BadRecord addr) = ⊥
 -- a run that was stopped before its first line
 pub Ran-refused : (tells : Type 0) (old new : World) (stop : DeviceStop) (left written : Option (List ℕ)) → IsEarly stop
     → IsLater old new → new.head ≡ old.head → (tells → new.reads ≡ old.reads)
-    → (tells → (entry : State) → Stood old entry → Stood new entry × During old.history new.history (Leaves entry.device))
+    → (tells → Extends old.history new.history) → (tells → (entry : State) → Stood old entry → Stood new entry × During old.history new.history (Leaves entry.device))
     → (tells → (entry : State) → Stood old entry → IsSound stop) → Ran tells old new no_line (Err (stops.Device stop)) left left written written
 unfolding whole_lines_of
-Ran-refused tells old new stop left written which later same unread still sound = record {
+Ran-refused tells old new stop left written which later same unread extends still sound = record {
   taken = [];
   lines = [];
   gave = Gave-nothing left;
@@ -163,7 +166,8 @@ Ran-refused tells old new stop left written which later same unread still sound 
       put_is = refl;
       behind = refl;
       many = omega arith;
-      damage = no_damage stop which;
+      stopped = early_end stop which;
+      ranges = ranges_none tells old.history new.history [] extends;
       later = later;
       full = λ updates enough. tt;
       enough = λ updates enough. tt;
@@ -186,18 +190,18 @@ Ran-refused tells old new stop left written which later same unread still sound 
   prompt = record { before = []; last = []; parts = refl; piece = omega arith; served = omega arith };
 }
   where
-    no_damage : (s : DeviceStop) → IsEarly s → IsDamageAt tells new.history.present [] [] (Err (stops.Device s))
-    no_damage device.BadRoot w = tt
-    no_damage device.Platform w = tt
-    no_damage device.Memory w = tt
-    no_damage device.Tape w = tt
-    no_damage device.Ledger w = tt
-    no_damage (device.BadRecord addr) w = absurd w
+    early_end : (s : DeviceStop) → IsEarly s → IsEndingAt tells new.history.present [] [] (Err (stops.Device s))
+    early_end device.BadRoot w = tt
+    early_end device.Platform w = tt
+    early_end device.Memory w = absurd w
+    early_end device.Tape w = absurd w
+    early_end device.Ledger w = absurd w
+    early_end (device.BadRecord addr) w = absurd w
 
     none_ahead : (s : DeviceStop) → IsEarly s → IsAhead (Err (stops.Device s)) []
     none_ahead device.BadRoot w = refl
     none_ahead device.Platform w = omega arith
-    none_ahead device.Memory w = refl
+    none_ahead device.Memory w = absurd w
     none_ahead device.Tape w = refl
     none_ahead device.Ledger w = refl
     none_ahead (device.BadRecord addr) w = refl

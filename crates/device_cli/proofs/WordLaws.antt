@@ -4,7 +4,7 @@ use Rattle.std.specs.Prelude.{codes}
 use Rattle.std.specs.Str.Parse.{digits_value}
 use Rattle.std.proofs.lemmas.Fmt.{decimal_is_IsNumeral}
 use Rattle.script_lang.specs.Grammar.{IsNumber}
-use Rattle.device_cli.specs.Words.{AreWords, AreRunWords, AreWorkWords}
+use Rattle.device_cli.specs.Words.{AreWords, AreRunWords, AreServingWords, AreWorkWords}
 
 -- a text is one number's
 one_number : (text : List ℕ) (a b : ℕ) → IsNumber text a → IsNumber text b → a ≡ b
@@ -38,6 +38,13 @@ not_run [] seed count p q = absurd p
 not_run (word ∷ []) seed count p q = absurd p
 not_run (word ∷ first ∷ []) seed count p q = absurd q
 not_run (word ∷ first ∷ second ∷ words) seed count p q = absurd q
+
+pub not_serving : (words : List (List ℕ)) (seed count : ℕ) → AreWorkWords seed count words → AreServingWords words → ⊥
+not_serving words seed count p (inl q) = not_run words seed count p q
+not_serving [] seed count p (inr q) = absurd p
+not_serving (word ∷ []) seed count p (inr q) = absurd p
+not_serving (word ∷ first ∷ []) seed count p (inr q) = absurd q
+not_serving (word ∷ first ∷ second ∷ words) seed count p (inr q) = absurd q
 
 pub at_most : (words : List (List ℕ)) (seed count : ℕ) → AreWorkWords seed count words → count ≤ 5000
 at_most [] seed count p = absurd p

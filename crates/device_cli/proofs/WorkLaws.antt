@@ -3,26 +3,29 @@ use Rattle.std.proofs.Common.{◌≡◌, ℕ, ◌+◌, ◌-◌, ◌*◌, ◌≤�
 use Rattle.std.proofs.lemmas.List.{append-nil}
 use Rattle.std.specs.Prelude.{IfErr, flat_map}
 use Rattle.sdbt_base.specs.Arrays.{Device, closed}
-use Rattle.sdbt_base.proofs.ToldLaws.{Got-nothing}
-use Rattle.platform.proofs.Moments.{During-start}
-use Rattle.page_store.proofs.StandsLaws.{stands_during}
+use Rattle.platform.specs.History.{History}
+use Rattle.device_course.specs.Course.{Made}
+use Rattle.device_course.specs.Keys.{KeepsOn}
+use Rattle.device_course.specs.States.{Outside}
+use Rattle.device_course.proofs.MadeLaws.{made_start, shut}
+use Rattle.device_course.proofs.ProgramLaws.{Ended}
 use Rattle.script_lang.specs.Replies.{Reply, line_of}
 use Rattle.workload.specs.Summaries.{refused, heading, summary}
 use Rattle.workload.proofs.ScriptLaws.{script_has_lines, script_is_short}
 use Rattle.device_terms.specs.Served.{IsServedImage}
-use Rattle.device_cli.specs.World.{World, IsLater, world}
+use Rattle.device_cli.specs.World.{World, world}
 use Rattle.device_cli.specs.Represents.{StandsFor}
-use Rattle.device_cli.specs.Ran.{Ran, AnswersScript, IsAmple, IsComplete}
+use Rattle.device_cli.specs.Ran.{Ran, AnswersScript, IsAmple}
 use Rattle.line_run.specs.Stops.{Ending, exit_of, HasCause, status_of}
-use Rattle.line_run.specs.Puts.{damage_line}
+use Rattle.line_run.specs.Puts.{HasPut, damage_line}
 use Rattle.device_cli.specs.Handed.{Handed}
 use Rattle.sdbt_base.specs.Counts.{Counts, NoneRose}
-use Rattle.device_cli.specs.Working.{Says, Worked, Working, script_of}
+use Rattle.device_cli.specs.Working.{IsIdle, Says, ServesAll, ServesWork, Worked, Working, script_of}
 use Rattle.session_calls.specs.declared.stops.DeviceStop.{DeviceStop}
 use Rattle.session_calls.specs.declared.stops.DeviceStop.TheVariants as device
 use Rattle.line_run.specs.declared.stop.Stop.TheVariants as stops
-use Rattle.device_cli.proofs.CompleteLaws.{complete_at}
-use Rattle.device_cli.proofs.RanLaws.{Ran-refused, Ran-last}
+use Rattle.device_cli.proofs.CompleteLaws.{complete_with}
+use Rattle.device_cli.proofs.EndLaws.{ended_run}
 use Rattle.device_cli.proofs.ScriptLaws.{answers_with}
 use Rattle.device_session.specs.Sessions.{Session}
 
@@ -48,22 +51,22 @@ told_replies tells old new left told text r =
 -- ---- how the serving ends
 
 -- without memory for the script nothing is served
-pub worked_none : (tells : Type 0) (w : World) (seed count : ℕ) (written : Option (List ℕ)) → w.head ≤ w.capacity → Worked tells seed count w w written written (Err (stops.Device device.Memory))
-unfolding damage_line
-worked_none tells w seed count written room =
-    let text : Option (List ℕ) = Some (script_of seed count) in
-    let later : IsLater w w = record { capacity = refl; rises = omega arith; within = room } in
-    record {
-      serving = Err (stops.Device device.Memory);
-      left = text;
-      told = Some [];
-      ran = Ran-last tells w w device.Memory text text (Some []) (Some []) (Some [])
-          (Ran-refused tells w w device.Memory text (Some []) tt later refl (λ told. refl)
-          (λ told entry there. (there, stands_during w.history w.history _ there.there.device (During-start w.history (λ image. image.cell ≡ w.history.present.cell) refl)))
-          (λ told entry there. tt))
-          refl;
-      says = inl (refl, Got-nothing written);
+pub idle : (w : World) (written : Option (List ℕ)) → IsIdle w w written written (Err (stops.Device device.Memory))
+idle w written = record { memory = refl; world = refl; unput = refl }
+
+-- what a run gives, or what is as it was
+pub ended_work : (tells : Type 0) (old new : Outside) (Going : Type 0) (seed count : ℕ) (was : World) (session : Option Session) (reads : ℕ) (written written_now : Option (List ℕ)) (ending : Ending)
+    → was.session ≡ None → was.history ≡ old.history → was.head ≡ old.head → was.capacity ≡ old.capacity → new.head ≤ new.capacity
+    → IsIdle was (world session new.history new.head new.capacity reads) written written_now ending ⊎ Worked tells seed count was (world session new.history new.head new.capacity reads) written written_now ending
+    → KeepsOn tells old.drawn new.drawn old.written new.written None old.history new.history Going (λ keys. Unit {0}) → Ended tells old new Going
+ended_work tells old new Going seed count was session reads written written_now ending alone history head capacity room (inl not) keeps =
+    let same : new.history ≡ old.history = ap (λ (w : World). w.history) not.world ∙ history in record {
+      later = record { capacity = ap (λ (w : World). w.capacity) not.world ∙ capacity; rises = omega (arith, ap (λ (w : World). w.head) not.world, head); within = room };
+      keeps = keeps;
+      made = λ told device stands served. ([], subst (λ (h : History). Made old.history h None (closed device) [] (closed device)) (sym same) (made_start old.history None (closed device) (shut old.history.present device stands served)));
     }
+ended_work tells old new Going seed count was session reads written written_now ending alone history head capacity room (inr w) keeps =
+    ended_run tells old new Going was session reads w.serving (Some (script_of seed count)) w.left (Some []) w.told alone history head capacity w.ran keeps
 
 -- ---- completeness
 
@@ -72,7 +75,7 @@ pub work_complete : (tells : Type 0) (old new : World) (seed count : ℕ) (servi
     → tells → StandsFor old.history.present there → IsServedImage old.history.present
     → (script : AnswersScript tells old new (exit_of serving) (Some (script_of seed count)) left (Some []) told) → Says seed count script.replies serving written written_now ending
     → IfErr ending (HasCause before now) → count ≤ 5000 → old.head + 42 * (count + 5) ≤ old.capacity → NoneRose before now
-    → (exit_of ending ≡ 11) ⊎ ((exit_of ending ≡ 0) × IsComplete (closed there) (script_of seed count) (Some []) told)
+    → (exit_of ending ≡ 11) ⊎ ((exit_of ending ≡ 0) × ServesAll seed count there written written_now ending)
 work_complete tells old new seed count serving ending before now left told written written_now there holds stands served script says cause few room quiet = go serving ending script says cause
   where
     text : List ℕ
@@ -81,12 +84,14 @@ work_complete tells old new seed count serving ending before now left told writt
     ample : IsAmple (Some text) text old.head old.capacity
     ample = record { text_is = refl; short = omega (arith, script_is_short text seed count refl, few); room = omega (arith, room, script_has_lines text seed count refl) }
 
-    all : (s : AnswersScript tells old new 0 (Some text) left (Some []) told) → IsComplete (closed there) text (Some []) told
-    all s = complete_at tells old new (Some text) left (Some []) told text there s (s.answered holds there stands served) ample
+    all : (s : AnswersScript tells old new 0 (Some text) left (Some []) told) → HasPut (summary seed count s.replies) (Ok tt) written written_now → ServesAll seed count there written written_now (Ok tt)
+    all s put =
+        let complete = complete_with tells old new (Some text) left (Some []) told text there s (s.answered holds there stands served) ample in
+        record { told = told; all = complete.0; put = subst (λ (replies : List Reply). HasPut (summary seed count replies) (Ok tt) written written_now) (sym complete.1) put }
 
     go : (serving ending : Ending) → (s : AnswersScript tells old new (exit_of serving) (Some text) left (Some []) told) → Says seed count s.replies serving written written_now ending
-        → IfErr ending (HasCause before now) → (exit_of ending ≡ 11) ⊎ ((exit_of ending ≡ 0) × IsComplete (closed there) text (Some []) told)
-    go (Ok done) (Ok put) s says cause = inr (refl, all s)
+        → IfErr ending (HasCause before now) → (exit_of ending ≡ 11) ⊎ ((exit_of ending ≡ 0) × ServesAll seed count there written written_now ending)
+    go (Ok done) (Ok put) s says cause = inr (refl, all s says)
     go (Ok done) (Err stops.Sink) s says cause = absurd (quiet.output cause.0)
     go (Ok done) (Err stops.Source) s says cause = absurd says
     go (Ok done) (Err stops.Limit) s says cause = absurd says
@@ -98,7 +103,7 @@ work_complete tells old new seed count serving ending before now left told writt
     go (Err (stops.Device stop)) ending s (inl whole) cause = stopped stop s (subst (λ (e : Ending). IfErr e (HasCause before now)) whole.0 cause) (ap exit_of whole.0)
       where
         Done : ℕ → Type 0
-        Done n = (n ≡ 11) ⊎ ((n ≡ 0) × IsComplete (closed there) text (Some []) told)
+        Done n = (n ≡ 11) ⊎ ((n ≡ 0) × ServesAll seed count there written written_now ending)
 
         stopped : (stop : DeviceStop) → AnswersScript tells old new (status_of (stops.Device stop)) (Some text) left (Some []) told → HasCause before now (stops.Device stop)
             → exit_of ending ≡ status_of (stops.Device stop) → Done (exit_of ending)
@@ -112,32 +117,52 @@ work_complete tells old new seed count serving ending before now left told writt
 -- ---- what is said of the words
 
 -- whatever session the serving ends with
-pub working_of : {S R I O L : Type 0} (tells : Type 0) (seed count status : ℕ) (old new : Handed S R I O L) (session : Option Session) (ending : Ending)
-    → old.world.session ≡ None → new.world.session ≡ None → new.input ≡ old.input → count ≤ 5000 → status ≡ exit_of ending → IfErr ending (HasCause old.counts new.counts)
-    → (tells → (IsServedImage old.world.history.present → ⊥) → (exit_of ending ≡ 8) ⊎ (exit_of ending ≡ 4) ⊎ (exit_of ending ≡ 5) ⊎ (exit_of ending ≡ 11))
-    → Worked tells seed count old.world (record new.world { session = session }) old.written new.written ending
-    → Working tells seed count status old new
-working_of tells seed count status old new session ending alone then_alone untaken few is cause refused w =
+pub serves_work : {S R I O L : Type 0} (tells : Type 0) (seed count : ℕ) (old new : Handed S R I O L) (session : Option Session) (ending : Ending) → old.world.session ≡ None → new.world.session ≡ None
+    → Worked tells seed count old.world (record new.world { session = session }) old.written new.written ending → ServesWork tells seed count old.world new.world old.written new.written ending
+serves_work tells seed count old new session ending alone then_alone w =
     let text : Option (List ℕ) = Some (script_of seed count) in
     let now = new.world in
     let script = answers_with tells old.world session now.history now.head now.capacity now.reads w.serving text w.left (Some []) w.told alone w.ran in
     let same : world None now.history now.head now.capacity now.reads ≡ now = ap (λ (s : Option Session). record now { session = s }) (sym then_alone) in
     let Answered : World → Type 0 = λ there. (s : AnswersScript tells old.world there (exit_of w.serving) text w.left (Some []) w.told) × (s.replies ≡ w.ran.handled.replied.replies) in
     let here : Answered now = subst Answered same script in
-    let says : Says seed count here.0.replies w.serving old.written new.written ending =
-    subst (λ (replies : List Reply). Says seed count replies w.serving old.written new.written ending) (sym here.1) w.says in
-    let Exits : ℕ → Type 0 = λ n. (n ≡ 8) ⊎ (n ≡ 4) ⊎ (n ≡ 5) ⊎ (n ≡ 11) in
     record {
-      untaken = untaken;
       serving = w.serving;
       left = w.left;
       told = w.told;
       serves = here.0;
-      ending = ending;
-      status_is = is;
-      says = says;
-      bad_root = λ told unserved. subst Exits (sym is) (refused told unserved);
-      complete = λ told there stands served room quiet.
-          let Done : ℕ → Type 0 = λ n. (n ≡ 11) ⊎ ((n ≡ 0) × IsComplete (closed there) (script_of seed count) (Some []) w.told) in
-          subst Done (sym is) (work_complete tells old.world now seed count w.serving ending old.counts new.counts w.left w.told old.written new.written there told stands served here.0 says cause few room quiet);
+      says = subst (λ (replies : List Reply). Says seed count replies w.serving old.written new.written ending) (sym here.1) w.says;
     }
+
+-- the world with the session that it has
+pub idle_still : {S R I O L : Type 0} (old new : Handed S R I O L) (session : Option Session) (ending : Ending) → old.world.session ≡ None → new.world.session ≡ None
+    → IsIdle old.world (record new.world { session = session }) old.written new.written ending → IsIdle old.world new.world old.written new.written ending
+idle_still old new session ending alone then_alone i =
+    let none : session ≡ None = ap (λ (w : World). w.session) i.world ∙ alone in
+    record {
+      memory = i.memory;
+      world = ap (λ (s : Option Session). record new.world { session = s }) (then_alone ∙ sym none) ∙ i.world;
+      unput = i.unput;
+    }
+
+pub working_of : {S R I O L : Type 0} (tells : Type 0) (seed count status : ℕ) (old new : Handed S R I O L) (session : Option Session) (ending : Ending)
+    → old.world.session ≡ None → new.world.session ≡ None → new.input ≡ old.input → count ≤ 5000 → status ≡ exit_of ending → IfErr ending (HasCause old.counts new.counts)
+    → (tells → (IsServedImage old.world.history.present → ⊥) → (exit_of ending ≡ 8) ⊎ (exit_of ending ≡ 4) ⊎ (exit_of ending ≡ 5) ⊎ (exit_of ending ≡ 11))
+    → IsIdle old.world (record new.world { session = session }) old.written new.written ending ⊎ Worked tells seed count old.world (record new.world { session = session }) old.written new.written ending
+    → Working tells seed count status old new
+working_of tells seed count status old new session ending alone then_alone untaken few is cause refused course = record {
+  untaken = untaken;
+  ending = ending;
+  status_is = is;
+  course = elim course [
+    | inl i ↦ inl (idle_still old new session ending alone then_alone i)
+    | inr w ↦ inr (serves_work tells seed count old new session ending alone then_alone w)
+  ];
+  bad_root = λ told unserved. subst (λ (n : ℕ). (n ≡ 8) ⊎ (n ≡ 4) ⊎ (n ≡ 5) ⊎ (n ≡ 11)) (sym is) (refused told unserved);
+  complete = λ told there stands served room quiet. subst (λ (n : ℕ). (n ≡ 11) ⊎ ((n ≡ 0) × ServesAll seed count there old.written new.written ending)) (sym is) (elim course [
+    | inl i ↦ inl (ap exit_of i.memory)
+    | inr w ↦
+        (let s = serves_work tells seed count old new session ending alone then_alone w in
+        work_complete tells old.world new.world seed count s.serving ending old.counts new.counts s.left s.told old.written new.written there told stands served s.serves s.says cause few room quiet)
+  ]);
+}

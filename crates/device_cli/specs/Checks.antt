@@ -1,7 +1,7 @@
 -- What the word `check` finds, says and leaves.
-use Rattle.std.specs.Prelude.{◌≡◌, ◌⊎◌, ℕ, ◌<◌, ◌^◌, List, [], ◌∷◌, ◌++◌, Option, None, Some, Result, Ok, Err, length, codes}
+use Rattle.std.specs.Prelude.{◌≡◌, ◌≢◌, ◌⊎◌, ℕ, ◌<◌, ◌^◌, List, [], ◌∷◌, ◌++◌, Option, None, Some, Result, Ok, Err, length, codes}
 use Rattle.std.specs.Fmt.{decimal}
-use Rattle.sdbt_base.specs.Told.{Got, GotPart}
+use Rattle.sdbt_base.specs.Told.{Gave, Got, GotPart}
 use Rattle.platform.specs.Image.{Image}
 use Rattle.platform.specs.History.{During}
 use Rattle.root_codec.specs.declared.root.Root.{Root}
@@ -10,7 +10,7 @@ use Rattle.cert_codec.specs.Ledger.{IsLedger}
 use Rattle.cert_checker.specs.Chain.{Accepted, chain_of}
 use Rattle.cert_checker.specs.First.{First}
 use Rattle.cert_checker.specs.Sound.{IsVerdict}
-use Rattle.ledger_check.specs.Judging.{FromInput, IsWhole}
+use Rattle.ledger_check.specs.Judging.{FromInput, IsWanting, IsWhole}
 use Rattle.device_terms.specs.Served.{IsServedImage}
 use Rattle.line_run.specs.Puts.{damage_line}
 use Rattle.device_cli.specs.Handed.{Handed}
@@ -60,18 +60,24 @@ abbrev pub IsJudgedBy : Root → List ℕ → Option (List ℕ) → Result Findi
 IsJudgedBy root taken left (Ok finding) = IsJudgedAs root taken left finding
 IsJudgedBy root taken left (Err stops.Source) = length taken < 2 ^ 32
 IsJudgedBy root taken left (Err stops.Limit) = length taken ≡ 2 ^ 32
-IsJudgedBy root taken left (Err (stops.Device device.Memory)) = Unit {0}
+IsJudgedBy root taken left (Err (stops.Device device.Memory)) = IsWanting taken
 IsJudgedBy root taken left (Err _) = ⊥
 
 abbrev pub IsJudged : Root → Option (List ℕ) → Option (List ℕ) → Result Finding Stop → Type 0
 IsJudged root = FromInput (IsJudgedBy root)
 
--- what was found is so; or the looking stopped, and after the look at the cell only where that can be served
+-- the cell holds a root record, which can be served
+pub record HoldsRoot (tells : Type 0) (image : Image) : Type 0 where
+  pub root : Root
+  pub in_cell : tells → IsInCell image (Some root)
+
+-- what was found is so; or the looking stopped, and after the look at the cell only where that holds a root record: at a fault of the input, at its limit, or where memory was wanted for something
+-- that was taken before the limit
 abbrev pub IsLookedAt : Type 0 → Image → List ℕ → Option (List ℕ) → Result Finding Stop → Type 0
 IsLookedAt tells image taken left (Ok finding) = IsSo tells image taken left finding
-IsLookedAt tells image taken left (Err stops.Source) = (length taken < 2 ^ 32) × (tells → IsServedImage image)
-IsLookedAt tells image taken left (Err stops.Limit) = (length taken ≡ 2 ^ 32) × (tells → IsServedImage image)
-IsLookedAt tells image taken left (Err (stops.Device device.Memory)) = tells → IsServedImage image
+IsLookedAt tells image taken left (Err stops.Source) = (length taken < 2 ^ 32) × HoldsRoot tells image
+IsLookedAt tells image taken left (Err stops.Limit) = (length taken ≡ 2 ^ 32) × HoldsRoot tells image
+IsLookedAt tells image taken left (Err (stops.Device device.Memory)) = IsWanting taken × HoldsRoot tells image
 IsLookedAt tells image taken left (Err (stops.Device device.Platform)) = taken ≡ []
 IsLookedAt tells image taken left (Err _) = ⊥
 
@@ -93,23 +99,41 @@ abbrev pub status_at : Result Finding Stop → ℕ
 status_at (Ok finding) = status_of_finding finding
 status_at (Err stop) = status_of stop
 
--- the input is a text of less than 2^32 bytes, whose certificates are accepted for the root record in the cell
-pub record IsAcceptable (image : Image) (left : Option (List ℕ)) (root : Root) (text : List ℕ) (certs : List Cert) : Type 0 where
+-- the input is a text of less than 2^32 bytes, a ledger of these certificates, and the cell holds this root record
+pub record IsJudgeable (image : Image) (left : Option (List ℕ)) (root : Root) (text : List ℕ) (certs : List Cert) : Type 0 where
   pub cell : IsInCell image (Some root)
   pub text_is : left ≡ Some text
   pub short : length text < 2 ^ 32
   pub ledger : IsLedger text certs
-  pub accepted : Accepted (chain_of certs root.commit) root
 
--- a check: no key is drawn, no entry put, no page added, and the image is as it was at each moment; it ends so, with this status;
--- and an acceptable ledger is accepted, unless something failed or no memory was given
+-- what was found is so, and the line that says it was put whole
+abbrev pub Finds : Type 0 → Image → List ℕ → Option (List ℕ) → Option (List ℕ) → Option (List ℕ) → Finding → Type 0
+Finds tells image taken left written written_now finding = IsSo tells image taken left finding × Got written (finding_line finding) written_now
+
+-- nothing was found, with this status: the platform failed at the look at the cell, and nothing was taken; or the cell holds a root record, and the input failed, or was at its limit, or memory was
+-- wanted for something that was taken before the limit
+abbrev pub IsSilent : Type 0 → Image → List ℕ → ℕ → Type 0
+IsSilent tells image taken status =
+    ((status ≡ 5) × (taken ≡ []))
+    ⊎ (HoldsRoot tells image × (((status ≡ 3) × (length taken < 2 ^ 32)) ⊎ ((status ≡ 12) × (length taken ≡ 2 ^ 32)) ⊎ ((status ≡ 11) × IsWanting taken)))
+
+-- a check: no key is drawn, no entry put, no page added, and the image is as it was at each moment. By its status: the ledger is accepted; it is refused, by a rule or since there is no device;
+-- the cell can't be served; the line that says so was cut; or nothing was put. 10 comes where the cell is empty, unless that could not be told or not be said. A ledger that is accepted, and one
+-- that breaks a rule, are told so, unless something failed or no memory was given
 pub record Checked {S R I O L : Type 0} (tells : Type 0) (status : ℕ) (old new : Handed S R I O L) : Type 0 where
   pub undrawn : new.tape ≡ old.tape
   pub unput : new.ledger ≡ old.ledger
   pub pages : new.world.head ≡ old.world.head
   pub image : tells → During old.world.history new.world.history (λ image. image ≡ old.world.history.present)
-  pub ending : Result Finding Stop
-  pub status_is : status ≡ status_at ending
-  pub checks : Checks tells old.world.history.present old.left new.left old.written new.written ending
-  pub complete : tells → (root : Root) (text : List ℕ) (certs : List Cert) → IsAcceptable old.world.history.present old.left root text certs → NoneRose old.counts new.counts
-      → (status ≡ 0) ⊎ (status ≡ 11)
+  pub taken : List ℕ
+  pub gave : Gave old.left taken new.left
+  pub accepted : status ≡ 0 → (commit live deleted : ℕ) × Finds tells old.world.history.present taken new.left old.written new.written (findings.Accepted commit live deleted)
+  pub refused : status ≡ 10 → Finds tells old.world.history.present taken new.left old.written new.written findings.NoDevice
+      ⊎ ((number value : ℕ) × Finds tells old.world.history.present taken new.left old.written new.written (findings.Broken number value))
+  pub unserved : status ≡ 8 → Finds tells old.world.history.present taken new.left old.written new.written findings.BadRoot
+  pub cut : status ≡ 4 → (finding : Finding) × IsSo tells old.world.history.present taken new.left finding × GotPart old.written (finding_line finding) new.written
+  pub silent : status ≢ 0 → status ≢ 4 → status ≢ 8 → status ≢ 10 → (new.written ≡ old.written) × IsSilent tells old.world.history.present taken status
+  pub empty : tells → old.world.history.present.cell ≡ None → (status ≡ 10) ⊎ (status ≡ 4) ⊎ (status ≡ 5)
+  pub complete : tells → (root : Root) (text : List ℕ) (certs : List Cert) → IsJudgeable old.world.history.present old.left root text certs → NoneRose old.counts new.counts
+      → (Accepted (chain_of certs root.commit) root → (status ≡ 0) ⊎ (status ≡ 11))
+      × ((number value : ℕ) → First (chain_of certs root.commit) root number value → (status ≡ 10) ⊎ (status ≡ 11))

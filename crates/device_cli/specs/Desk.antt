@@ -15,6 +15,7 @@ use Rattle.line_run.specs.declared.stop.Stop.TheVariants as lines
 use Rattle.session_calls.specs.declared.stops.DeviceStop.{DeviceStop}
 use Rattle.session_calls.specs.declared.stops.DeviceStop.TheVariants as stops
 use Rattle.device_session.specs.Open.{IsOpen}
+use Rattle.device_session.specs.Reading.{room_of}
 use Rattle.session_calls.specs.Damage.{IsMounted}
 use Rattle.device_cli.specs.declared.desk.Desk.{Desk}
 
@@ -22,15 +23,21 @@ use Rattle.device_cli.specs.declared.desk.Desk.{Desk}
 abbrev pub IsReady : Desk → ℕ → Type 0
 IsReady desk head = IfSome desk.session (λ session. IsOpen session head)
 
--- what each command may rely on: the session is open and on the root record in the cell, which can be served
+-- the session, if there is one, keeps up to 256 nodes
+abbrev pub HasRoom : Desk → Type 0
+HasRoom desk = IfSome desk.session (λ session. room_of session ≡ 256)
+
+-- what each command may rely on: the session is open, with room for 256 nodes, and on the root record in the cell, which can be served
 pub record Before {S : Type 0} (P : Ghosts S) (desk : Desk) (platform : S) : Type 0 where
   pub ready : IsReady desk (P.head platform)
+  pub room : HasRoom desk
   pub cell : P.tells → IsServedImage (P.history platform).present
   pub mounted : P.tells → IfSome desk.session (IsMounted (P.history platform).present)
 
 -- what a command leaves for the next one. Its reply can be put; a stop left no more pages than it may; and a reply that too few pages were free is true
 pub record After {S : Type 0} (P : Ghosts S) (before desk : Desk) (old new : S) (command : Command) (result : Result Given DeviceStop) : Type 0 where
   pub ready : OnOk result (IsReady desk (P.head new))
+  pub room : OnOk result (HasRoom desk)
   pub mounted : P.tells → OnOk result (IfSome desk.session (IsMounted (P.history new).present))
   pub reply : IfOk result (λ reply. CanWrite (said reply desk.buffer))
   pub short : IfOk result FitsBlock
@@ -43,6 +50,7 @@ pub record After {S : Type 0} (P : Ghosts S) (before desk : Desk) (old new : S) 
 -- what each line leaves for the next one; it stops neither for the input nor for a root record that can't be served
 pub record AfterLine {S : Type 0} (P : Ghosts S) (desk : Desk) (platform : S) (result : Result (Unit {0}) Stop) : Type 0 where
   pub ready : OnOk result (IsReady desk (P.head platform))
+  pub room : OnOk result (HasRoom desk)
   pub mounted : P.tells → OnOk result (IfSome desk.session (IsMounted (P.history platform).present))
   pub bad_root : P.tells → IsErrOf result (lines.Device stops.BadRoot) → ⊥
   pub stops : IfErr result IsOfLine

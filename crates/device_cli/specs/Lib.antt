@@ -1,4 +1,5 @@
 pub mod Given
+pub mod Causes
 pub mod Words
 pub mod Checks
 pub mod Seizing

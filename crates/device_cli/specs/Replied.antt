@@ -3,16 +3,14 @@ use Rattle.std.specs.Prelude.{◌≡◌, ℕ, ◌≤◌, List, [], ◌∷◌, �
 use Rattle.platform.specs.Image.{Image}
 use Rattle.platform.specs.History.{During, Turns, moment}
 use Rattle.sdbt_base.specs.Told.{Got}
-use Rattle.script_lang.specs.Grammar.{Spells}
 use Rattle.script_lang.specs.Replies.{line_of, said, Reply}
 use Rattle.script_lang.specs.declared.replies.Reply.{Reply as Given}
 use Rattle.sdbt_base.specs.Arrays.{State, Device, closed}
 use Rattle.script_lang.specs.Answers.{IsMark, IsAnswer, answer, none_counted}
 use Rattle.script_lang.specs.Commands.{Command}
-use Rattle.script_lang.specs.Commands as commands
-use Rattle.session_calls.specs.Damage.{IsWrongPage}
 use Rattle.line_run.specs.Puts.{IsBehind, IsFirstPart}
 use Rattle.line_run.specs.Stops.{Ending, IsSound}
+use Rattle.device_cli.specs.Causes.{Draws, PutsEntry, TakesMemory, MeetsRecord, IsOf, RangesOn}
 use Rattle.device_cli.specs.Looks.{LooksOn}
 use Rattle.device_cli.specs.World.{World, is_full, AreEnough, IsLater}
 use Rattle.device_course.specs.Marks.{Leaves, mark_at, last_mark}
@@ -33,21 +31,18 @@ AreMany replies lines (Err stops.Limit) = replies ≡ lines
 AreMany replies lines (Err (stops.Device stop)) = replies ≤ lines
 AreMany replies lines (Err stops.Sink) = replies ≤ lines
 
--- the command reads, writes or trims a block
-abbrev pub IsOfBlock : Command → Type 0
-IsOfBlock (commands.Read block) = Unit {0}
-IsOfBlock (commands.Write block content) = Unit {0}
-IsOfBlock (commands.Trim block) = Unit {0}
-IsOfBlock _ = ⊥
+-- the device stopped a run at the line behind those that have replies, as the line's command may; or before the first line, where the platform failed or the root record can't be served
+abbrev pub IsStopAt : Type 0 → Image → List Reply → List (List ℕ) → DeviceStop → Type 0
+IsStopAt tells image replies lines device.Platform = Unit {0}
+IsStopAt tells image replies lines device.BadRoot = Unit {0}
+IsStopAt tells image replies lines device.Tape = IfNext replies lines (IsOf Draws)
+IsStopAt tells image replies lines device.Ledger = IfNext replies lines (IsOf PutsEntry)
+IsStopAt tells image replies lines device.Memory = IfNext replies lines (IsOf TakesMemory)
+IsStopAt tells image replies lines (device.BadRecord addr) = IfNext replies lines (IsOf (λ command. MeetsRecord tells image command addr))
 
--- the line is such a command's
-abbrev pub AsksForBlock : List ℕ → Type 0
-AsksForBlock line = (command : Command) × Spells line command × IsOfBlock command
-
--- a record that doesn't fit is met only at such a line, and is one
-abbrev pub IsDamageAt : Type 0 → Image → List Reply → List (List ℕ) → Ending → Type 0
-IsDamageAt tells image replies lines (Err (stops.Device (device.BadRecord addr))) = IfNext replies lines AsksForBlock × (tells → IsWrongPage image addr)
-IsDamageAt tells image replies lines _ = Unit {0}
+abbrev pub IsEndingAt : Type 0 → Image → List Reply → List (List ℕ) → Ending → Type 0
+IsEndingAt tells image replies lines (Err (stops.Device stop)) = IsStopAt tells image replies lines stop
+IsEndingAt tells image replies lines _ = Unit {0}
 
 -- how a run over a device that stands ends, after the replies that led to the state `now`: in that state, with so many
 -- pages; by a fault alone; or, where the output failed, with a first part of one more reply's line, for the device after it
@@ -113,7 +108,8 @@ pub record Replied (tells : Type 0) (old new : World) (last : DeviceStop → Lis
   pub put_is : put ≡ flat_map line_of replies ++ part
   pub behind : IsBehind line_of last part ending
   pub many : AreMany (length replies) (length lines) ending
-  pub damage : IsDamageAt tells new.history.present replies lines ending
+  pub stopped : IsEndingAt tells new.history.present replies lines ending
+  pub ranges : RangesOn tells old.history new.history lines replies
   pub later : IsLater old new
   pub full : (updates : ℕ) → AreEnough old.session updates → AreShort new.head new.capacity updates lines replies
   pub enough : (updates : ℕ) → AreEnough old.session updates → OnOk ending (AreEnough new.session (updates_of updates replies))

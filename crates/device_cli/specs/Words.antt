@@ -41,6 +41,10 @@ records_of words = drop 1 words
 abbrev pub AreServingWords : List (List ℕ) → Type 0
 AreServingWords words = AreRunWords words ⊎ AreCheckWords words
 
+-- a form whose work is the serving of lines
+abbrev pub AreLineWords : List (List ℕ) → Type 0
+AreLineWords words = AreRunWords words ⊎ AreSomeWorkWords words
+
 -- one of the forms
 abbrev pub AreWords : List (List ℕ) → Type 0
 AreWords words = AreServingWords words ⊎ AreSeizeWords words ⊎ AreSomeWorkWords words

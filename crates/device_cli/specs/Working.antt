@@ -33,6 +33,12 @@ Says seed count replies (Err stops.Sink) written written_now ending = (ending �
 Says seed count replies (Err stops.Source) written written_now ending = ⊥
 Says seed count replies (Err stops.Limit) written written_now ending = ⊥
 
+-- no memory was given for the script, or for its replies: nothing was served, and nothing put
+pub record IsIdle (old new : World) (written written_now : Option (List ℕ)) (ending : Ending) : Type 0 where
+  pub memory : ending ≡ Err (stops.Device device.Memory)
+  pub world : new ≡ old
+  pub unput : written_now ≡ written
+
 -- the script was served as a run serves it that puts its replies to an output of its own, in memory; and this was put of it
 pub record Worked (tells : Type 0) (seed count : ℕ) (old new : World) (written written_now : Option (List ℕ)) (ending : Ending) : Type 0 where
   pub serving : Ending
@@ -41,19 +47,29 @@ pub record Worked (tells : Type 0) (seed count : ℕ) (old new : World) (written
   pub ran : Ran tells old new damage_line serving (Some (script_of seed count)) left (Some []) told
   pub says : Says seed count ran.handled.replied.replies serving written written_now ending
 
--- the serving of the script of a seed, with so many generated lines: nothing is taken; it is served as a run serves it that ends so, whose replies are kept in
--- memory; and then this is put of it, with this status. 8 comes where the cell can't be served, unless that could not be told or not be said, or no
--- memory was given; and with room for 42 pages a line, and no fault, each line has its reply, unless no memory was given
-pub record Working {S R I O L : Type 0} (tells : Type 0) (seed count status : ℕ) (old new : Handed S R I O L) : Type 0 where
-  pub untaken : new.input ≡ old.input
+-- the same by what the program says of a run
+pub record ServesWork (tells : Type 0) (seed count : ℕ) (old new : World) (written written_now : Option (List ℕ)) (ending : Ending) : Type 0 where
   pub serving : Ending
   pub left : Option (List ℕ)
   pub told : Option (List ℕ)
-  pub serves : AnswersScript tells old.world new.world (exit_of serving) (Some (script_of seed count)) left (Some []) told
+  pub serves : AnswersScript tells old new (exit_of serving) (Some (script_of seed count)) left (Some []) told
+  pub says : Says seed count serves.replies serving written written_now ending
+
+-- each line of the script had its reply, none that too few pages are free, and what came of these is put
+pub record ServesAll (seed count : ℕ) (there : Option Device) (written written_now : Option (List ℕ)) (ending : Ending) : Type 0 where
+  pub told : Option (List ℕ)
+  pub all : IsComplete (closed there) (script_of seed count) (Some []) told
+  pub put : HasPut (summary seed count all.replies) ending written written_now
+
+-- the serving of the script of a seed, with so many generated lines: nothing is taken; it is served as a run serves it that ends so, whose replies are kept in
+-- memory, and then this is put of it, with this status; or nothing was done, since no memory was given. 8 comes where the cell can't be served, unless that could not be told or not be said, or no
+-- memory was given; and with room for 42 pages a line, and no fault, each line has its reply, unless no memory was given
+pub record Working {S R I O L : Type 0} (tells : Type 0) (seed count status : ℕ) (old new : Handed S R I O L) : Type 0 where
+  pub untaken : new.input ≡ old.input
   pub ending : Ending
   pub status_is : status ≡ exit_of ending
-  pub says : Says seed count serves.replies serving old.written new.written ending
+  pub course : IsIdle old.world new.world old.written new.written ending ⊎ ServesWork tells seed count old.world new.world old.written new.written ending
   pub bad_root : tells → (IsServedImage old.world.history.present → ⊥) → (status ≡ 8) ⊎ (status ≡ 4) ⊎ (status ≡ 5) ⊎ (status ≡ 11)
   pub complete : tells → (there : Option Device) → StandsFor old.world.history.present there → IsServedImage old.world.history.present
       → old.world.head + 42 * (count + 5) ≤ old.world.capacity → NoneRose old.counts new.counts
-      → (status ≡ 11) ⊎ ((status ≡ 0) × IsComplete (closed there) (script_of seed count) (Some []) told)
+      → (status ≡ 11) ⊎ ((status ≡ 0) × ServesAll seed count there old.written new.written ending)

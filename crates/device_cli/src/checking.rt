@@ -1,7 +1,8 @@
 //! The word `check`: judges a ledger for the root record in the cell.
-ghost use Rattle.std.specs.Prelude.{◌≡◌, ◌≤◌, IfOk, OnOk, OnErr};
+ghost use Rattle.std.specs.Prelude.{◌≡◌, ◌≤◌, OnOk, OnErr};
 ghost use Rattle.sdbt_base.specs.Told.{Got, GotPart};
 ghost use Rattle.platform.specs.History.{Steps};
+ghost use Rattle.device_terms.specs.Served.{IsServedImage};
 ghost use Rattle.line_run.specs.Puts.{TellsPut};
 ghost use Rattle.line_run.specs.Stops.{IsBlamedOn};
 ghost use Rattle.sdbt_base.specs.Counts.{counts};
@@ -60,7 +61,7 @@ pub(crate) fn check<P: Platform, I: Source, O: Sink>(
     ensures checks { Checks P.tells (P.history platform.old).present (I.left input.old) (I.left input.new) (O.written output.old) (O.written output.new) result }
     ensures blame { IsBlamedOn (counts (P.faults platform.old) 0 (I.faults input.old) (O.faults output.old) 0)
         (counts (P.faults platform.new) 0 (I.faults input.new) (O.faults output.new) 0) result }
-    ensures untaken { IfOk result (λ finding. finding ≡ Finding.BadRoot → input.new ≡ input.old) }
+    ensures untaken { P.tells → (IsServedImage (P.history platform.old).present → ⊥) → input.new ≡ input.old }
     ensures image { P.tells → (P.history platform.new).present ≡ (P.history platform.old).present }
     ensures time { P.tells → Steps (P.history platform.old) (P.history platform.new) }
     ensures head { P.head platform.new ≡ P.head platform.old }
@@ -80,7 +81,7 @@ fn find<P: Platform, I: Source>(
     ensures looked { Looked P.tells (P.history platform.old).present (I.left input.old) (I.left input.new) result }
     ensures blame { IsBlamedOn (counts (P.faults platform.old) 0 (I.faults input.old) 0 0)
         (counts (P.faults platform.new) 0 (I.faults input.new) 0 0) result }
-    ensures untaken { IfOk result (λ finding. finding ≡ Finding.BadRoot → input.new ≡ input.old) }
+    ensures untaken { P.tells → (IsServedImage (P.history platform.old).present → ⊥) → input.new ≡ input.old }
     ensures image { P.tells → (P.history platform.new).present ≡ (P.history platform.old).present }
     ensures time { P.tells → Steps (P.history platform.old) (P.history platform.new) }
     ensures head { P.head platform.new ≡ P.head platform.old }

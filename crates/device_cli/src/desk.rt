@@ -1,5 +1,5 @@
 //! What a run keeps between lines, and the answer to each command.
-ghost use Rattle.std.specs.Prelude.{◌≡◌, ◌≢◌, ◌<◌, ◌≤◌, ◌⊎◌, ℕ, List, Option, true, false, IfOk, IfErr, IsErrOf, None, Some, Ok, take};
+ghost use Rattle.std.specs.Prelude.{◌≡◌, ◌≢◌, ◌<◌, ◌≤◌, ◌⊎◌, ℕ, List, Option, true, false, IfOk, IfErr, None, Some, Ok, take};
 ghost use Rattle.sdbt_base.specs.Faults.{Tells};
 ghost use Rattle.script_lang.specs.Commands as commands;
 ghost use Rattle.script_lang.specs.Commands.{FitsBlock as FitsCommand, asked};
@@ -8,7 +8,8 @@ ghost use Rattle.sdbt_base.specs.Counts.{counts};
 ghost use Rattle.session_calls.specs.Blame.{IsBlamed};
 ghost use Rattle.platform.specs.History.{During};
 ghost use Rattle.seizure.specs.Opened.{count_of_kind};
-ghost use Rattle.device_cli.specs.Replied.{IsOfBlock};
+ghost use Rattle.device_cli.specs.Causes.{AnswersAny, IsUncalled};
+ghost use Rattle.device_cli.specs.Replied.{outcome};
 
 use device_core::{EraseRefusal, FormatRefusal};
 use device_session::{CommitReply, Session};
@@ -37,7 +38,6 @@ pub(crate) struct Desk {
 impl Desk {
     ghost use Rattle.device_cli.specs.Desk.{IsReady, Before, After};
     ghost use Rattle.device_cli.specs.Parts.{AddsPages, Keeps, KeepsFrom, KeepsStill, LooksFew, SeesAny, ServesAny, StaysEnough};
-    ghost use Rattle.session_calls.specs.Damage.{MeetsDamage};
 
     /// No session.
     pub(crate) fn new(alloc: Global) -> Desk
@@ -65,8 +65,9 @@ impl Desk {
         ensures after { After P.Platform self.old self.new platform.old platform.new (asked command.now self.old.buffer) result }
         ensures blame { IsBlamed (counts (P.faults platform.old) (T.faults tape.old) 0 0 (L.faults ledger.old))
             (counts (P.faults platform.new) (T.faults tape.new) 0 0 (L.faults ledger.new)) result }
-        ensures of_block { (addr : ℕ) → IsErrOf result (DeviceStop.BadRecord addr) → IsOfBlock (asked command.now self.old.buffer) }
-        ensures damage { P.tells → MeetsDamage (P.history platform.new).present result }
+        // On any image: why it is answered so.
+        ensures any { AnswersAny P.tells (P.history platform.old).present (P.history platform.new).present self.old.session (asked command.now self.old.buffer) (outcome result self.new.buffer) }
+        ensures still { IsUncalled tape.old tape.new ledger.old ledger.new (asked command.now self.old.buffer) }
         ensures pages { AddsPages P.Platform self.old self.new platform.old platform.new (asked command.now self.old.buffer) result }
         ensures enough { StaysEnough self.old self.new result }
         ensures keeps { Keeps P.Platform T.Tape L.Sink self.old self.new platform.old platform.new tape.old tape.new ledger.old ledger.new result }
@@ -103,7 +104,7 @@ impl Desk {
         ensures after { After P.Platform self.old self.new platform.old platform.new (commands.Format blocks order) result }
         ensures blame { IsBlamed (counts (P.faults platform.old) (T.faults tape.old) 0 0 (L.faults ledger.old))
             (counts (P.faults platform.new) (T.faults tape.new) 0 0 (L.faults ledger.new)) result }
-        ensures damage { (addr : ℕ) → IsErrOf result (DeviceStop.BadRecord addr) → ⊥ }
+        ensures any { AnswersAny P.tells (P.history platform.old).present (P.history platform.new).present self.old.session (commands.Format blocks order) (outcome result self.new.buffer) }
         ensures pages { AddsPages P.Platform self.old self.new platform.old platform.new (commands.Format blocks order) result }
         ensures enough { StaysEnough self.old self.new result }
         ensures keeps { Keeps P.Platform T.Tape L.Sink self.old self.new platform.old platform.new tape.old tape.new ledger.old ledger.new result }
@@ -127,7 +128,7 @@ impl Desk {
         requires { Before P.Platform self.old platform.old }
         ensures after { After P.Platform self.old self.new platform.old platform.new commands.Mount result }
         ensures blame { IsBlamed (counts (P.faults platform.old) 0 0 0 0) (counts (P.faults platform.new) 0 0 0 0) result }
-        ensures damage { (addr : ℕ) → IsErrOf result (DeviceStop.BadRecord addr) → ⊥ }
+        ensures any { AnswersAny P.tells (P.history platform.old).present (P.history platform.new).present self.old.session commands.Mount (outcome result self.new.buffer) }
         ensures pages { AddsPages P.Platform self.old self.new platform.old platform.new commands.Mount result }
         ensures enough { StaysEnough self.old self.new result }
         ensures keeps { KeepsStill P.Platform self.old self.new platform.old platform.new result }
@@ -149,7 +150,7 @@ impl Desk {
         requires { Before P.Platform self.old platform.old }
         ensures after { After P.Platform self.old self.new platform.old platform.new (commands.Read block) result }
         ensures blame { IsBlamed (counts (P.faults platform.old) 0 0 0 0) (counts (P.faults platform.new) 0 0 0 0) result }
-        ensures damage { P.tells → MeetsDamage (P.history platform.new).present result }
+        ensures any { AnswersAny P.tells (P.history platform.old).present (P.history platform.new).present self.old.session (commands.Read block) (outcome result self.new.buffer) }
         ensures pages { AddsPages P.Platform self.old self.new platform.old platform.new (commands.Read block) result }
         ensures enough { StaysEnough self.old self.new result }
         ensures keeps { KeepsStill P.Platform self.old self.new platform.old platform.new result }
@@ -178,7 +179,7 @@ impl Desk {
         ensures after { After P.Platform self.old self.new platform.old platform.new (commands.Write block (take count self.old.buffer)) result }
         ensures blame { IsBlamed (counts (P.faults platform.old) (T.faults tape.old) 0 0 0)
             (counts (P.faults platform.new) (T.faults tape.new) 0 0 0) result }
-        ensures damage { P.tells → MeetsDamage (P.history platform.new).present result }
+        ensures any { AnswersAny P.tells (P.history platform.old).present (P.history platform.new).present self.old.session (commands.Write block (take count self.old.buffer)) (outcome result self.new.buffer) }
         ensures pages { AddsPages P.Platform self.old self.new platform.old platform.new (commands.Write block (take count self.old.buffer)) result }
         ensures enough { StaysEnough self.old self.new result }
         ensures keeps { (written : Option (List ℕ))
@@ -202,7 +203,7 @@ impl Desk {
         requires { Before P.Platform self.old platform.old }
         ensures after { After P.Platform self.old self.new platform.old platform.new (commands.Trim block) result }
         ensures blame { IsBlamed (counts (P.faults platform.old) 0 0 0 0) (counts (P.faults platform.new) 0 0 0 0) result }
-        ensures damage { P.tells → MeetsDamage (P.history platform.new).present result }
+        ensures any { AnswersAny P.tells (P.history platform.old).present (P.history platform.new).present self.old.session (commands.Trim block) (outcome result self.new.buffer) }
         ensures pages { AddsPages P.Platform self.old self.new platform.old platform.new (commands.Trim block) result }
         ensures enough { StaysEnough self.old self.new result }
         ensures keeps { KeepsStill P.Platform self.old self.new platform.old platform.new result }
@@ -228,7 +229,7 @@ impl Desk {
         ensures after { After P.Platform self.old self.new platform.old platform.new commands.Commit result }
         ensures blame { IsBlamed (counts (P.faults platform.old) (T.faults tape.old) 0 0 (L.faults ledger.old))
             (counts (P.faults platform.new) (T.faults tape.new) 0 0 (L.faults ledger.new)) result }
-        ensures damage { (addr : ℕ) → IsErrOf result (DeviceStop.BadRecord addr) → ⊥ }
+        ensures any { AnswersAny P.tells (P.history platform.old).present (P.history platform.new).present self.old.session commands.Commit (outcome result self.new.buffer) }
         ensures pages { AddsPages P.Platform self.old self.new platform.old platform.new commands.Commit result }
         ensures enough { StaysEnough self.old self.new result }
         ensures keeps { Keeps P.Platform T.Tape L.Sink self.old self.new platform.old platform.new tape.old tape.new ledger.old ledger.new result }
@@ -251,6 +252,7 @@ impl Desk {
         ensures reply { IfOk result (λ reply. CanWrite (said reply self.new.buffer)) }
         ensures short { IfOk result FitsBlock }
         ensures full { IfOk result (λ reply. reply ≡ Reply.Full → ⊥) }
+        ensures any { AnswersAny P.tells (P.history platform.now).present (P.history platform.now).present self.old.session commands.Drop (outcome result self.new.buffer) }
         ensures stop { IfErr result (λ stop. ⊥) }
         ensures enough { StaysEnough self.old self.new result }
         ensures answered { P.tells → ServesAny P.Platform self.old self.new platform.now platform.now commands.Drop result }
@@ -268,7 +270,7 @@ impl Desk {
         requires { Before P.Platform self.old platform.old }
         ensures after { After P.Platform self.old self.new platform.old platform.new commands.Erase result }
         ensures blame { IsBlamed (counts (P.faults platform.old) 0 0 0 0) (counts (P.faults platform.new) 0 0 0 0) result }
-        ensures damage { (addr : ℕ) → IsErrOf result (DeviceStop.BadRecord addr) → ⊥ }
+        ensures any { AnswersAny P.tells (P.history platform.old).present (P.history platform.new).present self.old.session commands.Erase (outcome result self.new.buffer) }
         ensures pages { AddsPages P.Platform self.old self.new platform.old platform.new commands.Erase result }
         ensures enough { StaysEnough self.old self.new result }
         ensures keeps { KeepsStill P.Platform self.old self.new platform.old platform.new result }
@@ -289,7 +291,7 @@ impl Desk {
         requires { Before P.Platform self.now platform.old }
         ensures after { After P.Platform self.now self.now platform.old platform.new commands.Seize result }
         ensures blame { IsBlamed (counts (P.faults platform.old) 0 0 0 0) (counts (P.faults platform.new) 0 0 0 0) result }
-        ensures damage { (addr : ℕ) → IsErrOf result (DeviceStop.BadRecord addr) → ⊥ }
+        ensures any { AnswersAny P.tells (P.history platform.old).present (P.history platform.new).present self.now.session commands.Seize (outcome result self.now.buffer) }
         ensures head { P.head platform.new ≡ P.head platform.old }
         ensures enough { StaysEnough self.now self.now result }
         ensures keeps { KeepsStill P.Platform self.now self.now platform.old platform.new result }
@@ -318,6 +320,7 @@ impl Desk {
         ensures reply { IfOk result (λ reply. CanWrite (said reply self.now.buffer)) }
         ensures short { IfOk result FitsBlock }
         ensures full { IfOk result (λ reply. reply ≡ Reply.Full → ⊥) }
+        ensures any { AnswersAny P.tells (P.history platform.now).present (P.history platform.now).present self.now.session commands.Stat (outcome result self.now.buffer) }
         ensures stop { IfErr result (λ stop. ⊥) }
         ensures enough { StaysEnough self.now self.now result }
         ensures answered { P.tells → ServesAny P.Platform self.now self.now platform.now platform.now commands.Stat result }

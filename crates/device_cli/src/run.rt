@@ -17,7 +17,7 @@ ghost use Rattle.device_cli.specs.Replied.{Handled};
 ghost use Rattle.line_run.specs.Puts.{HasPut, no_line, damage_line, TellsPut};
 ghost use Rattle.device_cli.specs.Ran.{Ran};
 ghost use Rattle.device_course.specs.Keys.{KeepsOn};
-ghost use Rattle.session_calls.specs.Cells.{IsUnserved};
+ghost use Rattle.session_calls.specs.Cells.{IsUntouched};
 ghost use Rattle.device_cli.specs.Parts.{Blames, Keeps};
 
 use crate::desk::Desk;
@@ -44,9 +44,9 @@ pub(crate) fn run<P: Platform, T: Tape, I: Source, O: Sink, L: Sink>(
     ensures refused_only { P.tells → IfErr result (λ stop. status_of stop ≡ 8 → IsServedImage (P.history platform.old).present → ⊥) }
     ensures refused { P.tells → (IsServedImage (P.history platform.old).present → ⊥) → IfErr result (λ stop. IsRefusal stop)
         × (IsOk result → ⊥) }
-    ensures unserved { P.tells → IfErr result (λ stop. status_of stop ≡ 8
-        → IsUnserved (damage_line DeviceStop.BadRoot) tape.old tape.new input.old input.new ledger.old ledger.new (P.head platform.old) (P.head platform.new)
-        (O.written output.old) (O.written output.new) (P.history platform.old) (P.history platform.new)) }
+    ensures untouched { P.tells → (IsServedImage (P.history platform.old).present → ⊥)
+        → IsUntouched tape.old tape.new input.old input.new ledger.old ledger.new (P.head platform.old) (P.head platform.new) (P.history platform.old) (P.history platform.new) }
+    ensures said { P.tells → IfErr result (λ stop. status_of stop ≡ 8 → Got (O.written output.old) (damage_line DeviceStop.BadRoot) (O.written output.new)) }
     ensures keeps { KeepsOn P.tells (T.drawn tape.old) (T.drawn tape.new) (L.written ledger.old) (L.written ledger.new) None
         (P.history platform.old) (P.history platform.new) (IsOk result) (λ keys. ⊤) }
     ensures blame { IsBlamedOn

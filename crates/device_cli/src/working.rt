@@ -2,14 +2,15 @@
 ghost use Rattle.std.specs.Prelude.{◌≡◌, ◌≤◌, ◌⊎◌, ℕ, List, Option, None, ⊤, IfErr, IsOk, flat_map};
 ghost use Rattle.script_lang.specs.Replies.{Reply, line_of};
 ghost use Rattle.workload.specs.Summaries.{heading, summary};
+ghost use Rattle.sdbt_base.specs.Told.{Got};
 ghost use Rattle.device_terms.specs.Served.{IsServedImage};
 ghost use Rattle.device_session.specs.Sessions.{Session};
 ghost use Rattle.device_course.specs.Keys.{KeepsOn};
 ghost use Rattle.line_run.specs.Puts.{HasPut, damage_line, TellsPut};
 ghost use Rattle.line_run.specs.Stops.{exit_of, IsBlamedOn, status_of};
 ghost use Rattle.sdbt_base.specs.Counts.{counts};
-ghost use Rattle.session_calls.specs.Cells.{IsUnserved};
-ghost use Rattle.device_cli.specs.Working.{Worked};
+ghost use Rattle.session_calls.specs.Cells.{IsUntouched};
+ghost use Rattle.device_cli.specs.Working.{IsIdle, Worked};
 ghost use Rattle.device_cli.specs.World.{world_of};
 
 use crate::run::run;
@@ -83,16 +84,17 @@ pub(crate) fn work<P: Platform, T: Tape, O: Sink, L: Sink>(
     ensures refused_only { P.tells → IfErr result (λ stop. status_of stop ≡ 8 → IsServedImage (P.history platform.old).present → ⊥) }
     ensures refused { P.tells → (IsServedImage (P.history platform.old).present → ⊥)
         → (exit_of result ≡ 8) ⊎ (exit_of result ≡ 4) ⊎ (exit_of result ≡ 5) ⊎ (exit_of result ≡ 11) }
-    ensures unserved { P.tells → IfErr result (λ stop. status_of stop ≡ 8
-        → IsUnserved (damage_line DeviceStop.BadRoot) tape.old tape.new (tt {0}) (tt {0}) ledger.old ledger.new (P.head platform.old) (P.head platform.new)
-        (O.written output.old) (O.written output.new) (P.history platform.old) (P.history platform.new)) }
+    ensures untouched { P.tells → (IsServedImage (P.history platform.old).present → ⊥)
+        → IsUntouched tape.old tape.new (tt {0}) (tt {0}) ledger.old ledger.new (P.head platform.old) (P.head platform.new) (P.history platform.old) (P.history platform.new) }
+    ensures said { P.tells → IfErr result (λ stop. status_of stop ≡ 8 → Got (O.written output.old) (damage_line DeviceStop.BadRoot) (O.written output.new)) }
     ensures keeps { KeepsOn P.tells (T.drawn tape.old) (T.drawn tape.new) (L.written ledger.old) (L.written ledger.new) None
         (P.history platform.old) (P.history platform.new) (IsOk result) (λ keys. ⊤) }
     ensures blame { IsBlamedOn
         (counts (P.faults platform.old) (T.faults tape.old) 0 (O.faults output.old) (L.faults ledger.old))
         (counts (P.faults platform.new) (T.faults tape.new) 0 (O.faults output.new) (L.faults ledger.new)) result }
     ensures worked { (session : Option Session)
-        × Worked P.tells seed count (world_of P.Platform None platform.old) (world_of P.Platform session platform.new) (O.written output.old) (O.written output.new) result }
+        × (IsIdle (world_of P.Platform None platform.old) (world_of P.Platform session platform.new) (O.written output.old) (O.written output.new) result
+        ⊎ Worked P.tells seed count (world_of P.Platform None platform.old) (world_of P.Platform session platform.new) (O.written output.old) (O.written output.new) result) }
 {
     let Ok(text) = script(alloc, seed, count) else {
         return Err(Stop::Device(DeviceStop::Memory));

@@ -1,5 +1,5 @@
 -- What a ledger that is read from an input is judged to be.
-use Rattle.std.specs.Prelude.{◌≡◌, ℕ, ◌<◌, ◌≤◌, ◌^◌, List, length, Option, Result, Ok, Err}
+use Rattle.std.specs.Prelude.{◌≡◌, ◌≢◌, [], ℕ, ◌<◌, ◌≤◌, ◌^◌, List, length, Option, Result, Ok, Err}
 use Rattle.sdbt_base.specs.Told.{Gave, IsAtEnd}
 use Rattle.root_codec.specs.declared.root.Root.{Root}
 use Rattle.cert_maker.specs.Cert.{Cert}
@@ -17,12 +17,16 @@ pub record IsWhole (taken : List ℕ) (left : Option (List ℕ)) (certs : List C
   pub end : IsAtEnd left
   pub ledger : IsLedger taken certs
 
+-- memory was wanted for something that was taken, before the limit
+abbrev pub IsWanting : List ℕ → Type 0
+IsWanting taken = (taken ≢ []) × (length taken < 2 ^ 32)
+
 -- why no ledger was read whole
 abbrev pub IsUnread : List ℕ → JudgeRefusal → Type 0
 IsUnread taken (judges.Rule number value) = ⊥
 IsUnread taken judges.Source = length taken < 2 ^ 32
 IsUnread taken judges.Limit = length taken ≡ 2 ^ 32
-IsUnread taken judges.Memory = Unit {0}
+IsUnread taken judges.Memory = IsWanting taken
 
 -- the ledger whole, or why it isn't
 abbrev pub IsRead : List ℕ → Option (List ℕ) → Result (List Cert) JudgeRefusal → Type 0
@@ -38,7 +42,7 @@ IsFound root taken left (Err (judges.Rule number value)) =
     (certs : List Cert) × IsWhole taken left certs × First (chain_of certs root.commit) root number value
 IsFound root taken left (Err judges.Source) = length taken < 2 ^ 32
 IsFound root taken left (Err judges.Limit) = length taken ≡ 2 ^ 32
-IsFound root taken left (Err judges.Memory) = Unit {0}
+IsFound root taken left (Err judges.Memory) = IsWanting taken
 
 -- what was taken from an input, with what came of it
 pub record FromInput {R : Type 0} (Is : List ℕ → Option (List ℕ) → R → Type 0) (left left_now : Option (List ℕ)) (result : R) : Type 0 where

@@ -15,7 +15,8 @@ const PIECE: usize = 4096;
 
 /// Judges the ledger that an input gives, whoever made it, for a root record. Each of its lines that spells a certificate is one,
 /// other lines are skipped, and a last line may lack its line feed. It is accepted only after it was read to its end, and refused
-/// by `Rule` with the first broken rule; by `Source` where the input failed; by `Limit` at 2^32 bytes; or by `Memory`.
+/// by `Rule` with the first broken rule; by `Source` where the input failed; by `Limit` at 2^32 bytes; or by `Memory`, which comes only
+/// where something was taken, and not at the limit: an empty ledger is refused by the last rule.
 pub fn judge<I: Source>(alloc: Global, input: &mut I, root: &Root) -> Result<Verdict, JudgeRefusal>
     ensures judged { Judged root.now (I.left input.old) (I.left input.new) result }
     ensures cause { TellsOf JudgeRefusal.Source result (I.faults input.old) (I.faults input.new) }
@@ -34,7 +35,7 @@ fn read_ledger<I: Source>(alloc: Global, input: &mut I) -> Result<Checker, Judge
     let mut reader = LedgerReader::new(alloc);
     let mut piece = [0; PIECE];
     let mut left = MAX_INPUT;
-    while left > 0 {
+    'takes: loop {
         let room = left.min(PIECE as u64) as usize;
         let Ok(count) = input.take(&mut piece[..room]) else {
             return Err(JudgeRefusal::Source);
@@ -42,8 +43,10 @@ fn read_ledger<I: Source>(alloc: Global, input: &mut I) -> Result<Checker, Judge
         if count == 0 {
             return Ok(reader.finish(alloc)?);
         }
-        reader.read(alloc, &piece[..count])?;
         left -= count as u64;
+        if left == 0 {
+            return Err(JudgeRefusal::Limit);
+        }
+        reader.read(alloc, &piece[..count])?;
     }
-    Err(JudgeRefusal::Limit)
 }

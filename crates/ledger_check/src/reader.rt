@@ -1,5 +1,5 @@
 //! Reads a ledger in pieces, line by line.
-ghost use Rattle.std.specs.Prelude.{◌≡◌, ◌∷◌, ◌++◌, [], ℕ, List, IfOk, OnOk};
+ghost use Rattle.std.specs.Prelude.{◌≡◌, ◌≢◌, ◌∷◌, ◌++◌, [], ℕ, List, IfOk, IsErr, OnOk};
 ghost use Rattle.cert_codec.specs.Ledger.{IsLedger};
 ghost use Rattle.ledger_check.specs.Reading.{Fed, HasRead};
 
@@ -58,7 +58,8 @@ impl LedgerReader {
 
     /// Reads a last line that lacks its line feed. The checker was fed the whole ledger then.
     pub(crate) fn finish(self, alloc: Global) -> Result<Checker, Memory>
-        ensures { (taken : List ℕ) → HasRead self taken → IfOk result (IsLedger taken) }
+        ensures ledger { (taken : List ℕ) → HasRead self taken → IfOk result (IsLedger taken) }
+        ensures some { IsErr result → self.line.items ≢ [] }
     {
         let LedgerReader { mut checker, line } = self;
         if !line.is_empty() {

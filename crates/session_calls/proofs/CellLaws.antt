@@ -1,14 +1,16 @@
 -- What a call that leaves the cell keeps of a session on the root record in it, and what it names there.
-use Rattle.std.proofs.Common.{◌≡◌, ℕ, Some, sym, ◌∙◌, subst, ap}
-use Rattle.std.specs.Prelude.{Option, IfSome}
+use Rattle.std.proofs.Common.{◌≡◌, ℕ, Some, inl, inr, sym, ◌∙◌, subst, ap}
+use Rattle.std.specs.Prelude.{◌⊎◌, Option, IfSome}
+use Rattle.platform.specs.Image.{Image}
 use Rattle.platform.specs.History.{History, CellStays}
 use Rattle.platform.proofs.Moments.{During-now}
 use Rattle.root_codec.specs.declared.root.Root.{Root}
 use Rattle.root_codec.specs.RootRecord.{root_bytes}
+use Rattle.page_store.specs.Tree.{Wrong}
 use Rattle.device_session.specs.Damage.{Follows, IsDamaged}
 use Rattle.device_session.specs.Open.{IsOpen}
 use Rattle.device_session.specs.Sessions.{Session}
-use Rattle.session_calls.specs.Damage.{IsMounted, IsWrongPage}
+use Rattle.session_calls.specs.Damage.{IsMounted, IsWrongPlace, IsMiscountedAt}
 
 -- a session that is on the root record in the cell stays so while both stay
 pub mounted_still : (held : Option Session) (session now : Session) (old new : History) → held ≡ Some session → IfSome held (IsMounted old.present)
@@ -20,14 +22,36 @@ mounted_still held session now old new is mounted same stays follows =
       follows = follows there.follows;
     }
 
--- what a session names that is on the root record in the cell is a wrong page
-pub wrong_page : (held : Option Session) (session : Session) (pages addr : ℕ) (old new : History) → held ≡ Some session → IsOpen session pages → IfSome held (IsMounted old.present)
-    → CellStays old new → (Follows session old.present → IsDamaged new.present.readable session.root addr) → IsWrongPage new.present addr
-wrong_page held session pages addr old new is there_open mounted stays damaged =
-    let there : IsMounted old.present session = subst (λ (s : Option Session). IfSome s (IsMounted old.present)) is mounted in
-    record {
-      root = session.root;
-      in_range = there_open.served.in_range;
-      cell = During-now old new (λ image. image.cell ≡ old.present.cell) stays ∙ there.cell;
-      damaged = damaged there.follows;
-    }
+-- what a session names that is on the root record in the cell is a wrong place
+pub wrong_place : (session : Session) (pages addr : ℕ) (old new : History) → IsOpen session pages → IsMounted old.present session → CellStays old new
+    → (Follows session old.present → Wrong new.present.readable session.root addr) → IsWrongPlace new.present addr
+wrong_place session pages addr old new is_open there stays wrong = record {
+  root = session.root;
+  in_range = is_open.served.in_range;
+  cell = During-now old new (λ image. image.cell ≡ old.present.cell) stays ∙ there.cell;
+  wrong = wrong there.follows;
+}
+
+-- an update names one, or the root node at a bound of the count, and then the tree is miscounted
+pub wrong_page : (session : Session) (pages addr : ℕ) (old new : History) (Bound : Type 0) → IsOpen session pages → IsMounted old.present session → CellStays old new → new.present ≡ old.present
+    → (Follows session old.present → (Wrong old.present.readable session.root addr ⊎ Bound) × IsDamaged new.present.readable session.root addr)
+    → IsWrongPlace new.present addr ⊎ (IsMiscountedAt new.present addr × Bound)
+wrong_page session pages addr old new Bound is_open there stays same damage =
+    let place : Wrong new.present.readable session.root addr → IsWrongPlace new.present addr ⊎ (IsMiscountedAt new.present addr × Bound) =
+    λ wrong. inl (wrong_place session pages addr old new is_open there stays (λ follows. wrong)) in
+    elim (damage there.follows).0 [
+      | inl wrong ↦ place (subst (λ (i : Image). Wrong i.readable session.root addr) (sym same) wrong)
+      | inr bound ↦ elim (damage there.follows).1 [
+        | inl wrong ↦ place wrong
+        | inr node ↦ inr (
+          record {
+            root = session.root;
+            in_range = is_open.served.in_range;
+            cell = During-now old new (λ image. image.cell ≡ old.present.cell) stays ∙ there.cell;
+            is_node = node.0;
+            miscounted = node.1;
+          },
+          bound,
+        )
+      ]
+    ]

@@ -1,6 +1,6 @@
 -- What a read and a trimmed block say, by what the session's calls say: neither adds a page or draws a key.
 use Rattle.std.proofs.Common.{◌≡◌, ◌+◌, ◌*◌, ◌<◌, ◌≤◌, ℕ, Bool, List, Some, Result, Ok, Err, refl, sym, ◌∙◌, subst, ap, arith}
-use Rattle.std.specs.Prelude.{◌≢◌, ◌||◌}
+use Rattle.std.specs.Prelude.{◌≢◌, ◌⊎◌, ◌||◌}
 use Rattle.std.specs.FinMap.{contains_key}
 use Rattle.sdbt_base.specs.Arrays.{Device, Session as OpenSession, State, unmapped, mounted}
 use Rattle.sdbt_base.proofs.CountLaws.{quiet_platform}
@@ -13,6 +13,7 @@ use Rattle.device_course.specs.States.{IsAt}
 use Rattle.device_course.proofs.KeysLaws.{on_look}
 use Rattle.device_session.specs.Causes.{IsReadCause, IsTrimCause}
 use Rattle.device_session.specs.Changes.{TrimsArray}
+use Rattle.device_session.specs.Damage.{IsUncounted}
 use Rattle.device_session.specs.Going.{GoesOn}
 use Rattle.device_session.specs.Holds.{Holds}
 use Rattle.device_session.specs.Keys.{StaysListed}
@@ -26,6 +27,7 @@ use Rattle.device_session.specs.declared.refusals.TrimRefusal.TheVariants as tri
 use Rattle.session_calls.specs.Along.{Along, Drawn}
 use Rattle.sdbt_base.specs.Counts.{Counts}
 use Rattle.session_calls.specs.Blame.{HasCause, IsOfCall}
+use Rattle.session_calls.specs.Damage.{IsMiscountedAt, IsWrongPlace, ReadsAny, TrimsAny}
 use Rattle.session_calls.specs.Goes.{IsReadStop, IsTrimStop, ReadsBlock, TrimsBlock}
 use Rattle.session_calls.specs.declared.stops.DeviceStop.{DeviceStop}
 use Rattle.session_calls.specs.declared.stops.DeviceStop.TheVariants as stops
@@ -88,11 +90,13 @@ trim_refused image now device array block touched trim.Memory stop is holds same
 trim_refused image now device array block touched trim.PlatformFault stop is holds same served =
     subst (λ (s : DeviceStop). TrimsBlock image now device array block (Err s)) (sym is) (at_array image now device array holds same served)
 
-pub trim_named : (refusal : TrimRefusal) (stop : DeviceStop) (addr : ℕ) → IsTrimStop refusal stop → stop ≡ stops.BadRecord addr → refusal ≡ trim.BadRecord addr
-trim_named trim.Range stop addr is named = absurd is
-trim_named trim.Memory stop addr is named = absurd (let no : stops.Memory ≡ stops.BadRecord addr = sym is ∙ named in cc)
-trim_named (trim.BadRecord there) stop addr is named = let same : stops.BadRecord there ≡ stops.BadRecord addr = sym is ∙ named in cc
-trim_named trim.PlatformFault stop addr is named = absurd (let no : stops.Platform ≡ stops.BadRecord addr = sym is ∙ named in cc)
+pub trim_any : (Known : Type 0) (image after : Image) (session : Session) (block : ℕ) (refusal : TrimRefusal) (stop : DeviceStop) → IsTrimStop refusal stop
+    → ((addr : ℕ) → refusal ≡ trim.BadRecord addr → Known → IsWrongPlace after addr ⊎ (IsMiscountedAt after addr × IsUncounted image.readable session block addr)) → TrimsAny Known image after session block (Err stop)
+trim_any Known image after session block trim.Range stop is named = absurd is
+trim_any Known image after session block trim.Memory stop is named = subst (λ (s : DeviceStop). TrimsAny Known image after session block (Err s)) (sym is) tt
+trim_any Known image after session block (trim.BadRecord addr) stop is named =
+    subst (λ (s : DeviceStop). TrimsAny Known image after session block (Err s)) (sym is) (λ known. named addr refl known)
+trim_any Known image after session block trim.PlatformFault stop is named = subst (λ (s : DeviceStop). TrimsAny Known image after session block (Err s)) (sym is) tt
 
 pub trim_leads : (image : Image) (now : Session) (device : Device) (array : OpenSession) (block : ℕ) (result : Result (Unit {0}) DeviceStop) → TrimsBlock image now device array block result → (next : State) × IsAt image (Some now) next
 trim_leads image now device array block (Ok done) led = (mounted device (unmapped array block), led)
@@ -128,10 +132,13 @@ read_refused image now device array block bytes (read.BadRecord addr) stop is ho
 read_refused image now device array block bytes read.PlatformFault stop is holds reads same served =
     subst (λ (s : DeviceStop). ReadsBlock image now device array block bytes (Err s)) (sym is) (at_array image now device array holds same served)
 
-pub read_named : (refusal : ReadRefusal) (stop : DeviceStop) (addr : ℕ) → IsReadStop refusal stop → stop ≡ stops.BadRecord addr → refusal ≡ read.BadRecord addr
-read_named read.Range stop addr is named = absurd is
-read_named (read.BadRecord there) stop addr is named = let same : stops.BadRecord there ≡ stops.BadRecord addr = sym is ∙ named in cc
-read_named read.PlatformFault stop addr is named = absurd (let no : stops.Platform ≡ stops.BadRecord addr = sym is ∙ named in cc)
+-- on any pages a place that doesn't fit is named, or the platform failed
+pub read_any : (Known : Type 0) (image after : Image) (session : Session) (block : ℕ) (bytes : List ℕ) (refusal : ReadRefusal) (stop : DeviceStop) → IsReadStop refusal stop
+    → ((addr : ℕ) → refusal ≡ read.BadRecord addr → Known → IsWrongPlace after addr) → ReadsAny Known image after session block bytes (Err stop)
+read_any Known image after session block bytes read.Range stop is named = absurd is
+read_any Known image after session block bytes (read.BadRecord addr) stop is named =
+    subst (λ (s : DeviceStop). ReadsAny Known image after session block bytes (Err s)) (sym is) (λ known. named addr refl known)
+read_any Known image after session block bytes read.PlatformFault stop is named = subst (λ (s : DeviceStop). ReadsAny Known image after session block bytes (Err s)) (sym is) tt
 
 pub read_leads : (image : Image) (now : Session) (device : Device) (array : OpenSession) (block : ℕ) (bytes : List ℕ) (result : Result (Unit {0}) DeviceStop) → ReadsBlock image now device array block bytes result → (next : State) × IsAt image (Some now) next
 read_leads image now device array block bytes (Ok done) led = (mounted device array, led.0)

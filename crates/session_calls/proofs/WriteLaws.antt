@@ -1,6 +1,6 @@
 -- What a written block says, by what the session's write says.
-use Rattle.std.proofs.Common.{◌≡◌, ◌+◌, ◌<◌, ◌≤◌, ℕ, List, Some, Result, Ok, Err, refl, sym, ◌∙◌, subst, ap, arith}
-use Rattle.std.specs.Prelude.{◌≢◌}
+use Rattle.std.proofs.Common.{◌≡◌, ◌+◌, ◌<◌, ◌≤◌, ℕ, List, Some, Result, Ok, Err, refl, sym, subst, ap, arith}
+use Rattle.std.specs.Prelude.{◌≢◌, ◌⊎◌, true}
 use Rattle.sdbt_base.specs.Arrays.{Device, Session as OpenSession, State, written, mounted}
 use Rattle.sdbt_base.specs.declared.tapes.Tape.{Ghosts as TapeGhosts}
 use Rattle.platform.specs.declared.platforms.Platform.{Ghosts as PlatformGhosts}
@@ -13,6 +13,7 @@ use Rattle.device_course.specs.States.{IsAt}
 use Rattle.device_course.proofs.KeysLaws.{on_update}
 use Rattle.device_session.specs.Causes.{IsWriteCause}
 use Rattle.device_session.specs.Changes.{WriteAdds, WriteGrows, WritesArray}
+use Rattle.device_session.specs.Damage.{HasRoom, IsFound, IsPastLimit}
 use Rattle.device_session.specs.Going.{GoesOn}
 use Rattle.device_session.specs.Keys.{HoldsListed}
 use Rattle.device_session.specs.Open.{is_touched, needed_by}
@@ -22,6 +23,7 @@ use Rattle.device_session.specs.declared.refusals.WriteRefusal.TheVariants as wr
 use Rattle.session_calls.specs.Along.{Along, drawn_by}
 use Rattle.sdbt_base.specs.Counts.{Counts}
 use Rattle.session_calls.specs.Blame.{HasCause, IsOfCall}
+use Rattle.session_calls.specs.Damage.{IsMiscountedAt, IsWrongPlace, WritesAny}
 use Rattle.session_calls.specs.Goes.{AddsBlock, IsWriteStop, WritesBlock}
 use Rattle.session_calls.specs.declared.stops.DeviceStop.{DeviceStop}
 use Rattle.session_calls.specs.declared.stops.DeviceStop.TheVariants as stops
@@ -79,14 +81,25 @@ write_refused image now device array block bytes content write.PlatformFault sto
 write_refused image now device array block bytes content write.TapeFault stop is holds touched served =
     subst (λ (s : DeviceStop). WritesBlock image now device array block bytes (Err s)) (sym is) (at_array image now device array holds touched served)
 
--- the record that is named
-pub write_named : (refusal : WriteRefusal) (stop : DeviceStop) (addr : ℕ) → IsWriteStop refusal stop → stop ≡ stops.BadRecord addr → refusal ≡ write.BadRecord addr
-write_named write.Range stop addr is named = absurd is
-write_named write.Full stop addr is named = absurd is
-write_named write.Memory stop addr is named = absurd (let no : stops.Memory ≡ stops.BadRecord addr = sym is ∙ named in cc)
-write_named (write.BadRecord there) stop addr is named = let same : stops.BadRecord there ≡ stops.BadRecord addr = sym is ∙ named in cc
-write_named write.PlatformFault stop addr is named = absurd (let no : stops.Platform ≡ stops.BadRecord addr = sym is ∙ named in cc)
-write_named write.TapeFault stop addr is named = absurd (let no : stops.Tape ≡ stops.BadRecord addr = sym is ∙ named in cc)
+-- on any pages a place that doesn't fit is named, or the root node of a tree that is miscounted; no key was given only where a write would have been done
+pub write_any : (Known : Type 0) (image after : Image) (session : Session) (block : ℕ) (refusal : WriteRefusal) (stop : DeviceStop) → IsWriteStop refusal stop
+    → ((addr : ℕ) → refusal ≡ write.BadRecord addr → Known → IsWrongPlace after addr ⊎ (IsMiscountedAt after addr × IsPastLimit image.readable session block addr))
+    → (refusal ≡ write.TapeFault → Known → IsFound true image.readable session block ⊎ HasRoom session) → WritesAny Known image after session block (Err stop)
+write_any Known image after session block write.Range stop is named keyless = absurd is
+write_any Known image after session block write.Full stop is named keyless = absurd is
+write_any Known image after session block write.Memory stop is named keyless = subst (λ (s : DeviceStop). WritesAny Known image after session block (Err s)) (sym is) tt
+write_any Known image after session block (write.BadRecord addr) stop is named keyless =
+    subst (λ (s : DeviceStop). WritesAny Known image after session block (Err s)) (sym is) (λ known. named addr refl known)
+write_any Known image after session block write.PlatformFault stop is named keyless = subst (λ (s : DeviceStop). WritesAny Known image after session block (Err s)) (sym is) tt
+write_any Known image after session block write.TapeFault stop is named keyless = subst (λ (s : DeviceStop). WritesAny Known image after session block (Err s)) (sym is) (λ known. keyless refl known)
+
+-- a write that met damage left the image
+pub write_left : {S R : Type 0} (P : PlatformGhosts S) (T : TapeGhosts R) (platform platform_now : S) (tape tape_now : R) (places : List Stub) (block addr : ℕ) (refusal : WriteRefusal) → refusal ≡ write.BadRecord addr
+    → WriteAdds P T platform platform_now tape tape_now places block (Err refusal) → P.tells → (P.history platform_now).present ≡ (P.history platform).present
+write_left P T platform platform_now tape tape_now places block addr refusal is adds told =
+    let nothing : WriteAdds P T platform platform_now tape tape_now places block (Err (write.BadRecord addr)) =
+    subst (λ (r : WriteRefusal). WriteAdds P T platform platform_now tape tape_now places block (Err r)) is adds in
+    nothing.image told
 
 -- the state that a write leads to
 pub write_leads : (image : Image) (now : Session) (device : Device) (array : OpenSession) (block : ℕ) (bytes : List ℕ) (result : Result (Unit {0}) DeviceStop) → WritesBlock image now device array block bytes result

@@ -1,6 +1,5 @@
--- What is found in a cell before anything is served, and a run that serves nothing.
-use Rattle.std.specs.Prelude.{◌≡◌, ℕ, List, Option, None, Some, length}
-use Rattle.sdbt_base.specs.Told.{Got}
+-- What is found in a cell before anything is served, and a run that touches nothing.
+use Rattle.std.specs.Prelude.{◌≡◌, ℕ, Option, None, Some, length}
 use Rattle.platform.specs.Image.{Image}
 use Rattle.platform.specs.History.{History, During}
 use Rattle.root_codec.specs.declared.root.Root.{Root}
@@ -12,11 +11,10 @@ abbrev pub IsInCell : Image → Option Root → Type 0
 IsInCell image None = image.cell ≡ None
 IsInCell image (Some root) = IsRootWithin (length image.recorded) root × (image.cell ≡ Some (root_bytes root))
 
--- the cell could not be served: all that a run is handed is as it was, at each moment, but for this line of the output, which says so
-pub record IsUnserved {T I L : Type 0} (line : List ℕ) (tape tape_now : T) (input input_now : I) (ledger ledger_now : L) (head head_now : ℕ) (written written_now : Option (List ℕ)) (old new : History) : Type 0 where
+-- all that a run is handed is as it was, at each moment, but for what its output got
+pub record IsUntouched {T I L : Type 0} (tape tape_now : T) (input input_now : I) (ledger ledger_now : L) (head head_now : ℕ) (old new : History) : Type 0 where
   pub undrawn : tape_now ≡ tape
   pub untaken : input_now ≡ input
   pub unput : ledger_now ≡ ledger
   pub pages : head_now ≡ head
-  pub told : Got written line written_now
   pub image : During old new (λ image. image ≡ old.present)

@@ -1,10 +1,12 @@
 -- What a session names that meets a record which doesn't fit.
-use Rattle.std.specs.Prelude.{◌≡◌, ℕ, Some, Result, IsErrOf}
+use Rattle.std.specs.Prelude.{◌≡◌, ◌≤◌, ◌⊎◌, ℕ, List, Some, Result, Ok, Err, true, false}
 use Rattle.platform.specs.Image.{Image}
 use Rattle.root_codec.specs.declared.root.Root.{Root}
 use Rattle.root_codec.specs.RootRecord.{FitsRoot, root_bytes}
-use Rattle.device_session.specs.Damage.{Follows, IsDamaged}
+use Rattle.page_store.specs.Tree.{Wrong}
+use Rattle.device_session.specs.Damage.{Follows, IsMiscounted, IsFound, HasRoom, IsPastLimit, IsUncounted}
 use Rattle.device_session.specs.Open.{root_of}
+use Rattle.device_session.specs.Reading.{FindsContent}
 use Rattle.device_session.specs.Sessions.{Session}
 use Rattle.session_calls.specs.declared.stops.DeviceStop.{DeviceStop}
 use Rattle.session_calls.specs.declared.stops.DeviceStop.TheVariants as stops
@@ -14,14 +16,54 @@ pub record IsMounted (image : Image) (session : Session) : Type 0 where
   pub cell : image.cell ≡ Some (root_bytes (root_of session))
   pub follows : Follows session image
 
--- below the root record in the cell a place at this address doesn't fit, or it is the root node's, of which the root record
--- counts other blocks than it has
-pub record IsWrongPage (image : Image) (addr : ℕ) : Type 0 where
+-- a place at this address of the tree of the root record in the cell doesn't fit
+pub record IsWrongPlace (image : Image) (addr : ℕ) : Type 0 where
   pub root : Root
   pub in_range : FitsRoot root
   pub cell : image.cell ≡ Some (root_bytes root)
-  pub damaged : IsDamaged image.readable root addr
+  pub wrong : Wrong image.readable root addr
 
--- a record that doesn't fit is one
-abbrev pub MeetsDamage : {X : Type 0} → Image → Result X DeviceStop → Type 0
-MeetsDamage image result = (addr : ℕ) → IsErrOf result (stops.BadRecord addr) → IsWrongPage image addr
+-- the address is that of the root node, and the root record in the cell says that other blocks are mapped than its tree has
+pub record IsMiscountedAt (image : Image) (addr : ℕ) : Type 0 where
+  pub root : Root
+  pub in_range : FitsRoot root
+  pub cell : image.cell ≡ Some (root_bytes root)
+  pub is_node : addr ≡ root.addr
+  pub miscounted : IsMiscounted image.readable root
+
+-- the one or the other
+abbrev pub IsWrongPage : Image → ℕ → Type 0
+IsWrongPage image addr = IsWrongPlace image addr ⊎ IsMiscountedAt image addr
+
+-- why a read of a block was answered so, on any pages, where this is known of the session: the bytes are those that a look-up of the block comes to; or a place that doesn't fit is
+-- named; or the platform failed
+abbrev pub ReadsAny : Type 0 → Image → Image → Session → ℕ → List ℕ → Result (Unit {0}) DeviceStop → Type 0
+ReadsAny Known image after session block bytes (Ok done) = Known → FindsContent image.readable session.grove block bytes
+ReadsAny Known image after session block bytes (Err (stops.BadRecord addr)) = Known → IsWrongPlace after addr
+ReadsAny Known image after session block bytes (Err stops.Platform) = Unit {0}
+ReadsAny Known image after session block bytes (Err stops.Memory) = ⊥
+ReadsAny Known image after session block bytes (Err stops.Tape) = ⊥
+ReadsAny Known image after session block bytes (Err stops.Ledger) = ⊥
+ReadsAny Known image after session block bytes (Err stops.BadRoot) = ⊥
+
+-- the same of a write: the block is mapped, or another one can be; what is named is a place that doesn't fit, or the root node of a tree that is miscounted, where the block isn't mapped
+-- and no more can be
+abbrev pub WritesAny : Type 0 → Image → Image → Session → ℕ → Result (Unit {0}) DeviceStop → Type 0
+WritesAny Known image after session block (Ok done) = Known → IsFound true image.readable session block ⊎ HasRoom session
+WritesAny Known image after session block (Err (stops.BadRecord addr)) = Known → IsWrongPlace after addr ⊎ (IsMiscountedAt after addr × IsPastLimit image.readable session block addr)
+WritesAny Known image after session block (Err stops.Platform) = Unit {0}
+WritesAny Known image after session block (Err stops.Memory) = Unit {0}
+WritesAny Known image after session block (Err stops.Tape) = Known → IsFound true image.readable session block ⊎ HasRoom session
+WritesAny Known image after session block (Err stops.Ledger) = ⊥
+WritesAny Known image after session block (Err stops.BadRoot) = ⊥
+
+-- and of a trim: the block isn't mapped, or one is counted; what is named is a place that doesn't fit, or the root node of a tree that is miscounted, where the block is mapped and none is
+-- counted
+abbrev pub TrimsAny : Type 0 → Image → Image → Session → ℕ → Result (Unit {0}) DeviceStop → Type 0
+TrimsAny Known image after session block (Ok done) = Known → IsFound false image.readable session block ⊎ (1 ≤ session.mapped)
+TrimsAny Known image after session block (Err (stops.BadRecord addr)) = Known → IsWrongPlace after addr ⊎ (IsMiscountedAt after addr × IsUncounted image.readable session block addr)
+TrimsAny Known image after session block (Err stops.Platform) = Unit {0}
+TrimsAny Known image after session block (Err stops.Memory) = Unit {0}
+TrimsAny Known image after session block (Err stops.Tape) = ⊥
+TrimsAny Known image after session block (Err stops.Ledger) = ⊥
+TrimsAny Known image after session block (Err stops.BadRoot) = ⊥

@@ -3,7 +3,7 @@ ghost use Rattle.sdbt_base.specs.Arrays.{Device, Session as OpenSession, mounted
 ghost use Rattle.device_session.specs.Open.{IsOpen, blocks_of};
 ghost use Rattle.device_course.specs.States.{IsAt};
 ghost use Rattle.session_calls.specs.Along.{Drawn};
-ghost use Rattle.session_calls.specs.Damage.{IsMounted, MeetsDamage};
+ghost use Rattle.session_calls.specs.Damage.{IsMounted, ReadsAny};
 ghost use Rattle.session_calls.specs.Goes.{Goes, IsReadStop, ReadsBlock, ReadsPages};
 
 use crate::stops::DeviceStop;
@@ -26,7 +26,9 @@ pub fn read_block<P: Platform>(
     ensures leads { P.tells → (device : Device) (array : OpenSession) → IsAt (P.history platform.old).present (Some session.old) (mounted device array)
         → ReadsBlock (P.history platform.new).present session.new device array block out.new result }
     ensures reads { ReadsPages P.Platform block platform.old platform.new session.old session.new result }
-    ensures damage { P.tells → IsMounted (P.history platform.old).present session.old → MeetsDamage (P.history platform.new).present result }
+    // On any pages: why it is answered so.
+    ensures any { ReadsAny (P.tells × IsMounted (P.history platform.old).present session.old) (P.history platform.old).present (P.history platform.new).present
+        session.old block out.new result }
 {
     match session.read(platform, block, out) {
         Ok(()) => Ok(()),

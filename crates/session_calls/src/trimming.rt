@@ -3,7 +3,7 @@ ghost use Rattle.sdbt_base.specs.Arrays.{Device, Session as OpenSession, mounted
 ghost use Rattle.device_session.specs.Open.{IsOpen, blocks_of};
 ghost use Rattle.device_course.specs.States.{IsAt};
 ghost use Rattle.session_calls.specs.Along.{Drawn};
-ghost use Rattle.session_calls.specs.Damage.{IsMounted, MeetsDamage};
+ghost use Rattle.session_calls.specs.Damage.{IsMounted, TrimsAny};
 ghost use Rattle.session_calls.specs.Goes.{Goes, IsTrimStop, TrimsBlock};
 
 use crate::stops::DeviceStop;
@@ -24,7 +24,9 @@ pub fn trim_block<P: Platform>(
     ensures leads { P.tells → (device : Device) (array : OpenSession) → IsAt (P.history platform.old).present (Some session.old) (mounted device array)
         → TrimsBlock (P.history platform.new).present session.new device array block result }
     ensures head { P.head platform.new ≡ P.head platform.old }
-    ensures damage { P.tells → IsMounted (P.history platform.old).present session.old → MeetsDamage (P.history platform.new).present result }
+    // On any pages: why it is answered so.
+    ensures any { TrimsAny (P.tells × IsMounted (P.history platform.old).present session.old) (P.history platform.old).present (P.history platform.new).present
+        session.old block result }
 {
     match session.trim(platform, block) {
         Ok(()) => Ok(()),

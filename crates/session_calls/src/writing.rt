@@ -3,7 +3,7 @@ ghost use Rattle.sdbt_base.specs.Arrays.{Device, Session as OpenSession, mounted
 ghost use Rattle.device_session.specs.Open.{IsOpen, blocks_of};
 ghost use Rattle.device_course.specs.States.{IsAt};
 ghost use Rattle.session_calls.specs.Along.{Along, drawn_by};
-ghost use Rattle.session_calls.specs.Damage.{IsMounted, MeetsDamage};
+ghost use Rattle.session_calls.specs.Damage.{IsMounted, WritesAny};
 ghost use Rattle.session_calls.specs.Goes.{AddsBlock, Goes, IsWriteStop, WritesBlock, WritesSome, many_of};
 
 use crate::stops::DeviceStop;
@@ -29,7 +29,9 @@ pub fn write_block<P: Platform, T: Tape>(
     ensures leads { P.tells → (device : Device) (array : OpenSession) → IsAt (P.history platform.old).present (Some session.old) (mounted device array)
         → WritesBlock (P.history platform.new).present session.new device array block content.now result }
     ensures adds { AddsBlock P.Platform T.Tape platform.old platform.new tape.old tape.new result }
-    ensures damage { P.tells → IsMounted (P.history platform.old).present session.old → MeetsDamage (P.history platform.new).present result }
+    // On any pages: why it is answered so.
+    ensures any { WritesAny (P.tells × IsMounted (P.history platform.old).present session.old) (P.history platform.old).present (P.history platform.new).present
+        session.old block result }
 {
     match session.write(platform, tape, block, content) {
         Ok(()) => Ok(()),

@@ -11,20 +11,21 @@ use Rattle.device_cli.specs.Handed.{handed}
 use Rattle.line_run.specs.Stops.{Ending, status_of}
 use Rattle.line_run.specs.Puts.{damage_line}
 use Rattle.device_cli.specs.Seizing.{IsRefused, ReadsFewFor, Seizes}
-use Rattle.device_cli.specs.Words.{AreSeizeWords, AreWorkWords, records_of}
+use Rattle.device_cli.specs.Words.{AreRunWords, AreCheckWords, AreSeizeWords, AreWorkWords, records_of}
 use Rattle.device_cli.specs.Working.{Working}
 use Rattle.device_cli.specs.World.{World, world_of}
 use Rattle.device_cli.specs.declared.checking.Finding.{Finding}
 use Rattle.session_calls.specs.declared.stops.DeviceStop.TheVariants as device
 use Rattle.line_run.specs.declared.stop.Stop.{Stop}
 use Rattle.line_run.specs.declared.stop.Stop.TheVariants as stops
-use Rattle.device_cli.proofs.CheckLaws.{so_bad, bad_line, image_stays}
+use Rattle.device_cli.proofs.CheckLaws.{so_bad, bad_line, image_stays, not_served, untouched_of}
 use Rattle.device_cli.proofs.EndLaws.{forgets, ended_run, serves_at, checked_at, seizing_at}
 use Rattle.device_cli.proofs.GivenLaws.{few_records}
 use Rattle.line_run.proofs.StopLaws.{ArePart, cause_wide}
 use Rattle.device_cli.proofs.SeizeWordLaws.{only_word, at_eight}
-use Rattle.device_cli.proofs.WordLaws.{one_script, not_run, at_most}
-use Rattle.device_cli.proofs.WorkLaws.{working_of}
+use Rattle.device_cli.proofs.StatusLaws.{check_status, neither, none_of, run_status, seize_status, work_status}
+use Rattle.device_cli.proofs.WordLaws.{one_script, not_run, not_serving, at_most}
+use Rattle.device_cli.proofs.WorkLaws.{ended_work, working_of}
 use Rattle.device_cli.proofs.run_main.Goals as goal
 
 -- a run that was stopped has another status than 0
@@ -103,12 +104,35 @@ returns-in-Err-clause-ledger g c =
     let ended = ended_run g.P.Platform.tells old new _ was ran.0 _ (Err c.in-Err.stop) _ _ _ _ refl refl refl refl ran.1 c.in-Err.ensures.keeps in
     keeps_ledger g.P.Platform.tells old new _ _ (λ zero. absurd (never_zero c.in-Err.stop (sym c.status.ensures ∙ zero))) ended
 
+pub returns-in-Ok-clause-exits : goal.returns-in-Ok-clause-exits
+returns-in-Ok-clause-exits g c =
+    let asked : AreRunWords (map string_bytes c.args.words.now) = rw c.in-Some-Run.field-0-is at c.in-Some-Run.ensures in
+    record {
+      is = search rules;
+      forms = search rules;
+      of_words = run_status (map string_bytes c.args.words.now) 0 (Ok tt) refl asked;
+      blame = search rules;
+      taken = search rules;
+    }
+
+pub returns-in-Err-clause-exits : goal.returns-in-Err-clause-exits
+returns-in-Err-clause-exits g c =
+    let asked : AreRunWords (map string_bytes c.args.words.now) = rw c.in-Some-Run.field-0-is at c.in-Some-Run.ensures in
+    record {
+      is = search rules;
+      forms = search rules;
+      of_words = run_status (map string_bytes c.args.words.now) _ (Err c.in-Err.stop) c.status.ensures asked;
+      blame = search rules;
+      taken = search rules;
+    }
+
 -- ---- other words
 
 pub returns-in-None-clause-exits : goal.returns-in-None-clause-exits
 returns-in-None-clause-exits g c = record {
   is = search rules;
   forms = (λ two. c.in-None.ensures, λ other. refl);
+  of_words = record { input = λ e. absurd (neither 2 3 12 (λ n. omega (arith, n)) (λ n. omega (arith, n)) e); lines = λ e. absurd (none_of 2 6 7 9 (λ n. omega (arith, n)) (λ n. omega (arith, n)) (λ n. omega (arith, n)) e); refused = λ e. absurd (omega (arith, e)) };
   blame = search rules;
   taken = λ no_seizure no_work. ([], Gave-nothing (g.I.Source.left c.args.input.now), search rules);
 }
@@ -181,19 +205,36 @@ returns-in-Err-check-clause-checks g c words =
 pub returns-in-Ok-check-clause-refuses : goal.returns-in-Ok-check-clause-refuses
 returns-in-Ok-check-clause-refuses g c =
     let checks = c.in-Ok-check.ensures.checks in
-    let bad : c.status-in-Ok-check.result ≡ 8 → _ = λ e. so_bad g.P.Platform.tells (g.P.Platform.history c.args.platform.now).present checks.taken (g.I.Source.left c.check.new.input) c.in-Ok-check.finding checks.is.0 (sym c.status-in-Ok-check.ensures ∙ e) in
+    let image = (g.P.Platform.history c.args.platform.now).present in
+    let bad : c.status-in-Ok-check.result ≡ 8 → _ = λ e. so_bad g.P.Platform.tells image checks.taken (g.I.Source.left c.check.new.input) c.in-Ok-check.finding checks.is.0 (sym c.status-in-Ok-check.ensures ∙ e) in
     record {
       bad_root_only = λ told e served. absurd ((bad e).1 told served);
       bad_root = search rules;
-      unserved = λ told e. record {
-        undrawn = refl;
-        untaken = c.in-Ok-check.ensures.untaken (bad e).0;
-        unput = refl;
-        pages = c.check.ensures.head;
-        told = bad_line (g.O.Sink.written c.args.output.now) (g.O.Sink.written c.check.new.output) c.in-Ok-check.finding (bad e).0 checks.is.1;
-        image = image_stays _ _ (c.check.ensures.time told) (c.check.ensures.image told);
-      };
+      untouched = λ told why. untouched_of refl (c.check.ensures.untaken told (not_served (λ e. (bad e).1 told) why)) refl c.check.ensures.head (image_stays _ _ (c.check.ensures.time told) (c.check.ensures.image told));
+      said = λ told e. bad_line (g.O.Sink.written c.args.output.now) (g.O.Sink.written c.check.new.output) c.in-Ok-check.finding (bad e).0 checks.is.1;
       other_words = search rules;
+    }
+
+pub returns-in-Ok-check-clause-exits : goal.returns-in-Ok-check-clause-exits
+returns-in-Ok-check-clause-exits g c =
+    let asked : AreCheckWords (map string_bytes c.args.words.now) = rw c.in-Some-Check.field-0-is at c.in-Some-Check.ensures in
+    record {
+      is = search rules;
+      forms = search rules;
+      of_words = check_status g.P.Platform.tells (g.P.Platform.history c.args.platform.now).present _ _ _ _ (map string_bytes c.args.words.now) _ (Ok c.in-Ok-check.finding) c.in-Ok-check.ensures.checks.is c.status-in-Ok-check.ensures asked;
+      blame = search rules;
+      taken = search rules;
+    }
+
+pub returns-in-Err-check-clause-exits : goal.returns-in-Err-check-clause-exits
+returns-in-Err-check-clause-exits g c =
+    let asked : AreCheckWords (map string_bytes c.args.words.now) = rw c.in-Some-Check.field-0-is at c.in-Some-Check.ensures in
+    record {
+      is = search rules;
+      forms = search rules;
+      of_words = check_status g.P.Platform.tells (g.P.Platform.history c.args.platform.now).present _ _ _ _ (map string_bytes c.args.words.now) _ (Err c.in-Err-check.stop) c.in-Err-check.ensures.checks.is c.status-in-Err-check.ensures asked;
+      blame = search rules;
+      taken = search rules;
     }
 
 -- ---- a seizure
@@ -273,18 +314,30 @@ returns-in-Err-seize_word-clause-refuses g c =
     record {
       bad_root_only = λ told e served.
           let served_there = subst (λ (n : ℕ). IsServedCell image.cell n) (g.met.P.Platform.counts_pages told c.args.platform.now) served in
-          subst (λ (records : List (List ℕ)). HasBadRecord head records) c.records_of.ensures (only_word head image records served_there ((refused e).0 told));
+          (rw c.in-Some-Seize.field-0-is at c.in-Some-Seize.ensures, subst (λ (records : List (List ℕ)). HasBadRecord head records) c.records_of.ensures (only_word head image records served_there ((refused e).0 told)));
       bad_root = search rules;
-      unserved = λ told e. record {
-        undrawn = refl;
-        untaken = refl;
-        unput = refl;
-        pages = c.seize_word.ensures.head;
-        told = (refused e).1;
-        image = image_stays _ _ (c.seize_word.ensures.time told) (c.seize_word.ensures.image told);
-      };
+      untouched = λ told why. untouched_of refl refl refl c.seize_word.ensures.head (image_stays _ _ (c.seize_word.ensures.time told) (c.seize_word.ensures.image told));
+      said = λ told e. (refused e).1;
       other_words = search rules;
     }
+
+pub returns-in-Ok-seize_word-clause-exits : goal.returns-in-Ok-seize_word-clause-exits
+returns-in-Ok-seize_word-clause-exits g c = record {
+  is = search rules;
+  forms = search rules;
+  of_words = seize_status g.P.Platform.tells _ (g.P.Platform.history c.args.platform.now).present _ _ _ (map string_bytes c.args.words.now) 0 (Ok tt) c.in-Ok-seize_word.ensures.seizes refl;
+  blame = search rules;
+  taken = search rules;
+}
+
+pub returns-in-Err-seize_word-clause-exits : goal.returns-in-Err-seize_word-clause-exits
+returns-in-Err-seize_word-clause-exits g c = record {
+  is = search rules;
+  forms = search rules;
+  of_words = seize_status g.P.Platform.tells _ (g.P.Platform.history c.args.platform.now).present _ _ _ (map string_bytes c.args.words.now) _ (Err c.in-Err-seize_word.stop) c.in-Err-seize_word.ensures.seizes c.status-in-Err-seize_word.ensures;
+  blame = search rules;
+  taken = search rules;
+}
 
 -- ---- the script of a seed
 
@@ -294,7 +347,7 @@ returns-in-Ok-work-clause-forgets g c =
     let new = around g.P.Platform g.T.Tape g.L.Sink c.work.new.platform c.work.new.tape c.work.new.ledger in
     let was : World = world_of g.P.Platform None c.args.platform.now in
     let worked = c.in-Ok-work.ensures.worked in
-    let ended = ended_run g.P.Platform.tells old new _ was worked.0 _ worked.1.serving _ _ _ _ refl refl refl refl worked.1.ran c.in-Ok-work.ensures.keeps in
+    let ended = ended_work g.P.Platform.tells old new _ c.in-Some-Work.seed c.in-Some-Work.count was worked.0 _ _ _ _ refl refl refl refl (g.met.P.Platform.has_room c.work.new.platform) worked.1 c.in-Ok-work.ensures.keeps in
     forgets g.P.Platform.tells old new _ ended
 
 pub returns-in-Ok-work-clause-ledger : goal.returns-in-Ok-work-clause-ledger
@@ -303,7 +356,7 @@ returns-in-Ok-work-clause-ledger g c =
     let new = around g.P.Platform g.T.Tape g.L.Sink c.work.new.platform c.work.new.tape c.work.new.ledger in
     let was : World = world_of g.P.Platform None c.args.platform.now in
     let worked = c.in-Ok-work.ensures.worked in
-    let ended = ended_run g.P.Platform.tells old new _ was worked.0 _ worked.1.serving _ _ _ _ refl refl refl refl worked.1.ran c.in-Ok-work.ensures.keeps in
+    let ended = ended_work g.P.Platform.tells old new _ c.in-Some-Work.seed c.in-Some-Work.count was worked.0 _ _ _ _ refl refl refl refl (g.met.P.Platform.has_room c.work.new.platform) worked.1 c.in-Ok-work.ensures.keeps in
     keeps_ledger g.P.Platform.tells old new _ _ (λ zero. refl) ended
 
 pub returns-in-Ok-work-clause-works : goal.returns-in-Ok-work-clause-works
@@ -328,7 +381,7 @@ returns-in-Err-work-clause-forgets g c =
     let new = around g.P.Platform g.T.Tape g.L.Sink c.work.new.platform c.work.new.tape c.work.new.ledger in
     let was : World = world_of g.P.Platform None c.args.platform.now in
     let worked = c.in-Err-work.ensures.worked in
-    let ended = ended_run g.P.Platform.tells old new _ was worked.0 _ worked.1.serving _ _ _ _ refl refl refl refl worked.1.ran c.in-Err-work.ensures.keeps in
+    let ended = ended_work g.P.Platform.tells old new _ c.in-Some-Work.seed c.in-Some-Work.count was worked.0 _ _ _ _ refl refl refl refl (g.met.P.Platform.has_room c.work.new.platform) worked.1 c.in-Err-work.ensures.keeps in
     forgets g.P.Platform.tells old new _ ended
 
 pub returns-in-Err-work-clause-ledger : goal.returns-in-Err-work-clause-ledger
@@ -337,7 +390,7 @@ returns-in-Err-work-clause-ledger g c =
     let new = around g.P.Platform g.T.Tape g.L.Sink c.work.new.platform c.work.new.tape c.work.new.ledger in
     let was : World = world_of g.P.Platform None c.args.platform.now in
     let worked = c.in-Err-work.ensures.worked in
-    let ended = ended_run g.P.Platform.tells old new _ was worked.0 _ worked.1.serving _ _ _ _ refl refl refl refl worked.1.ran c.in-Err-work.ensures.keeps in
+    let ended = ended_work g.P.Platform.tells old new _ c.in-Some-Work.seed c.in-Some-Work.count was worked.0 _ _ _ _ refl refl refl refl (g.met.P.Platform.has_room c.work.new.platform) worked.1 c.in-Err-work.ensures.keeps in
     keeps_ledger g.P.Platform.tells old new _ _ (λ zero. absurd (never_zero c.in-Err-work.stop (sym c.status-in-Err-work.ensures ∙ zero))) ended
 
 pub returns-in-Err-work-clause-works : goal.returns-in-Err-work-clause-works
@@ -356,12 +409,37 @@ returns-in-Err-work-clause-works g c seed count words =
     (cause_wide before now old.counts new.counts ending part c.in-Err-work.ensures.blame.cause) c.in-Err-work.ensures.refused worked.1 in
     subst (λ (s : ℕ). Working g.P.Platform.tells s count c.status-in-Err-work.result old new) same.0 (subst (λ (n : ℕ). Working g.P.Platform.tells c.in-Some-Work.seed n c.status-in-Err-work.result old new) same.1 here)
 
+pub returns-in-Err-work-clause-refuses : goal.returns-in-Err-work-clause-refuses
+returns-in-Err-work-clause-refuses g c =
+    let eight : c.status-in-Err-work.result ≡ 8 → status_of c.in-Err-work.stop ≡ 8 = λ e. sym c.status-in-Err-work.ensures ∙ e in
+    record {
+      bad_root_only = λ told e served. absurd (c.in-Err-work.ensures.refused_only told (eight e) served);
+      bad_root = λ told unserved words. absurd (not_serving (map string_bytes c.args.words.now) c.in-Some-Work.seed c.in-Some-Work.count (rw c.in-Some-Work.field-0-is at c.in-Some-Work.ensures) words);
+      untouched = λ told why.
+          let still = c.work.ensures.untouched told (not_served (λ e. c.in-Err-work.ensures.refused_only told (eight e)) why) in
+          untouched_of still.undrawn refl still.unput still.pages still.image;
+      said = λ told e. c.in-Err-work.ensures.said told (eight e);
+      other_words = λ two. absurd (never_two c.in-Err-work.stop (sym c.status-in-Err-work.ensures ∙ two));
+    }
+
+pub returns-in-Ok-work-clause-exits : goal.returns-in-Ok-work-clause-exits
+returns-in-Ok-work-clause-exits g c =
+    let asked : AreWorkWords c.in-Some-Work.seed c.in-Some-Work.count (map string_bytes c.args.words.now) = rw c.in-Some-Work.field-0-is at c.in-Some-Work.ensures in
+    record {
+      is = search rules;
+      forms = (λ two. absurd (omega (arith, two)), λ other. absurd (other (inr (inr (c.in-Some-Work.seed, c.in-Some-Work.count, asked)))));
+      of_words = work_status g.P.Platform.tells c.in-Some-Work.seed c.in-Some-Work.count _ _ _ _ (map string_bytes c.args.words.now) 0 (Ok tt) c.in-Ok-work.ensures.worked.1 refl asked;
+      blame = search rules;
+      taken = λ no_seizure no_work. absurd (no_work (c.in-Some-Work.seed, c.in-Some-Work.count, asked));
+    }
+
 pub returns-in-Err-work-clause-exits : goal.returns-in-Err-work-clause-exits
 returns-in-Err-work-clause-exits g c =
     let asked : AreWorkWords c.in-Some-Work.seed c.in-Some-Work.count (map string_bytes c.args.words.now) = rw c.in-Some-Work.field-0-is at c.in-Some-Work.ensures in
     record {
       is = search rules;
       forms = (λ two. absurd (never_two c.in-Err-work.stop (sym c.status-in-Err-work.ensures ∙ two)), λ other. absurd (other (inr (inr (c.in-Some-Work.seed, c.in-Some-Work.count, asked)))));
+      of_words = work_status g.P.Platform.tells c.in-Some-Work.seed c.in-Some-Work.count _ _ _ _ (map string_bytes c.args.words.now) _ (Err c.in-Err-work.stop) c.in-Err-work.ensures.worked.1 c.status-in-Err-work.ensures asked;
       blame = search rules;
       taken = λ no_seizure no_work. absurd (no_work (c.in-Some-Work.seed, c.in-Some-Work.count, asked));
     }

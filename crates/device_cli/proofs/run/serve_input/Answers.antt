@@ -50,6 +50,7 @@ loop-left-init g c =
     let P = g.P.Platform in
     record {
       ready = c.requires.ready;
+      room = c.requires.room;
       mounted = c.requires.mounted;
       keeps = on_start _ _ _ c.args.desk.now.session _ _;
       quiet = refl;
@@ -115,6 +116,7 @@ loop-left-preserved g c =
     (omega (arith, c.in-Ok.ensures.bound, c.take.auto.into)) (grind (arith, common_steps, c.take.auto.into, c.min-room.ensures)) (grind (arith, common_steps, c.take.auto.into, c.min-room.ensures)) c.in-Ok.ensures.taken in
     record {
       ready = c.in-Ok-serve_piece.ensures.after.ready;
+      room = c.in-Ok-serve_piece.ensures.after.room;
       mounted = c.in-Ok-serve_piece.ensures.after.mounted;
       keeps =
           on_done _ _ _ _ _ c.args.desk.now.session _ _ _ _ _ _
@@ -139,6 +141,7 @@ returns-clause-ran g c =
 pub serve_end-requires : goal.serve_end-requires
 serve_end-requires g c = record {
   ready = c.loop-left.invariant.ready;
+  room = c.loop-left.invariant.room;
   cell = λ told. served_at _ _ (c.loop-left.invariant.keeps.serves told (c.requires.cell told));
   mounted = c.loop-left.invariant.mounted;
 }
@@ -146,6 +149,7 @@ serve_end-requires g c = record {
 pub serve_piece-requires : goal.serve_piece-requires
 serve_piece-requires g c = record {
   ready = c.loop-left.invariant.ready;
+  room = c.loop-left.invariant.room;
   cell = λ told. served_at _ _ (c.loop-left.invariant.keeps.serves told (c.requires.cell told));
   mounted = c.loop-left.invariant.mounted;
 }

@@ -1,6 +1,6 @@
 use Rattle.std.proofs.Common.{◌≡◌}
 use Rattle.std.specs.Prelude.{IfSome}
-use Rattle.device_cli.specs.Desk.{IsReady}
+use Rattle.device_cli.specs.Desk.{IsReady, HasRoom}
 use Rattle.session_calls.specs.Damage.{IsMounted}
 use Rattle.sdbt_base.specs.Counts.{counts}
 use Rattle.device_cli.specs.World.{world_of}
@@ -18,6 +18,7 @@ invariant-loop-left g l =
     let L = g.L.Sink in
     record {
       ready : IsReady l.desk (P.head l.platform);
+      room : HasRoom l.desk;
       mounted : P.tells → IfSome l.desk.session (IsMounted (P.history l.platform).present);
       keeps : KeepsOn P.tells (T.drawn l.fn.tape) (T.drawn l.tape) (L.written l.fn.ledger) (L.written l.ledger) l.fn.desk.session (P.history l.fn.platform) (P.history l.platform) (Unit {0}) (IsListed l.desk.session (P.history l.platform).present);
       quiet : counts (P.faults l.platform) (T.faults l.tape) (I.faults l.input) (O.faults l.output) (L.faults l.ledger) ≡ counts (P.faults l.fn.platform) (T.faults l.fn.tape) (I.faults l.fn.input) (O.faults l.fn.output) (L.faults l.fn.ledger);

@@ -12,6 +12,7 @@ loop-front-init g c =
     let P = g.P.Platform in
     record {
       ready = c.requires.ready;
+      room = c.requires.room;
       mounted = c.requires.mounted;
       keeps = on_start _ _ _ c.args.desk.now.session _ _;
       stands = λ told entry at. (entry, at);
@@ -29,6 +30,7 @@ loop-front-preserved g c =
     let new : World = world_of P c.answer.new.desk.session c.answer.new.platform in
     record {
       ready = c.in_default-answer.ensures.after.ready;
+      room = c.in_default-answer.ensures.after.room;
       mounted = c.in_default-answer.ensures.after.mounted;
       keeps =
           on_done _ _ _ _ _ c.args.desk.now.session _ _ _ _ _ _
@@ -80,6 +82,7 @@ returns-clause-handled g c rest pending =
 pub answer-requires : goal.answer-requires
 answer-requires g c = record {
   ready = c.loop-front.invariant.ready;
+  room = c.loop-front.invariant.room;
   cell = λ told. served_at _ _ (c.loop-front.invariant.keeps.serves told (c.requires.cell told));
   mounted = c.loop-front.invariant.mounted;
 }

@@ -1,6 +1,6 @@
 use Rattle.std.proofs.Common.{◌≡◌, ℕ, List, ◌++◌, length}
 use Rattle.std.specs.Prelude.{IfSome}
-use Rattle.device_cli.specs.Desk.{IsReady}
+use Rattle.device_cli.specs.Desk.{IsReady, HasRoom}
 use Rattle.session_calls.specs.Damage.{IsMounted}
 use Rattle.sdbt_base.specs.Counts.{counts}
 use Rattle.line_run.specs.Pending.{IsUnfinished}
@@ -20,6 +20,7 @@ invariant-loop-front g l =
     let L = g.L.Sink in
     record {
       ready : IsReady l.desk (P.head l.platform);
+      room : HasRoom l.desk;
       mounted : P.tells → IfSome l.desk.session (IsMounted (P.history l.platform).present);
       keeps : KeepsOn P.tells (T.drawn l.fn.tape) (T.drawn l.tape) (L.written l.fn.ledger) (L.written l.ledger) l.fn.desk.session (P.history l.fn.platform) (P.history l.platform) (Unit {0}) (IsListed l.desk.session (P.history l.platform).present);
       stands : P.tells → (entry : State) → IsAt (P.history l.fn.platform).present l.fn.desk.session entry → (now : State) × IsAt (P.history l.platform).present l.desk.session now;

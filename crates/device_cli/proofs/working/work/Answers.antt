@@ -1,23 +1,23 @@
-use Rattle.std.proofs.Common.{◌≡◌, List, ℕ, [], Option, None, Some, Ok, ap, subst, ◌∙◌}
+use Rattle.std.proofs.Common.{◌≡◌, List, ℕ, [], Option, None, Some, Ok, inl, inr, ap, subst, ◌∙◌}
 use Rattle.device_course.proofs.KeysLaws.{on_start, on_done}
 use Rattle.device_cli.specs.Ran.{Ran}
 use Rattle.line_run.specs.Puts.{damage_line}
 use Rattle.device_cli.specs.Working.{script_of}
 use Rattle.device_cli.specs.World.{World, world_of}
-use Rattle.device_cli.proofs.WorkLaws.{worked_none, told_replies}
+use Rattle.device_cli.proofs.WorkLaws.{idle, told_replies}
 use Rattle.device_cli.proofs.working.work.Goals as goal
 
 pub returns-in_default-clause-keeps : goal.returns-in_default-clause-keeps
 returns-in_default-clause-keeps g c = on_done _ _ _ _ _ None _ _ _ _ _ _ (on_start _ _ _ None _ _) (λ going. going) (λ keys h. tt)
 
 pub returns-in_default-clause-worked : goal.returns-in_default-clause-worked
-returns-in_default-clause-worked g c = (None, worked_none _ _ c.args.seed c.args.count _ (g.met.P.Platform.has_room c.args.platform.now))
+returns-in_default-clause-worked g c = (None, inl (idle _ _))
 
 pub returns-in_default-new-clause-keeps : goal.returns-in_default-new-clause-keeps
 returns-in_default-new-clause-keeps g c = on_done _ _ _ _ _ None _ _ _ _ _ _ (on_start _ _ _ None _ _) (λ going. going) (λ keys h. tt)
 
 pub returns-in_default-new-clause-worked : goal.returns-in_default-new-clause-worked
-returns-in_default-new-clause-worked g c = (None, worked_none _ _ c.args.seed c.args.count _ (g.met.P.Platform.has_room c.args.platform.now))
+returns-in_default-new-clause-worked g c = (None, inl (idle _ _))
 
 pub returns-in-Ok-run-clause-worked : goal.returns-in-Ok-run-clause-worked
 returns-in-Ok-run-clause-worked g c =
@@ -34,11 +34,11 @@ returns-in-Ok-run-clause-worked g c =
     subst (λ (w : List ℕ). Ran P.tells old new damage_line (Ok tt) (Some script) left (Some w) (Some told)) none
     (subst (λ (t : List ℕ). Ran P.tells old new damage_line (Ok tt) (Some t) left (Some c.in-Ok-new.told.written) (Some told)) text ran.1) in (
       ran.0,
-      record {
+      inr (record {
         serving = Ok tt;
         left = left;
         told = Some told;
         ran = there;
         says = c.put_summary.ensures.put there.handled.replied.replies (c.bytes.ensures ∙ told_replies P.tells old new left told script there);
-      },
+      }),
     )

@@ -1,11 +1,10 @@
-use Rattle.std.proofs.Common.{◌≡◌, ℕ, Some, Ok, Err, inl, refl, sym, ap, subst, ◌∙◌, arith}
+use Rattle.std.proofs.Common.{ℕ, Ok, Err, refl, sym, ap, subst, ◌∙◌, arith}
 use Rattle.platform.specs.Image.{Image}
 use Rattle.page_store.specs.Tree.{Wrong}
 use Rattle.device_course.proofs.KeysLaws.{needed_read}
-use Rattle.device_session.specs.declared.refusals.ReadRefusal.TheVariants as refusals
 use Rattle.sdbt_base.specs.Counts.{counts}
-use Rattle.session_calls.proofs.CellLaws.{wrong_page}
-use Rattle.session_calls.proofs.LookLaws.{read_of_call, look_along, other_read_refusal, read_blamed, read_leads, read_named, read_refused}
+use Rattle.session_calls.proofs.CellLaws.{wrong_place}
+use Rattle.session_calls.proofs.LookLaws.{read_of_call, look_along, other_read_refusal, read_blamed, read_any, read_leads, read_refused}
 use Rattle.session_calls.proofs.StateLaws.{at_array, served_still}
 use Rattle.session_calls.proofs.reading.read_block.Goals as goal
 
@@ -48,12 +47,15 @@ returns-in-Err-clause-goes g c drawn = record {
   cause = read_blamed c.in-Err.refusal _ _ _ (counts (g.P.Platform.faults c.args.platform.now) drawn.faults 0 0 0) (counts (g.P.Platform.faults c.read.new.platform) drawn.faults 0 0 0) refl c.stop_of_read.ensures c.in-Err.ensures.cause;
 }
 
--- what is named is a wrong page below the root record in the cell
-pub returns-in-Err-clause-damage : goal.returns-in-Err-clause-damage
-returns-in-Err-clause-damage g c told mounted addr is =
-    let named : c.in-Err.refusal ≡ refusals.BadRecord addr = read_named c.in-Err.refusal c.stop_of_read.result addr c.stop_of_read.ensures cc in
-    wrong_page (Some c.args.session.now) c.args.session.now _ addr _ _ refl c.requires.open mounted (c.read.ensures.looks.time told)
-    (λ follows. inl (subst (λ (i : Image). Wrong i.readable c.args.session.now.root addr) (sym (c.read.ensures.looks.image told)) (c.in-Err.ensures.damaged told follows addr (ap Err named))))
+-- on any pages
+pub returns-in-Ok-clause-any : goal.returns-in-Ok-clause-any
+returns-in-Ok-clause-any g c known = c.in-Ok.ensures.finds known.0 known.1.follows.cached
+
+pub returns-in-Err-clause-any : goal.returns-in-Err-clause-any
+returns-in-Err-clause-any g c =
+    read_any _ (g.P.Platform.history c.args.platform.now).present (g.P.Platform.history c.read.new.platform).present c.args.session.now c.args.block c.read.new.out c.in-Err.refusal c.stop_of_read.result c.stop_of_read.ensures (λ addr named known.
+    wrong_place c.args.session.now _ addr (g.P.Platform.history c.args.platform.now) (g.P.Platform.history c.read.new.platform) c.requires.open known.1 (c.read.ensures.looks.time known.0)
+    (λ follows. subst (λ (i : Image). Wrong i.readable c.args.session.now.root addr) (sym (c.read.ensures.looks.image known.0)) (c.in-Err.ensures.damaged known.0 follows addr (ap Err named))))
 
 pub returns-in-Ok-clause-reads : goal.returns-in-Ok-clause-reads
 returns-in-Ok-clause-reads g c = record { most = c.in-Ok.ensures.reads.most; warm = c.in-Ok.ensures.reads.warm; fills = c.in-Ok.ensures.reads.fills }

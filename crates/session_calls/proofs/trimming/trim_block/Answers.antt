@@ -1,9 +1,8 @@
-use Rattle.std.proofs.Common.{◌≡◌, ℕ, Some, Ok, Err, refl, ap, ◌∙◌, arith}
+use Rattle.std.proofs.Common.{ℕ, Ok, Err, refl, ap, ◌∙◌, arith}
 use Rattle.device_session.specs.Open.{is_touched}
-use Rattle.device_session.specs.declared.refusals.TrimRefusal.TheVariants as refusals
 use Rattle.sdbt_base.specs.Counts.{counts}
 use Rattle.session_calls.proofs.CellLaws.{wrong_page}
-use Rattle.session_calls.proofs.LookLaws.{trim_of_call, look_along, other_trim_refusal, trim_blamed, trim_done, trim_leads, trim_named, trim_refused}
+use Rattle.session_calls.proofs.LookLaws.{trim_of_call, look_along, other_trim_refusal, trim_any, trim_blamed, trim_done, trim_leads, trim_refused}
 use Rattle.session_calls.proofs.StateLaws.{served_still}
 use Rattle.session_calls.proofs.trimming.trim_block.Goals as goal
 
@@ -42,9 +41,12 @@ returns-in-Err-clause-goes g c drawn = record {
   cause = trim_blamed c.in-Err.refusal _ _ _ (counts (g.P.Platform.faults c.args.platform.now) drawn.faults 0 0 0) (counts (g.P.Platform.faults c.trim.new.platform) drawn.faults 0 0 0) refl c.stop_of_trim.ensures c.in-Err.ensures.cause;
 }
 
--- what is named is a wrong page below the root record in the cell
-pub returns-in-Err-clause-damage : goal.returns-in-Err-clause-damage
-returns-in-Err-clause-damage g c told mounted addr is =
-    let named : c.in-Err.refusal ≡ refusals.BadRecord addr = trim_named c.in-Err.refusal c.stop_of_trim.result addr c.stop_of_trim.ensures cc in
-    wrong_page (Some c.args.session.now) c.args.session.now _ addr _ _ refl c.requires.open mounted (c.trim.ensures.looks.time told)
-    (λ follows. ((c.in-Err.ensures.damaged told addr (ap Err named)).damage follows).1)
+-- on any pages
+pub returns-in-Ok-clause-any : goal.returns-in-Ok-clause-any
+returns-in-Ok-clause-any g c known = c.in-Ok.ensures.counter known.0 known.1.follows.cached refl
+
+pub returns-in-Err-clause-any : goal.returns-in-Err-clause-any
+returns-in-Err-clause-any g c =
+    trim_any _ (g.P.Platform.history c.args.platform.now).present (g.P.Platform.history c.trim.new.platform).present c.args.session.now c.args.block c.in-Err.refusal c.stop_of_trim.result c.stop_of_trim.ensures (λ addr named known.
+    wrong_page c.args.session.now _ addr (g.P.Platform.history c.args.platform.now) (g.P.Platform.history c.trim.new.platform) _ c.requires.open known.1 (c.trim.ensures.looks.time known.0) (c.trim.ensures.looks.image known.0)
+    (c.in-Err.ensures.damaged known.0 addr (ap Err named)).damage)

@@ -1,11 +1,10 @@
-use Rattle.std.proofs.Common.{◌≡◌, Some, Ok, Err, refl, ap, ◌∙◌}
+use Rattle.std.proofs.Common.{Ok, Err, inl, inr, refl, ap, ◌∙◌}
 use Rattle.sdbt_base.specs.Arrays.{padded, written}
 use Rattle.btree_update.specs.Groves.{places_of}
-use Rattle.device_session.specs.declared.refusals.WriteRefusal.TheVariants as refusals
 use Rattle.sdbt_base.specs.Counts.{counts}
 use Rattle.session_calls.proofs.CellLaws.{wrong_page}
 use Rattle.session_calls.proofs.StateLaws.{at_array, served_still}
-use Rattle.session_calls.proofs.WriteLaws.{write_of_call, other_refusal, write_added, write_along, write_blamed, write_named, write_refused}
+use Rattle.session_calls.proofs.WriteLaws.{write_of_call, other_refusal, write_added, write_along, write_blamed, write_any, write_left, write_refused}
 use Rattle.session_calls.proofs.writing.write_block.Goals as goal
 
 pub stop_of_write-requires : goal.stop_of_write-requires
@@ -47,9 +46,14 @@ returns-in-Ok-clause-adds g c = c.in-Ok.ensures.adds.0
 pub returns-in-Err-clause-adds : goal.returns-in-Err-clause-adds
 returns-in-Err-clause-adds g c = write_added g.P.Platform g.T.Tape _ _ _ _ (places_of c.write.new.self.grove) c.args.block c.in-Err.refusal _ c.stop_of_write.ensures c.in-Err.ensures.adds
 
--- what is named is a wrong page below the root record in the cell
-pub returns-in-Err-clause-damage : goal.returns-in-Err-clause-damage
-returns-in-Err-clause-damage g c told mounted addr is =
-    let named : c.in-Err.refusal ≡ refusals.BadRecord addr = write_named c.in-Err.refusal c.stop_of_write.result addr c.stop_of_write.ensures cc in
-    wrong_page (Some c.args.session.now) c.args.session.now _ addr _ _ refl c.requires.open mounted (c.write.ensures.grows.time told)
-    (λ follows. ((c.in-Err.ensures.damaged told addr (ap Err named)).damage follows).1)
+-- on any pages
+pub returns-in-Ok-clause-any : goal.returns-in-Ok-clause-any
+returns-in-Ok-clause-any g c known = c.in-Ok.ensures.counter known.0 known.1.follows.cached (inl refl)
+
+pub returns-in-Err-clause-any : goal.returns-in-Err-clause-any
+returns-in-Err-clause-any g c =
+    write_any _ (g.P.Platform.history c.args.platform.now).present (g.P.Platform.history c.write.new.platform).present c.args.session.now c.args.block c.in-Err.refusal c.stop_of_write.result c.stop_of_write.ensures
+    (λ addr named known. wrong_page c.args.session.now _ addr (g.P.Platform.history c.args.platform.now) (g.P.Platform.history c.write.new.platform) _ c.requires.open known.1 (c.write.ensures.grows.time known.0)
+    (write_left g.P.Platform g.T.Tape _ _ _ _ (places_of c.write.new.self.grove) c.args.block addr c.in-Err.refusal named c.in-Err.ensures.adds known.0)
+    (c.in-Err.ensures.damaged known.0 addr (ap Err named)).damage)
+    (λ keyless known. c.in-Err.ensures.counter known.0 known.1.follows.cached (inr (ap Err keyless)))

@@ -2,7 +2,7 @@ use Rattle.std.proofs.Common.{◌≡◌, Some, Err, refl, sym, ◌∙◌, ap}
 use Rattle.std.proofs.lemmas.Result.{err_from_is_err_and}
 use Rattle.device_course.proofs.KeysLaws.{listed_none, on_done, on_start}
 use Rattle.script_lang.specs.Commands.{Commit}
-use Rattle.device_cli.proofs.CallLaws.{halts_commit, on_held, serves_number, serves_short}
+use Rattle.device_cli.proofs.CallLaws.{commit_stops, halts_commit, on_held, serves_number, serves_short}
 use Rattle.device_cli.proofs.ServedLaws.{gives_unmounted_commit}
 use Rattle.device_cli.proofs.ServingLaws.{serves_unmounted}
 use Rattle.device_cli.proofs.desk.Desk.commit.Given.{Over}
@@ -50,3 +50,6 @@ pub returns-in_err-done-clause-answered : goal.returns-in_err-done-clause-answer
 returns-in_err-done-clause-answered g c told entry rep =
     rw (stopped g c) (halts_commit g.P.Platform g.T.Tape _ _ _ _ c.args.self.now.session c.take.new.self c.in-Some.session c.in_err-done.field-0.0 entry (sym c.take.ensures.value ∙ c.in-Some.is) told (c.requires.cell told)
     c.in_err-done.ensures.answers (c.in_err-done.ensures.leads told) rep)
+
+pub returns-in_err-done-clause-any : goal.returns-in_err-done-clause-any
+returns-in_err-done-clause-any g c = rw (stopped g c) (commit_stops g.P.Platform g.T.Tape _ _ _ _ c.in-Some.session (g.P.Platform.history c.commit_session.new.platform).present c.in_err-done.field-0.0 c.in_err-done.ensures.answers)

@@ -155,6 +155,7 @@ returns-then-not-is_in_limits-clause-pages g c =
 pub returns-in-Ok-clause-after : goal.returns-in-Ok-clause-after
 returns-in-Ok-clause-after g c = record {
   ready = ready_later c.args.self.now.session _ _ c.format.ensures.grows.0.rises c.requires.ready;
+  room = c.requires.room;
   mounted = search rules;
   reply = search rules;
   short = search rules;

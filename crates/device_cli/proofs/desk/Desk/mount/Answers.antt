@@ -9,7 +9,7 @@ use Rattle.script_lang.specs.Commands as commands
 use Rattle.script_lang.specs.Replies as replies
 use Rattle.device_cli.specs.Replied.{Serves}
 use Rattle.device_cli.specs.World.{World, world_of}
-use Rattle.device_cli.proofs.CallLaws.{at_none, mount_sound, on_held}
+use Rattle.device_cli.proofs.CallLaws.{at_none, mount_sound, on_held, mount_stops}
 use Rattle.device_cli.proofs.Choices.{some_of}
 use Rattle.device_cli.proofs.ServedLaws.{halts_still}
 use Rattle.device_cli.proofs.ServingLaws.{serves_already, serves_mounted, serves_no_device}
@@ -84,3 +84,6 @@ pub returns-in_err-session-clause-keeps : goal.returns-in_err-session-clause-kee
 returns-in_err-session-clause-keeps g c = λ drawn written.
     let none : c.args.self.now.session ≡ None = grind (arith, common_steps, c.is_some.ensures, c.if-is_some.false) in
     rw (stopped g c) (on_held _ _ _ _ _ c.args.self.now.session None _ _ _ _ _ _ none (c.in_err-session.ensures.keeps drawn written) (λ never. absurd cc) (λ keys h. tt))
+
+pub returns-in_err-session-clause-any : goal.returns-in_err-session-clause-any
+returns-in_err-session-clause-any g c = rw (stopped g c) (mount_stops g.P.Platform.tells (g.P.Platform.history c.mount_session.new.platform).present _ _ c.in_err-session.field-0.0 c.in_err-session.ensures.stops)

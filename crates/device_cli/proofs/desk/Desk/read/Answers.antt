@@ -5,16 +5,17 @@ use Rattle.std.proofs.lemmas.Grind.{common_steps}
 use Rattle.device_course.proofs.KeysLaws.{on_start}
 use Rattle.device_session.specs.Open.{IsOpen, blocks_of}
 use Rattle.device_session.specs.Sessions.{Session}
-use Rattle.script_lang.specs.Arrays.{content_reply}
+use Rattle.script_lang.specs.Arrays.{content_reply, trimmed}
 use Rattle.script_lang.specs.Replies.{Reply}
 use Rattle.script_lang.specs.Commands.{Read}
 use Rattle.script_lang.specs.Replies as replies
+use Rattle.device_cli.specs.Causes.{IsLookedUp, MayReply}
 use Rattle.device_cli.specs.Looks.{IsWarmFor}
 use Rattle.device_cli.specs.Pages.{updates_after}
 use Rattle.device_cli.specs.Parts.{added_by}
 use Rattle.device_cli.specs.Replied.{Serves}
 use Rattle.device_cli.specs.World.{AreEnough, World, is_full, needed_of, world_of}
-use Rattle.device_cli.proofs.CallLaws.{after_stopped, halts_led, mounted_held, no_draw, no_root, on_held, past_device, same_stop, serves_led, read_sound, within_device}
+use Rattle.device_cli.proofs.CallLaws.{after_stopped, halts_led, if_held, mounted_held, no_draw, no_root, on_held, past_device, past_held, room_held, read_sound, read_stops, serves_led, within_device}
 use Rattle.device_cli.proofs.EnoughLaws.{enough_less}
 use Rattle.device_cli.proofs.LookLaws.{has_room, read_cost, warm_after}
 use Rattle.device_cli.proofs.ServedLaws.{gives_unmounted_read, gives_content, gives_read_range}
@@ -51,6 +52,7 @@ pub returns-clause-after : goal.returns-clause-after
 returns-clause-after g c =
     let along = (c.in_ok-read_block.ensures.goes (no_draw None)).along in record {
       ready = along.is_open;
+      room = along.room ∙ room_held c.args.self.now.session c.in-Some.session c.in-Some.is c.requires.room;
       mounted = λ told. along.mounted told (mounted_held _ c.in-Some.session _ c.in-Some.is (c.requires.mounted told));
       reply = search rules;
       short = search rules;
@@ -91,6 +93,16 @@ returns-clause-answered g c told entry rep =
     (led.0, gives_content (is_full old (Read c.args.block)) d t c.args.block c.read_block.new.out (within_device _ c.in-Some.session d t c.args.block at within) led.1))
     ((c.in_ok-read_block.ensures.goes (no_draw None)).along.cell told) rep)
 
+pub returns-clause-any : goal.returns-clause-any
+returns-clause-any g c =
+    let image = (g.P.Platform.history c.args.platform.now).present in
+    subst (λ (r : Reply). MayReply g.P.Platform.tells image c.args.self.now.session (Read c.args.block) r) (sym c.reply_with_content.ensures.value)
+    (λ told. if_held c.args.self.now.session c.in-Some.session (IsLookedUp image c.args.block (trimmed c.read_block.new.out)) c.in-Some.is
+    (c.read_block.new.out, c.in_ok-read_block.ensures.any (told, mounted_held _ c.in-Some.session _ c.in-Some.is (c.requires.mounted told)), refl))
+
+pub returns-then-block-blocks-clause-any : goal.returns-then-block-blocks-clause-any
+returns-then-block-blocks-clause-any g c = past_held c.args.self.now.session c.in-Some.session c.args.block c.in-Some.is (omega (arith, c.if-block-blocks.true, c.blocks-2.ensures))
+
 -- ---- a stop
 
 stopped : (g : Over) (c : goal.After-from_residual g) → c.from_residual.result ≡ Err c.in_err-read_block.field-0.0
@@ -106,9 +118,10 @@ returns-in_err-read_block-clause-blame g c =
     let goes = c.in_err-read_block.ensures.goes (no_draw None) in
     rw (stopped g c) (record { fell = goes.along.fell; quiet = tt; cause = goes.cause })
 
-pub returns-in_err-read_block-clause-damage : goal.returns-in_err-read_block-clause-damage
-returns-in_err-read_block-clause-damage g c told = rw (stopped g c) (λ addr is.
-    c.in_err-read_block.ensures.damage told (mounted_held _ c.in-Some.session _ c.in-Some.is (c.requires.mounted told)) addr (same_stop c.in_err-read_block.field-0.0 _ is))
+pub returns-in_err-read_block-clause-any : goal.returns-in_err-read_block-clause-any
+returns-in_err-read_block-clause-any g c =
+    rw (stopped g c) (read_stops g.P.Platform.tells _ (g.P.Platform.history c.args.platform.now).present _ c.in-Some.session c.args.block c.read_block.new.out c.in_err-read_block.field-0.0
+    (λ told. (told, mounted_held _ c.in-Some.session _ c.in-Some.is (c.requires.mounted told))) c.in_err-read_block.ensures.any)
 
 pub returns-in_err-read_block-clause-keeps : goal.returns-in_err-read_block-clause-keeps
 returns-in_err-read_block-clause-keeps g c = λ drawn written.

@@ -7,7 +7,7 @@ use Rattle.device_session.specs.Open.{blocks_of}
 use Rattle.script_lang.specs.Commands.{Trim}
 use Rattle.script_lang.specs.Replies as replies
 use Rattle.device_cli.specs.World.{World, is_full, world_of}
-use Rattle.device_cli.proofs.CallLaws.{after_stopped, halts_led, mounted_held, no_draw, no_root, on_held, past_device, same_stop, serves_led, trim_sound, within_device}
+use Rattle.device_cli.proofs.CallLaws.{after_stopped, halts_led, if_held, mounted_held, no_draw, no_root, on_held, past_device, past_held, room_held, serves_led, trim_sound, trim_stops, within_device}
 use Rattle.device_cli.proofs.EnoughLaws.{enough_more}
 use Rattle.device_cli.proofs.ServedLaws.{gives_unmounted_trim, gives_trimmed, gives_trim_range}
 use Rattle.device_cli.proofs.ServingLaws.{keeps_same, serves_unmounted}
@@ -43,6 +43,7 @@ pub returns-clause-after : goal.returns-clause-after
 returns-clause-after g c =
     let along = (c.in_ok-trim_block.ensures.goes (no_draw None)).along in record {
       ready = along.is_open;
+      room = along.room ∙ room_held c.args.self.now.session c.in-Some.session c.in-Some.is c.requires.room;
       mounted = λ told. along.mounted told (mounted_held _ c.in-Some.session _ c.in-Some.is (c.requires.mounted told));
       reply = search rules;
       short = search rules;
@@ -73,6 +74,12 @@ returns-clause-answered g c told entry rep =
     (λ d t at. (c.in_ok-trim_block.ensures.leads told d t at, gives_trimmed (is_full old (Trim c.args.block)) d t c.args.block (within_device _ c.in-Some.session d t c.args.block at within)))
     ((c.in_ok-trim_block.ensures.goes (no_draw None)).along.cell told) rep
 
+pub returns-clause-any : goal.returns-clause-any
+returns-clause-any g c told = if_held c.args.self.now.session c.in-Some.session _ c.in-Some.is (c.in_ok-trim_block.ensures.any (told, mounted_held _ c.in-Some.session _ c.in-Some.is (c.requires.mounted told)))
+
+pub returns-then-block-blocks-clause-any : goal.returns-then-block-blocks-clause-any
+returns-then-block-blocks-clause-any g c = past_held c.args.self.now.session c.in-Some.session c.args.block c.in-Some.is (omega (arith, c.if-block-blocks.true, c.blocks-2.ensures))
+
 -- ---- a stop
 
 stopped : (g : Over) (c : goal.After-from_residual g) → c.from_residual.result ≡ Err c.in_err-trim_block.field-0.0
@@ -88,9 +95,10 @@ returns-in_err-trim_block-clause-blame g c =
     let goes = c.in_err-trim_block.ensures.goes (no_draw None) in
     rw (stopped g c) (record { fell = goes.along.fell; quiet = tt; cause = goes.cause })
 
-pub returns-in_err-trim_block-clause-damage : goal.returns-in_err-trim_block-clause-damage
-returns-in_err-trim_block-clause-damage g c told = rw (stopped g c) (λ addr is.
-    c.in_err-trim_block.ensures.damage told (mounted_held _ c.in-Some.session _ c.in-Some.is (c.requires.mounted told)) addr (same_stop c.in_err-trim_block.field-0.0 _ is))
+pub returns-in_err-trim_block-clause-any : goal.returns-in_err-trim_block-clause-any
+returns-in_err-trim_block-clause-any g c =
+    rw (stopped g c) (trim_stops g.P.Platform.tells _ (g.P.Platform.history c.args.platform.now).present _ c.in-Some.session c.args.block c.in_err-trim_block.field-0.0
+    (λ told. (told, mounted_held _ c.in-Some.session _ c.in-Some.is (c.requires.mounted told))) c.in_err-trim_block.ensures.any)
 
 pub returns-in_err-trim_block-clause-keeps : goal.returns-in_err-trim_block-clause-keeps
 returns-in_err-trim_block-clause-keeps g c = λ drawn written.

@@ -13,8 +13,8 @@ not_empty n items isnt long e =
     let zero : n ≡ 0 = long ∙ ap (λ (l : List ℕ). length l) e in
     false≢true (sym isnt ∙ eq-eqb n 0 zero)
 
-pub returns : goal.returns
-returns c taken has =
+pub returns-clause-ledger : goal.returns-clause-ledger
+returns-clause-ledger c taken has =
     let line = c.args.self.line in
     elim c.if-not-is_empty.branch [
       | then-not-is_empty+in_ok-feed_line w ↦
