@@ -12,3 +12,4 @@ pub mod SpanLaws
 pub mod StatusLaws
 pub mod ServedLaws
 pub mod ArrayLaws
+pub mod TurnLaws

@@ -1,6 +1,8 @@
 -- Why a run ends, its status, and what that is due to.
 use Rattle.std.specs.Prelude.{ℕ, Result, Ok, Err, IfErr}
 use Rattle.sdbt_base.specs.Faults.{Rose}
+use Rattle.device_session.specs.declared.refusals.CommitReply.{CommitReply}
+use Rattle.device_session.specs.declared.refusals.CommitReply.TheVariants as replies
 use Rattle.nbd_lang.specs.declared.replies.Outcome.{Outcome}
 use Rattle.nbd_lang.specs.declared.replies.Outcome.TheVariants as outcomes
 use Rattle.sdbt_base.specs.Counts.{Counts, NoneFell}
@@ -47,6 +49,11 @@ commit_halt device.Ledger = halts.Ledger
 commit_halt device.Memory = halts.Memory
 commit_halt device.BadRoot = halts.BadRoot
 commit_halt (device.BadRecord addr) = halts.Memory
+
+-- what a flush comes to whose commit was answered
+abbrev pub commit_outcome : CommitReply → Outcome
+commit_outcome (replies.Committed number) = outcomes.Done
+commit_outcome (replies.Full needed free) = outcomes.NoSpace
 
 -- a run ends at a fault only where the count of that object rose
 abbrev pub IsDueTo : Counts → Counts → Halt → Type 0

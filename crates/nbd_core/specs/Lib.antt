@@ -5,6 +5,7 @@ pub mod Haggling
 pub mod Halts
 pub mod Requests
 pub mod Serving
+pub mod Turns
 pub mod Served
 pub mod Arrays
 pub mod Running

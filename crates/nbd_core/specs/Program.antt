@@ -83,4 +83,4 @@ pub record Refuses {S R I O L : Type 0} (tells : Type 0) (words : List (List ℕ
 pub record Serving {S R I O L : Type 0} (tells : Type 0) (status : ℕ) (old new : Handed S R I O L) : Type 0 where
   pub ending : Result (Unit {0}) Halt
   pub status_is : status ≡ exit_of ending
-  pub talks : Talks tells old.outside.history.present old.left new.left old.written new.written ending
+  pub talks : Talks tells old.outside new.outside old.left new.left old.written new.written ending

@@ -62,9 +62,10 @@ DataEnd left count came halts.BadRoot = ⊥
 DataEnd left count came halts.NoDevice = ⊥
 DataEnd left count came halts.Unfinished = ⊥
 
--- of what came so many bytes are gone, or the run is over
-pub record DataCame {X : Type 0} (left left_now : Option (List ℕ)) (old new : Room) (count : ℕ) (result : Result X Halt) : Type 0 where
+-- of what came so many bytes are gone, or the run is over; and this was done with those that are gone
+pub record DataCame {X : Type 0} (left left_now : Option (List ℕ)) (old new : Room) (count : ℕ) (Did : List ℕ → Type 0) (result : Result X Halt) : Type 0 where
   pub gone : List ℕ
   pub came : Came left left_now old new.left (IsShorter count) (gone ++ new.ahead)
   pub whole : IfOk result (λ x. length gone ≡ count)
   pub ends : IfErr result (DataEnd left_now count (gone ++ new.ahead))
+  pub did : Did gone

@@ -10,6 +10,7 @@ use Rattle.device_course.specs.Keys.{KeepsOn}
 use Rattle.device_course.specs.States.{Outside, IsAt, IsListed}
 use Rattle.device_session.specs.Open.{IsOpen, blocks_of}
 use Rattle.device_session.specs.Sessions.{Session}
+use Rattle.nbd_lang.specs.Replies.{Reply}
 use Rattle.nbd_lang.specs.declared.requests.Request.{Request}
 use Rattle.nbd_lang.specs.declared.requests.RequestKind.{RequestKind}
 use Rattle.nbd_lang.specs.declared.requests.RequestKind.TheVariants as kinds
@@ -69,3 +70,6 @@ IsWithin request blocks = request.offset + request.length ≤ 4096 * blocks
 abbrev pub bytes_of_reply : RequestKind → ℕ → Outcome → List ℕ → List ℕ
 bytes_of_reply kinds.Read count outcomes.Done room = take count (drop 16 room)
 bytes_of_reply _ count _ room = []
+
+abbrev pub reply_of : Request → Outcome → List ℕ → Reply
+reply_of request outcome room = record { outcome = outcome; cookie = request.cookie; bytes = bytes_of_reply request.kind request.length outcome room }

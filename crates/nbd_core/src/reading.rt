@@ -8,12 +8,14 @@ ghost use Rattle.device_course.specs.States.{IsAt};
 ghost use Rattle.nbd_core.specs.Arrays.{ReadsBytes};
 ghost use Rattle.nbd_core.specs.Halts.{Blames};
 ghost use Rattle.nbd_core.specs.Requests.{DataEnd};
-ghost use Rattle.nbd_core.specs.Serving.{Calls, IsWithin};
+ghost use Rattle.nbd_terms.specs.Turn.{Reads};
+ghost use Rattle.nbd_core.specs.Serving.{Calls, IsWithin, bytes_of_reply};
+ghost use Rattle.nbd_core.specs.Turns.{LeadsOn};
 
 use crate::halts::{Halt, after_stop};
 use byte_arrays::Part;
 use device_session::Session;
-use nbd_lang::{Outcome, REPLY_HEAD, Request};
+use nbd_lang::{Outcome, REPLY_HEAD, Request, RequestKind};
 use platform::Platform;
 use sdbt_base::BLOCK;
 use session_calls::{DeviceStop, read_block};
@@ -36,6 +38,9 @@ pub(crate) fn read<P: Platform>(
     ensures halts { (left : Option (List ℕ)) (came : List ℕ) → IfErr result (DataEnd left 0 came) }
     ensures room { IfOk result (λ outcome. outcome ≡ Outcome.Done
         → 16 + request.now.length ≤ length reply.new.items) }
+    ensures leads { LeadsOn P.Platform platform.old platform.new session.old session.new
+        (λ outcome entry next. Reads entry request.now outcome
+        (bytes_of_reply RequestKind.Read request.now.length outcome reply.new.items) next) result }
 {
     let length = request.length as usize;
     if !has_room(reply, REPLY_HEAD + length) {

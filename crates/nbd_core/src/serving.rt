@@ -1,5 +1,5 @@
 //! Requests, one after another.
-ghost use Rattle.std.specs.Prelude.{◌≡◌, ◌≢◌, ◌+◌, ◌*◌, ◌≤◌, ◌<◌, ℕ, List, Option, None, Some, IsOk, IfOk, IfErr, OnOk, OnErr, IfSome, IsTrue, ◌↔◌, [], length, take, drop};
+ghost use Rattle.std.specs.Prelude.{◌≡◌, ◌≢◌, ◌+◌, ◌-◌, ◌*◌, ◌≤◌, ◌<◌, ℕ, List, Option, None, Some, IsOk, IfOk, IfErr, OnOk, OnErr, IfSome, IsTrue, ◌↔◌, [], length, take, drop};
 ghost use Rattle.sdbt_base.specs.Faults.{Rose};
 ghost use Rattle.sdbt_base.specs.Told.{Got, GotPart};
 ghost use Rattle.device_course.specs.States.{around};
@@ -9,9 +9,11 @@ ghost use Rattle.nbd_lang.specs.Refusals.{refusal};
 ghost use Rattle.nbd_lang.specs.Replies.{Reply, reply_bytes};
 ghost use Rattle.session_calls.specs.Along.{Along, drawn_by};
 ghost use Rattle.sdbt_base.specs.Counts.{Counts, NoneFell, counts};
-ghost use Rattle.nbd_core.specs.Halts.{Blames};
+ghost use Rattle.nbd_terms.specs.Turn.{Answers};
+ghost use Rattle.nbd_core.specs.Halts.{Blames, commit_outcome};
 ghost use Rattle.nbd_core.specs.Requests.{DataCame, DataEnd, HeadCame};
 ghost use Rattle.nbd_core.specs.Served.{Answered, EndsByDisconnect, Served};
+ghost use Rattle.nbd_core.specs.Turns.{Finishes, Flushed, IsFrom, LeadsOn, Performs};
 ghost use Rattle.nbd_core.specs.Serving.{Carries, IsReady, counts_of, goes_on, performed, bytes_of_reply};
 
 use crate::haggling::put;
@@ -75,7 +77,11 @@ pub(crate) fn serve<P: Platform, T: Tape, I: Source, O: Sink, L: Sink>(
         (counts_of P.Platform T.Tape I.Source O.Sink L.Sink platform.old tape.old input.old output.old ledger.old)
         (counts_of P.Platform T.Tape I.Source O.Sink L.Sink platform.new tape.new input.new output.new ledger.new)
         result }
-    ensures served { Served (4096 * blocks_of first) (I.left input.old) (I.left input.new)
+    ensures served { Served
+        (IsFrom P.tells (around P.Platform T.Tape L.Sink platform.old tape.old ledger.old) first)
+        (around P.Platform T.Tape L.Sink platform.old tape.old ledger.old)
+        (around P.Platform T.Tape L.Sink platform.new tape.new ledger.new)
+        (4096 * blocks_of first) (I.left input.old) (I.left input.new)
         intake.old intake.new (O.written output.old) (O.written output.new) result }
 {
     let mut session = first;
@@ -90,7 +96,7 @@ pub(crate) fn serve<P: Platform, T: Tape, I: Source, O: Sink, L: Sink>(
             Err(halt) => return Err(halt),
         }
     }
-    Ok(())
+    Ok(()) // what was not flushed is dropped with the session
 }
 
 /// Whether a request is a disconnect.
@@ -158,8 +164,11 @@ fn answer<P: Platform, T: Tape, I: Source, O: Sink, L: Sink>(
         (counts_of P.Platform T.Tape I.Source O.Sink L.Sink platform.old tape.old input.old output.old ledger.old)
         (counts_of P.Platform T.Tape I.Source O.Sink L.Sink platform.new tape.new input.new output.new ledger.new)
         result }
-    ensures answered { Answered (4096 * blocks_of session) request.now (I.left input.old)
-        (I.left input.new) intake.old intake.new (O.written output.old) (O.written output.new) result }
+    ensures answered { Answered P.tells
+        (around P.Platform T.Tape L.Sink platform.old tape.old ledger.old)
+        (around P.Platform T.Tape L.Sink platform.new tape.new ledger.new) session
+        (4096 * blocks_of session) request.now (I.left input.old) (I.left input.new)
+        intake.old intake.new (O.written output.old) (O.written output.new) result }
 {
     match perform(
         session, desk, intake, platform, tape, input, ledger, request,
@@ -195,7 +204,11 @@ fn perform<P: Platform, T: Tape, I: Source, L: Sink>(
         → Blames (record rest { platform = P.faults platform.old; tape = T.faults tape.old; input = I.faults input.old; ledger = L.faults ledger.old })
         (record rest_now { platform = P.faults platform.new; tape = T.faults tape.new; input = I.faults input.new; ledger = L.faults ledger.new }) result }
     ensures bytes { DataCame (I.left input.old) (I.left input.new) intake.old intake.new
-        (bytes_behind request.now.kind request.now.length) result }
+        (bytes_behind request.now.kind request.now.length)
+        (λ gone. Performs P.tells
+        (around P.Platform T.Tape L.Sink platform.old tape.old ledger.old)
+        (around P.Platform T.Tape L.Sink platform.new tape.new ledger.new) first
+        (record { head = request.now; bytes = gone }) desk.new.reply.items result) result }
     ensures room { IfOk result (λ done. request.now.kind ≡ RequestKind.Read → done.outcome ≡ Outcome.Done
         → 16 + request.now.length ≤ length desk.new.reply.items) }
     ensures refused { IfOk result (λ done. IfSome (refusal (4096 * blocks_of first) request.now)
@@ -248,7 +261,12 @@ fn serve_blocks<P: Platform, T: Tape, I: Source>(
         → Blames (record rest { platform = P.faults platform.old; tape = T.faults tape.old; input = I.faults input.old })
         (record rest_now { platform = P.faults platform.new; tape = T.faults tape.new; input = I.faults input.new }) result }
     ensures bytes { DataCame (I.left input.old) (I.left input.new) intake.old intake.new
-        (bytes_behind request.now.kind request.now.length) result }
+        (bytes_behind request.now.kind request.now.length)
+        (λ gone. LeadsOn P.Platform platform.old platform.new session.old session.new
+        (λ outcome entry next. Answers (P.capacity platform.old - entry.pages) refused entry
+        (record { head = request.now; bytes = gone }) outcome
+        (bytes_of_reply request.now.kind request.now.length outcome desk.new.reply.items) next)
+        result) result }
     ensures room { IfOk result (λ outcome. request.now.kind ≡ RequestKind.Read → outcome ≡ Outcome.Done
         → 16 + request.now.length ≤ length desk.new.reply.items) }
     ensures refused { IfOk result (λ outcome. IfSome refused (λ why. outcome ≡ why)) }
@@ -298,6 +316,9 @@ fn flush<P: Platform, T: Tape, L: Sink>(
     ensures blame { (rest rest_now : Counts) → NoneFell rest rest_now
         → Blames (record rest { platform = P.faults platform.old; tape = T.faults tape.old; ledger = L.faults ledger.old })
         (record rest_now { platform = P.faults platform.new; tape = T.faults tape.new; ledger = L.faults ledger.new }) result }
+    ensures flushes { Flushed P.tells
+        (around P.Platform T.Tape L.Sink platform.old tape.old ledger.old)
+        (around P.Platform T.Tape L.Sink platform.new tape.new ledger.new) session result }
 {
     match commit_session(session, platform, tape, ledger) {
         Ok(done) => Ok(Performed {
@@ -309,7 +330,9 @@ fn flush<P: Platform, T: Tape, L: Sink>(
 }
 
 /// What a flush comes to.
-fn outcome_of(reply: &CommitReply) -> Outcome {
+fn outcome_of(reply: &CommitReply) -> Outcome
+    ensures { result ≡ commit_outcome reply.now }
+{
     match reply {
         CommitReply::Committed { .. } => Outcome::Done,
         CommitReply::Full { .. } => Outcome::NoSpace,
@@ -332,6 +355,9 @@ fn finish<P: Platform, T: Tape, L: Sink>(
         → Blames (record rest { platform = P.faults platform.old; tape = T.faults tape.old; ledger = L.faults ledger.old })
         (record rest_now { platform = P.faults platform.new; tape = T.faults tape.new; ledger = L.faults ledger.new }) result }
     ensures ends { EndsByDisconnect result }
+    ensures finishes { Finishes P.tells
+        (around P.Platform T.Tape L.Sink platform.old tape.old ledger.old)
+        (around P.Platform T.Tape L.Sink platform.new tape.new ledger.new) session result }
 {
     match flush(session, platform, tape, ledger) {
         Ok(done) if done.outcome == Outcome::Done => Ok(()),

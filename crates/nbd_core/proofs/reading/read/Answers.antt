@@ -1,6 +1,10 @@
+use Rattle.std.proofs.Common.{◌≡◌, ◌≤◌, ◌+◌, ◌∙◌, ℕ, List, ap, arith, length, length-take, refl, take}
+use Rattle.byte_arrays.specs.Arrays.{bytes_at}
+use Rattle.nbd_terms.specs.Held.{array_of}
 use Rattle.session_calls.proofs.AlongLaws.{along_start}
 use Rattle.nbd_core.proofs.CallLaws.{no_draw}
 use Rattle.nbd_core.proofs.BlameLaws.{blame_platform, blame_going, stop_halts}
+use Rattle.nbd_core.proofs.TurnLaws.{held_still, read_halted, read_room}
 use Rattle.nbd_core.proofs.reading.read.Goals as goal
 
 pub returns-then-not-has_room-clause-along : goal.returns-then-not-has_room-clause-along
@@ -25,3 +29,24 @@ returns-in-Err-clause-halts g c left came = stop_halts c.in-Err.stop _ left came
 
 pub after_stop-requires : goal.after_stop-requires
 after_stop-requires g c = (c.in-Err.ensures.calls no_draw).stops
+
+pub returns-then-not-has_room-clause-leads : goal.returns-then-not-has_room-clause-leads
+returns-then-not-has_room-clause-leads g c told entry held = (entry, held, refl, (refl, refl))
+
+pub returns-in-Ok-clause-leads : goal.returns-in-Ok-clause-leads
+returns-in-Ok-clause-leads g c told entry held =
+    let led = c.in-Ok.ensures.reads told entry.device entry.session held.at in
+    let calls = (c.in-Ok.ensures.calls no_draw).along in
+    let n : ℕ = c.args.request.now.length in
+    let room : List ℕ = c.deref_mut.result.now in
+    let long : 16 + n ≤ length room = omega (arith, c.if-not-has_room.ensures refl, ap length c.deref_mut.ensures.value) in
+    let out : List ℕ = c.read_range.new.out in
+    let size : length out ≡ n = omega (arith, c.in-Ok.ensures.size) in (
+      entry,
+      held_still _ _ _ _ _ _ entry held led.0 (omega (arith, calls.rises, calls.adds)) (omega (arith, calls.needs)),
+      refl,
+      (read_room n _ (take 16 room) out _ _ (omega (arith, length-take 16 room, long)) size (omega (arith, long, c.deref_mut.ensures.len)) ∙ led.1 ∙ ap (bytes_at (array_of entry.session) c.args.request.now.offset) size, refl),
+    )
+
+pub returns-in-Err-clause-leads : goal.returns-in-Err-clause-leads
+returns-in-Err-clause-leads g c told entry held = read_halted _ _ _ entry.device entry.session c.args.request.now.offset c.read_range.new.out c.in-Err.stop _ (c.in-Err.ensures.reads told entry.device entry.session held.at) c.after_stop.ensures

@@ -4,6 +4,7 @@ use Rattle.nbd_core.proofs.BlameLaws.{blame_sink}
 use Rattle.nbd_core.proofs.CarryLaws.{carries_end}
 use Rattle.nbd_core.specs.Serving.{bytes_of_reply}
 use Rattle.nbd_core.proofs.ServedLaws.{answer_cut, answer_halted, is_reply}
+use Rattle.nbd_core.proofs.TurnLaws.{turned_last}
 use Rattle.nbd_core.proofs.serving.answer.Goals as goal
 
 pub returns-in-Ok-put_reply-clause-blame : goal.returns-in-Ok-put_reply-clause-blame
@@ -26,6 +27,7 @@ returns-in-Ok-put_reply-clause-answered g c =
         record { outcome = outcome; cookie = request.cookie; bytes = bytes_of_reply request.kind request.length outcome room },
         is_reply _ request outcome room c.in-Ok.ensures.refused c.in-Ok.ensures.room,
         c.in-Ok-put_reply.ensures.put,
+        came.did,
       );
     }
 
@@ -48,8 +50,9 @@ returns-in-Err-put_reply-clause-answered g c =
       gone = came.gone;
       came = came.came;
       ends =
-          answer_cut _ request _ came.gone _ _ _ c.in-Err-put_reply.stop (record { outcome = outcome; cookie = request.cookie; bytes = bytes_of_reply request.kind request.length outcome room }) c.in-Err-put_reply.ensures.cause.0 came.whole
-          (is_reply _ request outcome room c.in-Ok.ensures.refused c.in-Ok.ensures.room) c.in-Err-put_reply.ensures.part;
+          answer_cut _ _ _ _ _ request _ came.gone _ _ _ c.in-Err-put_reply.stop (record { outcome = outcome; cookie = request.cookie; bytes = bytes_of_reply request.kind request.length outcome room }) c.in-Err-put_reply.ensures.cause.0 came.whole
+          (is_reply _ request outcome room c.in-Ok.ensures.refused c.in-Ok.ensures.room) c.in-Err-put_reply.ensures.part
+          (λ told entry held. turned_last _ _ _ entry _ _ (came.did told entry held));
     }
 
 pub returns-in-Err-clause-blame : goal.returns-in-Err-clause-blame
@@ -61,4 +64,4 @@ returns-in-Err-clause-blame g c =
 pub returns-in-Err-clause-answered : goal.returns-in-Err-clause-answered
 returns-in-Err-clause-answered g c =
     let came = c.in-Err.ensures.bytes in
-    record { gone = came.gone; came = came.came; ends = answer_halted _ c.args.request.now _ came.gone _ _ c.in-Err.halt came.ends }
+    record { gone = came.gone; came = came.came; ends = answer_halted _ _ _ _ _ c.args.request.now _ came.gone _ _ c.in-Err.halt came.ends came.did }

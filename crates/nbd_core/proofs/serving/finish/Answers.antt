@@ -1,6 +1,11 @@
-use Rattle.std.proofs.Common.{refl, None, []}
+use Rattle.std.proofs.Common.{◌≡◌, ◌∙◌, true, false, ap, refl, rules, sym, None, []}
+use denote.Enum.Bare.{same_true, sameb}
+use Rattle.nbd_lang.specs.contracts.replies.Outcome.{the_type}
+use Rattle.nbd_lang.specs.declared.replies.Outcome.{Outcome}
+use Rattle.nbd_lang.specs.declared.replies.Outcome.TheVariants.{Done}
 use Rattle.nbd_core.proofs.CarryLaws.{carries_end}
 use Rattle.nbd_core.proofs.ServedLaws.{flush_ends}
+use Rattle.nbd_core.proofs.TurnLaws.{flush_ended, flush_halted, flush_unfinished}
 use Rattle.nbd_core.proofs.serving.finish.Goals as goal
 
 pub returns-in-Ok-clause-carries : goal.returns-in-Ok-clause-carries
@@ -22,3 +27,14 @@ returns-in-Err-clause-blame g c rest rest_now fell =
 
 pub returns-in-Err-clause-ends : goal.returns-in-Err-clause-ends
 returns-in-Err-clause-ends g c = flush_ends c.in-Err.halt (c.in-Err.ensures.halts None [])
+
+pub returns-in-Ok-clause-finishes : goal.returns-in-Ok-clause-finishes
+returns-in-Ok-clause-finishes g c told entry held =
+    flush_ended _ _ c.in-Ok.done.session entry _ (same_true the_type (search rules) _ _ (sym c.if-eq.ensures)) (c.in-Ok.ensures.flushes told entry held)
+
+pub returns-in-Ok-2-clause-finishes : goal.returns-in-Ok-2-clause-finishes
+returns-in-Ok-2-clause-finishes g c told entry held =
+    flush_unfinished _ _ _ entry _ (λ same. let no : false ≡ true = c.if-eq.ensures ∙ ap (λ (o : Outcome). sameb the_type o Done) same in cc) (c.in-Ok.ensures.flushes told entry held)
+
+pub returns-in-Err-clause-finishes : goal.returns-in-Err-clause-finishes
+returns-in-Err-clause-finishes g c told entry held = flush_halted _ _ entry c.in-Err.halt (c.in-Err.ensures.flushes told entry held)

@@ -1,8 +1,9 @@
-use Rattle.std.proofs.Common.{arith, ap}
+use Rattle.std.proofs.Common.{arith, ap, sym, []}
 use Rattle.nbd_lang.specs.Requests.{bytes_behind}
 use Rattle.session_calls.specs.Along.{drawn_by}
 use Rattle.session_calls.proofs.AlongLaws.{along_start}
-use Rattle.nbd_core.proofs.DataLaws.{no_data}
+use Rattle.nbd_core.proofs.DataLaws.{data_did, no_data}
+use Rattle.nbd_core.proofs.TurnLaws.{answers_read, answers_refused, answers_trim, answers_write, leads_as, leads_idle}
 use Rattle.nbd_core.proofs.serving.serve_blocks.Goals as goal
 
 pub returns-in-Some-clause-along : goal.returns-in-Some-clause-along
@@ -25,7 +26,8 @@ returns-in-Read-clause-blame g c rest rest_now fell =
 
 pub returns-in-Read-clause-bytes : goal.returns-in-Read-clause-bytes
 returns-in-Read-clause-bytes g c =
-    no_data (g.I.Source.left c.args.input.now) c.args.intake.now _ c.read.result (ap (λ k. bytes_behind k c.args.request.now.length) c.in-Read.is) (c.read.ensures.halts (g.I.Source.left c.args.input.now) c.args.intake.now.ahead)
+    no_data (g.I.Source.left c.args.input.now) c.args.intake.now _ _ c.read.result (ap (λ k. bytes_behind k c.args.request.now.length) c.in-Read.is) (c.read.ensures.halts (g.I.Source.left c.args.input.now) c.args.intake.now.ahead)
+    (leads_as g.P.Platform _ _ _ _ _ _ _ (λ outcome entry next is. answers_read _ entry next c.args.request.now _ outcome [] _ c.in-Read.is c.in_default.is is) c.read.ensures.leads)
 
 pub returns-in-Trim-clause-along : goal.returns-in-Trim-clause-along
 returns-in-Trim-clause-along g c = (c.trim.ensures.along.0, c.trim.ensures.along.1 (drawn_by g.T.Tape c.args.tape.now))
@@ -38,4 +40,17 @@ returns-in-Trim-clause-blame g c rest rest_now fell =
 
 pub returns-in-Trim-clause-bytes : goal.returns-in-Trim-clause-bytes
 returns-in-Trim-clause-bytes g c =
-    no_data (g.I.Source.left c.args.input.now) c.args.intake.now _ c.trim.result (ap (λ k. bytes_behind k c.args.request.now.length) c.in-Trim.is) (c.trim.ensures.halts (g.I.Source.left c.args.input.now) c.args.intake.now.ahead)
+    no_data (g.I.Source.left c.args.input.now) c.args.intake.now _ _ c.trim.result (ap (λ k. bytes_behind k c.args.request.now.length) c.in-Trim.is) (c.trim.ensures.halts (g.I.Source.left c.args.input.now) c.args.intake.now.ahead)
+    (leads_as g.P.Platform _ _ _ _ _ _ _ (λ outcome entry next is. answers_trim _ entry next c.args.request.now _ outcome [] _ c.in-Trim.is c.in_default.is is) c.trim.ensures.leads)
+
+pub returns-in-Some-clause-bytes : goal.returns-in-Some-clause-bytes
+returns-in-Some-clause-bytes g c =
+    data_did _ _ _ _ _ _ _ _ _ c.bytes_of.ensures
+    (λ gone nothing. leads_idle g.P.Platform _ _ _ _ _ c.let_go.ensures.outcome (λ outcome entry held is. answers_refused _ entry _ c.args.request.now _ c.in-Some.outcome outcome gone _ c.requires.refusal c.in-Some.is is))
+    c.let_go.ensures.bytes
+
+pub returns-in-Write-clause-bytes : goal.returns-in-Write-clause-bytes
+returns-in-Write-clause-bytes g c =
+    data_did _ _ _ _ _ _ _ _ _ (sym (ap (λ k. bytes_behind k c.args.request.now.length) c.in-Write.is))
+    (λ gone leads. leads_as g.P.Platform _ _ _ _ _ _ _ (λ outcome entry next is. answers_write _ entry next c.args.request.now _ outcome gone _ c.in-Write.is c.in_default.is is) leads)
+    c.write.ensures.bytes

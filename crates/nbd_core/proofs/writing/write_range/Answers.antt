@@ -1,8 +1,12 @@
-use Rattle.std.proofs.Common.{◌≡◌, ◌<◌, ◌+◌, ◌++◌, ◌-◌, ℕ, [], inl, refl, subst, length, length-append, take, arith}
+use Rattle.std.proofs.Common.{◌≡◌, ◌<◌, ◌+◌, ◌++◌, ◌-◌, ◌∙◌, ℕ, List, [], ap, sym, inl, refl, subst, length, length-append, take, arith}
+use Rattle.std.proofs.lemmas.List.{take-append-le, take_all}
+use Rattle.byte_arrays.specs.Parts.{IsPart}
 use Rattle.byte_arrays.specs.Ranges.{touched_blocks}
-use Rattle.byte_arrays.proofs.RangeLaws.{part_next}
+use Rattle.byte_arrays.proofs.RangeLaws.{part_last, part_next}
+use Rattle.nbd_lang.specs.declared.replies.Outcome.TheVariants.{Done}
 use Rattle.session_calls.specs.Along.{drawn_by}
 use Rattle.session_calls.proofs.AlongLaws.{along_start, along_then}
+use Rattle.nbd_core.proofs.ArrayLaws.{front_of, range_halted, range_step, wrote_range}
 use Rattle.nbd_core.proofs.BlameLaws.{blame_earlier, cause_wide}
 use Rattle.nbd_core.proofs.CallLaws.{cause_later}
 use Rattle.nbd_core.proofs.CameLaws.{came_nothing, length-gone}
@@ -19,6 +23,9 @@ loop-done-init g c = record {
   came = came_nothing _ _ _;
   all = refl;
   within = omega arith;
+  head = omega arith;
+  last = λ none. ap (λ (n : ℕ). length (touched_blocks c.args.at n)) (sym none);
+  wrote = λ told device array at all long front. at;
   fell = omega arith;
 }
 
@@ -32,7 +39,15 @@ pub returns-clause-along : goal.returns-clause-along
 returns-clause-along g c = (c.loop-done.invariant.parts, c.loop-done.invariant.along)
 
 pub returns-clause-bytes : goal.returns-clause-bytes
-returns-clause-bytes g c = data_whole _ _ _ _ c.args.count c.loop-done.invariant.gone _ c.loop-done.invariant.came (omega (arith, c.loop-done.invariant.all, c.loop-done.invariant.within))
+returns-clause-bytes g c =
+    let so_far = c.loop-done.invariant in
+    let done : c.loop-done.done ≡ c.args.count = omega (arith, so_far.within, c.loop-done-test.false) in
+    let long : length so_far.gone ≡ c.args.count = omega (arith, so_far.all, done) in
+    let count = so_far.last done in
+    data_whole _ _ _ _ c.args.count _ so_far.gone _ so_far.came long
+    (λ told device array at.
+    wrote_range _ _ _ _ _ device array c.args.at c.args.count so_far.parts so_far.gone Done (omega (arith, count)) (inl refl) (λ same. omega (arith, count)) so_far.head so_far.along.needs
+    (so_far.wrote told device array at so_far.gone long (take_all c.loop-done.done so_far.gone (omega (arith, so_far.all)))))
 
 pub write_part-written-requires-clause-open : goal.write_part-written-requires-clause-open
 write_part-written-requires-clause-open g c = c.loop-done.invariant.along.is_open
@@ -57,17 +72,17 @@ returns-in-Ok-false-clause-bytes g c =
     let so_far = c.loop-done.invariant in
     let part = c.first-part.ensures c.args.at c.loop-done.done refl (part_front c.args.at c.loop-done.done so_far.parts (so_far.at c.loop-done-test.true)) in
     let end = c.in-Ok-false.ensures.end c.in-Ok-false.field-0-test in
-    data_broken _ _ _ _ c.args.count so_far.gone
+    data_broken _ _ _ _ c.args.count _ so_far.gone
     (gone_then _ _ _ _ _ _ c.args.count c.first-part.result.count so_far.gone _ so_far.came (omega (arith, so_far.all, part.within, so_far.within)) c.in-Ok-false.ensures.came)
-    (omega (arith, so_far.all, part.within, so_far.within, end.1, length-append so_far.gone c.need.new.self.ahead)) end.0
+    (omega (arith, so_far.all, part.within, so_far.within, end.1, length-append so_far.gone c.need.new.self.ahead)) end.0 (λ told device array at. tt)
 
 pub returns-in-Err-clause-bytes : goal.returns-in-Err-clause-bytes
 returns-in-Err-clause-bytes g c =
     let so_far = c.loop-done.invariant in
     let part = c.first-part.ensures c.args.at c.loop-done.done refl (part_front c.args.at c.loop-done.done so_far.parts (so_far.at c.loop-done-test.true)) in
-    data_short _ _ _ _ c.args.count so_far.gone c.in-Err.stop
+    data_short _ _ _ _ c.args.count _ so_far.gone c.in-Err.stop
     (gone_then _ _ _ _ _ _ c.args.count c.first-part.result.count so_far.gone _ so_far.came (omega (arith, so_far.all, part.within, so_far.within)) c.in-Err.ensures.came)
-    (omega (arith, so_far.all, part.within, so_far.within, c.in-Err.ensures.short, length-append so_far.gone c.need.new.self.ahead)) c.in-Err.ensures.input
+    (omega (arith, so_far.all, part.within, so_far.within, c.in-Err.ensures.short, length-append so_far.gone c.need.new.self.ahead)) c.in-Err.ensures.input (λ told device array at. tt)
 
 pub loop-done-smaller : goal.loop-done-smaller
 loop-done-smaller g c =
@@ -99,6 +114,16 @@ loop-done-preserved g c =
           c.skip.ensures.ahead c.skip.ensures.left;
       all = omega (arith, so_far.all, length-gone so_far.gone c.need.new.self.ahead k there);
       within = omega (arith, part.within, so_far.within);
+      head = omega (arith, so_far.head, c.in-Ok.ensures.adds);
+      last = λ done.
+          let whole : c.loop-done.done + (c.args.count - c.loop-done.done) ≡ c.args.count = omega (arith, so_far.within) in
+          subst (λ (n : ℕ). length (touched_blocks c.args.at n) ≡ so_far.parts + 1) whole
+          (part_last c.args.at (c.loop-done.done + (c.args.count - c.loop-done.done)) c.loop-done.done _ _ _ so_far.parts part at (omega (arith, done, so_far.within)));
+      wrote = λ told device array there all long front.
+          let whole : c.loop-done.done + (c.args.count - c.loop-done.done) ≡ c.args.count = omega (arith, so_far.within) in
+          range_step (g.P.Platform.history c.write_part-written.new.platform).present c.write_part-written.new.session device array c.args.at c.args.count c.loop-done.done so_far.parts _ _ k so_far.gone (take k c.ahead.result.now) all
+          (subst (λ (n : ℕ). IsPart c.args.at n c.loop-done.done c.first-part.result.block c.first-part.result.start k) whole part) at so_far.all long (front ∙ ap (λ (l : List ℕ). so_far.gone ++ take k l) (sym c.ahead.ensures))
+          (c.in-Ok.ensures.writes told device _ (so_far.wrote told device array there all long (front_of c.loop-done.done k so_far.gone _ all so_far.all front)));
       fell = omega (arith, so_far.fell, c.in-Ok-true.ensures.fell);
     }
 
@@ -125,11 +150,25 @@ returns-in-Err-written-clause-blame g c rest rest_now fell =
 pub returns-in-Err-written-clause-bytes : goal.returns-in-Err-written-clause-bytes
 returns-in-Err-written-clause-bytes g c =
     let so_far = c.loop-done.invariant in
-    let part = c.first-part.ensures c.args.at c.loop-done.done refl (part_front c.args.at c.loop-done.done so_far.parts (so_far.at c.loop-done-test.true)) in
+    let at = so_far.at c.loop-done-test.true in
+    let part = c.first-part.ensures c.args.at c.loop-done.done refl (part_front c.args.at c.loop-done.done so_far.parts at) in
     let k : ℕ = c.first-part.result.count in
     let there = c.in-Ok-true.ensures.there c.in-Ok-true.field-0-test in
-    data_then _ _ _ _ c.skip.new.self _ c.args.count (c.args.count - (c.loop-done.done + k)) (so_far.gone ++ take k c.need.new.self.ahead) _
+    let piece : List ℕ = take k c.need.new.self.ahead in
+    let whole : c.loop-done.done + (c.args.count - c.loop-done.done) ≡ c.args.count = omega (arith, so_far.within) in
+    let few : so_far.parts < length (touched_blocks c.args.at c.args.count) =
+    subst (λ (n : ℕ). so_far.parts < length (touched_blocks c.args.at n)) whole (part_touched c.args.at (c.loop-done.done + (c.args.count - c.loop-done.done)) c.loop-done.done _ _ _ so_far.parts part at) in
+    let size : length (so_far.gone ++ piece) ≡ c.loop-done.done + k = omega (arith, so_far.all, length-gone so_far.gone c.need.new.self.ahead k there) in
+    data_then _ _ _ _ c.skip.new.self _ c.args.count (c.args.count - (c.loop-done.done + k)) (so_far.gone ++ piece) _ _ _
     (gone_skip _ _ _ c.need.new.self c.skip.new.self c.args.count k so_far.gone
     (gone_then _ _ _ _ _ _ c.args.count k so_far.gone _ so_far.came (omega (arith, so_far.all, part.within, so_far.within)) c.in-Ok-true.ensures.came)
     c.skip.ensures.ahead c.skip.ensures.left)
-    (omega (arith, so_far.all, part.within, so_far.within, length-gone so_far.gone c.need.new.self.ahead k there)) c.give_up.ensures.bytes
+    (omega (arith, size, part.within, so_far.within))
+    (λ after long nothing told device array at_first.
+    let all : List ℕ = (so_far.gone ++ piece) ++ after in
+    range_halted _ _ _ _ _ _ device array c.args.at c.args.count so_far.parts c.first-part.result.block c.first-part.result.start k [] all c.in-Err-written.stop _ c.give_up.ensures.outcome few so_far.head c.in-Err-written.ensures.adds
+    (omega (arith, so_far.along.needs, c.in-Err-written.ensures.needs)) long
+    (λ whole_is.
+    c.in-Err-written.ensures.writes told device _
+    (so_far.wrote told device array at_first all whole_is (take-append-le c.loop-done.done (so_far.gone ++ piece) after (omega (arith, size)) ∙ take-append-le c.loop-done.done so_far.gone piece (omega (arith, so_far.all)) ∙ take_all c.loop-done.done so_far.gone (omega (arith, so_far.all))))))
+    c.give_up.ensures.bytes
