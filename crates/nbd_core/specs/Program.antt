@@ -1,13 +1,12 @@
 -- What the server promises of a run.
-use Rattle.std.specs.Prelude.{◌≡◌, ◌≢◌, ◌⊎◌, ◌↔◌, ℕ, List, [], Option, None, Result, Ok, Err}
-use Rattle.sdbt_base.specs.Faults.{Rose}
+use Rattle.std.specs.Prelude.{◌≡◌, ◌≢◌, ◌≤◌, ◌⊎◌, ◌↔◌, ℕ, List, [], Option, None, Result, Ok, Err}
 use Rattle.sdbt_base.specs.declared.sinks.Sink.{Ghosts as SinkGhosts}
 use Rattle.sdbt_base.specs.declared.sources.Source.{Ghosts as SourceGhosts}
 use Rattle.sdbt_base.specs.declared.tapes.Tape.{Ghosts as TapeGhosts}
 use Rattle.platform.specs.declared.platforms.Platform.{Ghosts as PlatformGhosts}
 use Rattle.device_course.specs.States.{Outside, around}
 use Rattle.device_terms.specs.Served.{IsServedImage}
-use Rattle.sdbt_base.specs.Counts.{Counts, NoneFell}
+use Rattle.sdbt_base.specs.Counts.{Counts, InputRose, LedgerRose, NoneFell, OutputRose, PlatformRose, TapeRose}
 use Rattle.nbd_core.specs.Halts.{status_at}
 use Rattle.nbd_core.specs.Serving.{counts_of}
 use Rattle.nbd_core.specs.Running.{Untouched, Talks}
@@ -50,17 +49,19 @@ abbrev pub IsStatus : ℕ → Type 0
 IsStatus status =
     (status ≡ 0) ⊎ (status ≡ 2) ⊎ (status ≡ 3) ⊎ (status ≡ 4) ⊎ (status ≡ 5) ⊎ (status ≡ 6) ⊎ (status ≡ 7) ⊎ (status ≡ 8) ⊎ (status ≡ 10) ⊎ (status ≡ 11) ⊎ (status ≡ 12) ⊎ (status ≡ 14)
 
--- no count fell; and an exit status that names a fault comes only where the count of that object rose
+-- no count fell; and an exit status that names a fault comes only where the count of that object rose,
+-- and that of no other: at each other one all are as they were
 pub record IsBlamedAt (status : ℕ) (before now : Counts) : Type 0 where
   pub none_fell : NoneFell before now
-  pub input : status ≡ 3 → Rose before.input now.input
-  pub output : status ≡ 4 → Rose before.output now.output
-  pub platform : status ≡ 5 → Rose before.platform now.platform
-  pub tape : status ≡ 6 → Rose before.tape now.tape
-  pub ledger : status ≡ 7 → Rose before.ledger now.ledger
+  pub input : status ≡ 3 → InputRose before now
+  pub output : status ≡ 4 → OutputRose before now
+  pub platform : status ≡ 5 → PlatformRose before now
+  pub tape : status ≡ 6 → TapeRose before now
+  pub ledger : status ≡ 7 → LedgerRose before now
+  pub quiet : (3 ≤ status → status ≤ 7 → ⊥) → now ≡ before
 
 -- the exit status is one that there is, and 2 exactly where words are given; one that names a fault
--- comes only where the count of that object rose
+-- comes only where the count of that object alone rose, and each other one where none did
 pub record Exits {S R I O L : Type 0} (words : List (List ℕ)) (status : ℕ) (old new : Handed S R I O L) : Type 0 where
   pub is : IsStatus status
   pub refused : (status ≡ 2) ↔ (words ≢ [])

@@ -2,7 +2,7 @@
 ghost use Rattle.std.specs.Prelude.{Some, ◌≡◌, ◌+◌, ◌*◌, ◌≤◌, ◌<◌, ℕ, List, Option, IfErr, IfOk, IsTrue, length};
 ghost use Rattle.device_session.specs.Open.{IsOpen, blocks_of};
 ghost use Rattle.session_calls.specs.Along.{Along, Drawn};
-ghost use Rattle.sdbt_base.specs.Counts.{Counts, NoneFell};
+ghost use Rattle.sdbt_base.specs.Counts.{Counts};
 ghost use Rattle.sdbt_base.specs.Arrays.{Device, Session as OpenSession, mounted};
 ghost use Rattle.device_course.specs.States.{IsAt};
 ghost use Rattle.nbd_core.specs.Arrays.{ReadsBytes};
@@ -32,9 +32,9 @@ pub(crate) fn read<P: Platform>(
     requires within { IsWithin request.now (blocks_of session.old) }
     ensures along { (drawn : Drawn) → Along P.Platform 0 platform.old platform.new drawn drawn
         session.old session.new }
-    ensures blame { (rest rest_now : Counts) → NoneFell rest rest_now
+    ensures blame { (rest : Counts)
         → Blames (record rest { platform = P.faults platform.old })
-        (record rest_now { platform = P.faults platform.new }) result }
+        (record rest { platform = P.faults platform.new }) result }
     ensures halts { (left : Option (List ℕ)) (came : List ℕ) → IfErr result (DataEnd left 0 came) }
     ensures room { IfOk result (λ outcome. outcome ≡ Outcome.Done
         → 16 + request.now.length ≤ length reply.new.items) }

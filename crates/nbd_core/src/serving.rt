@@ -1,6 +1,6 @@
 //! Requests, one after another.
 ghost use Rattle.std.specs.Prelude.{◌≡◌, ◌≢◌, ◌+◌, ◌-◌, ◌*◌, ◌≤◌, ◌<◌, ℕ, List, Option, None, Some, IsOk, IfOk, IfErr, OnOk, OnErr, IfSome, IsTrue, ◌↔◌, [], length, take, drop};
-ghost use Rattle.sdbt_base.specs.Faults.{Rose};
+ghost use Rattle.nbd_core.specs.Stops.{TellsPut};
 ghost use Rattle.sdbt_base.specs.Told.{Got, GotPart};
 ghost use Rattle.device_course.specs.States.{around};
 ghost use Rattle.device_session.specs.Open.{IsOpen, blocks_of};
@@ -8,7 +8,7 @@ ghost use Rattle.nbd_lang.specs.Requests.{bytes_behind};
 ghost use Rattle.nbd_lang.specs.Refusals.{refusal};
 ghost use Rattle.nbd_lang.specs.Replies.{Reply, reply_bytes};
 ghost use Rattle.session_calls.specs.Along.{Along, drawn_by};
-ghost use Rattle.sdbt_base.specs.Counts.{Counts, NoneFell, counts};
+ghost use Rattle.sdbt_base.specs.Counts.{Counts};
 ghost use Rattle.nbd_terms.specs.Turn.{Answers};
 ghost use Rattle.nbd_core.specs.Halts.{Blames, commit_outcome};
 ghost use Rattle.nbd_core.specs.Requests.{DataCame, DataEnd, HeadCame};
@@ -109,9 +109,9 @@ fn is_disconnect(request: &Request) -> bool
 /// Takes the head of the next request. `None` where the input ends before it.
 fn next_request<I: Source>(intake: &mut Intake, input: &mut I) -> Result<Option<Request>, Halt>
     ensures came { HeadCame (I.left input.old) (I.left input.new) intake.old intake.new result }
-    ensures blame { (rest rest_now : Counts) → NoneFell rest rest_now
+    ensures blame { (rest : Counts)
         → Blames (record rest { input = I.faults input.old })
-        (record rest_now { input = I.faults input.new }) result }
+        (record rest { input = I.faults input.new }) result }
 {
     match intake.need(input, REQUEST_MAGIC) {
         Ok(true) => {}
@@ -200,9 +200,9 @@ fn perform<P: Platform, T: Tape, I: Source, L: Sink>(
         (around P.Platform T.Tape L.Sink platform.old tape.old ledger.old)
         (around P.Platform T.Tape L.Sink platform.new tape.new ledger.new) first
         (performed result) (IsOk result) }
-    ensures blame { (rest rest_now : Counts) → NoneFell rest rest_now
+    ensures blame { (rest : Counts)
         → Blames (record rest { platform = P.faults platform.old; tape = T.faults tape.old; input = I.faults input.old; ledger = L.faults ledger.old })
-        (record rest_now { platform = P.faults platform.new; tape = T.faults tape.new; input = I.faults input.new; ledger = L.faults ledger.new }) result }
+        (record rest { platform = P.faults platform.new; tape = T.faults tape.new; input = I.faults input.new; ledger = L.faults ledger.new }) result }
     ensures bytes { DataCame (I.left input.old) (I.left input.new) intake.old intake.new
         (bytes_behind request.now.kind request.now.length)
         (λ gone. Performs P.tells
@@ -257,9 +257,9 @@ fn serve_blocks<P: Platform, T: Tape, I: Source>(
     requires kind { (request.now.kind ≢ RequestKind.Disconnect) × (refused ≡ None → request.now.kind ≢ RequestKind.Flush) }
     ensures along { (updates : ℕ) × Along P.Platform updates platform.old platform.new
         (drawn_by T.Tape tape.old) (drawn_by T.Tape tape.new) session.old session.new }
-    ensures blame { (rest rest_now : Counts) → NoneFell rest rest_now
+    ensures blame { (rest : Counts)
         → Blames (record rest { platform = P.faults platform.old; tape = T.faults tape.old; input = I.faults input.old })
-        (record rest_now { platform = P.faults platform.new; tape = T.faults tape.new; input = I.faults input.new }) result }
+        (record rest { platform = P.faults platform.new; tape = T.faults tape.new; input = I.faults input.new }) result }
     ensures bytes { DataCame (I.left input.old) (I.left input.new) intake.old intake.new
         (bytes_behind request.now.kind request.now.length)
         (λ gone. LeadsOn P.Platform platform.old platform.new session.old session.new
@@ -313,9 +313,9 @@ fn flush<P: Platform, T: Tape, L: Sink>(
         (around P.Platform T.Tape L.Sink platform.new tape.new ledger.new) session
         (performed result) (IsOk result) }
     ensures halts { (left : Option (List ℕ)) (came : List ℕ) → IfErr result (DataEnd left 0 came) }
-    ensures blame { (rest rest_now : Counts) → NoneFell rest rest_now
+    ensures blame { (rest : Counts)
         → Blames (record rest { platform = P.faults platform.old; tape = T.faults tape.old; ledger = L.faults ledger.old })
-        (record rest_now { platform = P.faults platform.new; tape = T.faults tape.new; ledger = L.faults ledger.new }) result }
+        (record rest { platform = P.faults platform.new; tape = T.faults tape.new; ledger = L.faults ledger.new }) result }
     ensures flushes { Flushed P.tells
         (around P.Platform T.Tape L.Sink platform.old tape.old ledger.old)
         (around P.Platform T.Tape L.Sink platform.new tape.new ledger.new) session result }
@@ -351,9 +351,9 @@ fn finish<P: Platform, T: Tape, L: Sink>(
         (around P.Platform T.Tape L.Sink platform.old tape.old ledger.old)
         (around P.Platform T.Tape L.Sink platform.new tape.new ledger.new) session
         None (IsOk result) }
-    ensures blame { (rest rest_now : Counts) → NoneFell rest rest_now
+    ensures blame { (rest : Counts)
         → Blames (record rest { platform = P.faults platform.old; tape = T.faults tape.old; ledger = L.faults ledger.old })
-        (record rest_now { platform = P.faults platform.new; tape = T.faults tape.new; ledger = L.faults ledger.new }) result }
+        (record rest { platform = P.faults platform.new; tape = T.faults tape.new; ledger = L.faults ledger.new }) result }
     ensures ends { EndsByDisconnect result }
     ensures finishes { Finishes P.tells
         (around P.Platform T.Tape L.Sink platform.old tape.old ledger.old)
@@ -390,8 +390,7 @@ fn put_reply<O: Sink>(
         }))
         (O.written output.new)) }
     ensures fell { O.faults output.old ≤ O.faults output.new }
-    ensures cause { IfErr result (λ stop. (stop ≡ Stop.Sink)
-        × Rose (O.faults output.old) (O.faults output.new)) }
+    ensures cause { TellsPut result (O.faults output.old) (O.faults output.new) }
 {
     if has_bytes(request, outcome) {
         let whole = &mut desk.reply[..REPLY_HEAD + request.length as usize];
@@ -417,8 +416,7 @@ fn put_read<O: Sink>(whole: &mut [u8], cookie: u64, output: &mut O) -> Result<()
         (reply_bytes (record { outcome = Outcome.Done; cookie = cookie; bytes = drop 16 whole.old }))
         (O.written output.new)) }
     ensures fell { O.faults output.old ≤ O.faults output.new }
-    ensures cause { IfErr result (λ stop. (stop ≡ Stop.Sink)
-        × Rose (O.faults output.old) (O.faults output.new)) }
+    ensures cause { TellsPut result (O.faults output.old) (O.faults output.new) }
 {
     write_reply_head(Outcome::Done, cookie, whole);
     put(whole, output)
@@ -433,8 +431,7 @@ fn put_head<O: Sink>(outcome: Outcome, cookie: u64, output: &mut O) -> Result<()
         (reply_bytes (record { outcome = outcome; cookie = cookie; bytes = [] }))
         (O.written output.new)) }
     ensures fell { O.faults output.old ≤ O.faults output.new }
-    ensures cause { IfErr result (λ stop. (stop ≡ Stop.Sink)
-        × Rose (O.faults output.old) (O.faults output.new)) }
+    ensures cause { TellsPut result (O.faults output.old) (O.faults output.new) }
 {
     let mut head = [0; REPLY_HEAD];
     write_reply_head(outcome, cookie, &mut head);

@@ -4,7 +4,7 @@ ghost use Rattle.byte_arrays.specs.Ranges.{covered_blocks};
 ghost use Rattle.device_session.specs.Open.{IsOpen, blocks_of};
 ghost use Rattle.nbd_terms.specs.Turn.{Trims};
 ghost use Rattle.session_calls.specs.Along.{Along, Drawn};
-ghost use Rattle.sdbt_base.specs.Counts.{Counts, NoneFell};
+ghost use Rattle.sdbt_base.specs.Counts.{Counts};
 ghost use Rattle.nbd_core.specs.Halts.{Blames};
 ghost use Rattle.nbd_core.specs.Requests.{DataEnd};
 ghost use Rattle.nbd_core.specs.Serving.{IsWithin};
@@ -27,9 +27,9 @@ pub(crate) fn trim<P: Platform>(
     requires within { IsWithin request.now (blocks_of session.old) }
     ensures along { (updates : ℕ) × ((drawn : Drawn)
         → Along P.Platform updates platform.old platform.new drawn drawn session.old session.new) }
-    ensures blame { (rest rest_now : Counts) → NoneFell rest rest_now
+    ensures blame { (rest : Counts)
         → Blames (record rest { platform = P.faults platform.old })
-        (record rest_now { platform = P.faults platform.new }) result }
+        (record rest { platform = P.faults platform.new }) result }
     ensures halts { (left : Option (List ℕ)) (came : List ℕ) → IfErr result (DataEnd left 0 came) }
     ensures leads { LeadsOn P.Platform platform.old platform.new session.old session.new
         (λ outcome entry next. Trims entry

@@ -8,8 +8,8 @@ ghost use Rattle.nbd_terms.specs.Turn.{Writes};
 ghost use Rattle.nbd_core.specs.Arrays.{AddsOne, WritesPart, WroteRange};
 ghost use Rattle.session_calls.specs.Along.{Along, drawn_by};
 ghost use Rattle.sdbt_base.specs.Counts.{Counts, NoneFell};
-ghost use Rattle.session_calls.specs.Blame.{IsOfCall};
-ghost use Rattle.nbd_core.specs.Halts.{Blames, HasRisen, outcome_after};
+ghost use Rattle.session_calls.specs.Blame.{HasCause, IsOfCall};
+ghost use Rattle.nbd_core.specs.Halts.{Blames, outcome_after};
 ghost use Rattle.nbd_core.specs.Serving.{Calls, IsWithin};
 ghost use Rattle.nbd_core.specs.Requests.{DataCame};
 ghost use Rattle.nbd_core.specs.Turns.{LeadsOn};
@@ -38,9 +38,9 @@ pub(crate) fn write<P: Platform, T: Tape, I: Source>(
     requires within { IsWithin request.now (blocks_of session.old) }
     ensures along { (updates : ℕ) × Along P.Platform updates platform.old platform.new
         (drawn_by T.Tape tape.old) (drawn_by T.Tape tape.new) session.old session.new }
-    ensures blame { (rest rest_now : Counts) → NoneFell rest rest_now
+    ensures blame { (rest : Counts)
         → Blames (record rest { platform = P.faults platform.old; tape = T.faults tape.old; input = I.faults input.old })
-        (record rest_now { platform = P.faults platform.new; tape = T.faults tape.new; input = I.faults input.new }) result }
+        (record rest { platform = P.faults platform.new; tape = T.faults tape.new; input = I.faults input.new }) result }
     ensures bytes { DataCame (I.left input.old) (I.left input.new) intake.old intake.new
         request.now.length
         (λ gone. LeadsOn P.Platform platform.old platform.new session.old session.new
@@ -83,9 +83,9 @@ fn write_range<P: Platform, T: Tape, I: Source>(
         ≤ P.capacity platform.old }
     ensures along { (updates : ℕ) × Along P.Platform updates platform.old platform.new
         (drawn_by T.Tape tape.old) (drawn_by T.Tape tape.new) session.old session.new }
-    ensures blame { (rest rest_now : Counts) → NoneFell rest rest_now
+    ensures blame { (rest : Counts)
         → Blames (record rest { platform = P.faults platform.old; tape = T.faults tape.old; input = I.faults input.old })
-        (record rest_now { platform = P.faults platform.new; tape = T.faults tape.new; input = I.faults input.new }) result }
+        (record rest { platform = P.faults platform.new; tape = T.faults tape.new; input = I.faults input.new }) result }
     ensures bytes { DataCame (I.left input.old) (I.left input.new) intake.old intake.new count
         (λ gone. P.tells → (device : Device) (array : OpenSession)
         → IsAt (P.history platform.old).present (Some session.old) (mounted device array)
@@ -121,9 +121,9 @@ fn give_up<I: Source>(
     left: u64,
 ) -> Result<Outcome, Halt>
     requires { IsOfCall stop }
-    ensures blame { (rest rest_now : Counts) → NoneFell rest rest_now → HasRisen rest rest_now stop
-        → Blames (record rest { input = I.faults input.old })
-        (record rest_now { input = I.faults input.new }) result }
+    ensures blame { (before now : Counts) → NoneFell before now → HasCause before now stop
+        → Blames (record before { input = I.faults input.old })
+        (record now { input = I.faults input.new }) result }
     ensures bytes { DataCame (I.left input.old) (I.left input.new) intake.old intake.new left
         (λ gone. Unit {0}) result }
     ensures outcome { IfOk result (λ outcome. outcome_after stop ≡ Ok outcome) }
@@ -142,9 +142,9 @@ pub(crate) fn let_go<I: Source>(
     outcome: Outcome,
 ) -> Result<Outcome, Halt>
     ensures outcome { IfOk result (λ it. it ≡ outcome) }
-    ensures blame { (rest rest_now : Counts) → NoneFell rest rest_now
+    ensures blame { (rest : Counts)
         → Blames (record rest { input = I.faults input.old })
-        (record rest_now { input = I.faults input.new }) result }
+        (record rest { input = I.faults input.new }) result }
     ensures bytes { DataCame (I.left input.old) (I.left input.new) intake.old intake.new count
         (λ gone. Unit {0}) result }
 {

@@ -2,8 +2,8 @@ use Rattle.std.proofs.Common.{◌≡◌, ◌≤◌, ◌+◌, ◌∙◌, ℕ, Lis
 use Rattle.byte_arrays.specs.Arrays.{bytes_at}
 use Rattle.nbd_terms.specs.Held.{array_of}
 use Rattle.session_calls.proofs.AlongLaws.{along_start}
-use Rattle.nbd_core.proofs.CallLaws.{no_draw}
-use Rattle.nbd_core.proofs.BlameLaws.{blame_platform, blame_going, stop_halts}
+use Rattle.nbd_core.proofs.CallLaws.{draws_none, no_draw, platform_quiet}
+use Rattle.nbd_core.proofs.BlameLaws.{blame_done, blame_platform, stop_halts}
 use Rattle.nbd_core.proofs.TurnLaws.{held_still, read_halted, read_room}
 use Rattle.nbd_core.proofs.reading.read.Goals as goal
 
@@ -16,13 +16,16 @@ returns-in-Ok-clause-along g c drawn = (c.in-Ok.ensures.calls drawn).along
 pub returns-in-Err-clause-along : goal.returns-in-Err-clause-along
 returns-in-Err-clause-along g c drawn = (c.in-Err.ensures.calls drawn).along
 
+pub returns-then-not-has_room-clause-blame : goal.returns-then-not-has_room-clause-blame
+returns-then-not-has_room-clause-blame g c rest = blame_done _ _ _ refl
+
 pub returns-in-Ok-clause-blame : goal.returns-in-Ok-clause-blame
-returns-in-Ok-clause-blame g c rest rest_now fell = blame_going rest rest_now _ _ _ fell (c.in-Ok.ensures.calls no_draw).along.fell.platform
+returns-in-Ok-clause-blame g c rest = blame_done _ _ _ (ap (λ (n : ℕ). record rest { platform = n }) (platform_quiet _ _ (c.in-Ok.ensures.calls no_draw).quiet))
 
 pub returns-in-Err-clause-blame : goal.returns-in-Err-clause-blame
-returns-in-Err-clause-blame g c rest rest_now fell =
-    let calls = c.in-Err.ensures.calls no_draw in
-    blame_platform rest rest_now _ _ c.in-Err.stop _ fell calls.along.fell.platform calls.stops calls.cause c.after_stop.ensures
+returns-in-Err-clause-blame g c rest =
+    let calls = c.in-Err.ensures.calls (draws_none rest.tape) in
+    blame_platform rest _ _ c.in-Err.stop _ calls.along.fell.platform calls.stops calls.cause c.after_stop.ensures
 
 pub returns-in-Err-clause-halts : goal.returns-in-Err-clause-halts
 returns-in-Err-clause-halts g c left came = stop_halts c.in-Err.stop _ left came (c.in-Err.ensures.calls no_draw).stops c.after_stop.ensures

@@ -1,6 +1,6 @@
-use Rattle.std.proofs.Common.{List, ℕ, arith}
+use Rattle.std.proofs.Common.{List, ℕ, ap, arith, refl}
 use Rattle.sdbt_base.specs.Counts.{counts}
-use Rattle.nbd_core.proofs.BlameLaws.{blame_sink}
+use Rattle.nbd_core.proofs.BlameLaws.{blame_as, blame_done, blame_sink, blame_then}
 use Rattle.nbd_core.proofs.CarryLaws.{carries_end}
 use Rattle.nbd_core.specs.Serving.{bytes_of_reply}
 use Rattle.nbd_core.proofs.ServedLaws.{answer_cut, answer_halted, is_reply}
@@ -9,9 +9,9 @@ use Rattle.nbd_core.proofs.serving.answer.Goals as goal
 
 pub returns-in-Ok-put_reply-clause-blame : goal.returns-in-Ok-put_reply-clause-blame
 returns-in-Ok-put_reply-clause-blame g c =
-    let O = g.O.Sink in
-    let blames = c.in-Ok.ensures.blame (counts 0 0 0 (O.faults c.args.output.now) 0) (counts 0 0 0 (O.faults c.put_reply.new.output) 0) (record { platform = omega arith; tape = omega arith; input = omega arith; output = c.in-Ok-put_reply.ensures.fell; ledger = omega arith }) in
-    record { fell = blames.fell; cause = tt }
+    let o = g.O.Sink.faults c.args.output.now in
+    let blames = c.in-Ok.ensures.blame (counts 0 0 0 o 0) in
+    blame_then _ _ _ _ blames.quiet (blame_done _ _ _ (ap (λ (n : ℕ). record (counts (g.P.Platform.faults c.perform.new.platform) (g.T.Tape.faults c.perform.new.tape) (g.I.Source.faults c.perform.new.input) 0 (g.L.Sink.faults c.perform.new.ledger)) { output = n }) c.in-Ok-put_reply.ensures.cause))
 
 pub returns-in-Ok-put_reply-clause-answered : goal.returns-in-Ok-put_reply-clause-answered
 returns-in-Ok-put_reply-clause-answered g c =
@@ -36,9 +36,11 @@ returns-in-Err-put_reply-clause-carries g c = carries_end _ _ _ _ _ _ _ (λ neve
 
 pub returns-in-Err-put_reply-clause-blame : goal.returns-in-Err-put_reply-clause-blame
 returns-in-Err-put_reply-clause-blame g c =
-    let O = g.O.Sink in
-    let blames = c.in-Ok.ensures.blame (counts 0 0 0 (O.faults c.args.output.now) 0) (counts 0 0 0 (O.faults c.put_reply.new.output) 0) (record { platform = omega arith; tape = omega arith; input = omega arith; output = c.in-Err-put_reply.ensures.fell; ledger = omega arith }) in
-    blame_sink _ _ c.in-Err-put_reply.stop blames.fell c.in-Err-put_reply.ensures.cause.0 c.in-Err-put_reply.ensures.cause.1
+    let o = g.O.Sink.faults c.args.output.now in
+    let blames = c.in-Ok.ensures.blame (counts 0 0 0 o 0) in
+    let cause = c.in-Err-put_reply.ensures.cause in
+    blame_then _ _ _ _ blames.quiet
+    (blame_sink _ _ c.in-Err-put_reply.stop (record { platform = omega arith; tape = omega arith; input = omega arith; output = c.in-Err-put_reply.ensures.fell; ledger = omega arith }) cause.0 (cause.1, refl))
 
 pub returns-in-Err-put_reply-clause-answered : goal.returns-in-Err-put_reply-clause-answered
 returns-in-Err-put_reply-clause-answered g c =
@@ -56,10 +58,7 @@ returns-in-Err-put_reply-clause-answered g c =
     }
 
 pub returns-in-Err-clause-blame : goal.returns-in-Err-clause-blame
-returns-in-Err-clause-blame g c =
-    let o = g.O.Sink.faults c.args.output.now in
-    let blames = c.in-Err.ensures.blame (counts 0 0 0 o 0) (counts 0 0 0 o 0) (record { platform = omega arith; tape = omega arith; input = omega arith; output = omega arith; ledger = omega arith }) in
-    record { fell = blames.fell; cause = blames.cause }
+returns-in-Err-clause-blame g c = blame_as _ _ c.in-Err.halt (c.in-Err.ensures.blame (counts 0 0 0 (g.O.Sink.faults c.args.output.now) 0))
 
 pub returns-in-Err-clause-answered : goal.returns-in-Err-clause-answered
 returns-in-Err-clause-answered g c =

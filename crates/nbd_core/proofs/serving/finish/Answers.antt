@@ -3,6 +3,7 @@ use denote.Enum.Bare.{same_true, sameb}
 use Rattle.nbd_lang.specs.contracts.replies.Outcome.{the_type}
 use Rattle.nbd_lang.specs.declared.replies.Outcome.{Outcome}
 use Rattle.nbd_lang.specs.declared.replies.Outcome.TheVariants.{Done}
+use Rattle.nbd_core.proofs.BlameLaws.{blame_as, blame_on}
 use Rattle.nbd_core.proofs.CarryLaws.{carries_end}
 use Rattle.nbd_core.proofs.ServedLaws.{flush_ends}
 use Rattle.nbd_core.proofs.TurnLaws.{flush_ended, flush_halted, flush_unfinished}
@@ -15,15 +16,15 @@ pub returns-in-Ok-2-clause-carries : goal.returns-in-Ok-2-clause-carries
 returns-in-Ok-2-clause-carries g c = carries_end _ _ _ _ _ _ _ (λ never. cc) c.in-Ok-2.ensures.carries
 
 pub returns-in-Ok-clause-blame : goal.returns-in-Ok-clause-blame
-returns-in-Ok-clause-blame g c rest rest_now fell = record { fell = (c.in-Ok.ensures.blame rest rest_now fell).fell; cause = tt }
+returns-in-Ok-clause-blame g c rest = blame_on _ _ c.in-Ok.done _ (c.in-Ok.ensures.blame rest)
 
 pub returns-in-Ok-2-clause-blame : goal.returns-in-Ok-2-clause-blame
-returns-in-Ok-2-clause-blame g c rest rest_now fell = record { fell = (c.in-Ok-2.ensures.blame rest rest_now fell).fell; cause = tt }
+returns-in-Ok-2-clause-blame g c rest =
+    let blames = c.in-Ok-2.ensures.blame rest in
+    record { fell = blames.fell; quiet = tt; cause = blames.quiet }
 
 pub returns-in-Err-clause-blame : goal.returns-in-Err-clause-blame
-returns-in-Err-clause-blame g c rest rest_now fell =
-    let blame = c.in-Err.ensures.blame rest rest_now fell in
-    record { fell = blame.fell; cause = blame.cause }
+returns-in-Err-clause-blame g c rest = blame_as _ _ c.in-Err.halt (c.in-Err.ensures.blame rest)
 
 pub returns-in-Err-clause-ends : goal.returns-in-Err-clause-ends
 returns-in-Err-clause-ends g c = flush_ends c.in-Err.halt (c.in-Err.ensures.halts None [])

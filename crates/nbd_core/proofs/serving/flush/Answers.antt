@@ -1,5 +1,5 @@
 use Rattle.nbd_core.proofs.CarryLaws.{carries_committed, carries_stopped, carries_going}
-use Rattle.nbd_core.proofs.BlameLaws.{commit_halts, of_commit}
+use Rattle.nbd_core.proofs.BlameLaws.{blame_commit, blame_committed, commit_halts, of_commit}
 use Rattle.platform.proofs.Moments.{During-now}
 use Rattle.device_terms.specs.Served.{IsServedImage}
 use Rattle.nbd_core.proofs.TurnLaws.{commit_halted, flushed_to}
@@ -27,3 +27,11 @@ pub returns-in-Err-clause-flushes : goal.returns-in-Err-clause-flushes
 returns-in-Err-clause-flushes g c told entry held =
     commit_halted g.P.Platform g.T.Tape g.L.Sink _ _ _ _ _ _ _ c.in-Err.stop _ entry c.requires.ready.is_open c.after_commit.ensures held c.in-Err.ensures.answers
     (During-now _ _ IsServedImage (c.in-Err.ensures.goes.keeps.serves told held.at.served)) (c.in-Err.ensures.leads told entry.device entry.session held.at)
+
+pub returns-in-Ok-clause-blame : goal.returns-in-Ok-clause-blame
+returns-in-Ok-clause-blame g c rest = blame_committed rest _ _ _ _ _ _ _ c.in-Ok.ensures.goes.blame.quiet
+
+pub returns-in-Err-clause-blame : goal.returns-in-Err-clause-blame
+returns-in-Err-clause-blame g c rest =
+    let blame = c.in-Err.ensures.goes.blame in
+    blame_commit rest _ _ _ _ _ _ c.in-Err.stop _ (of_commit g.P.Platform g.T.Tape _ _ _ _ c.in-Err.stop c.in-Err.ensures.answers.left) c.after_commit.ensures blame.fell blame.cause

@@ -3,6 +3,7 @@ use Rattle.nbd_lang.specs.Requests.{request_head}
 use Rattle.nbd_core.specs.Room.{Came}
 use Rattle.nbd_core.specs.Requests.{request_magic, AwaitsRequest}
 use Rattle.nbd_core.proofs.RequestLaws.{short_awaits, shorter_awaits, request_stays, first_came, head_came, head_there, head_stopped, head_ended}
+use Rattle.nbd_core.proofs.BlameLaws.{blame_broken, blame_ended, blame_take, blame_taken, blame_then}
 use Rattle.nbd_core.proofs.serving.next_request.Goals as goal
 
 pub returns-in-Ok-false-clause-came : goal.returns-in-Ok-false-clause-came
@@ -61,3 +62,22 @@ returns-clause-came g c =
           (head_came _ _ _ _ c.need.new.self c.need-2.new.self long magic c.in-Ok-true.ensures.came more);
       ends = (c.read_request-request.ensures.fits, there);
     }
+
+pub returns-in-Ok-false-clause-blame : goal.returns-in-Ok-false-clause-blame
+returns-in-Ok-false-clause-blame g c rest = blame_ended rest _ _ c.count.result _ c.in-Ok-false.ensures.cause c.at_end.ensures.none c.at_end.ensures.broken
+
+pub returns-in-Err-clause-blame : goal.returns-in-Err-clause-blame
+returns-in-Err-clause-blame g c rest = blame_take rest _ _ c.in-Err.stop c.in-Err.ensures.fell c.in-Err.ensures.cause
+
+pub returns-then-not-is_request-clause-blame : goal.returns-then-not-is_request-clause-blame
+returns-then-not-is_request-clause-blame g c rest = blame_broken rest _ _ c.in-Ok-true.ensures.cause
+
+pub returns-in-Ok-false-need-clause-blame : goal.returns-in-Ok-false-need-clause-blame
+returns-in-Ok-false-need-clause-blame g c rest = blame_broken rest _ _ (c.in-Ok-false-need.ensures.cause ∙ c.in-Ok-true.ensures.cause)
+
+pub returns-in-Err-need-clause-blame : goal.returns-in-Err-need-clause-blame
+returns-in-Err-need-clause-blame g c rest =
+    blame_then _ _ _ _ (ap (λ (n : ℕ). record rest { input = n }) c.in-Ok-true.ensures.cause) (blame_take rest _ _ c.in-Err-need.stop c.in-Err-need.ensures.fell c.in-Err-need.ensures.cause)
+
+pub returns-clause-blame : goal.returns-clause-blame
+returns-clause-blame g c rest = blame_taken rest _ _ _ (c.in-Ok-true-need.ensures.cause ∙ c.in-Ok-true.ensures.cause)

@@ -5,6 +5,7 @@ use Rattle.device_session.specs.Open.{blocks_of}
 use Rattle.nbd_lang.specs.Refusals.{refusal}
 use Rattle.device_session.specs.Sessions.{Session}
 use Rattle.nbd_core.proofs.DataLaws.{data_over, data_went, no_data}
+use Rattle.nbd_core.proofs.BlameLaws.{blame_as, blame_on}
 use Rattle.nbd_core.proofs.TurnLaws.{blocks_halted, blocks_performed, flush_performed}
 use Rattle.nbd_core.proofs.serving.perform.Goals as goal
 
@@ -20,21 +21,13 @@ returns-in-Err-clause-carries g c =
     carries_end _ _ _ _ _ _ _ (λ never. tt) (carries_along g.P.Platform g.T.Tape g.L.Sink c.in-Err.ensures.along.0 _ _ _ _ _ _ _ c.requires.ready c.in-Err.ensures.along.1)
 
 pub returns-in-Ok-clause-blame : goal.returns-in-Ok-clause-blame
-returns-in-Ok-clause-blame g c rest rest_now fell =
-    let l = g.L.Sink.faults c.args.ledger.now in
-    let blames = c.in-Ok.ensures.blame (record rest { ledger = l }) (record rest_now { ledger = l }) (record { platform = fell.platform; tape = fell.tape; input = fell.input; output = fell.output; ledger = omega arith }) in
-    record { fell = blames.fell; cause = tt }
+returns-in-Ok-clause-blame g c rest = blame_on _ _ c.in-Ok.outcome _ (c.in-Ok.ensures.blame (record rest { ledger = g.L.Sink.faults c.args.ledger.now }))
 
 pub returns-in-Err-clause-blame : goal.returns-in-Err-clause-blame
-returns-in-Err-clause-blame g c rest rest_now fell =
-    let l = g.L.Sink.faults c.args.ledger.now in
-    let blames = c.in-Err.ensures.blame (record rest { ledger = l }) (record rest_now { ledger = l }) (record { platform = fell.platform; tape = fell.tape; input = fell.input; output = fell.output; ledger = omega arith }) in
-    record { fell = blames.fell; cause = blames.cause }
+returns-in-Err-clause-blame g c rest = blame_as _ _ c.in-Err.halt (c.in-Err.ensures.blame (record rest { ledger = g.L.Sink.faults c.args.ledger.now }))
 
 pub returns-then-is_flush-clause-blame : goal.returns-then-is_flush-clause-blame
-returns-then-is_flush-clause-blame g c rest rest_now fell =
-    let i = g.I.Source.faults c.args.input.now in
-    c.flush.ensures.blame (record rest { input = i }) (record rest_now { input = i }) (record { platform = fell.platform; tape = fell.tape; input = omega arith; output = fell.output; ledger = fell.ledger })
+returns-then-is_flush-clause-blame g c rest = c.flush.ensures.blame (record rest { input = g.I.Source.faults c.args.input.now })
 
 pub returns-then-is_flush-clause-bytes : goal.returns-then-is_flush-clause-bytes
 returns-then-is_flush-clause-bytes g c =

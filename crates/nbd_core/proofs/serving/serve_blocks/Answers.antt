@@ -1,4 +1,4 @@
-use Rattle.std.proofs.Common.{arith, ap, sym, []}
+use Rattle.std.proofs.Common.{ap, sym, []}
 use Rattle.nbd_lang.specs.Requests.{bytes_behind}
 use Rattle.session_calls.specs.Along.{drawn_by}
 use Rattle.session_calls.proofs.AlongLaws.{along_start}
@@ -10,19 +10,13 @@ pub returns-in-Some-clause-along : goal.returns-in-Some-clause-along
 returns-in-Some-clause-along g c = (0, along_start g.P.Platform _ (drawn_by g.T.Tape c.args.tape.now) _ c.requires.open)
 
 pub returns-in-Some-clause-blame : goal.returns-in-Some-clause-blame
-returns-in-Some-clause-blame g c rest rest_now fell =
-    let p = g.P.Platform.faults c.args.platform.now in
-    let t = g.T.Tape.faults c.args.tape.now in
-    c.let_go.ensures.blame (record rest { platform = p; tape = t }) (record rest_now { platform = p; tape = t }) (record { platform = omega arith; tape = omega arith; input = fell.input; output = fell.output; ledger = fell.ledger })
+returns-in-Some-clause-blame g c rest = c.let_go.ensures.blame (record rest { platform = g.P.Platform.faults c.args.platform.now; tape = g.T.Tape.faults c.args.tape.now })
 
 pub returns-in-Read-clause-along : goal.returns-in-Read-clause-along
 returns-in-Read-clause-along g c = (0, c.read.ensures.along (drawn_by g.T.Tape c.args.tape.now))
 
 pub returns-in-Read-clause-blame : goal.returns-in-Read-clause-blame
-returns-in-Read-clause-blame g c rest rest_now fell =
-    let t = g.T.Tape.faults c.args.tape.now in
-    let i = g.I.Source.faults c.args.input.now in
-    c.read.ensures.blame (record rest { tape = t; input = i }) (record rest_now { tape = t; input = i }) (record { platform = fell.platform; tape = omega arith; input = omega arith; output = fell.output; ledger = fell.ledger })
+returns-in-Read-clause-blame g c rest = c.read.ensures.blame (record rest { tape = g.T.Tape.faults c.args.tape.now; input = g.I.Source.faults c.args.input.now })
 
 pub returns-in-Read-clause-bytes : goal.returns-in-Read-clause-bytes
 returns-in-Read-clause-bytes g c =
@@ -33,10 +27,7 @@ pub returns-in-Trim-clause-along : goal.returns-in-Trim-clause-along
 returns-in-Trim-clause-along g c = (c.trim.ensures.along.0, c.trim.ensures.along.1 (drawn_by g.T.Tape c.args.tape.now))
 
 pub returns-in-Trim-clause-blame : goal.returns-in-Trim-clause-blame
-returns-in-Trim-clause-blame g c rest rest_now fell =
-    let t = g.T.Tape.faults c.args.tape.now in
-    let i = g.I.Source.faults c.args.input.now in
-    c.trim.ensures.blame (record rest { tape = t; input = i }) (record rest_now { tape = t; input = i }) (record { platform = fell.platform; tape = omega arith; input = omega arith; output = fell.output; ledger = fell.ledger })
+returns-in-Trim-clause-blame g c rest = c.trim.ensures.blame (record rest { tape = g.T.Tape.faults c.args.tape.now; input = g.I.Source.faults c.args.input.now })
 
 pub returns-in-Trim-clause-bytes : goal.returns-in-Trim-clause-bytes
 returns-in-Trim-clause-bytes g c =

@@ -1,4 +1,4 @@
-use Rattle.std.proofs.Common.{◌≡◌, ◌≤◌, ◌+◌, ◌-◌, ℕ, inl, refl, subst, sym, ◌∙◌, arith, Ok, Some}
+use Rattle.std.proofs.Common.{◌≡◌, ◌≤◌, ◌+◌, ◌-◌, ℕ, ap, inl, refl, subst, sym, ◌∙◌, arith, Ok, Some}
 use Rattle.sdbt_base.specs.Arrays.{mounted}
 use Rattle.byte_arrays.specs.Ranges.{blocks_from, covered_blocks}
 use Rattle.byte_arrays.proofs.RangeLaws.{covered_is}
@@ -10,8 +10,8 @@ use Rattle.session_calls.proofs.AlongLaws.{along_start, along_then}
 use Rattle.nbd_lang.specs.declared.replies.Outcome.TheVariants.{Done}
 use Rattle.nbd_core.proofs.ArrayLaws.{trim_halted, trim_step, trimmed_some}
 use Rattle.nbd_core.proofs.TurnLaws.{trims_lead}
-use Rattle.nbd_core.proofs.BlameLaws.{blame_going, blame_platform, stop_halts}
-use Rattle.nbd_core.proofs.CallLaws.{along_more, cause_later, has_risen, no_draw}
+use Rattle.nbd_core.proofs.BlameLaws.{blame_done, blame_platform, blame_then, stop_halts}
+use Rattle.nbd_core.proofs.CallLaws.{along_more, draws_none, no_draw, platform_quiet}
 use Rattle.nbd_core.proofs.trimming.trim.Goals as goal
 
 pub loop-block-init : goal.loop-block-init
@@ -22,6 +22,7 @@ loop-block-init g c = record {
       let none : first - first ≡ 0 = omega arith in
       subst (λ (n : ℕ). IsAt (g.P.Platform.history c.args.platform.now).present (Some c.args.session.now) (mounted device (trim_all array (blocks_from first n)))) (sym none) at;
   head = refl;
+  quiet = refl;
   few = omega arith;
 }
 
@@ -36,6 +37,7 @@ loop-block-preserved g c =
       along = λ drawn. subst (λ (n : ℕ). Along g.P.Platform n c.args.platform.now c.trim_block.new.platform drawn drawn c.args.session.now c.trim_block.new.session) count (along_then g.P.Platform (block - first) 1 _ _ _ drawn drawn drawn _ _ _ (so_far.along drawn) (c.in-Ok.ensures.goes drawn).along);
       trims = λ told device array at. trim_step _ _ device array first block from (c.in-Ok.ensures.leads told device _ (so_far.trims told device array at));
       head = c.in-Ok.ensures.head ∙ so_far.head;
+      quiet = platform_quiet _ _ (c.in-Ok.ensures.goes no_draw).quiet ∙ so_far.quiet;
       few = omega (arith, from, c.loop-block-test.true);
     }
 
@@ -53,10 +55,9 @@ returns-in-Err-clause-along g c =
     (n + 1, λ drawn. along_then g.P.Platform n 1 _ _ _ drawn drawn drawn _ _ _ (c.loop-block.invariant.along drawn) (c.in-Err.ensures.goes drawn).along)
 
 pub returns-in-Err-clause-blame : goal.returns-in-Err-clause-blame
-returns-in-Err-clause-blame g c rest rest_now fell =
-    let goes = c.in-Err.ensures.goes no_draw in
-    let before = (c.loop-block.invariant.along no_draw).fell in
-    blame_platform rest rest_now _ _ c.in-Err.stop _ fell (omega (arith, before.platform, goes.along.fell.platform)) goes.stops (cause_later _ _ _ c.in-Err.stop before goes.along.fell (has_risen _ _ c.in-Err.stop goes.cause)) c.after_stop.ensures
+returns-in-Err-clause-blame g c rest =
+    let goes = c.in-Err.ensures.goes (draws_none rest.tape) in
+    blame_then _ _ _ _ (ap (λ (n : ℕ). record rest { platform = n }) c.loop-block.invariant.quiet) (blame_platform rest _ _ c.in-Err.stop _ goes.along.fell.platform goes.stops goes.cause c.after_stop.ensures)
 
 pub returns-in-Err-clause-halts : goal.returns-in-Err-clause-halts
 returns-in-Err-clause-halts g c left came = stop_halts c.in-Err.stop _ left came (c.in-Err.ensures.goes no_draw).stops c.after_stop.ensures
@@ -77,7 +78,7 @@ pub returns-clause-along : goal.returns-clause-along
 returns-clause-along g c = (c.loop-block.block - c.covered-blocks.result.start, c.loop-block.invariant.along)
 
 pub returns-clause-blame : goal.returns-clause-blame
-returns-clause-blame g c rest rest_now fell = blame_going rest rest_now _ _ _ fell (c.loop-block.invariant.along no_draw).fell.platform
+returns-clause-blame g c rest = blame_done _ _ _ (ap (λ (n : ℕ). record rest { platform = n }) c.loop-block.invariant.quiet)
 
 pub returns-clause-leads : goal.returns-clause-leads
 returns-clause-leads g c =

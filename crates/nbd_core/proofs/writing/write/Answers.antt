@@ -11,10 +11,7 @@ pub returns-then-blocks-capacity-clause-along : goal.returns-then-blocks-capacit
 returns-then-blocks-capacity-clause-along g c = (0, along_start g.P.Platform _ (drawn_by g.T.Tape c.args.tape.now) _ c.requires.open)
 
 pub returns-then-blocks-capacity-clause-blame : goal.returns-then-blocks-capacity-clause-blame
-returns-then-blocks-capacity-clause-blame g c rest rest_now fell =
-    let p = g.P.Platform.faults c.args.platform.now in
-    let t = g.T.Tape.faults c.args.tape.now in
-    c.let_go.ensures.blame (record rest { platform = p; tape = t }) (record rest_now { platform = p; tape = t }) (record { platform = omega arith; tape = omega arith; input = fell.input; output = fell.output; ledger = fell.ledger })
+returns-then-blocks-capacity-clause-blame g c rest = c.let_go.ensures.blame (record rest { platform = g.P.Platform.faults c.args.platform.now; tape = g.T.Tape.faults c.args.tape.now })
 
 pub write_range-requires-clause-free : goal.write_range-requires-clause-free
 write_range-requires-clause-free g c =

@@ -7,8 +7,8 @@ use Rattle.nbd_lang.specs.declared.replies.Outcome.TheVariants.{Done}
 use Rattle.session_calls.specs.Along.{drawn_by}
 use Rattle.session_calls.proofs.AlongLaws.{along_start, along_then}
 use Rattle.nbd_core.proofs.ArrayLaws.{front_of, range_halted, range_step, wrote_range}
-use Rattle.nbd_core.proofs.BlameLaws.{blame_earlier, cause_wide}
-use Rattle.nbd_core.proofs.CallLaws.{cause_later}
+use Rattle.nbd_core.proofs.BlameLaws.{blame_done, blame_take, blame_then, cause_wide, same_blocks, same_fell}
+use Rattle.nbd_core.proofs.CallLaws.{platform_quiet, tape_quiet}
 use Rattle.nbd_core.proofs.CameLaws.{came_nothing, length-gone}
 use Rattle.nbd_core.proofs.DataLaws.{gone_then, gone_skip, data_whole, data_short, data_broken, data_then}
 use Rattle.nbd_core.proofs.PartLaws.{part_front, part_touched}
@@ -26,7 +26,9 @@ loop-done-init g c = record {
   head = omega arith;
   last = λ none. ap (λ (n : ℕ). length (touched_blocks c.args.at n)) (sym none);
   wrote = λ told device array at all long front. at;
-  fell = omega arith;
+  platform = refl;
+  tape = refl;
+  input = refl;
 }
 
 pub returns-in-Ok-false-clause-along : goal.returns-in-Ok-false-clause-along
@@ -124,7 +126,9 @@ loop-done-preserved g c =
           range_step (g.P.Platform.history c.write_part-written.new.platform).present c.write_part-written.new.session device array c.args.at c.args.count c.loop-done.done so_far.parts _ _ k so_far.gone (take k c.ahead.result.now) all
           (subst (λ (n : ℕ). IsPart c.args.at n c.loop-done.done c.first-part.result.block c.first-part.result.start k) whole part) at so_far.all long (front ∙ ap (λ (l : List ℕ). so_far.gone ++ take k l) (sym c.ahead.ensures))
           (c.in-Ok.ensures.writes told device _ (so_far.wrote told device array there all long (front_of c.loop-done.done k so_far.gone _ all so_far.all front)));
-      fell = omega (arith, so_far.fell, c.in-Ok-true.ensures.fell);
+      platform = platform_quiet _ _ c.in-Ok.ensures.calls.quiet ∙ so_far.platform;
+      tape = tape_quiet _ _ c.in-Ok.ensures.calls.quiet ∙ so_far.tape;
+      input = c.in-Ok-true.ensures.cause ∙ so_far.input;
     }
 
 pub returns-in-Err-written-clause-along : goal.returns-in-Err-written-clause-along
@@ -134,18 +138,35 @@ returns-in-Err-written-clause-along g c =
     (so_far.parts + 1, along_then g.P.Platform so_far.parts 1 _ _ _ (d c.args.tape.now) (d c.loop-done.tape) (d c.write_part-written.new.tape) _ _ _ so_far.along c.in-Err-written.ensures.calls.along)
 
 pub returns-in-Err-written-clause-blame : goal.returns-in-Err-written-clause-blame
-returns-in-Err-written-clause-blame g c rest rest_now fell =
+returns-in-Err-written-clause-blame g c rest =
     let so_far = c.loop-done.invariant in
     let calls = c.in-Err-written.ensures.calls in
-    let before = so_far.along.fell in
     let P = g.P.Platform in
     let T = g.T.Tape in
-    let cause = cause_wide rest rest_now (P.faults c.args.platform.now) (P.faults c.write_part-written.new.platform) (T.faults c.args.tape.now) (T.faults c.write_part-written.new.tape) c.in-Err-written.stop calls.stops
-    (cause_later _ _ _ c.in-Err-written.stop before calls.along.fell calls.cause) in
-    blame_earlier _ _ _ _
-    (record { platform = omega arith; tape = omega arith; input = omega (arith, so_far.fell, c.in-Ok-true.ensures.fell); output = omega arith; ledger = omega arith })
-    (c.give_up.ensures.blame (record rest { platform = P.faults c.args.platform.now; tape = T.faults c.args.tape.now }) (record rest_now { platform = P.faults c.write_part-written.new.platform; tape = T.faults c.write_part-written.new.tape })
-    (record { platform = omega (arith, before.platform, calls.along.fell.platform); tape = omega (arith, before.tape, calls.along.fell.tape); input = fell.input; output = fell.output; ledger = fell.ledger }) cause)
+    let i = g.I.Source.faults c.need.new.input in
+    let before = record rest { platform = P.faults c.loop-done.platform; tape = T.faults c.loop-done.tape } in
+    let now = record rest { platform = P.faults c.write_part-written.new.platform; tape = T.faults c.write_part-written.new.tape } in
+    blame_then _ (record before { input = i }) _ _ (same_blocks rest _ _ _ _ _ _ so_far.platform so_far.tape (c.in-Ok-true.ensures.cause ∙ so_far.input))
+    (c.give_up.ensures.blame before now (record { platform = calls.along.fell.platform; tape = calls.along.fell.tape; input = omega arith; output = omega arith; ledger = omega arith })
+    (cause_wide rest _ _ _ _ c.in-Err-written.stop calls.stops calls.cause))
+
+pub returns-in-Ok-false-clause-blame : goal.returns-in-Ok-false-clause-blame
+returns-in-Ok-false-clause-blame g c rest =
+    let so_far = c.loop-done.invariant in
+    let same = same_blocks rest _ _ _ _ _ _ so_far.platform so_far.tape (c.in-Ok-false.ensures.cause ∙ so_far.input) in
+    record { fell = same_fell _ _ same; quiet = tt; cause = same }
+
+pub returns-in-Err-clause-blame : goal.returns-in-Err-clause-blame
+returns-in-Err-clause-blame g c rest =
+    let so_far = c.loop-done.invariant in
+    let blocks = record rest { platform = g.P.Platform.faults c.loop-done.platform; tape = g.T.Tape.faults c.loop-done.tape } in
+    blame_then _ (record blocks { input = g.I.Source.faults c.loop-done.input }) _ _ (same_blocks rest _ _ _ _ _ _ so_far.platform so_far.tape so_far.input)
+    (blame_take blocks _ _ c.in-Err.stop c.in-Err.ensures.fell c.in-Err.ensures.cause)
+
+pub returns-clause-blame : goal.returns-clause-blame
+returns-clause-blame g c rest =
+    let so_far = c.loop-done.invariant in
+    blame_done _ _ _ (same_blocks rest _ _ _ _ _ _ so_far.platform so_far.tape so_far.input)
 
 pub returns-in-Err-written-clause-bytes : goal.returns-in-Err-written-clause-bytes
 returns-in-Err-written-clause-bytes g c =

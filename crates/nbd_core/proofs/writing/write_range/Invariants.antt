@@ -23,7 +23,9 @@ invariant-loop-done g l = record {
   wrote : g.P.Platform.tells → (device : Device) (array : OpenSession) → IsAt (g.P.Platform.history l.fn.platform).present (Some l.fn.session) (mounted device array)
       → (all : List ℕ) → length all ≡ l.count → take l.done all ≡ gone
       → IsAt (g.P.Platform.history l.platform).present (Some l.session) (mounted device (write_all array (with_bytes (array_of array) l.at all) (blocks_from (l.at / 4096) parts)));
-  fell : g.I.Source.faults l.fn.input ≤ g.I.Source.faults l.input;
+  platform : g.P.Platform.faults l.platform ≡ g.P.Platform.faults l.fn.platform;
+  tape : g.T.Tape.faults l.tape ≡ g.T.Tape.faults l.fn.tape;
+  input : g.I.Source.faults l.input ≡ g.I.Source.faults l.fn.input;
 }
 
 abbrev pub decreases-loop-done : goal.decreases-loop-done
