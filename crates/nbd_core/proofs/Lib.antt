@@ -13,3 +13,4 @@ pub mod StatusLaws
 pub mod ServedLaws
 pub mod ArrayLaws
 pub mod TurnLaws
+pub mod TookLaws

@@ -136,9 +136,10 @@ replied_more From tells before mid_outside after session next size a b c d old m
 
 served_by : (From : Held → Type 0) (before there after : Outside) (session : Session) (size : ℕ) (a b c : Option (List ℕ)) (old mid now : Room) (w0 w1 w2 : Option (List ℕ)) (exchanges : List Exchange) (rest part : List ℕ) (result : Result (Unit {0}) Halt)
     → Replied From before there session size a b old mid w0 w1 exchanges → Came b c mid now.left AwaitsRequest rest → Got w1 part w2 → ServedEnd size rest part c now.ahead result
+    → IfErr result (λ halt. halt ≡ halts.Client stops.Limit → now.left ≡ 0)
     → ((entry : Held) → From entry → (last : Held) → IsHeld there.history.present there.head session last → Ending before.capacity there after (IsAhead before.capacity size rest now.ahead part result) last)
     → Served From before after size a c old now w0 w2 result
-served_by From before there after session size a b c old mid now w0 w1 w2 exchanges rest part result so_far next got ends made = record {
+served_by From before there after session size a b c old mid now w0 w1 w2 exchanges rest part result so_far next got ends limit made = record {
   exchanges = exchanges;
   came = flat_map sent_bytes exchanges ++ rest;
   put = so_far.put ++ part;
@@ -150,6 +151,7 @@ served_by From before there after session size a b c old mid now w0 w1 w2 exchan
   said = refl;
   replied = ap (λ (l : List ℕ). l ++ part) so_far.replied;
   ends = ends;
+  limit = limit;
   led = λ entry from.
       let led = so_far.led entry from in
       let end = made entry from (last_of entry led.led.states) led.held in
@@ -167,30 +169,30 @@ nothing_ahead capacity here session last Is held is = record {
 -- without a head that is whole
 pub served_stopped : (From : Held → Type 0) (before there : Outside) (session : Session) (size : ℕ) (a b c : Option (List ℕ)) (old mid now : Room) (w0 w1 : Option (List ℕ)) (exchanges : List Exchange) (halt : Halt)
     → Replied From before there session size a b old mid w0 w1 exchanges → HeadCame b c mid now (Err halt) → Served From before there size a c old now w0 w1 (Err halt)
-served_stopped From before there session size a b c old mid now w0 w1 exchanges halt so_far head = by halt head.ends
+served_stopped From before there session size a b c old mid now w0 w1 exchanges halt so_far head = by halt head.limit head.ends
   where
-    stop : (h : Halt) → ServedEnd size head.came [] c now.ahead (Err h) → ((last : Held) → IsAhead before.capacity size head.came now.ahead [] (Err h) last []) → Served From before there size a c old now w0 w1 (Err h)
-    stop h ends none = served_by From before there there session size a b c old mid now w0 w1 w1 exchanges head.came [] (Err h) so_far head.takes (Got-nothing w1) ends
+    stop : (h : Halt) → (h ≡ halts.Client stops.Limit → now.left ≡ 0) → ServedEnd size head.came [] c now.ahead (Err h) → ((last : Held) → IsAhead before.capacity size head.came now.ahead [] (Err h) last []) → Served From before there size a c old now w0 w1 (Err h)
+    stop h limit ends none = served_by From before there there session size a b c old mid now w0 w1 w1 exchanges head.came [] (Err h) so_far head.takes (Got-nothing w1) ends limit
         (λ entry from last held. nothing_ahead before.capacity there session last (IsAhead before.capacity size head.came now.ahead [] (Err h)) held (none last))
 
-    by : (h : Halt) → HeadEnd c now.ahead head.came (Err h) → Served From before there size a c old now w0 w1 (Err h)
-    by (halts.Client stops.Source) ends = stop (halts.Client stops.Source) (refl, ends) (λ last. refl)
-    by (halts.Client stops.Limit) ends = stop (halts.Client stops.Limit) (refl, ends) (λ last. refl)
-    by (halts.Client stops.Broken) ends = stop (halts.Client stops.Broken) (refl, ends) (λ last. refl)
-    by (halts.Client stops.Sink) ends = absurd ends
-    by halts.Platform ends = absurd ends
-    by halts.Tape ends = absurd ends
-    by halts.Ledger ends = absurd ends
-    by halts.BadRoot ends = absurd ends
-    by halts.NoDevice ends = absurd ends
-    by halts.Unfinished ends = absurd ends
-    by halts.Memory ends = absurd ends
+    by : (h : Halt) → (h ≡ halts.Client stops.Limit → now.left ≡ 0) → HeadEnd c now.ahead head.came (Err h) → Served From before there size a c old now w0 w1 (Err h)
+    by (halts.Client stops.Source) limit ends = stop (halts.Client stops.Source) limit (refl, ends) (λ last. refl)
+    by (halts.Client stops.Limit) limit ends = stop (halts.Client stops.Limit) limit (refl, ends) (λ last. refl)
+    by (halts.Client stops.Broken) limit ends = stop (halts.Client stops.Broken) limit (refl, ends) (λ last. refl)
+    by (halts.Client stops.Sink) limit ends = absurd ends
+    by halts.Platform limit ends = absurd ends
+    by halts.Tape limit ends = absurd ends
+    by halts.Ledger limit ends = absurd ends
+    by halts.BadRoot limit ends = absurd ends
+    by halts.NoDevice limit ends = absurd ends
+    by halts.Unfinished limit ends = absurd ends
+    by halts.Memory limit ends = absurd ends
 
 -- where the input ended between two requests
 pub served_over : (From : Held → Type 0) (before there : Outside) (session : Session) (size : ℕ) (a b c : Option (List ℕ)) (old mid now : Room) (w0 w1 : Option (List ℕ)) (exchanges : List Exchange)
     → Replied From before there session size a b old mid w0 w1 exchanges → HeadCame b c mid now (Ok None) → Served From before there size a c old now w0 w1 (Ok tt)
 served_over From before there session size a b c old mid now w0 w1 exchanges so_far head =
-    served_by From before there there session size a b c old mid now w0 w1 w1 exchanges head.came [] (Ok tt) so_far head.takes (Got-nothing w1) (refl, inl head.ends)
+    served_by From before there there session size a b c old mid now w0 w1 w1 exchanges head.came [] (Ok tt) so_far head.takes (Got-nothing w1) (refl, inl head.ends) tt
     (λ entry from last held. nothing_ahead before.capacity there session last (IsAhead before.capacity size head.came now.ahead [] (Ok tt)) held (inl (head.ends.0, refl)))
 
 goodbye_end : (size : ℕ) (rest ahead : List ℕ) (left : Option (List ℕ)) (result : Result (Unit {0}) Halt) → IsGoodbye rest ahead → EndsByDisconnect result → ServedEnd size rest [] left ahead result
@@ -251,19 +253,30 @@ goodbye_ends capacity size tells there after session rest tail last (Err halt) t
     no_sink halts.BadRoot ends same = absurd cc
     no_sink halts.NoDevice ends same = absurd cc
 
+goodbye_limit : (result : Result (Unit {0}) Halt) (left : ℕ) → EndsByDisconnect result → IfErr result (λ halt. halt ≡ halts.Client stops.Limit → left ≡ 0)
+goodbye_limit (Ok done) left ends = tt
+goodbye_limit (Err (halts.Client stop)) left ends = absurd ends
+goodbye_limit (Err halts.Platform) left ends = λ is. absurd cc
+goodbye_limit (Err halts.Tape) left ends = λ is. absurd cc
+goodbye_limit (Err halts.Ledger) left ends = λ is. absurd cc
+goodbye_limit (Err halts.Memory) left ends = λ is. absurd cc
+goodbye_limit (Err halts.Unfinished) left ends = λ is. absurd cc
+goodbye_limit (Err halts.BadRoot) left ends = absurd ends
+goodbye_limit (Err halts.NoDevice) left ends = absurd ends
+
 pub served_goodbye : (From : Held → Type 0) (tells : Type 0) (before there after : Outside) (session : Session) (size : ℕ) (a b c : Option (List ℕ)) (old mid now : Room) (w0 w1 : Option (List ℕ)) (exchanges : List Exchange) (request : Request) (result : Result (Unit {0}) Halt)
     → ((entry : Held) → From entry → tells) → there.capacity ≡ before.capacity → request.kind ≡ kinds.Disconnect
     → Replied From before there session size a b old mid w0 w1 exchanges → HeadCame b c mid now (Ok (Some request)) → EndsByDisconnect result → Finishes tells there after session result → Served From before after size a c old now w0 w1 result
 served_goodbye From tells before there after session size a b c old mid now w0 w1 exchanges request result told same is so_far head ends finishes =
     let bye : IsGoodbye head.came now.ahead = (request, is, head.ends.1) in
-    served_by From before there after session size a b c old mid now w0 w1 w1 exchanges head.came [] result so_far head.takes (Got-nothing w1) (goodbye_end size head.came now.ahead c result bye ends)
+    served_by From before there after session size a b c old mid now w0 w1 w1 exchanges head.came [] result so_far head.takes (Got-nothing w1) (goodbye_end size head.came now.ahead c result bye ends) (goodbye_limit result now.left ends)
     (λ entry from last held. goodbye_ends before.capacity size tells there after session head.came now.ahead last result (told entry from) same bye ends held finishes)
 
 -- in a request: without its reply, or with a part of it
 pub served_halted : (From : Held → Type 0) (tells : Type 0) (before there after : Outside) (session : Session) (size : ℕ) (a b c d : Option (List ℕ)) (old mid read now : Room) (w0 w1 w2 : Option (List ℕ)) (exchanges : List Exchange) (request : Request) (halt : Halt)
     → ((entry : Held) → From entry → tells) → there.capacity ≡ before.capacity → request.kind ≢ kinds.Disconnect
     → Replied From before there session size a b old mid w0 w1 exchanges → HeadCame b c mid read (Ok (Some request)) → Answered tells there after session size request c d read now w1 w2 (Err halt) → Served From before after size a d old now w0 w2 (Err halt)
-served_halted From tells before there after session size a b c d old mid read now w0 w1 w2 exchanges request halt told same other so_far head answered = by halt answered.ends
+served_halted From tells before there after session size a b c d old mid read now w0 w1 w2 exchanges request halt told same other so_far head answered = by halt answered.limit answered.ends
   where
     rest : List ℕ
     rest = request_head request ++ (answered.gone ++ now.ahead)
@@ -271,30 +284,30 @@ served_halted From tells before there after session size a b c d old mid read no
     takes : Came b d mid now.left AwaitsRequest rest
     takes = whole_came b c d mid read now.left request (answered.gone ++ now.ahead) head answered.came
 
-    none : (h : Halt) → w2 ≡ w1 → ServedEnd size rest [] d now.ahead (Err h) → IsLate h → h ≢ halts.Client stops.Sink → Halts tells there after session request.kind h → Served From before after size a d old now w0 w2 (Err h)
-    none h same_put ends late no_sink halts_so = served_by From before there after session size a b d old mid now w0 w1 w2 exchanges rest [] (Err h) so_far takes (subst (Got w1 []) (sym same_put) (Got-nothing w1)) ends
+    none : (h : Halt) → (h ≡ halts.Client stops.Limit → now.left ≡ 0) → w2 ≡ w1 → ServedEnd size rest [] d now.ahead (Err h) → IsLate h → h ≢ halts.Client stops.Sink → Halts tells there after session request.kind h → Served From before after size a d old now w0 w2 (Err h)
+    none h limit same_put ends late no_sink halts_so = served_by From before there after session size a b d old mid now w0 w1 w2 exchanges rest [] (Err h) so_far takes (subst (Got w1 []) (sym same_put) (Got-nothing w1)) ends limit
         (λ entry from last held. halted_end before.capacity size there after rest now.ahead last request.kind h same (λ of. (request, answered.gone ++ now.ahead, of, refl)) late no_sink (halts_so (told entry from) last held))
 
-    by : (h : Halt) → AnswerEnd tells there after session size request d answered.gone now.ahead w1 w2 (Err h) → Served From before after size a d old now w0 w2 (Err h)
-    by (halts.Client stops.Sink) (whole, reply, is, part, turns) =
+    by : (h : Halt) → (h ≡ halts.Client stops.Limit → now.left ≡ 0) → AnswerEnd tells there after session size request d answered.gone now.ahead w1 w2 (Err h) → Served From before after size a d old now w0 w2 (Err h)
+    by (halts.Client stops.Sink) limit (whole, reply, is, part, turns) =
         let sent : RequestSent = record { head = request; bytes = answered.gone } in
         let exchange : Exchange = record { sent = sent; reply = reply } in
         let fits : FitsExchange size exchange = record { sent = record { head = head.ends.0; bytes = whole }; other = other; reply = is } in
         let cut : IsCutOff size rest now.ahead (take part.0 (reply_bytes reply)) = record { exchange = exchange; fits = fits; is = sym (append_assoc (request_head request) answered.gone now.ahead); count = part.0; put = refl } in
-        served_by From before there after session size a b d old mid now w0 w1 w2 exchanges rest (take part.0 (reply_bytes reply)) (Err (halts.Client stops.Sink)) so_far takes part.1 cut
+        served_by From before there after session size a b d old mid now w0 w1 w2 exchanges rest (take part.0 (reply_bytes reply)) (Err (halts.Client stops.Sink)) so_far takes part.1 cut limit
         (λ entry from last held.
         let turned = turns (told entry from) last held in
         record { ahead = turned.next ∷ []; made = turned.made; is = (cut, turned.next, refl, subst (λ (n : ℕ). Turn n last sent reply turned.next) same turned.turn) })
-    by (halts.Client stops.Source) (same_put, short, halts_so) = none (halts.Client stops.Source) same_put (refl, head_awaits request (answered.gone ++ now.ahead) head.ends.0 short) tt (λ e. cc) halts_so
-    by (halts.Client stops.Limit) (same_put, short, halts_so) = none (halts.Client stops.Limit) same_put (refl, head_awaits request (answered.gone ++ now.ahead) head.ends.0 short) tt (λ e. cc) halts_so
-    by (halts.Client stops.Broken) (same_put, both, halts_so) = none (halts.Client stops.Broken) same_put (refl, inl (both.1, omega arith, head_awaits request (answered.gone ++ now.ahead) head.ends.0 both.0)) tt (λ e. cc) halts_so
-    by halts.Platform (same_put, ends, halts_so) = none halts.Platform same_put refl tt (λ e. cc) halts_so
-    by halts.Tape (same_put, ends, halts_so) = none halts.Tape same_put refl tt (λ e. cc) halts_so
-    by halts.Ledger (same_put, ends, halts_so) = none halts.Ledger same_put refl tt (λ e. cc) halts_so
-    by halts.Memory (same_put, ends, halts_so) = none halts.Memory same_put refl tt (λ e. cc) halts_so
-    by halts.BadRoot (same_put, ends, halts_so) = absurd ends
-    by halts.NoDevice (same_put, ends, halts_so) = absurd ends
-    by halts.Unfinished (same_put, ends, halts_so) = absurd ends
+    by (halts.Client stops.Source) limit (same_put, short, halts_so) = none (halts.Client stops.Source) limit same_put (refl, head_awaits request (answered.gone ++ now.ahead) head.ends.0 short) tt (λ e. cc) halts_so
+    by (halts.Client stops.Limit) limit (same_put, short, halts_so) = none (halts.Client stops.Limit) limit same_put (refl, head_awaits request (answered.gone ++ now.ahead) head.ends.0 short) tt (λ e. cc) halts_so
+    by (halts.Client stops.Broken) limit (same_put, both, halts_so) = none (halts.Client stops.Broken) limit same_put (refl, inl (both.1, omega arith, head_awaits request (answered.gone ++ now.ahead) head.ends.0 both.0)) tt (λ e. cc) halts_so
+    by halts.Platform limit (same_put, ends, halts_so) = none halts.Platform limit same_put refl tt (λ e. cc) halts_so
+    by halts.Tape limit (same_put, ends, halts_so) = none halts.Tape limit same_put refl tt (λ e. cc) halts_so
+    by halts.Ledger limit (same_put, ends, halts_so) = none halts.Ledger limit same_put refl tt (λ e. cc) halts_so
+    by halts.Memory limit (same_put, ends, halts_so) = none halts.Memory limit same_put refl tt (λ e. cc) halts_so
+    by halts.BadRoot limit (same_put, ends, halts_so) = absurd ends
+    by halts.NoDevice limit (same_put, ends, halts_so) = absurd ends
+    by halts.Unfinished limit (same_put, ends, halts_so) = absurd ends
 
 -- ---- one request
 
@@ -349,6 +362,12 @@ pub answer_cut : (tells : Type 0) (before after : Outside) (session : Session) (
     → AnswerEnd tells before after session size request left gone ahead written written_now (Err (halts.Client stop))
 answer_cut tells before after session size request left gone ahead written written_now stop reply is whole fits part turns =
     subst (λ (s : Stop). AnswerEnd tells before after session size request left gone ahead written written_now (Err (halts.Client s))) (sym is) (whole, reply, fits, part, turns)
+
+pub broken_no_limit : (n : ℕ) → halts.Client stops.Broken ≡ halts.Client stops.Limit → n ≡ 0
+broken_no_limit n is = absurd cc
+
+pub sink_no_limit : (stop : Stop) → stop ≡ stops.Sink → halts.Client stop ≡ halts.Client stops.Limit → ⊥
+sink_no_limit stop is same = cc
 
 -- there is no more to come than before
 pub less_of_answer : (tells : Type 0) (before after : Outside) (session : Session) (size : ℕ) (request : Request) (a c : Option (List ℕ)) (old new : Room) (written written_now : Option (List ℕ)) (result : Result Session Halt)

@@ -1,6 +1,6 @@
 -- A whole run, from its look at the cell on.
 use Rattle.std.proofs.Common.{◌≡◌, ◌≤◌, ◌*◌, ◌^◌, ℕ, List, [], Option, None, Some, Result, Ok, Err, inl, inr, refl, sym, subst, ◌∙◌, ap, arith}
-use Rattle.std.specs.Prelude.{◌⊎◌, IsOk, IfOk, map}
+use Rattle.std.specs.Prelude.{◌⊎◌, IsOk, IfErr, IfOk, map}
 use Rattle.platform.specs.Calls.{Looks}
 use Rattle.sdbt_base.specs.declared.sinks.Sink.{Ghosts as SinkGhosts}
 use Rattle.sdbt_base.specs.declared.tapes.Tape.{Ghosts as TapeGhosts}
@@ -15,6 +15,7 @@ use Rattle.nbd_core.specs.Turns.{IsFrom, IsStart, MadeBetween, Stayed}
 use Rattle.nbd_core.specs.declared.haggling.Agreed.TheVariants as agreed
 use Rattle.nbd_core.specs.declared.haggling.Agreed.{Agreed}
 use Rattle.nbd_core.specs.declared.stop.Stop.{Stop}
+use Rattle.nbd_core.specs.declared.stop.Stop.TheVariants as stops
 use Rattle.sdbt_base.specs.Arrays.{Device, Session as OpenSession, State, closed, mounted, session_on}
 use Rattle.platform.specs.Image.{Image}
 use Rattle.platform.specs.History.{CellStays, History}
@@ -121,9 +122,9 @@ late_mount tells cell pages (device.BadRecord addr) halt told served is e = absu
 
 -- ---- what was said, and a mount that was answered
 
-pub conversed_of : (From : Held → Type 0) (before after : Outside) (size other : ℕ) (left left_then left_now written written_then written_now : Option (List ℕ)) (first room : Room) (was agreed : Result Agreed Stop) (result : Result (Unit {0}) Halt) → size ≡ other → was ≡ agreed → first.ahead ≡ [] → first.left ≡ 2 ^ 40
+pub conversed_of : (From : Held → Type 0) (before after : Outside) (size other : ℕ) (left left_then left_now written written_then written_now : Option (List ℕ)) (first room : Room) (was agreed : Result Agreed Stop) (result : Result (Unit {0}) Halt) → size ≡ other → was ≡ agreed → first.ahead ≡ [] → first.left ≡ 2 ^ 40 → IfErr was (λ stop. stop ≡ stops.Limit → room.left ≡ 0)
     → Haggled size left left_then first room written written_then was → GoesOn From before after other agreed room left_then left_now written_then written_now result → Conversed From before after other left left_now written written_now result
-conversed_of From before after size other left left_then left_now written written_then written_now first room was agreed result same is none most haggled goes = record {
+conversed_of From before after size other left left_then left_now written written_then written_now first room was agreed result same is none most limit haggled goes = record {
   first = first;
   room = room;
   fresh = (none, most);
@@ -131,6 +132,7 @@ conversed_of From before after size other left left_then left_now written writte
   written_then = written_then;
   agreed = agreed;
   haggled = subst (λ (n : ℕ). Haggled n left left_then first room written written_then agreed) same (subst (Haggled size left left_then first room written written_then) is haggled);
+  limit = subst (λ (r : Result Agreed Stop). IfErr r (λ stop. stop ≡ stops.Limit → room.left ≡ 0)) is limit;
   goes_on = goes;
 }
 
@@ -159,6 +161,7 @@ served_since Earlier From first second third size left left_now old new written 
   said = served.said;
   replied = served.replied;
   ends = served.ends;
+  limit = served.limit;
   led = λ entry early.
       let s = since entry early in
       array_since first second third entry (map sent_of served.exchanges) (map told_of served.exchanges) (IsAhead second.capacity size served.rest new.ahead served.part result) (IsAhead first.capacity size served.rest new.ahead served.part result) same
@@ -181,6 +184,7 @@ conversed_since Earlier From first second third size left left_now written writt
   written_then = conversed.written_then;
   agreed = conversed.agreed;
   haggled = conversed.haggled;
+  limit = conversed.limit;
   goes_on = goes_since Earlier From first second third size conversed.agreed conversed.room conversed.left_then left_now conversed.written_then written_now result same since conversed.goes_on;
 }
 

@@ -1,5 +1,6 @@
 -- What the server promises of a run.
-use Rattle.std.specs.Prelude.{◌≡◌, ◌≢◌, ◌≤◌, ◌⊎◌, ◌↔◌, ℕ, List, [], Option, None, Result, Ok, Err}
+use Rattle.std.specs.Prelude.{◌≡◌, ◌≢◌, ◌≤◌, ◌⊎◌, ◌↔◌, ◌^◌, ℕ, List, [], length, Option, None, Result, Ok, Err}
+use Rattle.sdbt_base.specs.Told.{Gave}
 use Rattle.sdbt_base.specs.declared.sinks.Sink.{Ghosts as SinkGhosts}
 use Rattle.sdbt_base.specs.declared.sources.Source.{Ghosts as SourceGhosts}
 use Rattle.sdbt_base.specs.declared.tapes.Tape.{Ghosts as TapeGhosts}
@@ -11,6 +12,7 @@ use Rattle.nbd_core.specs.Halts.{status_at}
 use Rattle.nbd_core.specs.Serving.{counts_of}
 use Rattle.nbd_core.specs.Running.{Untouched, Talks}
 use Rattle.nbd_core.specs.declared.halts.Halt.{Halt}
+use Rattle.nbd_core.specs.declared.halts.Halt.TheVariants as halts
 
 -- the five objects at one moment, and what they tell then: the moments of the platform, its pages,
 -- the keys that the tape drew and what the ledger has got; what the input has left; what the output
@@ -60,12 +62,20 @@ pub record IsBlamedAt (status : ℕ) (before now : Counts) : Type 0 where
   pub ledger : status ≡ 7 → LedgerRose before now
   pub quiet : (3 ≤ status → status ≤ 7 → ⊥) → now ≡ before
 
+-- what was taken when a run ended with this exit status: 2^40 bytes at most; all of them at 12, and none
+-- where words are given
+pub record Took (status : ℕ) (taken : List ℕ) : Type 0 where
+  pub most : length taken ≤ 2 ^ 40
+  pub limit : status ≡ 12 → length taken ≡ 2 ^ 40
+  pub nothing : status ≡ 2 → taken ≡ []
+
 -- the exit status is one that there is, and 2 exactly where words are given; one that names a fault
 -- comes only where the count of that object alone rose, and each other one where none did
 pub record Exits {S R I O L : Type 0} (words : List (List ℕ)) (status : ℕ) (old new : Handed S R I O L) : Type 0 where
   pub is : IsStatus status
   pub refused : (status ≡ 2) ↔ (words ≢ [])
   pub blame : IsBlamedAt status old.counts new.counts
+  pub taken : (bytes : List ℕ) × Gave old.left bytes new.left × Took status bytes
 
 -- all is as it was, at each moment
 abbrev pub IsAsBefore : {S R I O L : Type 0} → Type 0 → Handed S R I O L → Handed S R I O L → Type 0
@@ -84,4 +94,5 @@ pub record Refuses {S R I O L : Type 0} (tells : Type 0) (words : List (List ℕ
 pub record Serving {S R I O L : Type 0} (tells : Type 0) (status : ℕ) (old new : Handed S R I O L) : Type 0 where
   pub ending : Result (Unit {0}) Halt
   pub status_is : status ≡ exit_of ending
+  pub no_device : tells → ending ≡ Err halts.NoDevice → old.outside.history.present.cell ≡ None
   pub talks : Talks tells old.outside new.outside old.left new.left old.written new.written ending

@@ -46,6 +46,7 @@ pub record HeadCame (left left_now : Option (List ℕ)) (old new : Room) (result
   pub came : List ℕ
   pub takes : Came left left_now old new.left AwaitsRequest came
   pub ends : HeadEnd left_now new.ahead came result
+  pub limit : IfErr result (λ halt. halt ≡ halts.Client stops.Limit → new.left ≡ 0)
 
 -- where a request halts of which so many bytes were to come behind its head, fewer came if its
 -- client is to blame
@@ -68,4 +69,5 @@ pub record DataCame {X : Type 0} (left left_now : Option (List ℕ)) (old new : 
   pub came : Came left left_now old new.left (IsShorter count) (gone ++ new.ahead)
   pub whole : IfOk result (λ x. length gone ≡ count)
   pub ends : IfErr result (DataEnd left_now count (gone ++ new.ahead))
+  pub limit : IfErr result (λ halt. halt ≡ halts.Client stops.Limit → new.left ≡ 0)
   pub did : Did gone

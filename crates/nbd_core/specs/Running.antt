@@ -17,6 +17,7 @@ use Rattle.nbd_core.specs.Haggling.{Haggled}
 use Rattle.nbd_core.specs.Served.{Served}
 use Rattle.nbd_core.specs.Turns.{IsStart, Stayed}
 use Rattle.nbd_core.specs.declared.stop.Stop.{Stop}
+use Rattle.nbd_core.specs.declared.stop.Stop.TheVariants as stops
 use Rattle.nbd_core.specs.declared.halts.Halt.{Halt}
 use Rattle.nbd_core.specs.declared.halts.Halt.TheVariants as halts
 use Rattle.nbd_core.specs.declared.haggling.Agreed.{Agreed}
@@ -106,6 +107,7 @@ pub record Conversed (From : Held → Type 0) (before after : Outside) (size : �
   pub written_then : Option (List ℕ)
   pub agreed : Result Agreed Stop
   pub haggled : Haggled size left left_then first room written written_then agreed
+  pub limit : IfErr agreed (λ stop. stop ≡ stops.Limit → room.left ≡ 0)
   pub goes_on : GoesOn From before after size agreed room left_then left_now written_then written_now result
 
 -- a run that ends before it says anything

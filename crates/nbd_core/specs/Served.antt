@@ -1,5 +1,5 @@
 -- Requests that came, and their replies, on any image.
-use Rattle.std.specs.Prelude.{◌≡◌, ◌≢◌, ◌⊎◌, ℕ, List, [], ◌∷◌, ◌++◌, All, Option, None, Some, Result, Ok, Err, IfSome, length, map, take}
+use Rattle.std.specs.Prelude.{◌≡◌, ◌≢◌, ◌⊎◌, ℕ, List, [], ◌∷◌, ◌++◌, All, Option, None, Some, Result, Ok, Err, IfErr, IfSome, length, map, take}
 use Rattle.std.specs.List.{flat_map}
 use Rattle.sdbt_base.specs.Told.{Got, GotPart, IsAtEnd}
 use Rattle.device_course.specs.States.{Outside}
@@ -48,6 +48,7 @@ pub record Answered (tells : Type 0) (before after : Outside) (session : Session
   pub gone : List ℕ
   pub came : Came left left_now old new.left (IsShorter (bytes_behind request.kind request.length)) (gone ++ new.ahead)
   pub ends : AnswerEnd tells before after session size request left_now gone new.ahead written written_now result
+  pub limit : IfErr result (λ halt. halt ≡ halts.Client stops.Limit → new.left ≡ 0)
 
 -- a request and its reply
 pub record Exchange : Type 0 where
@@ -139,6 +140,7 @@ pub record Served (From : Held → Type 0) (before after : Outside) (size : ℕ)
   pub said : came ≡ flat_map sent_bytes exchanges ++ rest
   pub replied : put ≡ flat_map replied_bytes exchanges ++ part
   pub ends : ServedEnd size rest part left_now new.ahead result
+  pub limit : IfErr result (λ halt. halt ≡ halts.Client stops.Limit → new.left ≡ 0)
   pub led : (entry : Held) → From entry → OnArray before after entry (map sent_of exchanges) (map told_of exchanges) (IsAhead before.capacity size rest new.ahead part result)
 
 -- how a disconnect may end

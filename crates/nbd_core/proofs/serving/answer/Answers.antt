@@ -3,7 +3,7 @@ use Rattle.sdbt_base.specs.Counts.{counts}
 use Rattle.nbd_core.proofs.BlameLaws.{blame_as, blame_done, blame_sink, blame_then}
 use Rattle.nbd_core.proofs.CarryLaws.{carries_end}
 use Rattle.nbd_core.specs.Serving.{bytes_of_reply}
-use Rattle.nbd_core.proofs.ServedLaws.{answer_cut, answer_halted, is_reply}
+use Rattle.nbd_core.proofs.ServedLaws.{answer_cut, answer_halted, is_reply, sink_no_limit}
 use Rattle.nbd_core.proofs.TurnLaws.{turned_last}
 use Rattle.nbd_core.proofs.serving.answer.Goals as goal
 
@@ -29,6 +29,7 @@ returns-in-Ok-put_reply-clause-answered g c =
         c.in-Ok-put_reply.ensures.put,
         came.did,
       );
+      limit = tt;
     }
 
 pub returns-in-Err-put_reply-clause-carries : goal.returns-in-Err-put_reply-clause-carries
@@ -55,6 +56,7 @@ returns-in-Err-put_reply-clause-answered g c =
           answer_cut _ _ _ _ _ request _ came.gone _ _ _ c.in-Err-put_reply.stop (record { outcome = outcome; cookie = request.cookie; bytes = bytes_of_reply request.kind request.length outcome room }) c.in-Err-put_reply.ensures.cause.0 came.whole
           (is_reply _ request outcome room c.in-Ok.ensures.refused c.in-Ok.ensures.room) c.in-Err-put_reply.ensures.part
           (λ told entry held. turned_last _ _ _ entry _ _ (came.did told entry held));
+      limit = λ is. absurd (sink_no_limit c.in-Err-put_reply.stop c.in-Err-put_reply.ensures.cause.0 is);
     }
 
 pub returns-in-Err-clause-blame : goal.returns-in-Err-clause-blame
@@ -63,4 +65,4 @@ returns-in-Err-clause-blame g c = blame_as _ _ c.in-Err.halt (c.in-Err.ensures.b
 pub returns-in-Err-clause-answered : goal.returns-in-Err-clause-answered
 returns-in-Err-clause-answered g c =
     let came = c.in-Err.ensures.bytes in
-    record { gone = came.gone; came = came.came; ends = answer_halted _ _ _ _ _ c.args.request.now _ came.gone _ _ c.in-Err.halt came.ends came.did }
+    record { gone = came.gone; came = came.came; ends = answer_halted _ _ _ _ _ c.args.request.now _ came.gone _ _ c.in-Err.halt came.ends came.did; limit = came.limit }

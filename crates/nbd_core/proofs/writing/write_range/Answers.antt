@@ -84,7 +84,7 @@ returns-in-Err-clause-bytes g c =
     let part = c.first-part.ensures c.args.at c.loop-done.done refl (part_front c.args.at c.loop-done.done so_far.parts (so_far.at c.loop-done-test.true)) in
     data_short _ _ _ _ c.args.count _ so_far.gone c.in-Err.stop
     (gone_then _ _ _ _ _ _ c.args.count c.first-part.result.count so_far.gone _ so_far.came (omega (arith, so_far.all, part.within, so_far.within)) c.in-Err.ensures.came)
-    (omega (arith, so_far.all, part.within, so_far.within, c.in-Err.ensures.short, length-append so_far.gone c.need.new.self.ahead)) c.in-Err.ensures.input (λ told device array at. tt)
+    (omega (arith, so_far.all, part.within, so_far.within, c.in-Err.ensures.short, length-append so_far.gone c.need.new.self.ahead)) c.in-Err.ensures.input c.in-Err.ensures.limit (λ told device array at. tt)
 
 pub loop-done-smaller : goal.loop-done-smaller
 loop-done-smaller g c =
