@@ -14,3 +14,5 @@ pub mod ServedLaws
 pub mod ArrayLaws
 pub mod TurnLaws
 pub mod TookLaws
+pub mod AmpleLaws
+pub mod CompleteLaws

@@ -20,10 +20,11 @@ use Rattle.nbd_lang.specs.declared.requests.RequestKind.TheVariants as kinds
 use Rattle.nbd_lang.proofs.ReadingLaws.{request_head_same}
 use Rattle.nbd_terms.specs.Held.{Held}
 use Rattle.nbd_terms.specs.Leading.{last_of}
-use Rattle.nbd_terms.specs.Turn.{Ends, Turn}
+use Rattle.nbd_terms.specs.Turn.{Ends, IsUnfinished, Turn}
 use Rattle.nbd_core.specs.Room.{Room, Came, IsShorter}
 use Rattle.nbd_core.specs.Requests.{AwaitsRequest, HeadCame, HeadEnd, DataEnd}
-use Rattle.nbd_core.specs.Served.{Answered, AnswerEnd, AwaitsMore, EndsByDisconnect, Exchange, FitsExchange, IsAhead, IsCommit, IsCutOff, IsGoodbye, IsReplyTo, Served, ServedEnd, bytes_told, sent_bytes, sent_of, told_of, replied_bytes}
+use Rattle.nbd_core.specs.Exchanges.{Exchange, sent_of, told_of}
+use Rattle.nbd_core.specs.Served.{Answered, AnswerEnd, AwaitsMore, EndsByDisconnect, FitsExchange, IsAhead, IsCommit, IsCutOff, IsGoodbye, IsReplyTo, Served, ServedEnd, bytes_told, sent_bytes, replied_bytes}
 use Rattle.nbd_core.specs.Turns.{Finishes, Halted, Halts, HaltsAt, IsHeld, IsOfCommit, Turns}
 use Rattle.nbd_lang.specs.declared.replies.Outcome.{Outcome}
 use Rattle.nbd_lang.specs.declared.replies.Outcome.TheVariants as outcomes
@@ -35,6 +36,7 @@ use Rattle.nbd_core.specs.declared.stop.Stop.TheVariants as stops
 use Rattle.nbd_core.specs.declared.halts.Halt.{Halt}
 use Rattle.nbd_core.specs.declared.halts.Halt.TheVariants as halts
 use Rattle.nbd_core.proofs.CameLaws.{came_nothing, came_then, came_weaker}
+use Rattle.nbd_core.proofs.AmpleLaws.{leads_room, room_finished}
 use Rattle.nbd_core.proofs.TurnLaws.{Ending, LedTo, led_start, led_more, led_end}
 
 -- ---- a head, and fewer bytes than follow it
@@ -134,6 +136,9 @@ replied_more From tells before mid_outside after session next size a b c d old m
 
 -- ---- how it ends
 
+unfinished_at : (capacity size : ℕ) (rest tail part : List ℕ) (result : Result (Unit {0}) Halt) (last : Held) (ahead : List Held) → result ≡ Err halts.Unfinished → IsAhead capacity size rest tail part result last ahead → IsUnfinished capacity last
+unfinished_at capacity size rest tail part result last ahead is ends = (subst (λ (r : Result (Unit {0}) Halt). IsAhead capacity size rest tail part r last ahead) is ends).1
+
 served_by : (From : Held → Type 0) (before there after : Outside) (session : Session) (size : ℕ) (a b c : Option (List ℕ)) (old mid now : Room) (w0 w1 w2 : Option (List ℕ)) (exchanges : List Exchange) (rest part : List ℕ) (result : Result (Unit {0}) Halt)
     → Replied From before there session size a b old mid w0 w1 exchanges → Came b c mid now.left AwaitsRequest rest → Got w1 part w2 → ServedEnd size rest part c now.ahead result
     → IfErr result (λ halt. halt ≡ halts.Client stops.Limit → now.left ≡ 0)
@@ -156,6 +161,12 @@ served_by From before there after session size a b c old mid now w0 w1 w2 exchan
       let led = so_far.led entry from in
       let end = made entry from (last_of entry led.led.states) led.held in
       led_end before there after session entry (map sent_of exchanges) (map told_of exchanges) (IsAhead before.capacity size rest now.ahead part result) end.ahead led end.made end.is;
+  complete = λ entry from is room.
+      let led = so_far.led entry from in
+      let last : Held = last_of entry led.led.states in
+      let end = made entry from last led.held in
+      let all = leads_room before.capacity size entry exchanges led.led.states is room led.led.leads in
+      record { done = all.0; ends = λ unfinished. room_finished before.capacity last all.1 (unfinished_at before.capacity size rest now.ahead part result last end.ahead unfinished end.is) };
 }
 
 -- where nothing was done any more

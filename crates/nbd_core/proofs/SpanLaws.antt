@@ -9,8 +9,10 @@ use Rattle.device_session.specs.Open.{blocks_of, needed_by}
 use Rattle.device_session.proofs.CountLaws.{needs_none}
 use Rattle.nbd_core.specs.Room.{Room}
 use Rattle.nbd_terms.specs.Held.{Held, state_of}
+use Rattle.nbd_core.specs.Ample.{HasRoom}
 use Rattle.nbd_core.specs.Haggling.{Haggled}
-use Rattle.nbd_core.specs.Served.{IsAhead, Served, sent_of, told_of}
+use Rattle.nbd_core.specs.Exchanges.{sent_of, told_of}
+use Rattle.nbd_core.specs.Served.{IsAhead, Served}
 use Rattle.nbd_core.specs.Turns.{IsFrom, IsStart, MadeBetween, Stayed}
 use Rattle.nbd_core.specs.declared.haggling.Agreed.TheVariants as agreed
 use Rattle.nbd_core.specs.declared.haggling.Agreed.{Agreed}
@@ -166,6 +168,7 @@ served_since Earlier From first second third size left left_now old new written 
       let s = since entry early in
       array_since first second third entry (map sent_of served.exchanges) (map told_of served.exchanges) (IsAhead second.capacity size served.rest new.ahead served.part result) (IsAhead first.capacity size served.rest new.ahead served.part result) same
       (λ last ahead is. subst (λ (n : ℕ). IsAhead n size served.rest new.ahead served.part result last ahead) same is) s.1 (served.led entry s.0);
+  complete = λ entry early is room. served.complete entry (since entry early).0 is (subst (λ (n : ℕ). HasRoom n size entry served.exchanges) (sym same) room);
 }
 
 goes_since : (Earlier From : Held → Type 0) (first second third : Outside) (size : ℕ) (result_of : Result Agreed Stop) (room : Room) (left left_now written written_now : Option (List ℕ)) (result : Result (Unit {0}) Halt) → second.capacity ≡ first.capacity → Since Earlier From first second

@@ -6,6 +6,8 @@ pub mod Halts
 pub mod Requests
 pub mod Serving
 pub mod Turns
+pub mod Exchanges
+pub mod Ample
 pub mod Served
 pub mod Arrays
 pub mod Running

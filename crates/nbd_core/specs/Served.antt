@@ -12,8 +12,10 @@ use Rattle.nbd_lang.specs.declared.replies.Outcome.TheVariants as outcomes
 use Rattle.nbd_lang.specs.declared.requests.Request.{Request}
 use Rattle.nbd_lang.specs.declared.requests.RequestKind.{RequestKind}
 use Rattle.nbd_lang.specs.declared.requests.RequestKind.TheVariants as kinds
-use Rattle.nbd_terms.specs.Held.{Held}
+use Rattle.nbd_terms.specs.Held.{Held, size_of}
 use Rattle.nbd_terms.specs.Turn.{Turn, Ends, IsUnfinished}
+use Rattle.nbd_core.specs.Ample.{Completes, HasRoom}
+use Rattle.nbd_core.specs.Exchanges.{Exchange, sent_of, told_of}
 use Rattle.nbd_core.specs.Room.{Room, Came, IsShorter}
 use Rattle.nbd_core.specs.Requests.{AwaitsRequest, IsBrokenRequest, DataEnd}
 use Rattle.nbd_core.specs.Turns.{Turns, Halts, IsOfCommit, OnArray}
@@ -49,11 +51,6 @@ pub record Answered (tells : Type 0) (before after : Outside) (session : Session
   pub came : Came left left_now old new.left (IsShorter (bytes_behind request.kind request.length)) (gone ++ new.ahead)
   pub ends : AnswerEnd tells before after session size request left_now gone new.ahead written written_now result
   pub limit : IfErr result (λ halt. halt ≡ halts.Client stops.Limit → new.left ≡ 0)
-
--- a request and its reply
-pub record Exchange : Type 0 where
-  pub sent : RequestSent
-  pub reply : Reply
 
 pub record FitsExchange (size : ℕ) (exchange : Exchange) : Type 0 where
   pub sent : FitsSent exchange.sent
@@ -119,15 +116,9 @@ IsAhead capacity size rest tail part (Err halts.Memory) last ahead = ahead ≡ [
 IsAhead capacity size rest tail part (Err halts.BadRoot) last ahead = ⊥
 IsAhead capacity size rest tail part (Err halts.NoDevice) last ahead = ⊥
 
-abbrev pub sent_of : Exchange → RequestSent
-sent_of exchange = exchange.sent
-
-abbrev pub told_of : Exchange → Reply
-told_of exchange = exchange.reply
-
 -- requests that came, and the replies that were put, one for each in their order. From each state that
 -- the run may have begun from the replies are those of the array, and each moment of the run has one
--- of the devices that they lead through
+-- of the devices that they lead through; and with enough pages free each request is done
 pub record Served (From : Held → Type 0) (before after : Outside) (size : ℕ) (left left_now : Option (List ℕ)) (old new : Room) (written written_now : Option (List ℕ)) (result : Result (Unit {0}) Halt) : Type 0 where
   pub exchanges : List Exchange
   pub came : List ℕ
@@ -142,6 +133,7 @@ pub record Served (From : Held → Type 0) (before after : Outside) (size : ℕ)
   pub ends : ServedEnd size rest part left_now new.ahead result
   pub limit : IfErr result (λ halt. halt ≡ halts.Client stops.Limit → new.left ≡ 0)
   pub led : (entry : Held) → From entry → OnArray before after entry (map sent_of exchanges) (map told_of exchanges) (IsAhead before.capacity size rest new.ahead part result)
+  pub complete : (entry : Held) → From entry → size ≡ size_of entry → HasRoom before.capacity size entry exchanges → Completes size exchanges result
 
 -- how a disconnect may end
 abbrev pub EndsByDisconnect : Result (Unit {0}) Halt → Type 0

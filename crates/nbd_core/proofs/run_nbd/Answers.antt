@@ -1,4 +1,4 @@
-use Rattle.std.proofs.Common.{◌≡◌, arith, inl, inr, Err, ℕ, refl, sym, subst, ap, ◌∙◌}
+use Rattle.std.proofs.Common.{◌≡◌, arith, inl, inr, Ok, Err, ℕ, refl, sym, subst, ap, ◌∙◌}
 use Rattle.std.specs.Prelude.{string_bytes}
 use Rattle.std.proofs.lemmas.Bool.{eqb-true}
 use Rattle.device_course.specs.States.{around}
@@ -10,6 +10,7 @@ use Rattle.nbd_core.specs.Program.{IsStatus, IsBlamedAt}
 use Rattle.nbd_core.specs.Running.{IsCellHalt}
 use Rattle.nbd_core.specs.declared.halts.Halt.TheVariants as halts
 use Rattle.nbd_core.proofs.StatusLaws.{status_is, never_zero, never_two, at_eight, at_twelve, blamed, blamed_none, no_words}
+use Rattle.nbd_core.proofs.CompleteLaws.{completes}
 use Rattle.nbd_core.proofs.TookLaws.{talks_taken}
 use Rattle.nbd_core.proofs.run_nbd.Goals as goal
 
@@ -45,6 +46,24 @@ pub returns-then-not-is_empty-clause-ledger : goal.returns-then-not-is_empty-cla
 returns-then-not-is_empty-clause-ledger g c =
     let here = around g.P.Platform g.T.Tape g.L.Sink c.args.platform.now c.args.tape.now c.args.ledger.now in
     keeps_ledger g.P.Platform.tells here here (Unit {0}) _ (λ zero. tt) (ended_not g.P.Platform.tells here (g.met.P.Platform.has_room c.args.platform.now))
+
+pub returns-in-Ok-clause-serves : goal.returns-in-Ok-clause-serves
+returns-in-Ok-clause-serves g c none = record {
+  ending = Ok tt;
+  status_is = refl;
+  no_device = λ told is. absurd cc;
+  talks = c.in-Ok.ensures.talks;
+  complete = completes _ _ _ _ _ _ _ _ _ _ _ c.in-Ok.ensures.talks refl c.in-Ok.ensures.blame c.in-Ok.ensures.looked;
+}
+
+pub returns-in-Err-clause-serves : goal.returns-in-Err-clause-serves
+returns-in-Err-clause-serves g c none = record {
+  ending = Err c.in-Err.halt;
+  status_is = c.status.ensures;
+  no_device = c.in-Err.ensures.looked.empty_only;
+  talks = c.in-Err.ensures.talks;
+  complete = completes _ _ _ _ _ _ _ _ _ _ _ c.in-Err.ensures.talks c.status.ensures c.in-Err.ensures.blame c.in-Err.ensures.looked;
+}
 
 pub returns-in-Ok-clause-exits : goal.returns-in-Ok-clause-exits
 returns-in-Ok-clause-exits g c = record {

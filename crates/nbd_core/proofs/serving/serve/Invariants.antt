@@ -1,7 +1,7 @@
 use Rattle.std.specs.Prelude.{◌≡◌, ◌*◌, List, ◌+◌, Some, length}
 use Rattle.device_course.specs.States.{around}
 use Rattle.device_session.specs.Open.{blocks_of}
-use Rattle.nbd_core.specs.Served.{Exchange}
+use Rattle.nbd_core.specs.Exchanges.{Exchange}
 use Rattle.nbd_core.proofs.ServedLaws.{Replied}
 use Rattle.nbd_core.specs.Turns.{IsFrom}
 use Rattle.nbd_core.specs.Serving.{Carries, counts_of}
