@@ -1,20 +1,19 @@
 -- With enough pages free each request is done.
-use Rattle.std.proofs.Common.{◌≡◌, ◌≢◌, ◌≤◌, ◌<◌, ◌+◌, ◌-◌, ◌*◌, ◌∙◌, ◌∷◌, ℕ, Bool, true, false, List, [], Option, None, Some, Result, Ok, Err, inl, inr, length, take, refl, sym, ap, subst, arith, length-take}
+use Rattle.std.proofs.Common.{◌≡◌, ◌≤◌, ◌+◌, ◌-◌, ◌*◌, ◌∙◌, ◌∷◌, ℕ, Bool, true, false, List, [], Option, None, Some, inl, inr, length, take, refl, sym, ap, arith, length-take}
 use Rattle.std.specs.Prelude.{◌⊎◌, All, map}
 use Rattle.std.proofs.lemmas.List.Elements.{All-cons}
 use Rattle.sdbt_base.specs.Arrays.{Device, Session as OpenSession, committed_if}
 use Rattle.nbd_lang.specs.Refusals.{refusal}
-use Rattle.nbd_lang.specs.Replies.{Reply}
 use Rattle.nbd_lang.specs.Requests.{RequestSent}
 use Rattle.nbd_lang.specs.declared.replies.Outcome.{Outcome}
 use Rattle.nbd_lang.specs.declared.replies.Outcome.TheVariants as outcomes
 use Rattle.nbd_lang.specs.declared.requests.RequestKind.{RequestKind}
 use Rattle.nbd_lang.specs.declared.requests.RequestKind.TheVariants as kinds
 use Rattle.byte_arrays.specs.Ranges.{touched_blocks, covered_blocks}
-use Rattle.nbd_terms.specs.Held.{Held, after_commit, after_trims, after_writes, size_of}
+use Rattle.nbd_terms.specs.Held.{Held, size_of}
 use Rattle.nbd_terms.specs.Leading.{Leads, last_of}
 use Rattle.nbd_terms.specs.Turn.{Answers, IsUnfinished, Serves, Turn}
-use Rattle.nbd_core.specs.Ample.{Completes, HasRoom, IsServedOut, blocks_of_range, changed_by, changed_in, unless_refused}
+use Rattle.nbd_core.specs.Ample.{HasRoom, IsServedOut, blocks_of_range, changed_by, unless_refused}
 use Rattle.nbd_core.specs.Exchanges.{Exchange, sent_of, told_of}
 
 -- what a request with a reply does to the pages that are free

@@ -1,5 +1,5 @@
 -- Whom a request blames that halts a run.
-use Rattle.std.proofs.Common.{◌≡◌, ◌⊎◌, ◌≤◌, ◌<◌, ◌∙◌, refl, ℕ, Bool, List, Option, None, Result, Ok, Err, inl, inr, ap, sym, subst, arith}
+use Rattle.std.proofs.Common.{◌≡◌, ◌≤◌, ◌<◌, ◌∙◌, refl, ℕ, Bool, List, Option, None, Result, Ok, Err, inl, inr, ap, sym, subst, arith}
 use Rattle.std.proofs.lemmas.Bool.{cases_lt}
 use Rattle.std.specs.Prelude.{IfErr}
 use Rattle.nbd_lang.specs.declared.requests.Request.{Request}

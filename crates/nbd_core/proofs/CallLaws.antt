@@ -8,7 +8,6 @@ use Rattle.sdbt_base.specs.Counts.{Counts, counts}
 use Rattle.session_calls.specs.Blame.{HasCause}
 use Rattle.session_calls.specs.Goes.{Goes}
 use Rattle.session_calls.specs.declared.stops.DeviceStop.{DeviceStop}
-use Rattle.session_calls.specs.declared.stops.DeviceStop.TheVariants as stops
 use Rattle.session_calls.proofs.AlongLaws.{along_then}
 use Rattle.nbd_core.specs.Serving.{Calls}
 

@@ -1,5 +1,5 @@
 -- A run that completes.
-use Rattle.std.proofs.Common.{◌≡◌, ◌≢◌, ◌≤◌, ◌<◌, ◌+◌, ◌*◌, ◌∙◌, ℕ, List, [], Option, None, Some, Result, Ok, Err, inl, inr, refl, sym, ap, subst, arith}
+use Rattle.std.proofs.Common.{◌≡◌, ◌≢◌, ◌≤◌, ◌+◌, ◌*◌, ◌∙◌, ℕ, List, [], Option, None, Some, Result, Ok, Err, inl, inr, refl, sym, ap, subst, arith}
 use Rattle.std.specs.Prelude.{◌⊎◌, All}
 use Rattle.sdbt_base.specs.Arrays.{Device, session_on}
 use Rattle.sdbt_base.specs.Counts.{Counts, NoneRose}
@@ -7,7 +7,7 @@ use Rattle.page_store.specs.Stands.{Stands}
 use Rattle.device_terms.specs.Served.{IsServedImage}
 use Rattle.device_course.specs.States.{Outside}
 use Rattle.nbd_terms.specs.Held.{Held}
-use Rattle.nbd_core.specs.Ample.{Completes, HasRoom, IsServedOut, changed_in}
+use Rattle.nbd_core.specs.Ample.{IsServedOut, changed_in}
 use Rattle.nbd_core.specs.Exchanges.{Exchange}
 use Rattle.nbd_core.specs.Halts.{Blames}
 use Rattle.nbd_core.specs.Program.{IsComplete, exchanges_behind, exchanges_in, exit_of}

@@ -6,7 +6,7 @@ use Rattle.device_course.specs.States.{Outside}
 use Rattle.nbd_terms.specs.Held.{Held}
 use Rattle.nbd_core.specs.Haggling.{Haggled}
 use Rattle.nbd_core.specs.Room.{Room}
-use Rattle.nbd_core.specs.Running.{Conversed, GoesOn, IsEarly, Talks}
+use Rattle.nbd_core.specs.Running.{GoesOn, IsEarly, Talks}
 use Rattle.nbd_core.specs.declared.haggling.Agreed.{Agreed}
 use Rattle.nbd_core.specs.declared.haggling.Agreed.TheVariants as agreed
 use Rattle.nbd_core.specs.declared.stop.Stop.{Stop}

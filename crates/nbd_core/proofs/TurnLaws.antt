@@ -1,9 +1,9 @@
 -- What requests make of a session's array, and how they follow one another.
 use Rattle.std.proofs.Common.{◌≡◌, ◌≤◌, ◌<◌, ◌+◌, ◌-◌, ◌*◌, ◌++◌, ◌∷◌, ◌∙◌, ℕ, zero, suc, Bool, true, false, List, [], Option, None, Some, Result, Ok, Err, inl, inr, length, take, drop, refl, sym, ap, subst, arith, append-nil, append_assoc, length-take}
-use Rattle.std.specs.Prelude.{◌⊎◌, IfOk, IfSome, map, nat_lt}
+use Rattle.std.specs.Prelude.{IfOk, nat_lt}
 use Rattle.byte_arrays.specs.Ranges.{covered_blocks, touched_blocks}
 use Rattle.std.proofs.Math.Seq.{drop-append_seam, take-append-add}
-use Rattle.std.proofs.lemmas.List.{drop-take, length-map, map-append, take-append-le, take_all}
+use Rattle.std.proofs.lemmas.List.{drop-take, map-append, take-append-le, take_all}
 use Rattle.sdbt_base.specs.Arrays.{Device, Session as OpenSession, closed, committed, committed_if, mounted}
 use Rattle.sdbt_base.specs.declared.sinks.Sink.{Ghosts as SinkGhosts}
 use Rattle.sdbt_base.specs.declared.tapes.Tape.{Ghosts as TapeGhosts}
@@ -15,16 +15,15 @@ use Rattle.page_store.specs.Stands.{Stands}
 use Rattle.page_store.proofs.StandsLaws.{stands_during}
 use Rattle.device_terms.specs.Served.{IsServedImage}
 use Rattle.device_terms.proofs.ServedLaws.{serves_still}
-use Rattle.device_course.specs.Course.{Made}
-use Rattle.device_course.specs.Marks.{HasMark, Leaves, mark_at}
+use Rattle.device_course.specs.Marks.{Leaves, mark_at}
 use Rattle.device_course.specs.States.{IsAt, Outside, around}
 use Rattle.device_course.proofs.MadeLaws.{made_none, made_one, made_same, made_start, made_stopped, made_then, shut}
-use Rattle.device_session.specs.Open.{IsOpen, blocks_of, is_touched, needed_by}
+use Rattle.device_session.specs.Open.{IsOpen, blocks_of, needed_by}
 use Rattle.device_session.specs.declared.refusals.CommitReply.{CommitReply}
 use Rattle.device_session.specs.declared.refusals.CommitReply.TheVariants as replies
 use Rattle.device_session.specs.Sessions.{Session}
 use Rattle.device_session.proofs.CountLaws.{needs_none, needs_some}
-use Rattle.nbd_lang.specs.Refusals.{refusal, refusal_by, refused_if}
+use Rattle.nbd_lang.specs.Refusals.{refusal, refusal_by}
 use Rattle.nbd_lang.specs.Replies.{Reply}
 use Rattle.nbd_lang.specs.Requests.{RequestSent}
 use Rattle.nbd_lang.specs.declared.replies.Outcome.{Outcome}
@@ -32,9 +31,9 @@ use Rattle.nbd_lang.specs.declared.replies.Outcome.TheVariants as outcomes
 use Rattle.nbd_lang.specs.declared.requests.Request.{Request}
 use Rattle.nbd_lang.specs.declared.requests.RequestKind.{RequestKind}
 use Rattle.nbd_lang.specs.declared.requests.RequestKind.TheVariants as kinds
-use Rattle.nbd_terms.specs.Held.{Held, after_commit, after_trims, after_writes, array_of, Needs, size_of, state_of, trim_all}
+use Rattle.nbd_terms.specs.Held.{Held, after_commit, after_trims, after_writes, Needs, size_of, state_of, trim_all}
 use Rattle.nbd_terms.specs.Leading.{Leads, Led, last_of, marks_of}
-use Rattle.nbd_terms.specs.Turn.{Answers, Ends, Flushes, Reads, Serves, Trims, Turn, Writes}
+use Rattle.nbd_terms.specs.Turn.{Answers, Flushes, Reads, Serves, Trims, Turn, Writes}
 use Rattle.nbd_terms.proofs.LeadingLaws.{last_of-append, leads_append}
 use Rattle.session_calls.specs.Commits.{AnswersCommit, AnswersReply, CommitLeads, ReplyLeads, StopsAt}
 use Rattle.session_calls.specs.declared.committing.Committed.{Committed}
@@ -44,7 +43,7 @@ use Rattle.nbd_core.specs.Arrays.{DidSome, ReadsBytes, WroteRange}
 use Rattle.nbd_core.specs.Halts.{commit_halt, commit_outcome, outcome_after}
 use Rattle.nbd_core.specs.Serving.{bytes_of_reply, reply_of}
 use Rattle.nbd_core.specs.Requests.{DataEnd}
-use Rattle.nbd_core.specs.Turns.{Ended, Flushed, FlushedTo, Halted, HaltsAt, IsHeld, LeadsOn, MadeBetween, OnArray, Performs, Stayed, Turned, device_of}
+use Rattle.nbd_core.specs.Turns.{Ended, Flushed, FlushedTo, Halted, HaltsAt, IsHeld, LeadsOn, MadeBetween, OnArray, Performs, Turned, device_of}
 use Rattle.nbd_core.specs.declared.serving.Performed.{Performed}
 use Rattle.nbd_core.specs.declared.halts.Halt.{Halt}
 use Rattle.nbd_core.specs.declared.halts.Halt.TheVariants as halts

@@ -2,8 +2,6 @@
 use Rattle.std.specs.Prelude.{◌≡◌, ◌≢◌, ◌≤◌, ◌⊎◌, ◌+◌, ◌*◌, ℕ, List, [], ◌∷◌, All, Option, None, Some, Result, Err, length}
 use Rattle.byte_arrays.specs.Ranges.{touched_blocks, covered_blocks}
 use Rattle.nbd_lang.specs.Refusals.{refusal}
-use Rattle.nbd_lang.specs.Requests.{RequestSent}
-use Rattle.nbd_lang.specs.Replies.{Reply}
 use Rattle.nbd_lang.specs.declared.replies.Outcome.{Outcome}
 use Rattle.nbd_lang.specs.declared.replies.Outcome.TheVariants as outcomes
 use Rattle.nbd_lang.specs.declared.requests.Request.{Request}

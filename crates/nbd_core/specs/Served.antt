@@ -6,7 +6,7 @@ use Rattle.device_course.specs.States.{Outside}
 use Rattle.device_session.specs.Sessions.{Session}
 use Rattle.nbd_lang.specs.Refusals.{refusal}
 use Rattle.nbd_lang.specs.Replies.{Reply, reply_bytes}
-use Rattle.nbd_lang.specs.Requests.{RequestSent, FitsSent, bytes_behind, request_head, request_bytes}
+use Rattle.nbd_lang.specs.Requests.{FitsSent, bytes_behind, request_head, request_bytes}
 use Rattle.nbd_lang.specs.declared.replies.Outcome.{Outcome}
 use Rattle.nbd_lang.specs.declared.replies.Outcome.TheVariants as outcomes
 use Rattle.nbd_lang.specs.declared.requests.Request.{Request}

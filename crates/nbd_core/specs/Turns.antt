@@ -19,7 +19,6 @@ use Rattle.nbd_terms.specs.Held.{Held, state_of}
 use Rattle.nbd_terms.specs.Leading.{Led, last_of, marks_of}
 use Rattle.nbd_terms.specs.Turn.{Turn, Ends, Flushes, IsUnfinished}
 use Rattle.nbd_core.specs.Serving.{reply_of}
-use Rattle.nbd_core.specs.declared.stop.Stop.TheVariants as stops
 use Rattle.nbd_core.specs.declared.halts.Halt.{Halt}
 use Rattle.nbd_core.specs.declared.halts.Halt.TheVariants as halts
 use Rattle.nbd_core.specs.declared.serving.Performed.{Performed}

@@ -1,5 +1,4 @@
-use Rattle.std.proofs.Common.{inl, inr, refl, ◌∙◌, ◌*◌, ap, Ok}
-use Rattle.device_session.specs.Open.{blocks_of}
+use Rattle.std.proofs.Common.{inl, refl, ◌∙◌, ap, Ok}
 use Rattle.nbd_core.proofs.SpanLaws.{early_mount, silent_look, spans_look, spans_mounted, talks_mounted}
 use Rattle.nbd_core.proofs.running.serve_device.Goals as goal
 

@@ -28,7 +28,6 @@ returns-in_err-request-clause-blame g c =
     let p = err_from_is_err_and c.from_residual.result c.from_residual.ensures.1 in
     rw (p.1, p.2) (blame_then _ _ _ _ c.requests.invariant.quiet (blame_as _ _ c.in_err-request.field-0.0 (c.in_err-request.ensures.blame (counts (g.P.Platform.faults c.requests.platform) (g.T.Tape.faults c.requests.tape) 0 (g.O.Sink.faults c.requests.output) (g.L.Sink.faults c.requests.ledger)))))
 
-
 pub returns-then-is_disconnect-clause-carries : goal.returns-then-is_disconnect-clause-carries
 returns-then-is_disconnect-clause-carries g c = carries_then _ _ _ _ _ _ _ _ _ tt c.requests.invariant.carries c.finish.ensures.carries
 
@@ -37,7 +36,6 @@ returns-then-is_disconnect-clause-blame g c =
     let o = g.O.Sink.faults c.requests.output in
     blame_then _ _ _ _ c.requests.invariant.quiet
     (blame_then _ _ _ _ (c.in_ok-request.ensures.blame (counts (g.P.Platform.faults c.requests.platform) (g.T.Tape.faults c.requests.tape) 0 (g.O.Sink.faults c.requests.output) (g.L.Sink.faults c.requests.ledger))).quiet (c.finish.ensures.blame (counts 0 0 (g.I.Source.faults c.next_request.new.input) o 0)))
-
 
 pub requests-smaller : goal.requests-smaller
 requests-smaller g c =
@@ -65,14 +63,12 @@ pub returns-in-Err-clause-blame : goal.returns-in-Err-clause-blame
 returns-in-Err-clause-blame g c =
     blame_then _ _ _ _ c.requests.invariant.quiet (blame_then _ _ _ _ (c.in_ok-request.ensures.blame (counts (g.P.Platform.faults c.requests.platform) (g.T.Tape.faults c.requests.tape) 0 (g.O.Sink.faults c.requests.output) (g.L.Sink.faults c.requests.ledger))).quiet (blame_as _ _ c.in-Err.halt c.in-Err.ensures.blame))
 
-
 pub returns-clause-carries : goal.returns-clause-carries
 returns-clause-carries g c = carries_end _ _ _ _ _ _ _ (λ going. tt) c.requests.invariant.carries
 
 pub returns-clause-blame : goal.returns-clause-blame
 returns-clause-blame g c =
     blame_then _ _ _ _ c.requests.invariant.quiet (blame_on _ _ _ _ (c.in_ok-request.ensures.blame (counts (g.P.Platform.faults c.requests.platform) (g.T.Tape.faults c.requests.tape) 0 (g.O.Sink.faults c.requests.output) (g.L.Sink.faults c.requests.ledger))))
-
 
 pub returns-in_err-request-clause-served : goal.returns-in_err-request-clause-served
 returns-in_err-request-clause-served g c =
