@@ -45,15 +45,15 @@ record Done (size : ℕ) (ending : Result (Unit {0}) Halt) (exchanges : List Exc
 no_requests : (size : ℕ) (ending : Result (Unit {0}) Halt) → ending ≢ Err halts.Unfinished → Done size ending []
 no_requests size ending ends = record { done = λ k d below. absurd (omega (arith, below)); ends = ends }
 
-done_behind : (From : Held → Type 0) (before after : Outside) (there : Device) (result_of : Result Agreed Stop) (room : Room) (left left_now written written_now : Option (List ℕ)) (ending : Result (Unit {0}) Halt) (entry : Held) → From entry
-    → entry.device ≡ there → entry.pages ≡ before.head → entry.updates ≡ 0 → (goes_on : GoesOn From before after (4096 * there.blocks) result_of room left left_now written written_now ending)
-    → before.head + 42 * changed_in (4096 * there.blocks) (exchanges_behind From before after (4096 * there.blocks) result_of room left left_now written written_now ending goes_on) ≤ before.capacity
-    → Done (4096 * there.blocks) ending (exchanges_behind From before after (4096 * there.blocks) result_of room left left_now written written_now ending goes_on)
-done_behind From before after there (Ok agreed.Requests) room left left_now written written_now ending entry from is pages updates (last, served) free =
+done_behind : (From : Held → Type 0) (tells : Type 0) (before after : Outside) (there : Device) (result_of : Result Agreed Stop) (room : Room) (left left_now written written_now : Option (List ℕ)) (ending : Result (Unit {0}) Halt) (entry : Held) → From entry
+    → entry.device ≡ there → entry.pages ≡ before.head → entry.updates ≡ 0 → (goes_on : GoesOn From tells before after (4096 * there.blocks) result_of room left left_now written written_now ending)
+    → before.head + 42 * changed_in (4096 * there.blocks) (exchanges_behind From tells before after (4096 * there.blocks) result_of room left left_now written written_now ending goes_on) ≤ before.capacity
+    → Done (4096 * there.blocks) ending (exchanges_behind From tells before after (4096 * there.blocks) result_of room left left_now written written_now ending goes_on)
+done_behind From tells before after there (Ok agreed.Requests) room left left_now written written_now ending entry from is pages updates (last, served) free =
     let all = served.complete entry from (ap (λ (d : Device). 4096 * d.blocks) (sym is)) (omega (arith, free, pages, updates)) in
     record { done = all.done; ends = all.ends }
-done_behind From before after there (Ok agreed.Nothing) room left left_now written written_now ending entry from is pages updates (same, unput, ended, stayed) free = no_requests (4096 * there.blocks) ending (λ unfinished. cc)
-done_behind From before after there (Err stop) room left left_now written written_now ending entry from is pages updates (same, unput, ended, stayed) free = no_requests (4096 * there.blocks) ending (λ unfinished. cc)
+done_behind From tells before after there (Ok agreed.Nothing) room left left_now written written_now ending entry from is pages updates (same, unput, ended, stayed) free = no_requests (4096 * there.blocks) ending (λ unfinished. cc)
+done_behind From tells before after there (Err stop) room left left_now written written_now ending entry from is pages updates (same, unput, ended, stayed) free = no_requests (4096 * there.blocks) ending (λ unfinished. cc)
 
 early_finished : (ending : Result (Unit {0}) Halt) → IsEarly ending → ending ≢ Err halts.Unfinished
 early_finished ending early is = subst IsEarly is early
@@ -67,16 +67,16 @@ done_in tells before after there left left_now written written_now ending (inr c
     let conversed = conversation.conversed in
     sized conversation.size (conversation.is told there stands) conversed.agreed conversed.room conversed.left_then conversed.written_then conversed.goes_on free
   where
-    sized : (size : ℕ) → size ≡ 4096 * there.blocks → (result_of : Result Agreed Stop) (room : Room) (left_then written_then : Option (List ℕ)) (goes_on : GoesOn (IsStart tells before) before after size result_of room left_then left_now written_then written_now ending)
-        → before.head + 42 * changed_in (4096 * there.blocks) (exchanges_behind (IsStart tells before) before after size result_of room left_then left_now written_then written_now ending goes_on) ≤ before.capacity
-        → Done (4096 * there.blocks) ending (exchanges_behind (IsStart tells before) before after size result_of room left_then left_now written_then written_now ending goes_on)
+    sized : (size : ℕ) → size ≡ 4096 * there.blocks → (result_of : Result Agreed Stop) (room : Room) (left_then written_then : Option (List ℕ)) (goes_on : GoesOn (IsStart tells before) tells before after size result_of room left_then left_now written_then written_now ending)
+        → before.head + 42 * changed_in (4096 * there.blocks) (exchanges_behind (IsStart tells before) tells before after size result_of room left_then left_now written_then written_now ending goes_on) ≤ before.capacity
+        → Done (4096 * there.blocks) ending (exchanges_behind (IsStart tells before) tells before after size result_of room left_then left_now written_then written_now ending goes_on)
     sized size is result_of room left_then written_then goes_on room_left =
         (subst
-        (λ (n : ℕ). (g : GoesOn (IsStart tells before) before after n result_of room left_then left_now written_then written_now ending)
-        → before.head + 42 * changed_in (4096 * there.blocks) (exchanges_behind (IsStart tells before) before after n result_of room left_then left_now written_then written_now ending g) ≤ before.capacity
-        → Done (4096 * there.blocks) ending (exchanges_behind (IsStart tells before) before after n result_of room left_then left_now written_then written_now ending g))
+        (λ (n : ℕ). (g : GoesOn (IsStart tells before) tells before after n result_of room left_then left_now written_then written_now ending)
+        → before.head + 42 * changed_in (4096 * there.blocks) (exchanges_behind (IsStart tells before) tells before after n result_of room left_then left_now written_then written_now ending g) ≤ before.capacity
+        → Done (4096 * there.blocks) ending (exchanges_behind (IsStart tells before) tells before after n result_of room left_then left_now written_then written_now ending g))
         (sym is)
-        (λ g f. done_behind (IsStart tells before) before after there result_of room left_then left_now written_then written_now ending
+        (λ g f. done_behind (IsStart tells before) tells before after there result_of room left_then left_now written_then written_now ending
         (record { device = there; session = session_on there; pages = before.head; updates = 0 }) (record { told = told; stands = stands; served = served; session = refl; pages = refl; updates = refl }) refl refl refl g f))
         goes_on room_left
 

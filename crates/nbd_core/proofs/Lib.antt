@@ -13,6 +13,7 @@ pub mod StatusLaws
 pub mod ServedLaws
 pub mod ArrayLaws
 pub mod TurnLaws
+pub mod DamageLaws
 pub mod TookLaws
 pub mod AmpleLaws
 pub mod CompleteLaws

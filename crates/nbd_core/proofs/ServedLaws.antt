@@ -23,6 +23,10 @@ use Rattle.nbd_terms.specs.Leading.{last_of}
 use Rattle.nbd_terms.specs.Turn.{Ends, IsUnfinished, Turn}
 use Rattle.nbd_core.specs.Room.{Room, Came, IsShorter}
 use Rattle.nbd_core.specs.Requests.{AwaitsRequest, HeadCame, HeadEnd, DataEnd}
+use Rattle.platform.specs.History.{Extends, History}
+use Rattle.platform.proofs.Moments.{Extends-refl}
+use Rattle.nbd_core.specs.Damages.{HasMetDamage, IsDamage}
+use Rattle.nbd_core.proofs.DamageLaws.{damage_later, damage_now}
 use Rattle.nbd_core.specs.Exchanges.{Exchange, sent_of, told_of}
 use Rattle.nbd_core.specs.Served.{Answered, AnswerEnd, AwaitsMore, EndsByDisconnect, FitsExchange, IsAhead, IsCommit, IsCutOff, IsGoodbye, IsReplyTo, Served, ServedEnd, bytes_told, sent_bytes, replied_bytes}
 use Rattle.nbd_core.specs.Turns.{Finishes, Halted, Halts, HaltsAt, IsHeld, IsOfCommit, Turns}
@@ -61,7 +65,7 @@ awaits_more_too exchanges exchange bytes (first, others, part, split, is, awaits
     (first, others ++ exchange ∷ [], part, ap (λ (l : List Exchange). l ++ exchange ∷ []) split ∙ append_assoc first others (exchange ∷ []), is, awaits)
 
 -- these requests came, and were replied to, and this session goes on
-pub record Replied (From : Held → Type 0) (before mid : Outside) (session : Session) (size : ℕ) (left left_now : Option (List ℕ)) (old now : Room) (written written_now : Option (List ℕ)) (exchanges : List Exchange) : Type 0 where
+pub record Replied (From : Held → Type 0) (tells : Type 0) (before mid : Outside) (session : Session) (size : ℕ) (left left_now : Option (List ℕ)) (old now : Room) (written written_now : Option (List ℕ)) (exchanges : List Exchange) : Type 0 where
   pub came : List ℕ
   pub put : List ℕ
   pub takes : Came left left_now old now.left (AwaitsMore exchanges) came
@@ -69,11 +73,12 @@ pub record Replied (From : Held → Type 0) (before mid : Outside) (session : Se
   pub fit : All (FitsExchange size) exchanges
   pub said : came ≡ flat_map sent_bytes exchanges ++ now.ahead
   pub replied : put ≡ flat_map replied_bytes exchanges
+  pub damage : tells → All (HasMetDamage before.history mid.history) exchanges
   pub led : (entry : Held) → From entry → LedTo before.capacity before mid session entry (map sent_of exchanges) (map told_of exchanges)
 
-pub replied_nothing : (From : Held → Type 0) (here : Outside) (session : Session) (size : ℕ) (left : Option (List ℕ)) (old : Room) (written : Option (List ℕ)) → ((entry : Held) → From entry → IsHeld here.history.present here.head session entry)
-    → Replied From here here session size left left old old written written []
-replied_nothing From here session size left old written held = record {
+pub replied_nothing : (From : Held → Type 0) (tells : Type 0) (here : Outside) (session : Session) (size : ℕ) (left : Option (List ℕ)) (old : Room) (written : Option (List ℕ)) → ((entry : Held) → From entry → IsHeld here.history.present here.head session entry)
+    → Replied From tells here here session size left left old old written written []
+replied_nothing From tells here session size left old written held = record {
   came = old.ahead;
   put = [];
   takes = came_nothing left old (AwaitsMore []);
@@ -81,13 +86,14 @@ replied_nothing From here session size left old written held = record {
   fit = λ k d below. absurd (omega (arith, below));
   said = refl;
   replied = refl;
+  damage = λ told k d below. absurd (omega (arith, below));
   led = λ entry from. led_start here.capacity here session entry (held entry from);
 }
 
 -- more came, which awaits a request
-came_more_of : (From : Held → Type 0) (before there : Outside) (session : Session) (size : ℕ) (a b c : Option (List ℕ)) (old mid : Room) (left_to_take : ℕ) (w0 w1 : Option (List ℕ)) (exchanges : List Exchange) (came : List ℕ)
-    → Replied From before there session size a b old mid w0 w1 exchanges → Came b c mid left_to_take AwaitsRequest came → Came a c old left_to_take (AwaitsMore exchanges) (flat_map sent_bytes exchanges ++ came)
-came_more_of From before there session size a b c old mid left_to_take w0 w1 exchanges came so_far next =
+came_more_of : (From : Held → Type 0) (tells : Type 0) (before there : Outside) (session : Session) (size : ℕ) (a b c : Option (List ℕ)) (old mid : Room) (left_to_take : ℕ) (w0 w1 : Option (List ℕ)) (exchanges : List Exchange) (came : List ℕ)
+    → Replied From tells before there session size a b old mid w0 w1 exchanges → Came b c mid left_to_take AwaitsRequest came → Came a c old left_to_take (AwaitsMore exchanges) (flat_map sent_bytes exchanges ++ came)
+came_more_of From tells before there session size a b c old mid left_to_take w0 w1 exchanges came so_far next =
     came_then a b c old mid left_to_take (AwaitsMore exchanges) AwaitsRequest (AwaitsMore exchanges) (flat_map sent_bytes exchanges) came (λ bytes awaits. awaits)
     (λ more awaits. awaits_more exchanges (mid.ahead ++ more) awaits) (subst (Came a b old mid.left (AwaitsMore exchanges)) so_far.said so_far.takes) next
 
@@ -102,12 +108,15 @@ whole_came b c d mid read left_to_take request came head next =
 same_count : (exchanges : List Exchange) → length (map told_of exchanges) ≡ length (map sent_of exchanges)
 same_count exchanges = length-map exchanges told_of ∙ sym (length-map exchanges sent_of)
 
+damages_later : (first second third : History) (exchanges : List Exchange) → Extends second third → All (HasMetDamage first second) exchanges → All (HasMetDamage first third) exchanges
+damages_later first second third exchanges extends all = λ k d below. λ damaged. damage_later first second third extends (all k d below damaged)
+
 -- one request more, and its reply
 pub replied_more : (From : Held → Type 0) (tells : Type 0) (before mid_outside after : Outside) (session next : Session) (size : ℕ) (a b c d : Option (List ℕ)) (old mid read now : Room) (w0 w1 w2 : Option (List ℕ)) (exchanges : List Exchange) (request : Request)
-    → ((entry : Held) → From entry → tells) → mid_outside.capacity ≡ before.capacity → request.kind ≢ kinds.Disconnect
-    → Replied From before mid_outside session size a b old mid w0 w1 exchanges → HeadCame b c mid read (Ok (Some request)) → Answered tells mid_outside after session size request c d read now w1 w2 (Ok next)
-    → (exchange : Exchange) × Replied From before after next size a d old now w0 w2 (exchanges ++ exchange ∷ [])
-replied_more From tells before mid_outside after session next size a b c d old mid read now w0 w1 w2 exchanges request told same other so_far head answered =
+    → ((entry : Held) → From entry → tells) → mid_outside.capacity ≡ before.capacity → (tells → Extends before.history mid_outside.history) → (tells → Extends mid_outside.history after.history) → request.kind ≢ kinds.Disconnect
+    → Replied From tells before mid_outside session size a b old mid w0 w1 exchanges → HeadCame b c mid read (Ok (Some request)) → Answered tells mid_outside after session size request c d read now w1 w2 (Ok next)
+    → (exchange : Exchange) × Replied From tells before after next size a d old now w0 w2 (exchanges ++ exchange ∷ [])
+replied_more From tells before mid_outside after session next size a b c d old mid read now w0 w1 w2 exchanges request told same until on other so_far head answered =
     let sent : RequestSent = record { head = request; bytes = answered.gone } in
     let reply : Reply = answered.ends.1 in
     let exchange : Exchange = record { sent = sent; reply = reply } in
@@ -119,13 +128,17 @@ replied_more From tells before mid_outside after session next size a b c d old m
         came = flat_map sent_bytes exchanges ++ came;
         put = so_far.put ++ reply_bytes reply;
         takes = came_weaker a d old now.left (AwaitsMore exchanges) (AwaitsMore (exchanges ++ exchange ∷ [])) (flat_map sent_bytes exchanges ++ came) (awaits_more_too exchanges exchange)
-            (came_more_of From before mid_outside session size a b d old mid now.left w0 w1 exchanges came so_far (whole_came b c d mid read now.left request (answered.gone ++ now.ahead) head answered.came));
+            (came_more_of From tells before mid_outside session size a b d old mid now.left w0 w1 exchanges came so_far (whole_came b c d mid read now.left request (answered.gone ++ now.ahead) head answered.came));
         got = Got-then w0 so_far.put w1 (reply_bytes reply) w2 so_far.got answered.ends.3;
         fit = All-push (FitsExchange size) exchanges exchange so_far.fit (record { sent = record { head = head.ends.0; bytes = answered.ends.0 }; other = other; reply = answered.ends.2 });
         said =
             ap (λ (l : List ℕ). flat_map sent_bytes exchanges ++ l) (sym (append_assoc (request_head request) answered.gone now.ahead)) ∙ sym (append_assoc (flat_map sent_bytes exchanges) (request_bytes sent) now.ahead)
             ∙ ap (λ (l : List ℕ). (flat_map sent_bytes exchanges ++ l) ++ now.ahead) (sym (append-nil (request_bytes sent))) ∙ ap (λ (l : List ℕ). l ++ now.ahead) (sym words);
         replied = ap (λ (l : List ℕ). l ++ reply_bytes reply) so_far.replied ∙ ap (λ (l : List ℕ). flat_map replied_bytes exchanges ++ l) (sym (append-nil (reply_bytes reply))) ∙ sym answers;
+        damage = λ told_so.
+            All-push (HasMetDamage before.history after.history) exchanges exchange
+            (damages_later before.history mid_outside.history after.history exchanges (on told_so) (so_far.damage told_so))
+            (λ damaged. damage_now before.history after.history (omega (arith, (until told_so).later, (on told_so).later)) (answered.ends.5 told_so damaged));
         led = λ entry from.
             let led = so_far.led entry from in
             subst (λ (l : List Reply). LedTo before.capacity before after next entry (map sent_of (exchanges ++ exchange ∷ [])) l) (sym (map-append told_of exchanges (exchange ∷ [])))
@@ -139,24 +152,25 @@ replied_more From tells before mid_outside after session next size a b c d old m
 unfinished_at : (capacity size : ℕ) (rest tail part : List ℕ) (result : Result (Unit {0}) Halt) (last : Held) (ahead : List Held) → result ≡ Err halts.Unfinished → IsAhead capacity size rest tail part result last ahead → IsUnfinished capacity last
 unfinished_at capacity size rest tail part result last ahead is ends = (subst (λ (r : Result (Unit {0}) Halt). IsAhead capacity size rest tail part r last ahead) is ends).1
 
-served_by : (From : Held → Type 0) (before there after : Outside) (session : Session) (size : ℕ) (a b c : Option (List ℕ)) (old mid now : Room) (w0 w1 w2 : Option (List ℕ)) (exchanges : List Exchange) (rest part : List ℕ) (result : Result (Unit {0}) Halt)
-    → Replied From before there session size a b old mid w0 w1 exchanges → Came b c mid now.left AwaitsRequest rest → Got w1 part w2 → ServedEnd size rest part c now.ahead result
-    → IfErr result (λ halt. halt ≡ halts.Client stops.Limit → now.left ≡ 0)
+served_by : (From : Held → Type 0) (tells : Type 0) (before there after : Outside) (session : Session) (size : ℕ) (a b c : Option (List ℕ)) (old mid now : Room) (w0 w1 w2 : Option (List ℕ)) (exchanges : List Exchange) (rest part : List ℕ) (result : Result (Unit {0}) Halt)
+    → Replied From tells before there session size a b old mid w0 w1 exchanges → Came b c mid now.left AwaitsRequest rest → Got w1 part w2 → ServedEnd size rest part c now.ahead result
+    → IfErr result (λ halt. halt ≡ halts.Client stops.Limit → now.left ≡ 0) → (tells → Extends there.history after.history)
     → ((entry : Held) → From entry → (last : Held) → IsHeld there.history.present there.head session last → Ending before.capacity there after (IsAhead before.capacity size rest now.ahead part result) last)
-    → Served From before after size a c old now w0 w2 result
-served_by From before there after session size a b c old mid now w0 w1 w2 exchanges rest part result so_far next got ends limit made = record {
+    → Served From tells before after size a c old now w0 w2 result
+served_by From tells before there after session size a b c old mid now w0 w1 w2 exchanges rest part result so_far next got ends limit on made = record {
   exchanges = exchanges;
   came = flat_map sent_bytes exchanges ++ rest;
   put = so_far.put ++ part;
   rest = rest;
   part = part;
-  takes = came_more_of From before there session size a b c old mid now.left w0 w1 exchanges rest so_far next;
+  takes = came_more_of From tells before there session size a b c old mid now.left w0 w1 exchanges rest so_far next;
   got = Got-then w0 so_far.put w1 part w2 so_far.got got;
   fit = so_far.fit;
   said = refl;
   replied = ap (λ (l : List ℕ). l ++ part) so_far.replied;
   ends = ends;
   limit = limit;
+  damage = λ told. damages_later before.history there.history after.history exchanges (on told) (so_far.damage told);
   led = λ entry from.
       let led = so_far.led entry from in
       let end = made entry from (last_of entry led.led.states) led.held in
@@ -178,15 +192,15 @@ nothing_ahead capacity here session last Is held is = record {
 }
 
 -- without a head that is whole
-pub served_stopped : (From : Held → Type 0) (before there : Outside) (session : Session) (size : ℕ) (a b c : Option (List ℕ)) (old mid now : Room) (w0 w1 : Option (List ℕ)) (exchanges : List Exchange) (halt : Halt)
-    → Replied From before there session size a b old mid w0 w1 exchanges → HeadCame b c mid now (Err halt) → Served From before there size a c old now w0 w1 (Err halt)
-served_stopped From before there session size a b c old mid now w0 w1 exchanges halt so_far head = by halt head.limit head.ends
+pub served_stopped : (From : Held → Type 0) (tells : Type 0) (before there : Outside) (session : Session) (size : ℕ) (a b c : Option (List ℕ)) (old mid now : Room) (w0 w1 : Option (List ℕ)) (exchanges : List Exchange) (halt : Halt)
+    → Replied From tells before there session size a b old mid w0 w1 exchanges → HeadCame b c mid now (Err halt) → Served From tells before there size a c old now w0 w1 (Err halt)
+served_stopped From tells before there session size a b c old mid now w0 w1 exchanges halt so_far head = by halt head.limit head.ends
   where
-    stop : (h : Halt) → (h ≡ halts.Client stops.Limit → now.left ≡ 0) → ServedEnd size head.came [] c now.ahead (Err h) → ((last : Held) → IsAhead before.capacity size head.came now.ahead [] (Err h) last []) → Served From before there size a c old now w0 w1 (Err h)
-    stop h limit ends none = served_by From before there there session size a b c old mid now w0 w1 w1 exchanges head.came [] (Err h) so_far head.takes (Got-nothing w1) ends limit
+    stop : (h : Halt) → (h ≡ halts.Client stops.Limit → now.left ≡ 0) → ServedEnd size head.came [] c now.ahead (Err h) → ((last : Held) → IsAhead before.capacity size head.came now.ahead [] (Err h) last []) → Served From tells before there size a c old now w0 w1 (Err h)
+    stop h limit ends none = served_by From tells before there there session size a b c old mid now w0 w1 w1 exchanges head.came [] (Err h) so_far head.takes (Got-nothing w1) ends limit (λ told. Extends-refl there.history)
         (λ entry from last held. nothing_ahead before.capacity there session last (IsAhead before.capacity size head.came now.ahead [] (Err h)) held (none last))
 
-    by : (h : Halt) → (h ≡ halts.Client stops.Limit → now.left ≡ 0) → HeadEnd c now.ahead head.came (Err h) → Served From before there size a c old now w0 w1 (Err h)
+    by : (h : Halt) → (h ≡ halts.Client stops.Limit → now.left ≡ 0) → HeadEnd c now.ahead head.came (Err h) → Served From tells before there size a c old now w0 w1 (Err h)
     by (halts.Client stops.Source) limit ends = stop (halts.Client stops.Source) limit (refl, ends) (λ last. refl)
     by (halts.Client stops.Limit) limit ends = stop (halts.Client stops.Limit) limit (refl, ends) (λ last. refl)
     by (halts.Client stops.Broken) limit ends = stop (halts.Client stops.Broken) limit (refl, ends) (λ last. refl)
@@ -200,10 +214,10 @@ served_stopped From before there session size a b c old mid now w0 w1 exchanges 
     by halts.Memory limit ends = absurd ends
 
 -- where the input ended between two requests
-pub served_over : (From : Held → Type 0) (before there : Outside) (session : Session) (size : ℕ) (a b c : Option (List ℕ)) (old mid now : Room) (w0 w1 : Option (List ℕ)) (exchanges : List Exchange)
-    → Replied From before there session size a b old mid w0 w1 exchanges → HeadCame b c mid now (Ok None) → Served From before there size a c old now w0 w1 (Ok tt)
-served_over From before there session size a b c old mid now w0 w1 exchanges so_far head =
-    served_by From before there there session size a b c old mid now w0 w1 w1 exchanges head.came [] (Ok tt) so_far head.takes (Got-nothing w1) (refl, inl head.ends) tt
+pub served_over : (From : Held → Type 0) (tells : Type 0) (before there : Outside) (session : Session) (size : ℕ) (a b c : Option (List ℕ)) (old mid now : Room) (w0 w1 : Option (List ℕ)) (exchanges : List Exchange)
+    → Replied From tells before there session size a b old mid w0 w1 exchanges → HeadCame b c mid now (Ok None) → Served From tells before there size a c old now w0 w1 (Ok tt)
+served_over From tells before there session size a b c old mid now w0 w1 exchanges so_far head =
+    served_by From tells before there there session size a b c old mid now w0 w1 w1 exchanges head.came [] (Ok tt) so_far head.takes (Got-nothing w1) (refl, inl head.ends) tt (λ told. Extends-refl there.history)
     (λ entry from last held. nothing_ahead before.capacity there session last (IsAhead before.capacity size head.came now.ahead [] (Ok tt)) held (inl (head.ends.0, refl)))
 
 goodbye_end : (size : ℕ) (rest ahead : List ℕ) (left : Option (List ℕ)) (result : Result (Unit {0}) Halt) → IsGoodbye rest ahead → EndsByDisconnect result → ServedEnd size rest [] left ahead result
@@ -276,18 +290,18 @@ goodbye_limit (Err halts.BadRoot) left ends = absurd ends
 goodbye_limit (Err halts.NoDevice) left ends = absurd ends
 
 pub served_goodbye : (From : Held → Type 0) (tells : Type 0) (before there after : Outside) (session : Session) (size : ℕ) (a b c : Option (List ℕ)) (old mid now : Room) (w0 w1 : Option (List ℕ)) (exchanges : List Exchange) (request : Request) (result : Result (Unit {0}) Halt)
-    → ((entry : Held) → From entry → tells) → there.capacity ≡ before.capacity → request.kind ≡ kinds.Disconnect
-    → Replied From before there session size a b old mid w0 w1 exchanges → HeadCame b c mid now (Ok (Some request)) → EndsByDisconnect result → Finishes tells there after session result → Served From before after size a c old now w0 w1 result
-served_goodbye From tells before there after session size a b c old mid now w0 w1 exchanges request result told same is so_far head ends finishes =
+    → ((entry : Held) → From entry → tells) → there.capacity ≡ before.capacity → (tells → Extends there.history after.history) → request.kind ≡ kinds.Disconnect
+    → Replied From tells before there session size a b old mid w0 w1 exchanges → HeadCame b c mid now (Ok (Some request)) → EndsByDisconnect result → Finishes tells there after session result → Served From tells before after size a c old now w0 w1 result
+served_goodbye From tells before there after session size a b c old mid now w0 w1 exchanges request result told same on is so_far head ends finishes =
     let bye : IsGoodbye head.came now.ahead = (request, is, head.ends.1) in
-    served_by From before there after session size a b c old mid now w0 w1 w1 exchanges head.came [] result so_far head.takes (Got-nothing w1) (goodbye_end size head.came now.ahead c result bye ends) (goodbye_limit result now.left ends)
+    served_by From tells before there after session size a b c old mid now w0 w1 w1 exchanges head.came [] result so_far head.takes (Got-nothing w1) (goodbye_end size head.came now.ahead c result bye ends) (goodbye_limit result now.left ends) on
     (λ entry from last held. goodbye_ends before.capacity size tells there after session head.came now.ahead last result (told entry from) same bye ends held finishes)
 
 -- in a request: without its reply, or with a part of it
 pub served_halted : (From : Held → Type 0) (tells : Type 0) (before there after : Outside) (session : Session) (size : ℕ) (a b c d : Option (List ℕ)) (old mid read now : Room) (w0 w1 w2 : Option (List ℕ)) (exchanges : List Exchange) (request : Request) (halt : Halt)
-    → ((entry : Held) → From entry → tells) → there.capacity ≡ before.capacity → request.kind ≢ kinds.Disconnect
-    → Replied From before there session size a b old mid w0 w1 exchanges → HeadCame b c mid read (Ok (Some request)) → Answered tells there after session size request c d read now w1 w2 (Err halt) → Served From before after size a d old now w0 w2 (Err halt)
-served_halted From tells before there after session size a b c d old mid read now w0 w1 w2 exchanges request halt told same other so_far head answered = by halt answered.limit answered.ends
+    → ((entry : Held) → From entry → tells) → there.capacity ≡ before.capacity → (tells → Extends there.history after.history) → request.kind ≢ kinds.Disconnect
+    → Replied From tells before there session size a b old mid w0 w1 exchanges → HeadCame b c mid read (Ok (Some request)) → Answered tells there after session size request c d read now w1 w2 (Err halt) → Served From tells before after size a d old now w0 w2 (Err halt)
+served_halted From tells before there after session size a b c d old mid read now w0 w1 w2 exchanges request halt told same on other so_far head answered = by halt answered.limit answered.ends
   where
     rest : List ℕ
     rest = request_head request ++ (answered.gone ++ now.ahead)
@@ -295,17 +309,17 @@ served_halted From tells before there after session size a b c d old mid read no
     takes : Came b d mid now.left AwaitsRequest rest
     takes = whole_came b c d mid read now.left request (answered.gone ++ now.ahead) head answered.came
 
-    none : (h : Halt) → (h ≡ halts.Client stops.Limit → now.left ≡ 0) → w2 ≡ w1 → ServedEnd size rest [] d now.ahead (Err h) → IsLate h → h ≢ halts.Client stops.Sink → Halts tells there after session request.kind h → Served From before after size a d old now w0 w2 (Err h)
-    none h limit same_put ends late no_sink halts_so = served_by From before there after session size a b d old mid now w0 w1 w2 exchanges rest [] (Err h) so_far takes (subst (Got w1 []) (sym same_put) (Got-nothing w1)) ends limit
+    none : (h : Halt) → (h ≡ halts.Client stops.Limit → now.left ≡ 0) → w2 ≡ w1 → ServedEnd size rest [] d now.ahead (Err h) → IsLate h → h ≢ halts.Client stops.Sink → Halts tells there after session request.kind h → Served From tells before after size a d old now w0 w2 (Err h)
+    none h limit same_put ends late no_sink halts_so = served_by From tells before there after session size a b d old mid now w0 w1 w2 exchanges rest [] (Err h) so_far takes (subst (Got w1 []) (sym same_put) (Got-nothing w1)) ends limit on
         (λ entry from last held. halted_end before.capacity size there after rest now.ahead last request.kind h same (λ of. (request, answered.gone ++ now.ahead, of, refl)) late no_sink (halts_so (told entry from) last held))
 
-    by : (h : Halt) → (h ≡ halts.Client stops.Limit → now.left ≡ 0) → AnswerEnd tells there after session size request d answered.gone now.ahead w1 w2 (Err h) → Served From before after size a d old now w0 w2 (Err h)
-    by (halts.Client stops.Sink) limit (whole, reply, is, part, turns) =
+    by : (h : Halt) → (h ≡ halts.Client stops.Limit → now.left ≡ 0) → AnswerEnd tells there after session size request d answered.gone now.ahead w1 w2 (Err h) → Served From tells before after size a d old now w0 w2 (Err h)
+    by (halts.Client stops.Sink) limit (whole, reply, is, part, turns, damage) =
         let sent : RequestSent = record { head = request; bytes = answered.gone } in
         let exchange : Exchange = record { sent = sent; reply = reply } in
         let fits : FitsExchange size exchange = record { sent = record { head = head.ends.0; bytes = whole }; other = other; reply = is } in
         let cut : IsCutOff size rest now.ahead (take part.0 (reply_bytes reply)) = record { exchange = exchange; fits = fits; is = sym (append_assoc (request_head request) answered.gone now.ahead); count = part.0; put = refl } in
-        served_by From before there after session size a b d old mid now w0 w1 w2 exchanges rest (take part.0 (reply_bytes reply)) (Err (halts.Client stops.Sink)) so_far takes part.1 cut limit
+        served_by From tells before there after session size a b d old mid now w0 w1 w2 exchanges rest (take part.0 (reply_bytes reply)) (Err (halts.Client stops.Sink)) so_far takes part.1 cut limit on
         (λ entry from last held.
         let turned = turns (told entry from) last held in
         record { ahead = turned.next ∷ []; made = turned.made; is = (cut, turned.next, refl, subst (λ (n : ℕ). Turn n last sent reply turned.next) same turned.turn) })
@@ -369,10 +383,10 @@ is_reply size request outcome room refused there = record { cookie = refl; refus
 
 -- one that could not be told whole
 pub answer_cut : (tells : Type 0) (before after : Outside) (session : Session) (size : ℕ) (request : Request) (left : Option (List ℕ)) (gone ahead : List ℕ) (written written_now : Option (List ℕ)) (stop : Stop) (reply : Reply) → stop ≡ stops.Sink
-    → length gone ≡ bytes_behind request.kind request.length → IsReplyTo size request reply → GotPart written (reply_bytes reply) written_now → Turns tells before after session None (record { head = request; bytes = gone }) reply
+    → length gone ≡ bytes_behind request.kind request.length → IsReplyTo size request reply → GotPart written (reply_bytes reply) written_now → Turns tells before after session None (record { head = request; bytes = gone }) reply → (tells → IsDamage after.history.present reply.outcome)
     → AnswerEnd tells before after session size request left gone ahead written written_now (Err (halts.Client stop))
-answer_cut tells before after session size request left gone ahead written written_now stop reply is whole fits part turns =
-    subst (λ (s : Stop). AnswerEnd tells before after session size request left gone ahead written written_now (Err (halts.Client s))) (sym is) (whole, reply, fits, part, turns)
+answer_cut tells before after session size request left gone ahead written written_now stop reply is whole fits part turns damage =
+    subst (λ (s : Stop). AnswerEnd tells before after session size request left gone ahead written written_now (Err (halts.Client s))) (sym is) (whole, reply, fits, part, turns, damage)
 
 pub broken_no_limit : (n : ℕ) → halts.Client stops.Broken ≡ halts.Client stops.Limit → n ≡ 0
 broken_no_limit n is = absurd cc
@@ -402,6 +416,6 @@ pub answered_on : (tells : Type 0) (before after : Outside) (session : Session) 
     → Answered tells before after session size request a c old new written written_now result → Answered tells before after session other request a c old new written written_now result
 answered_on tells before after session size other request a c old new written written_now result same answered = subst (λ (n : ℕ). Answered tells before after session n request a c old new written written_now result) same answered
 
-pub late_of : (From : Held → Type 0) (before after : Outside) (size : ℕ) (a c : Option (List ℕ)) (old new : Room) (written written_now : Option (List ℕ)) (result : Result (Unit {0}) Halt) → Served From before after size a c old new written written_now result → IfErr result IsLate
-late_of From before after size a c old new written written_now (Ok done) served = tt
-late_of From before after size a c old new written written_now (Err halt) served = late_served size served.rest served.part c new.ahead halt served.ends
+pub late_of : (From : Held → Type 0) (tells : Type 0) (before after : Outside) (size : ℕ) (a c : Option (List ℕ)) (old new : Room) (written written_now : Option (List ℕ)) (result : Result (Unit {0}) Halt) → Served From tells before after size a c old new written written_now result → IfErr result IsLate
+late_of From tells before after size a c old new written written_now (Ok done) served = tt
+late_of From tells before after size a c old new written written_now (Err halt) served = late_served size served.rest served.part c new.ahead halt served.ends

@@ -20,7 +20,7 @@ use Rattle.nbd_core.specs.declared.stop.Stop.{Stop}
 use Rattle.nbd_core.specs.declared.stop.Stop.TheVariants as stops
 use Rattle.sdbt_base.specs.Arrays.{Device, Session as OpenSession, State, closed, mounted, session_on}
 use Rattle.platform.specs.Image.{Image}
-use Rattle.platform.specs.History.{CellStays, History}
+use Rattle.platform.specs.History.{CellStays, Extends, History}
 use Rattle.page_store.specs.Stands.{Stands}
 use Rattle.page_store.specs.Roots.{IsBadCell}
 use Rattle.device_terms.specs.Served.{IsServedImage, IsServedCell}
@@ -39,6 +39,7 @@ use Rattle.nbd_core.specs.Running.{Conversed, GoesOn, IsEarly, IsSilent, Says, S
 use Rattle.nbd_core.specs.Serving.{Carries}
 use Rattle.nbd_core.specs.declared.halts.Halt.{Halt}
 use Rattle.nbd_core.proofs.CarryLaws.{stays_at}
+use Rattle.nbd_core.proofs.DamageLaws.{damage_since}
 use Rattle.nbd_core.proofs.TurnLaws.{array_since, made_kept, made_since}
 
 -- a look at the platform, and what comes behind it
@@ -124,9 +125,9 @@ late_mount tells cell pages (device.BadRecord addr) halt told served is e = absu
 
 -- ---- what was said, and a mount that was answered
 
-pub conversed_of : (From : Held → Type 0) (before after : Outside) (size other : ℕ) (left left_then left_now written written_then written_now : Option (List ℕ)) (first room : Room) (was agreed : Result Agreed Stop) (result : Result (Unit {0}) Halt) → size ≡ other → was ≡ agreed → first.ahead ≡ [] → first.left ≡ 2 ^ 40 → IfErr was (λ stop. stop ≡ stops.Limit → room.left ≡ 0)
-    → Haggled size left left_then first room written written_then was → GoesOn From before after other agreed room left_then left_now written_then written_now result → Conversed From before after other left left_now written written_now result
-conversed_of From before after size other left left_then left_now written written_then written_now first room was agreed result same is none most limit haggled goes = record {
+pub conversed_of : (From : Held → Type 0) (tells : Type 0) (before after : Outside) (size other : ℕ) (left left_then left_now written written_then written_now : Option (List ℕ)) (first room : Room) (was agreed : Result Agreed Stop) (result : Result (Unit {0}) Halt) → size ≡ other → was ≡ agreed → first.ahead ≡ [] → first.left ≡ 2 ^ 40 → IfErr was (λ stop. stop ≡ stops.Limit → room.left ≡ 0)
+    → Haggled size left left_then first room written written_then was → GoesOn From tells before after other agreed room left_then left_now written_then written_now result → Conversed From tells before after other left left_now written written_now result
+conversed_of From tells before after size other left left_then left_now written written_then written_now first room was agreed result same is none most limit haggled goes = record {
   first = first;
   room = room;
   fresh = (none, most);
@@ -149,9 +150,9 @@ stayed_since Earlier From first second third since stayed entry early =
     let s = since entry early in
     made_since first.history second.history third.history entry.device entry.device [] s.1 (stayed entry s.0)
 
-served_since : (Earlier From : Held → Type 0) (first second third : Outside) (size : ℕ) (left left_now : Option (List ℕ)) (old new : Room) (written written_now : Option (List ℕ)) (result : Result (Unit {0}) Halt) → second.capacity ≡ first.capacity → Since Earlier From first second
-    → Served From second third size left left_now old new written written_now result → Served Earlier first third size left left_now old new written written_now result
-served_since Earlier From first second third size left left_now old new written written_now result same since served = record {
+served_since : (Earlier From : Held → Type 0) (tells : Type 0) (first second third : Outside) (size : ℕ) (left left_now : Option (List ℕ)) (old new : Room) (written written_now : Option (List ℕ)) (result : Result (Unit {0}) Halt) → second.capacity ≡ first.capacity → (tells → Extends first.history second.history) → Since Earlier From first second
+    → Served From tells second third size left left_now old new written written_now result → Served Earlier tells first third size left left_now old new written written_now result
+served_since Earlier From tells first second third size left left_now old new written written_now result same extends since served = record {
   exchanges = served.exchanges;
   came = served.came;
   put = served.put;
@@ -168,18 +169,19 @@ served_since Earlier From first second third size left left_now old new written 
       let s = since entry early in
       array_since first second third entry (map sent_of served.exchanges) (map told_of served.exchanges) (IsAhead second.capacity size served.rest new.ahead served.part result) (IsAhead first.capacity size served.rest new.ahead served.part result) same
       (λ last ahead is. subst (λ (n : ℕ). IsAhead n size served.rest new.ahead served.part result last ahead) same is) s.1 (served.led entry s.0);
+  damage = λ told k d below. λ damaged. damage_since first.history second.history third.history (extends told) (served.damage told k d below damaged);
   complete = λ entry early is room. served.complete entry (since entry early).0 is (subst (λ (n : ℕ). HasRoom n size entry served.exchanges) (sym same) room);
 }
 
-goes_since : (Earlier From : Held → Type 0) (first second third : Outside) (size : ℕ) (result_of : Result Agreed Stop) (room : Room) (left left_now written written_now : Option (List ℕ)) (result : Result (Unit {0}) Halt) → second.capacity ≡ first.capacity → Since Earlier From first second
-    → GoesOn From second third size result_of room left left_now written written_now result → GoesOn Earlier first third size result_of room left left_now written written_now result
-goes_since Earlier From first second third size (Ok agreed.Requests) room left left_now written written_now result same since (last, served) = (last, served_since Earlier From first second third size left left_now room last written written_now result same since served)
-goes_since Earlier From first second third size (Ok agreed.Nothing) room left left_now written written_now result same since (a, b, c, stayed) = (a, b, c, stayed_since Earlier From first second third since stayed)
-goes_since Earlier From first second third size (Err stop) room left left_now written written_now result same since (a, b, c, stayed) = (a, b, c, stayed_since Earlier From first second third since stayed)
+goes_since : (Earlier From : Held → Type 0) (tells : Type 0) (first second third : Outside) (size : ℕ) (result_of : Result Agreed Stop) (room : Room) (left left_now written written_now : Option (List ℕ)) (result : Result (Unit {0}) Halt) → second.capacity ≡ first.capacity → (tells → Extends first.history second.history) → Since Earlier From first second
+    → GoesOn From tells second third size result_of room left left_now written written_now result → GoesOn Earlier tells first third size result_of room left left_now written written_now result
+goes_since Earlier From tells first second third size (Ok agreed.Requests) room left left_now written written_now result same extends since (last, served) = (last, served_since Earlier From tells first second third size left left_now room last written written_now result same extends since served)
+goes_since Earlier From tells first second third size (Ok agreed.Nothing) room left left_now written written_now result same extends since (a, b, c, stayed) = (a, b, c, stayed_since Earlier From first second third since stayed)
+goes_since Earlier From tells first second third size (Err stop) room left left_now written written_now result same extends since (a, b, c, stayed) = (a, b, c, stayed_since Earlier From first second third since stayed)
 
-pub conversed_since : (Earlier From : Held → Type 0) (first second third : Outside) (size : ℕ) (left left_now written written_now : Option (List ℕ)) (result : Result (Unit {0}) Halt) → second.capacity ≡ first.capacity → Since Earlier From first second
-    → Conversed From second third size left left_now written written_now result → Conversed Earlier first third size left left_now written written_now result
-conversed_since Earlier From first second third size left left_now written written_now result same since conversed = record {
+pub conversed_since : (Earlier From : Held → Type 0) (tells : Type 0) (first second third : Outside) (size : ℕ) (left left_now written written_now : Option (List ℕ)) (result : Result (Unit {0}) Halt) → second.capacity ≡ first.capacity → (tells → Extends first.history second.history) → Since Earlier From first second
+    → Conversed From tells second third size left left_now written written_now result → Conversed Earlier tells first third size left left_now written written_now result
+conversed_since Earlier From tells first second third size left left_now written written_now result same extends since conversed = record {
   first = conversed.first;
   room = conversed.room;
   fresh = conversed.fresh;
@@ -188,7 +190,7 @@ conversed_since Earlier From first second third size left left_now written writt
   agreed = conversed.agreed;
   haggled = conversed.haggled;
   limit = conversed.limit;
-  goes_on = goes_since Earlier From first second third size conversed.agreed conversed.room conversed.left_then left_now conversed.written_then written_now result same since conversed.goes_on;
+  goes_on = goes_since Earlier From tells first second third size conversed.agreed conversed.room conversed.left_then left_now conversed.written_then written_now result same extends since conversed.goes_on;
 }
 
 pub silent_since : (Earlier From : Held → Type 0) (first second third : Outside) (left left_now written written_now : Option (List ℕ)) (result : Result (Unit {0}) Halt) → Since Earlier From first second
@@ -284,7 +286,7 @@ since_mount P platform platform_now old mid session result is old_history mid_hi
 pub talks_mounted : {S R W : Type 0} (P : PlatformGhosts S) (T : TapeGhosts R) (L : SinkGhosts W) (platform platform_now : S) (tape : R) (ledger : W) (after : Outside) (session : Session) (result : Result (Option Session) DeviceStop)
     (left left_now written written_now : Option (List ℕ)) (ending : Result (Unit {0}) Halt) → result ≡ Ok (Some session) → Looks P platform platform_now → IfOk result (IsFound P 256 platform platform_now)
     → (P.tells → (entry : State) → IsAt (P.history platform).present None entry → MountLeads (P.history platform_now).present entry result)
-    → Says (IsFrom P.tells (around P T L platform_now tape ledger) session) (around P T L platform_now tape ledger) after (4096 * blocks_of session) left left_now written written_now ending
+    → Says (IsFrom P.tells (around P T L platform_now tape ledger) session) P.tells (around P T L platform_now tape ledger) after (4096 * blocks_of session) left left_now written written_now ending
     → Talks P.tells (around P T L platform tape ledger) after left left_now written written_now ending
 talks_mounted P T L platform platform_now tape ledger after session result left left_now written written_now ending is looks finds leads says =
     let old : Outside = around P T L platform tape ledger in
@@ -295,7 +297,7 @@ talks_mounted P T L platform platform_now tape ledger after session result left 
       | inr conversed ↦ inr record {
         size = 4096 * blocks_of session;
         is = blocks_found P platform platform_now session result is finds;
-        conversed = conversed_since (IsStart P.tells old) (IsFrom P.tells mid session) old mid after (4096 * blocks_of session) left left_now written written_now ending looks.capacity since conversed;
+        conversed = conversed_since (IsStart P.tells old) (IsFrom P.tells mid session) P.tells old mid after (4096 * blocks_of session) left left_now written written_now ending looks.capacity (λ told. (looks.time told).extends) since conversed;
       }
     ]
 
@@ -308,6 +310,6 @@ talks_looked tells old mid after left left_now written written_now ending head c
       | inr there ↦ inr record {
         size = there.size;
         is = λ told device stands. there.is told device (subst (λ (i : Image). Stands i (Some device)) (sym (same told)) stands);
-        conversed = conversed_since (IsStart tells old) (IsStart tells mid) old mid after there.size left left_now written written_now ending capacity since there.conversed;
+        conversed = conversed_since (IsStart tells old) (IsStart tells mid) tells old mid after there.size left left_now written written_now ending capacity (λ told. (stays told).extends) since there.conversed;
       }
     ]

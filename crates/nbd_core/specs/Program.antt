@@ -101,17 +101,17 @@ pub record Refuses {S R I O L : Type 0} (tells : Type 0) (words : List (List ℕ
   pub no_device : tells → old.outside.history.present.cell ≡ None → words ≡ [] → ((status ≡ 10) × IsAsBefore tells old new) ⊎ (status ≡ 5)
 
 -- the requests that came in what was said, with their replies
-abbrev pub exchanges_behind : (From : Held → Type 0) (before after : Outside) (size : ℕ) (agreed : Result Agreed Stop) (room : Room) (left left_now written written_now : Option (List ℕ)) (ending : Result (Unit {0}) Halt)
-    → GoesOn From before after size agreed room left left_now written written_now ending → List Exchange
-exchanges_behind From before after size (Ok agreed.Requests) room left left_now written written_now ending (last, served) = served.exchanges
-exchanges_behind From before after size (Ok agreed.Nothing) room left left_now written written_now ending goes_on = []
-exchanges_behind From before after size (Err stop) room left left_now written written_now ending goes_on = []
+abbrev pub exchanges_behind : (From : Held → Type 0) (tells : Type 0) (before after : Outside) (size : ℕ) (agreed : Result Agreed Stop) (room : Room) (left left_now written written_now : Option (List ℕ)) (ending : Result (Unit {0}) Halt)
+    → GoesOn From tells before after size agreed room left left_now written written_now ending → List Exchange
+exchanges_behind From tells before after size (Ok agreed.Requests) room left left_now written written_now ending (last, served) = served.exchanges
+exchanges_behind From tells before after size (Ok agreed.Nothing) room left left_now written written_now ending goes_on = []
+exchanges_behind From tells before after size (Err stop) room left left_now written written_now ending goes_on = []
 
 abbrev pub exchanges_in : (tells : Type 0) (before after : Outside) (left left_now written written_now : Option (List ℕ)) (ending : Result (Unit {0}) Halt) → Talks tells before after left left_now written written_now ending → List Exchange
 exchanges_in tells before after left left_now written written_now ending (inl silent) = []
 exchanges_in tells before after left left_now written written_now ending (inr there) =
     let conversed = there.conversed in
-    exchanges_behind (IsStart tells before) before after there.size conversed.agreed conversed.room conversed.left_then left_now conversed.written_then written_now ending conversed.goes_on
+    exchanges_behind (IsStart tells before) tells before after there.size conversed.agreed conversed.room conversed.left_then left_now conversed.written_then written_now ending conversed.goes_on
 
 -- the run did all that it was asked for, as far as memory was given: each request is done that its head
 -- doesn't refuse

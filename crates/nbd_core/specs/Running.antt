@@ -92,14 +92,14 @@ pub record IsOnCell (image : Image) : Type 0 where
   pub served : IsServedImage image
 
 -- how a run goes on behind the options: with requests, or not at all
-abbrev pub GoesOn : (Held → Type 0) → Outside → Outside → ℕ → Result Agreed Stop → Room → Option (List ℕ) → Option (List ℕ) → Option (List ℕ) → Option (List ℕ) → Result (Unit {0}) Halt → Type 0
-GoesOn From before after size (Ok agreed.Requests) room left left_now written written_now result = (last : Room) × Served From before after size left left_now room last written written_now result
-GoesOn From before after size (Ok agreed.Nothing) room left left_now written written_now result = (left_now ≡ left) × (written_now ≡ written) × (result ≡ Ok tt) × Stayed From before.history after.history
-GoesOn From before after size (Err stop) room left left_now written written_now result = (left_now ≡ left) × (written_now ≡ written) × (result ≡ Err (halts.Client stop)) × Stayed From before.history after.history
+abbrev pub GoesOn : (Held → Type 0) → Type 0 → Outside → Outside → ℕ → Result Agreed Stop → Room → Option (List ℕ) → Option (List ℕ) → Option (List ℕ) → Option (List ℕ) → Result (Unit {0}) Halt → Type 0
+GoesOn From tells before after size (Ok agreed.Requests) room left left_now written written_now result = (last : Room) × Served From tells before after size left left_now room last written written_now result
+GoesOn From tells before after size (Ok agreed.Nothing) room left left_now written written_now result = (left_now ≡ left) × (written_now ≡ written) × (result ≡ Ok tt) × Stayed From before.history after.history
+GoesOn From tells before after size (Err stop) room left left_now written written_now result = (left_now ≡ left) × (written_now ≡ written) × (result ≡ Err (halts.Client stop)) × Stayed From before.history after.history
 
 -- what is said on a device of so many bytes: with nothing taken yet the greeting and the answers to
 -- options, and what goes on from there
-pub record Conversed (From : Held → Type 0) (before after : Outside) (size : ℕ) (left left_now written written_now : Option (List ℕ)) (result : Result (Unit {0}) Halt) : Type 0 where
+pub record Conversed (From : Held → Type 0) (tells : Type 0) (before after : Outside) (size : ℕ) (left left_now written written_now : Option (List ℕ)) (result : Result (Unit {0}) Halt) : Type 0 where
   pub first : Room
   pub room : Room
   pub fresh : (first.ahead ≡ []) × (first.left ≡ 2 ^ 40)
@@ -108,7 +108,7 @@ pub record Conversed (From : Held → Type 0) (before after : Outside) (size : �
   pub agreed : Result Agreed Stop
   pub haggled : Haggled size left left_then first room written written_then agreed
   pub limit : IfErr agreed (λ stop. stop ≡ stops.Limit → room.left ≡ 0)
-  pub goes_on : GoesOn From before after size agreed room left_then left_now written_then written_now result
+  pub goes_on : GoesOn From tells before after size agreed room left_then left_now written_then written_now result
 
 -- a run that ends before it says anything
 abbrev pub IsEarly : Result (Unit {0}) Halt → Type 0
@@ -129,15 +129,15 @@ pub record IsSilent (From : Held → Type 0) (before after : Outside) (left left
   pub stayed : Stayed From before.history after.history
 
 -- a run says nothing, or has such a talk
-abbrev pub Says : (Held → Type 0) → Outside → Outside → ℕ → Option (List ℕ) → Option (List ℕ) → Option (List ℕ) → Option (List ℕ) → Result (Unit {0}) Halt → Type 0
-Says From before after size left left_now written written_now result =
-    IsSilent From before after left left_now written written_now result ⊎ Conversed From before after size left left_now written written_now result
+abbrev pub Says : (Held → Type 0) → Type 0 → Outside → Outside → ℕ → Option (List ℕ) → Option (List ℕ) → Option (List ℕ) → Option (List ℕ) → Result (Unit {0}) Halt → Type 0
+Says From tells before after size left left_now written written_now result =
+    IsSilent From before after left left_now written written_now result ⊎ Conversed From tells before after size left left_now written written_now result
 
 -- the same on a device: the one that the image stands for
 pub record Conversation (tells : Type 0) (before after : Outside) (left left_now written written_now : Option (List ℕ)) (result : Result (Unit {0}) Halt) : Type 0 where
   pub size : ℕ
   pub is : tells → (there : Device) → Stands before.history.present (Some there) → size ≡ 4096 * there.blocks
-  pub conversed : Conversed (IsStart tells before) before after size left left_now written written_now result
+  pub conversed : Conversed (IsStart tells before) tells before after size left left_now written written_now result
 
 -- a run says nothing, or has a conversation, on the array of bytes of the device that there is, if the
 -- image stands for one

@@ -15,6 +15,7 @@ use Rattle.nbd_lang.specs.declared.requests.RequestKind.TheVariants as kinds
 use Rattle.nbd_terms.specs.Held.{Held, size_of}
 use Rattle.nbd_terms.specs.Turn.{Turn, Ends, IsUnfinished}
 use Rattle.nbd_core.specs.Ample.{Completes, HasRoom}
+use Rattle.nbd_core.specs.Damages.{HasMetDamage, IsDamage}
 use Rattle.nbd_core.specs.Exchanges.{Exchange, sent_of, told_of}
 use Rattle.nbd_core.specs.Room.{Room, Came, IsShorter}
 use Rattle.nbd_core.specs.Requests.{AwaitsRequest, IsBrokenRequest, DataEnd}
@@ -39,10 +40,10 @@ pub record IsReplyTo (size : ℕ) (request : Request) (reply : Reply) : Type 0 w
 abbrev pub AnswerEnd : Type 0 → Outside → Outside → Session → ℕ → Request → Option (List ℕ) → List ℕ → List ℕ → Option (List ℕ) → Option (List ℕ) → Result Session Halt → Type 0
 AnswerEnd tells before after session size request left gone ahead written written_now (Ok next) =
     (length gone ≡ bytes_behind request.kind request.length) × (reply : Reply) × IsReplyTo size request reply × Got written (reply_bytes reply) written_now
-    × Turns tells before after session (Some next) (record { head = request; bytes = gone }) reply
+    × Turns tells before after session (Some next) (record { head = request; bytes = gone }) reply × (tells → IsDamage after.history.present reply.outcome)
 AnswerEnd tells before after session size request left gone ahead written written_now (Err (halts.Client stops.Sink)) =
     (length gone ≡ bytes_behind request.kind request.length) × (reply : Reply) × IsReplyTo size request reply × GotPart written (reply_bytes reply) written_now
-    × Turns tells before after session None (record { head = request; bytes = gone }) reply
+    × Turns tells before after session None (record { head = request; bytes = gone }) reply × (tells → IsDamage after.history.present reply.outcome)
 AnswerEnd tells before after session size request left gone ahead written written_now (Err halt) =
     (written_now ≡ written) × DataEnd left (bytes_behind request.kind request.length) (gone ++ ahead) halt × Halts tells before after session request.kind halt
 
@@ -118,8 +119,9 @@ IsAhead capacity size rest tail part (Err halts.NoDevice) last ahead = ⊥
 
 -- requests that came, and the replies that were put, one for each in their order. From each state that
 -- the run may have begun from the replies are those of the array, and each moment of the run has one
--- of the devices that they lead through; and with enough pages free each request is done
-pub record Served (From : Held → Type 0) (before after : Outside) (size : ℕ) (left left_now : Option (List ℕ)) (old new : Room) (written written_now : Option (List ℕ)) (result : Result (Unit {0}) Halt) : Type 0 where
+-- of the devices that they lead through; and with enough pages free each request is done. A reply that
+-- tells of damage, which none does from such a state, was put where a page didn't fit its place
+pub record Served (From : Held → Type 0) (tells : Type 0) (before after : Outside) (size : ℕ) (left left_now : Option (List ℕ)) (old new : Room) (written written_now : Option (List ℕ)) (result : Result (Unit {0}) Halt) : Type 0 where
   pub exchanges : List Exchange
   pub came : List ℕ
   pub put : List ℕ
@@ -133,6 +135,7 @@ pub record Served (From : Held → Type 0) (before after : Outside) (size : ℕ)
   pub ends : ServedEnd size rest part left_now new.ahead result
   pub limit : IfErr result (λ halt. halt ≡ halts.Client stops.Limit → new.left ≡ 0)
   pub led : (entry : Held) → From entry → OnArray before after entry (map sent_of exchanges) (map told_of exchanges) (IsAhead before.capacity size rest new.ahead part result)
+  pub damage : tells → All (HasMetDamage before.history after.history) exchanges
   pub complete : (entry : Held) → From entry → size ≡ size_of entry → HasRoom before.capacity size entry exchanges → Completes size exchanges result
 
 -- how a disconnect may end

@@ -6,6 +6,8 @@ ghost use Rattle.sdbt_base.specs.Counts.{Counts};
 ghost use Rattle.sdbt_base.specs.Arrays.{Device, Session as OpenSession, mounted};
 ghost use Rattle.device_course.specs.States.{IsAt};
 ghost use Rattle.nbd_core.specs.Arrays.{ReadsBytes};
+ghost use Rattle.session_calls.specs.Damage.{IsMounted, MeetsDamage};
+ghost use Rattle.nbd_core.specs.Damages.{TellsDamage};
 ghost use Rattle.nbd_core.specs.Halts.{Blames};
 ghost use Rattle.nbd_core.specs.Requests.{DataEnd};
 ghost use Rattle.nbd_terms.specs.Turn.{Reads};
@@ -41,6 +43,8 @@ pub(crate) fn read<P: Platform>(
     ensures leads { LeadsOn P.Platform platform.old platform.new session.old session.new
         (λ outcome entry next. Reads entry request.now outcome
         (bytes_of_reply RequestKind.Read request.now.length outcome reply.new.items) next) result }
+    ensures damage { P.tells → IsMounted (P.history platform.old).present session.old
+        → TellsDamage (P.history platform.new).present result }
 {
     let length = request.length as usize;
     if !has_room(reply, REPLY_HEAD + length) {
@@ -76,6 +80,8 @@ fn read_range<P: Platform>(
     ensures reads { P.tells → (device : Device) (array : OpenSession)
         → IsAt (P.history platform.old).present (Some session.old) (mounted device array)
         → ReadsBytes (P.history platform.new).present session.new device array at out.new result }
+    ensures damage { P.tells → IsMounted (P.history platform.old).present session.old
+        → MeetsDamage (P.history platform.new).present result }
 {
     let mut done = 0;
     while done < out.len() {
@@ -108,6 +114,8 @@ fn read_part<P: Platform>(
         → IsAt (P.history platform.old).present (Some session.old) (mounted device array)
         → ReadsBytes (P.history platform.new).present session.new device array
         (4096 * part.block + part.start) out.new result }
+    ensures damage { P.tells → IsMounted (P.history platform.old).present session.old
+        → MeetsDamage (P.history platform.new).present result }
 {
     if part.is_whole() {
         return read_block(session, platform, part.block, out);

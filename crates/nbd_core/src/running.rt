@@ -132,6 +132,7 @@ fn serve_client<P: Platform, T: Tape, I: Source, O: Sink, L: Sink>(
     ensures halts { IfErr result IsLate }
     ensures says { Says
         (IsFrom P.tells (around P.Platform T.Tape L.Sink platform.old tape.old ledger.old) session)
+        P.tells
         (around P.Platform T.Tape L.Sink platform.old tape.old ledger.old)
         (around P.Platform T.Tape L.Sink platform.new tape.new ledger.new)
         (4096 * blocks_of session) (I.left input.old) (I.left input.new)

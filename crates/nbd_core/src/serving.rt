@@ -1,5 +1,7 @@
 //! Requests, one after another.
 ghost use Rattle.std.specs.Prelude.{◌≡◌, ◌≢◌, ◌+◌, ◌-◌, ◌*◌, ◌≤◌, ◌<◌, ℕ, List, Option, None, Some, IsOk, IfOk, IfErr, OnOk, OnErr, IfSome, IsTrue, ◌↔◌, [], length, take, drop};
+ghost use Rattle.session_calls.specs.Damage.{IsMounted};
+ghost use Rattle.nbd_core.specs.Damages.{IsDamage, TellsDamage};
 ghost use Rattle.nbd_core.specs.Stops.{TellsPut};
 ghost use Rattle.sdbt_base.specs.Told.{Got, GotPart};
 ghost use Rattle.device_course.specs.States.{around};
@@ -79,6 +81,7 @@ pub(crate) fn serve<P: Platform, T: Tape, I: Source, O: Sink, L: Sink>(
         result }
     ensures served { Served
         (IsFrom P.tells (around P.Platform T.Tape L.Sink platform.old tape.old ledger.old) first)
+        P.tells
         (around P.Platform T.Tape L.Sink platform.old tape.old ledger.old)
         (around P.Platform T.Tape L.Sink platform.new tape.new ledger.new)
         (4096 * blocks_of first) (I.left input.old) (I.left input.new)
@@ -213,6 +216,8 @@ fn perform<P: Platform, T: Tape, I: Source, L: Sink>(
         → 16 + request.now.length ≤ length desk.new.reply.items) }
     ensures refused { IfOk result (λ done. IfSome (refusal (4096 * blocks_of first) request.now)
         (λ why. done.outcome ≡ why)) }
+    ensures damage { P.tells → IfOk result
+        (λ done. IsDamage (P.history platform.new).present done.outcome) }
 {
     let refused = request.refusal(first.blocks() * BLOCK as u64);
     if is_flush(request, refused) {
@@ -270,6 +275,8 @@ fn serve_blocks<P: Platform, T: Tape, I: Source>(
     ensures room { IfOk result (λ outcome. request.now.kind ≡ RequestKind.Read → outcome ≡ Outcome.Done
         → 16 + request.now.length ≤ length desk.new.reply.items) }
     ensures refused { IfOk result (λ outcome. IfSome refused (λ why. outcome ≡ why)) }
+    ensures damage { P.tells → IsMounted (P.history platform.old).present session.old
+        → TellsDamage (P.history platform.new).present result }
 {
     if let Some(outcome) = refused {
         return let_go(intake, input, bytes_of(request), outcome);
@@ -319,6 +326,7 @@ fn flush<P: Platform, T: Tape, L: Sink>(
     ensures flushes { Flushed P.tells
         (around P.Platform T.Tape L.Sink platform.old tape.old ledger.old)
         (around P.Platform T.Tape L.Sink platform.new tape.new ledger.new) session result }
+    ensures sound { IfOk result (λ done. done.outcome ≢ Outcome.Damaged) }
 {
     match commit_session(session, platform, tape, ledger) {
         Ok(done) => Ok(Performed {

@@ -5,6 +5,8 @@ ghost use Rattle.device_session.specs.Open.{IsOpen, blocks_of};
 ghost use Rattle.nbd_terms.specs.Turn.{Trims};
 ghost use Rattle.session_calls.specs.Along.{Along, Drawn};
 ghost use Rattle.sdbt_base.specs.Counts.{Counts};
+ghost use Rattle.session_calls.specs.Damage.{IsMounted};
+ghost use Rattle.nbd_core.specs.Damages.{TellsDamage};
 ghost use Rattle.nbd_core.specs.Halts.{Blames};
 ghost use Rattle.nbd_core.specs.Requests.{DataEnd};
 ghost use Rattle.nbd_core.specs.Serving.{IsWithin};
@@ -34,6 +36,8 @@ pub(crate) fn trim<P: Platform>(
     ensures leads { LeadsOn P.Platform platform.old platform.new session.old session.new
         (λ outcome entry next. Trims entry
         (covered_blocks request.now.offset request.now.length) outcome next) result }
+    ensures damage { P.tells → IsMounted (P.history platform.old).present session.old
+        → TellsDamage (P.history platform.new).present result }
 {
     let blocks = covered(request.offset, request.length as u64);
     for block in blocks.start..blocks.end {

@@ -9,6 +9,8 @@ ghost use Rattle.nbd_core.specs.Arrays.{AddsOne, WritesPart, WroteRange};
 ghost use Rattle.session_calls.specs.Along.{Along, drawn_by};
 ghost use Rattle.sdbt_base.specs.Counts.{Counts, NoneFell};
 ghost use Rattle.session_calls.specs.Blame.{HasCause, IsOfCall};
+ghost use Rattle.session_calls.specs.Damage.{IsMounted, MeetsDamage};
+ghost use Rattle.nbd_core.specs.Damages.{TellsDamage};
 ghost use Rattle.nbd_core.specs.Halts.{Blames, outcome_after};
 ghost use Rattle.nbd_core.specs.Serving.{Calls, IsWithin};
 ghost use Rattle.nbd_core.specs.Requests.{DataCame};
@@ -47,6 +49,8 @@ pub(crate) fn write<P: Platform, T: Tape, I: Source>(
         (λ outcome entry next. Writes (P.capacity platform.old - entry.pages) entry
         request.now.offset gone (touched_blocks request.now.offset request.now.length)
         outcome next) result) result }
+    ensures damage { P.tells → IsMounted (P.history platform.old).present session.old
+        → TellsDamage (P.history platform.new).present result }
 {
     let blocks = touched(request.offset, request.length as u64);
     if blocks.end - blocks.start > platform.capacity() - platform.head() {
@@ -92,6 +96,8 @@ fn write_range<P: Platform, T: Tape, I: Source>(
         → IfOk result (WroteRange (P.history platform.new).present (P.head platform.old)
         (P.head platform.new) (needed_by session.old) session.new device array at gone
         (touched_blocks at count))) result }
+    ensures damage { P.tells → IsMounted (P.history platform.old).present session.old
+        → TellsDamage (P.history platform.new).present result }
 {
     let mut done = 0;
     while done < count {
@@ -176,6 +182,8 @@ fn write_part<P: Platform, T: Tape>(
         part.block part.start part.count bytes.now result }
     ensures adds { AddsOne (P.head platform.old) (P.head platform.new) result }
     ensures needs { OnErr result (needed_by session.new ≤ needed_by session.old) }
+    ensures damage { P.tells → IsMounted (P.history platform.old).present session.old
+        → MeetsDamage (P.history platform.new).present result }
 {
     if part.is_whole() {
         return write_block(session, platform, tape, part.block, bytes);

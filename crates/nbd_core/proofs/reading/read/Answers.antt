@@ -4,6 +4,7 @@ use Rattle.nbd_terms.specs.Held.{array_of}
 use Rattle.session_calls.proofs.AlongLaws.{along_start}
 use Rattle.nbd_core.proofs.CallLaws.{draws_none, no_draw, platform_quiet}
 use Rattle.nbd_core.proofs.BlameLaws.{blame_done, blame_platform, stop_halts}
+use Rattle.nbd_core.proofs.DamageLaws.{damage_after, done_sound, memory_sound}
 use Rattle.nbd_core.proofs.TurnLaws.{held_still, read_halted, read_room}
 use Rattle.nbd_core.proofs.reading.read.Goals as goal
 
@@ -53,3 +54,12 @@ returns-in-Ok-clause-leads g c told entry held =
 
 pub returns-in-Err-clause-leads : goal.returns-in-Err-clause-leads
 returns-in-Err-clause-leads g c told entry held = read_halted _ _ _ entry.device entry.session c.args.request.now.offset c.read_range.new.out c.in-Err.stop _ (c.in-Err.ensures.reads told entry.device entry.session held.at) c.after_stop.ensures
+
+pub returns-then-not-has_room-clause-damage : goal.returns-then-not-has_room-clause-damage
+returns-then-not-has_room-clause-damage g c told mounted = memory_sound _
+
+pub returns-in-Ok-clause-damage : goal.returns-in-Ok-clause-damage
+returns-in-Ok-clause-damage g c told mounted = done_sound _
+
+pub returns-in-Err-clause-damage : goal.returns-in-Err-clause-damage
+returns-in-Err-clause-damage g c told mounted = damage_after _ c.in-Err.stop _ (c.in-Err.ensures.damage told mounted) c.after_stop.ensures

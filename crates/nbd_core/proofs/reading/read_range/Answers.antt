@@ -71,3 +71,6 @@ returns-clause-reads g c told device array at =
     let so_far = c.loop-done.invariant.reads told device array at in
     let all : c.loop-done.done ≡ length c.loop-done.out = omega (arith, c.loop-done.invariant.within, c.loop-done-test.false) in
     (so_far.0, sym (take_all c.loop-done.done c.loop-done.out (omega (arith, all))) ∙ so_far.1 ∙ ap (bytes_at (array_of array) c.args.at) all)
+
+pub returns-in-Err-clause-damage : goal.returns-in-Err-clause-damage
+returns-in-Err-clause-damage g c told mounted = c.in-Err.ensures.damage told ((c.loop-done.invariant.along no_draw).mounted told mounted)

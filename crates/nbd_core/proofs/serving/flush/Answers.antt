@@ -2,6 +2,7 @@ use Rattle.nbd_core.proofs.CarryLaws.{carries_committed, carries_stopped, carrie
 use Rattle.nbd_core.proofs.BlameLaws.{blame_commit, blame_committed, commit_halts, of_commit}
 use Rattle.platform.proofs.Moments.{During-now}
 use Rattle.device_terms.specs.Served.{IsServedImage}
+use Rattle.nbd_core.proofs.DamageLaws.{commit_sound}
 use Rattle.nbd_core.proofs.TurnLaws.{commit_halted, flushed_to}
 use Rattle.nbd_core.proofs.serving.flush.Goals as goal
 
@@ -35,3 +36,6 @@ pub returns-in-Err-clause-blame : goal.returns-in-Err-clause-blame
 returns-in-Err-clause-blame g c rest =
     let blame = c.in-Err.ensures.goes.blame in
     blame_commit rest _ _ _ _ _ _ c.in-Err.stop _ (of_commit g.P.Platform g.T.Tape _ _ _ _ c.in-Err.stop c.in-Err.ensures.answers.left) c.after_commit.ensures blame.fell blame.cause
+
+pub returns-in-Ok-clause-sound : goal.returns-in-Ok-clause-sound
+returns-in-Ok-clause-sound g c = commit_sound c.in-Ok.done.reply _ c.outcome_of.ensures

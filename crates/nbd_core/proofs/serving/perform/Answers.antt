@@ -6,6 +6,7 @@ use Rattle.nbd_lang.specs.Refusals.{refusal}
 use Rattle.device_session.specs.Sessions.{Session}
 use Rattle.nbd_core.proofs.DataLaws.{data_over, data_went, no_data}
 use Rattle.nbd_core.proofs.BlameLaws.{blame_as, blame_on}
+use Rattle.nbd_core.proofs.DamageLaws.{on_performed}
 use Rattle.nbd_core.proofs.TurnLaws.{blocks_halted, blocks_performed, flush_performed}
 use Rattle.nbd_core.proofs.serving.perform.Goals as goal
 
@@ -45,3 +46,9 @@ pub returns-in-Err-clause-bytes : goal.returns-in-Err-clause-bytes
 returns-in-Err-clause-bytes g c =
     data_over _ _ _ _ _ _ _ c.in-Err.halt
     (λ gone ends told entry held. blocks_halted _ _ _ entry c.args.request.now.kind _ _ _ c.in-Err.halt held ends (c.in-Err.ensures.along.1.cell told)) c.in-Err.ensures.bytes
+
+pub returns-then-is_flush-clause-damage : goal.returns-then-is_flush-clause-damage
+returns-then-is_flush-clause-damage g c told = on_performed _ c.flush.result c.flush.ensures.sound
+
+pub returns-in-Ok-clause-damage : goal.returns-in-Ok-clause-damage
+returns-in-Ok-clause-damage g c told = c.in-Ok.ensures.damage told (c.requires.ready.mounted told)

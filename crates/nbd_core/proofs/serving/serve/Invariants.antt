@@ -14,7 +14,7 @@ invariant-requests g l =
     let L = g.L.Sink in
     record {
       exchanges : List Exchange;
-      replied : Replied (IsFrom P.tells (around P T L l.fn.platform l.fn.tape l.fn.ledger) l.fn.first) (around P T L l.fn.platform l.fn.tape l.fn.ledger) (around P T L l.platform l.tape l.ledger) l.session (4096 * blocks_of l.fn.first) (g.I.Source.left l.fn.input) (g.I.Source.left l.input) l.fn.intake l.intake (g.O.Sink.written l.fn.output) (g.O.Sink.written l.output) exchanges;
+      replied : Replied (IsFrom P.tells (around P T L l.fn.platform l.fn.tape l.fn.ledger) l.fn.first) P.tells (around P T L l.fn.platform l.fn.tape l.fn.ledger) (around P T L l.platform l.tape l.ledger) l.session (4096 * blocks_of l.fn.first) (g.I.Source.left l.fn.input) (g.I.Source.left l.input) l.fn.intake l.intake (g.O.Sink.written l.fn.output) (g.O.Sink.written l.output) exchanges;
       carries : Carries P.tells (around P T L l.fn.platform l.fn.tape l.fn.ledger) (around P T L l.platform l.tape l.ledger) l.fn.first (Some l.session) (Unit {0});
       quiet : counts_of P T g.I.Source g.O.Sink L l.platform l.tape l.input l.output l.ledger ≡ counts_of P T g.I.Source g.O.Sink L l.fn.platform l.fn.tape l.fn.input l.fn.output l.fn.ledger;
     }

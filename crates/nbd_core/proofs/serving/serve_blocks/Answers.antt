@@ -2,6 +2,7 @@ use Rattle.std.proofs.Common.{ap, sym, []}
 use Rattle.nbd_lang.specs.Requests.{bytes_behind}
 use Rattle.session_calls.specs.Along.{drawn_by}
 use Rattle.session_calls.proofs.AlongLaws.{along_start}
+use Rattle.nbd_core.proofs.DamageLaws.{refused_sound}
 use Rattle.nbd_core.proofs.DataLaws.{data_did, no_data}
 use Rattle.nbd_core.proofs.TurnLaws.{answers_read, answers_refused, answers_trim, answers_write, leads_as, leads_idle}
 use Rattle.nbd_core.proofs.serving.serve_blocks.Goals as goal
@@ -45,3 +46,6 @@ returns-in-Write-clause-bytes g c =
     data_did _ _ _ _ _ _ _ _ _ (sym (ap (λ k. bytes_behind k c.args.request.now.length) c.in-Write.is))
     (λ gone leads. leads_as g.P.Platform _ _ _ _ _ _ _ (λ outcome entry next is. answers_write _ entry next c.args.request.now _ outcome gone _ c.in-Write.is c.in_default.is is) leads)
     c.write.ensures.bytes
+
+pub returns-in-Some-clause-damage : goal.returns-in-Some-clause-damage
+returns-in-Some-clause-damage g c told mounted = refused_sound _ _ c.args.request.now _ c.in-Some.outcome _ c.requires.refusal c.in-Some.is c.let_go.ensures.outcome

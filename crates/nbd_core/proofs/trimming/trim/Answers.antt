@@ -9,6 +9,7 @@ use Rattle.session_calls.specs.Along.{Along}
 use Rattle.session_calls.proofs.AlongLaws.{along_start, along_then}
 use Rattle.nbd_lang.specs.declared.replies.Outcome.TheVariants.{Done}
 use Rattle.nbd_core.proofs.ArrayLaws.{trim_halted, trim_step, trimmed_some}
+use Rattle.nbd_core.proofs.DamageLaws.{damage_after, done_sound}
 use Rattle.nbd_core.proofs.TurnLaws.{trims_lead}
 use Rattle.nbd_core.proofs.BlameLaws.{blame_done, blame_platform, blame_then, stop_halts}
 use Rattle.nbd_core.proofs.CallLaws.{along_more, draws_none, no_draw, platform_quiet}
@@ -88,3 +89,10 @@ returns-clause-leads g c =
     (λ told there array at.
     trimmed_some _ _ there array _ c.covered-blocks.result.start c.covered-blocks.result.end (c.loop-block.block - c.covered-blocks.result.start) _ _ Done (sym c.covered-blocks.ensures.blocks) so_far.few
     (so_far.along no_draw).needs (inl refl) (λ done. omega (arith, past, so_far.few)) (so_far.trims told there array at))
+
+pub returns-in-Err-clause-damage : goal.returns-in-Err-clause-damage
+returns-in-Err-clause-damage g c told mounted =
+    damage_after _ c.in-Err.stop _ (c.in-Err.ensures.damage told ((c.loop-block.invariant.along no_draw).mounted told mounted)) c.after_stop.ensures
+
+pub returns-clause-damage : goal.returns-clause-damage
+returns-clause-damage g c told mounted = done_sound _

@@ -3,6 +3,7 @@ use Rattle.byte_arrays.specs.Ranges.{touched_blocks}
 use Rattle.byte_arrays.proofs.RangeLaws.{length-blocks_from}
 use Rattle.session_calls.specs.Along.{drawn_by}
 use Rattle.session_calls.proofs.AlongLaws.{along_start}
+use Rattle.nbd_core.proofs.DamageLaws.{space_sound}
 use Rattle.nbd_core.proofs.DataLaws.{data_did}
 use Rattle.nbd_core.proofs.TurnLaws.{leads_idle, no_space, on_outcome, writes_held}
 use Rattle.nbd_core.proofs.writing.write.Goals as goal
@@ -39,3 +40,6 @@ returns-clause-bytes g c =
     (omega (arith, held.pages, ap length c.touched-blocks.ensures.blocks, length-blocks_from blocks.start (blocks.end - blocks.start), c.if-blocks-capacity.false)) did)
     (wrote told entry.device entry.session held.at))
     c.write_range.ensures.bytes
+
+pub returns-then-blocks-capacity-clause-damage : goal.returns-then-blocks-capacity-clause-damage
+returns-then-blocks-capacity-clause-damage g c told mounted = space_sound _ _ c.let_go.ensures.outcome

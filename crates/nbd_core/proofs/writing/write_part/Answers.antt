@@ -66,3 +66,6 @@ pub returns-clause-needs : goal.returns-clause-needs
 returns-clause-needs g c =
     let before = (c.in-Ok.ensures.goes (drawn_by g.T.Tape c.args.tape.now)).along.needs in
     on_stop c.write_block-2.result _ _ (λ same. omega (arith, same, before)) c.write_block-2.ensures.goes.needs_still
+
+pub returns-clause-damage : goal.returns-clause-damage
+returns-clause-damage g c told mounted = c.write_block-2.ensures.damage told ((c.in-Ok.ensures.goes (drawn_by g.T.Tape c.args.tape.now)).along.mounted told mounted)

@@ -10,6 +10,7 @@ use Rattle.nbd_core.proofs.ArrayLaws.{front_of, range_halted, range_step, wrote_
 use Rattle.nbd_core.proofs.BlameLaws.{blame_done, blame_take, blame_then, cause_wide, same_blocks, same_fell}
 use Rattle.nbd_core.proofs.CallLaws.{platform_quiet, tape_quiet}
 use Rattle.nbd_core.proofs.CameLaws.{came_nothing, length-gone}
+use Rattle.nbd_core.proofs.DamageLaws.{damage_given, done_sound}
 use Rattle.nbd_core.proofs.DataLaws.{gone_then, gone_skip, data_whole, data_short, data_broken, data_then}
 use Rattle.nbd_core.proofs.PartLaws.{part_front, part_touched}
 use Rattle.nbd_core.proofs.writing.write_range.Goals as goal
@@ -193,3 +194,10 @@ returns-in-Err-written-clause-bytes g c =
     c.in-Err-written.ensures.writes told device _
     (so_far.wrote told device array at_first all whole_is (take-append-le c.loop-done.done (so_far.gone ++ piece) after (omega (arith, size)) ∙ take-append-le c.loop-done.done so_far.gone piece (omega (arith, so_far.all)) ∙ take_all c.loop-done.done so_far.gone (omega (arith, so_far.all))))))
     c.give_up.ensures.bytes
+
+pub returns-in-Err-written-clause-damage : goal.returns-in-Err-written-clause-damage
+returns-in-Err-written-clause-damage g c told mounted =
+    damage_given _ c.in-Err-written.stop _ (c.in-Err-written.ensures.damage told (c.loop-done.invariant.along.mounted told mounted)) c.give_up.ensures.outcome
+
+pub returns-clause-damage : goal.returns-clause-damage
+returns-clause-damage g c told mounted = done_sound _
