@@ -1,14 +1,16 @@
 -- What calls make of the bytes of a session's array.
-use Rattle.std.proofs.Common.{◌≡◌, ◌≤◌, ◌<◌, ◌+◌, ◌*◌, ◌++◌, ℕ, zero, suc, List, ◌∷◌, Some, Result, Ok, Err, length, take, drop, get_or, refl, sym, ap, subst, ◌∙◌, arith, inr, ◌-◌}
-use Rattle.std.specs.Prelude.{◌⊎◌, IfOk, OnErr}
+use Rattle.std.proofs.Common.{◌≡◌, ◌≤◌, ◌<◌, ◌+◌, ◌*◌, ◌++◌, ℕ, zero, suc, List, ◌∷◌, Some, Result, Ok, Err, length, length-append, length-take, take, drop, get_or, refl, sym, ap, subst, ◌∙◌, arith, inr, ◌-◌}
+use Rattle.std.specs.Prelude.{◌⊎◌, ◌/◌, IfOk, OnErr}
 use Rattle.sdbt_base.specs.declared.tapes.Tape.{Ghosts as TapeGhosts}
 use Rattle.platform.specs.declared.platforms.Platform.{Ghosts as PlatformGhosts}
-use Rattle.std.proofs.lemmas.List.{get_or-drop, get_or-take, take_all}
-use Rattle.byte_arrays.specs.Ranges.{blocks_from}
-use Rattle.byte_arrays.proofs.RangeLaws.{length-blocks_from}
+use Rattle.std.proofs.Math.Seq.{take-add, drop-append_seam}
+use Rattle.std.proofs.lemmas.List.{get_or-drop, get_or-take, take_all, take-append-le, drop-take}
+use Rattle.byte_arrays.specs.Parts.{IsPart, IsAtPart}
+use Rattle.byte_arrays.specs.Ranges.{blocks_from, touched_blocks}
+use Rattle.byte_arrays.proofs.RangeLaws.{length-blocks_from, part_block}
 use Rattle.nbd_lang.specs.declared.replies.Outcome.{Outcome}
 use Rattle.nbd_lang.specs.declared.replies.Outcome.TheVariants as outcomes
-use Rattle.nbd_terms.proofs.WritingLaws.{trim_more}
+use Rattle.nbd_terms.proofs.WritingLaws.{block_before, trim_more, write_step}
 use Rattle.nbd_core.specs.Halts.{outcome_after}
 use Rattle.nbd_core.specs.declared.halts.Halt.{Halt}
 use Rattle.sdbt_base.specs.Arrays.{Device, Session as OpenSession, content_of, mounted, unmapped}
@@ -16,12 +18,13 @@ use Rattle.platform.specs.Image.{Image}
 use Rattle.byte_arrays.specs.Arrays.{bytes_at, with_bytes}
 use Rattle.byte_arrays.proofs.ArrayLaws.{bytes_are, bytes_at-append, part_read, with_inside}
 use Rattle.device_course.specs.States.{IsAt}
+use Rattle.device_session.specs.Open.{needed_by}
 use Rattle.device_session.specs.Sessions.{Session}
-use Rattle.nbd_terms.specs.Held.{array_of, trim_all}
+use Rattle.nbd_terms.specs.Held.{array_of, trim_all, write_all}
 use Rattle.session_calls.specs.Goes.{AddsBlock, ReadsBlock, TrimsBlock, WritesBlock}
 use Rattle.session_calls.specs.declared.stops.DeviceStop.{DeviceStop}
 use Rattle.session_calls.specs.declared.stops.DeviceStop.TheVariants as stops
-use Rattle.nbd_core.specs.Arrays.{AddsOne, IsPatched, ReadsBytes, TrimmedSome, WritesPart}
+use Rattle.nbd_core.specs.Arrays.{AddsOne, DidSome, IsPatched, ReadsBytes, WritesPart, WroteRange}
 
 -- a whole block
 whole_bytes : (array : OpenSession) (block start count : ℕ) (bytes : List ℕ) → bytes ≡ content_of array.contents block → length bytes ≡ count → count ≡ 4096 → start + count ≤ 4096 → bytes ≡ bytes_at (array_of array) (4096 * block + start) (length bytes)
@@ -73,6 +76,13 @@ take_blocks first zero m few = refl
 take_blocks first (suc n) zero few = absurd (omega (arith, few))
 take_blocks first (suc n) (suc m) few = ap (λ (l : List ℕ). first ∷ l) (take_blocks (first + 1) n m (omega (arith, few)))
 
+-- the first of the blocks that a range touches
+pub take_touched : (offset n k : ℕ) → k ≤ length (touched_blocks offset n) → take k (touched_blocks offset n) ≡ blocks_from (offset / 4096) k
+take_touched offset zero zero few = refl
+take_touched offset zero (suc k) few = absurd (omega (arith, few))
+take_touched offset (suc n) k few =
+    take_blocks (offset / 4096) k ((offset + n) / 4096 - offset / 4096 + 1) (omega (arith, few, length-blocks_from (offset / 4096) ((offset + n) / 4096 - offset / 4096 + 1)))
+
 -- ---- trims
 
 -- one block more
@@ -98,7 +108,7 @@ trim_stopped image now device mid block (stops.BadRecord addr) at = absurd at
 -- what a trim has done by then
 pub trimmed_some : (image : Image) (now : Session) (device : Device) (array : OpenSession) (blocks : List ℕ) (first end n needed needed_now : ℕ) (outcome : Outcome) → blocks ≡ blocks_from first (end - first) → n ≤ end - first → needed_now ≤ needed + 41 * n
     → (outcome ≡ outcomes.Done) ⊎ (outcome ≡ outcomes.NoMemory) → (outcome ≡ outcomes.Done → n ≡ end - first) → IsAt image (Some now) (mounted device (trim_all array (blocks_from first n)))
-    → (k : ℕ) × TrimmedSome array blocks outcome k × (needed_now ≤ needed + 41 * k) × IsAt image (Some now) (mounted device (trim_all array (take k blocks)))
+    → (k : ℕ) × DidSome blocks outcome k × (needed_now ≤ needed + 41 * k) × IsAt image (Some now) (mounted device (trim_all array (take k blocks)))
 trimmed_some image now device array blocks first end n needed needed_now outcome is few needs sound all at =
     let size : length blocks ≡ end - first = ap length is ∙ length-blocks_from first (end - first) in
     let same : take n blocks ≡ blocks_from first n = ap (take n) is ∙ take_blocks first n (end - first) few in
@@ -106,13 +116,13 @@ trimmed_some image now device array blocks first end n needed needed_now outcome
 
 pub trim_halted : (image : Image) (now : Session) (device : Device) (array : OpenSession) (blocks : List ℕ) (first end block needed needed_now : ℕ) (stop : DeviceStop) (result : Result Outcome Halt) → result ≡ outcome_after stop → blocks ≡ blocks_from first (end - first)
     → first ≤ block → block < end → needed_now ≤ needed + 41 * (block - first) → TrimsBlock image now device (trim_all array (blocks_from first (block - first))) block (Err stop)
-    → IfOk result (λ outcome. (k : ℕ) × TrimmedSome array blocks outcome k × (needed_now ≤ needed + 41 * k) × IsAt image (Some now) (mounted device (trim_all array (take k blocks))))
+    → IfOk result (λ outcome. (k : ℕ) × DidSome blocks outcome k × (needed_now ≤ needed + 41 * k) × IsAt image (Some now) (mounted device (trim_all array (take k blocks))))
 trim_halted image now device array blocks first end block needed needed_now stop result e is from below needs led =
-    subst (λ (r : Result Outcome Halt). IfOk r (λ outcome. (k : ℕ) × TrimmedSome array blocks outcome k × (needed_now ≤ needed + 41 * k) × IsAt image (Some now) (mounted device (trim_all array (take k blocks))))) (sym e)
+    subst (λ (r : Result Outcome Halt). IfOk r (λ outcome. (k : ℕ) × DidSome blocks outcome k × (needed_now ≤ needed + 41 * k) × IsAt image (Some now) (mounted device (trim_all array (take k blocks))))) (sym e)
     (by (outcome_after stop) (trim_stopped image now device (trim_all array (blocks_from first (block - first))) block stop led))
   where
     by : (r : Result Outcome Halt) → IfOk r (λ outcome. (outcome ≡ outcomes.NoMemory) × IsAt image (Some now) (mounted device (trim_all array (blocks_from first (block - first)))))
-        → IfOk r (λ outcome. (k : ℕ) × TrimmedSome array blocks outcome k × (needed_now ≤ needed + 41 * k) × IsAt image (Some now) (mounted device (trim_all array (take k blocks))))
+        → IfOk r (λ outcome. (k : ℕ) × DidSome blocks outcome k × (needed_now ≤ needed + 41 * k) × IsAt image (Some now) (mounted device (trim_all array (take k blocks))))
     by (Ok outcome) (none, at) =
         trimmed_some image now device array blocks first end (block - first) needed needed_now outcome is (omega (arith, below)) needs (inr none)
         (λ done. absurd (let no : outcomes.Done ≡ outcomes.NoMemory = sym done ∙ none in cc)) at
@@ -182,3 +192,65 @@ adds_behind head mid now result same adds = subst (λ (n : ℕ). AddsOne n now r
 pub on_stop : {X : Type 0} (result : Result X DeviceStop) (some other : Type 0) → (some → other) → OnErr result some → OnErr result other
 on_stop (Ok x) some other then' holds = tt
 on_stop (Err stop) some other then' holds = then' holds
+
+-- ---- a range, part by part
+
+-- all bytes begin with those that are gone, and a part behind them
+pub front_of : (done k : ℕ) (gone piece all : List ℕ) → length gone ≡ done → take (done + k) all ≡ gone ++ piece → take done all ≡ gone
+front_of done k gone piece all len is =
+    let joined : take done (take done all ++ take k (drop done all)) ≡ take done (gone ++ piece) = ap (take done) (sym (take-add done k all) ∙ is) in
+    let few : done ≤ length (take done all) = omega (arith, ap length is, length-append gone piece, length-take (done + k) all, length-take done all, len) in
+    let left : take done (take done all ++ take k (drop done all)) ≡ take done all = take-append-le done (take done all) (take k (drop done all)) few ∙ take_all done (take done all) (omega (arith, length-take done all)) in
+    let right : take done (gone ++ piece) ≡ gone = take-append-le done gone piece (omega (arith, len)) ∙ take_all done gone (omega (arith, len)) in
+    sym left ∙ joined ∙ right
+
+piece_of : (done k : ℕ) (gone piece all : List ℕ) → length gone ≡ done → take (done + k) all ≡ gone ++ piece → piece ≡ take k (drop done all)
+piece_of done k gone piece all len is =
+    sym (drop-append_seam gone piece) ∙ ap (λ (n : ℕ). drop n (gone ++ piece)) len ∙ ap (drop done) (sym is) ∙ drop-take done k all
+
+-- one part more
+pub range_step : (image : Image) (now : Session) (device : Device) (array : OpenSession) (offset whole done parts block start k : ℕ) (gone piece all : List ℕ) → IsPart offset whole done block start k → IsAtPart offset done parts
+    → length gone ≡ done → length all ≡ whole → take (done + k) all ≡ gone ++ piece
+    → WritesPart image now device (write_all array (with_bytes (array_of array) offset all) (blocks_from (offset / 4096) parts)) block start k piece (Ok tt)
+    → IsAt image (Some now) (mounted device (write_all array (with_bytes (array_of array) offset all) (blocks_from (offset / 4096) (parts + 1))))
+range_step image now device array offset whole done parts block start k gone piece all part at len long is (content, patched, there) =
+    let first : ℕ = offset / 4096 in
+    let target : ℕ → ℕ = with_bytes (array_of array) offset all in
+    let mid : OpenSession = write_all array target (blocks_from first parts) in
+    let part_in : IsPart offset (length all) done block start k = subst (λ (n : ℕ). IsPart offset n done block start k) (sym long) part in
+    let b : block ≡ first + parts = part_block offset (length all) done block start k parts part_in at in
+    let same : content ≡ bytes_at target (4096 * block) 4096 =
+    patched.is (array_of array) offset all done part_in (piece_of done k gone piece all len is) (λ size. block_before array target first parts block (content_of mid.contents block) b refl size) in
+    subst (λ (a : OpenSession). IsAt image (Some now) (mounted device a)) (write_step array offset all done block start k parts content part_in at same) there
+
+-- what was written by then
+pub wrote_range : (image : Image) (head head_now needed : ℕ) (now : Session) (device : Device) (array : OpenSession) (offset n parts : ℕ) (all : List ℕ) (outcome : Outcome) → parts ≤ length (touched_blocks offset n)
+    → (outcome ≡ outcomes.Done) ⊎ (outcome ≡ outcomes.NoMemory) → (outcome ≡ outcomes.Done → parts ≡ length (touched_blocks offset n)) → head_now ≡ head + parts → needed_by now ≤ needed + 41 * parts
+    → IsAt image (Some now) (mounted device (write_all array (with_bytes (array_of array) offset all) (blocks_from (offset / 4096) parts)))
+    → WroteRange image head head_now needed now device array offset all (touched_blocks offset n) outcome
+wrote_range image head head_now needed now device array offset n parts all outcome few sound whole pages needs at = record {
+  many = parts;
+  did = record { few = few; sound = sound; all = whole };
+  pages = pages;
+  needs = needs;
+  at = subst (λ (l : List ℕ). IsAt image (Some now) (mounted device (write_all array (with_bytes (array_of array) offset all) l))) (sym (take_touched offset n parts few)) at;
+}
+
+-- a part that stopped, where the request has a reply
+part_stopped : (image : Image) (now : Session) (device : Device) (mid : OpenSession) (block start count : ℕ) (bytes : List ℕ) (head head_now : ℕ) (stop : DeviceStop) (outcome : Outcome) → outcome_after stop ≡ Ok outcome
+    → AddsOne head head_now (Err stop) → WritesPart image now device mid block start count bytes (Err stop) → (outcome ≡ outcomes.NoMemory) × (head_now ≡ head) × IsAt image (Some now) (mounted device mid)
+part_stopped image now device mid block start count bytes head head_now stops.Memory outcome is adds at = (let e : outcome ≡ outcomes.NoMemory = cc in e, adds, at)
+part_stopped image now device mid block start count bytes head head_now stops.Platform outcome is adds at = absurd cc
+part_stopped image now device mid block start count bytes head head_now stops.Tape outcome is adds at = absurd cc
+part_stopped image now device mid block start count bytes head head_now stops.Ledger outcome is adds at = absurd at
+part_stopped image now device mid block start count bytes head head_now stops.BadRoot outcome is adds at = absurd at
+part_stopped image now device mid block start count bytes head head_now (stops.BadRecord addr) outcome is adds at = absurd at
+
+pub range_halted : (image : Image) (head mid_head head_now needed : ℕ) (now : Session) (device : Device) (array : OpenSession) (offset n parts block start count : ℕ) (bytes all : List ℕ) (stop : DeviceStop) (result : Result Outcome Halt) → IfOk result (λ outcome. outcome_after stop ≡ Ok outcome)
+    → parts < length (touched_blocks offset n) → mid_head ≡ head + parts → AddsOne mid_head head_now (Err stop) → needed_by now ≤ needed + 41 * parts → IfOk result (λ outcome. length all ≡ n)
+    → (length all ≡ n → WritesPart image now device (write_all array (with_bytes (array_of array) offset all) (blocks_from (offset / 4096) parts)) block start count bytes (Err stop))
+    → IfOk result (WroteRange image head head_now needed now device array offset all (touched_blocks offset n))
+range_halted image head mid_head head_now needed now device array offset n parts block start count bytes all stop (Ok outcome) is few pages adds needs long led =
+    let s = part_stopped image now device (write_all array (with_bytes (array_of array) offset all) (blocks_from (offset / 4096) parts)) block start count bytes mid_head head_now stop outcome is adds (led long) in
+    wrote_range image head head_now needed now device array offset n parts all outcome (omega (arith, few)) (inr s.0) (λ done. absurd (let no : outcomes.Done ≡ outcomes.NoMemory = sym done ∙ s.0 in cc)) (omega (arith, pages, s.1)) needs s.2
+range_halted image head mid_head head_now needed now device array offset n parts block start count bytes all stop (Err halt) is few pages adds needs long led = tt

@@ -1,66 +1,114 @@
 -- Whom a request blames that halts a run.
-use Rattle.std.proofs.Common.{◌≡◌, ◌⊎◌, ◌≤◌, refl, ℕ, List, Option, Result, Ok, Err, inl, inr, sym, subst, arith}
+use Rattle.std.proofs.Common.{◌≡◌, ◌≤◌, ◌<◌, ◌∙◌, refl, ℕ, Bool, List, Option, None, Result, Ok, Err, inl, inr, ap, sym, subst, arith}
+use Rattle.std.proofs.lemmas.Bool.{cases_lt}
 use Rattle.std.specs.Prelude.{IfErr}
-use Rattle.sdbt_base.specs.Faults.{Rose}
+use Rattle.nbd_lang.specs.declared.requests.Request.{Request}
 use Rattle.nbd_lang.specs.declared.replies.Outcome.{Outcome}
+use Rattle.nbd_core.specs.declared.haggling.Agreed.{Agreed}
 use Rattle.sdbt_base.specs.declared.tapes.Tape.{Ghosts as TapeGhosts}
 use Rattle.platform.specs.declared.platforms.Platform.{Ghosts as PlatformGhosts}
 use Rattle.session_calls.specs.Commits.{LeftAt}
-use Rattle.sdbt_base.specs.Counts.{Counts, NoneFell, counts}
-use Rattle.session_calls.specs.Blame.{IsOfCall}
+use Rattle.sdbt_base.specs.Counts.{Counts, NoneFell, OutputRose, counts}
+use Rattle.session_calls.specs.Blame.{HasCause, IsOfCall}
 use Rattle.session_calls.specs.declared.stops.DeviceStop.{DeviceStop}
 use Rattle.session_calls.specs.declared.stops.DeviceStop.TheVariants as device
-use Rattle.nbd_core.proofs.CallLaws.{rose_later}
-use Rattle.nbd_core.specs.Halts.{Blames, HasRisen, IsDueTo, OfCommit, commit_halt, outcome_after}
+use Rattle.nbd_core.specs.Halts.{Blames, IsDueTo, OfCommit, commit_halt, outcome_after}
+use Rattle.nbd_core.specs.Stops.{TellsTake, TellsTalk}
 use Rattle.nbd_core.specs.Requests.{DataEnd}
 use Rattle.nbd_core.specs.declared.stop.Stop.{Stop}
 use Rattle.nbd_core.specs.declared.stop.Stop.TheVariants as stops
 use Rattle.nbd_core.specs.declared.halts.Halt.{Halt}
 use Rattle.nbd_core.specs.declared.halts.Halt.TheVariants as halts
 
--- a run goes on
-pub blame_going : {X : Type 0} (rest rest_now : Counts) (platform platform_now : ℕ) (x : X) → NoneFell rest rest_now → platform ≤ platform_now → Blames (record rest { platform = platform }) (record rest_now { platform = platform_now }) (Ok x)
-blame_going rest rest_now platform platform_now x fell le = record {
-  fell = record { platform = le; tape = fell.tape; input = fell.input; output = fell.output; ledger = fell.ledger };
-  cause = tt;
-}
+pub none_fell : (counts_now : Counts) → NoneFell counts_now counts_now
+none_fell counts_now = record { platform = omega arith; tape = omega arith; input = omega arith; output = omega arith; ledger = omega arith }
 
-by_stop : (before now : Counts) (stop : DeviceStop) → HasRisen before now stop → IfErr (outcome_after stop) (IsDueTo before now)
-by_stop before now device.Platform cause = cause
-by_stop before now device.Tape cause = cause
-by_stop before now device.Ledger cause = cause
-by_stop before now device.BadRoot cause = tt
-by_stop before now (device.BadRecord addr) cause = tt
-by_stop before now device.Memory cause = tt
+-- no count rose
+pub same_fell : (before now : Counts) → now ≡ before → NoneFell before now
+same_fell before now same = subst (λ (c : Counts). NoneFell before c) (sym same) (none_fell before)
 
-pub blame_stop : (before now : Counts) (stop : DeviceStop) (result : Result Outcome Halt) → NoneFell before now → HasRisen before now stop → result ≡ outcome_after stop → Blames before now result
-blame_stop before now stop result fell cause is = subst (λ (r : Result Outcome Halt). Blames before now r) (sym is) (record { fell = fell; cause = by_stop before now stop cause })
+pub blame_done : {X : Type 0} (before now : Counts) (x : X) → now ≡ before → Blames before now (Ok x)
+blame_done before now x same = record { fell = same_fell before now same; quiet = same; cause = tt }
+
+-- of a platform, a tape and an input
+pub same_blocks : (rest : Counts) (platform platform_now tape tape_now input input_now : ℕ) → platform_now ≡ platform → tape_now ≡ tape → input_now ≡ input
+    → record rest { platform = platform_now; tape = tape_now; input = input_now } ≡ record rest { platform = platform; tape = tape; input = input }
+same_blocks rest platform platform_now tape tape_now input input_now p t i =
+    ap (λ (n : ℕ). record rest { platform = n; tape = tape_now; input = input_now }) p ∙ ap (λ (n : ℕ). record rest { platform = platform; tape = n; input = input_now }) t
+    ∙ ap (λ (n : ℕ). record rest { platform = platform; tape = tape; input = n }) i
+
+-- a call that stopped, by what the request comes to
+by_stop : (before now : Counts) (stop : DeviceStop) → NoneFell before now → HasCause before now stop → Blames before now (outcome_after stop)
+by_stop before now device.Platform fell cause = record { fell = fell; quiet = tt; cause = cause }
+by_stop before now device.Tape fell cause = record { fell = fell; quiet = tt; cause = cause }
+by_stop before now device.Ledger fell cause = record { fell = fell; quiet = tt; cause = cause }
+by_stop before now device.BadRoot fell cause = record { fell = fell; quiet = tt; cause = cause }
+by_stop before now (device.BadRecord addr) fell cause = record { fell = fell; quiet = cause; cause = tt }
+by_stop before now device.Memory fell cause = record { fell = fell; quiet = cause; cause = tt }
+
+pub blame_stop : (before now : Counts) (stop : DeviceStop) (result : Result Outcome Halt) → NoneFell before now → HasCause before now stop → result ≡ outcome_after stop → Blames before now result
+blame_stop before now stop result fell cause is = subst (λ (r : Result Outcome Halt). Blames before now r) (sym is) (by_stop before now stop fell cause)
+
+-- the same among other counts
+pub cause_wide : (rest : Counts) (platform platform_now tape tape_now : ℕ) (stop : DeviceStop) → IsOfCall stop → HasCause (counts platform tape 0 0 0) (counts platform_now tape_now 0 0 0) stop
+    → HasCause (record rest { platform = platform; tape = tape }) (record rest { platform = platform_now; tape = tape_now }) stop
+cause_wide rest platform platform_now tape tape_now device.Platform of (rose, same) = (rose, ap (λ (c : Counts). record rest { platform = platform_now; tape = c.tape }) same)
+cause_wide rest platform platform_now tape tape_now device.Tape of (rose, same) = (rose, ap (λ (c : Counts). record rest { platform = c.platform; tape = tape_now }) same)
+cause_wide rest platform platform_now tape tape_now device.Ledger of cause = absurd of
+cause_wide rest platform platform_now tape tape_now device.BadRoot of cause = absurd of
+cause_wide rest platform platform_now tape tape_now (device.BadRecord addr) of same = ap (λ (c : Counts). record rest { platform = c.platform; tape = c.tape }) same
+cause_wide rest platform platform_now tape tape_now device.Memory of same = ap (λ (c : Counts). record rest { platform = c.platform; tape = c.tape }) same
 
 -- a call that draws nothing
-of_platform : (rest rest_now : Counts) (platform platform_now : ℕ) (stop : DeviceStop) → IsOfCall stop → HasRisen (counts platform 0 0 0 0) (counts platform_now 0 0 0 0) stop → HasRisen (record rest { platform = platform }) (record rest_now { platform = platform_now }) stop
-of_platform rest rest_now platform platform_now device.Platform of cause = cause
-of_platform rest rest_now platform platform_now device.Tape of (inl rose) = absurd (omega (arith, rose))
-of_platform rest rest_now platform platform_now device.Tape of (inr full) = absurd (omega (arith, full))
-of_platform rest rest_now platform platform_now device.Ledger of cause = absurd of
-of_platform rest rest_now platform platform_now device.BadRoot of cause = tt
-of_platform rest rest_now platform platform_now (device.BadRecord addr) of cause = tt
-of_platform rest rest_now platform platform_now device.Memory of cause = tt
+pub blame_platform : (rest : Counts) (platform platform_now : ℕ) (stop : DeviceStop) (result : Result Outcome Halt) → platform ≤ platform_now → IsOfCall stop → HasCause (counts platform rest.tape 0 0 0) (counts platform_now rest.tape 0 0 0) stop → result ≡ outcome_after stop
+    → Blames (record rest { platform = platform }) (record rest { platform = platform_now }) result
+blame_platform rest platform platform_now stop result le of cause is =
+    blame_stop (record rest { platform = platform }) (record rest { platform = platform_now }) stop result (record { platform = le; tape = omega arith; input = omega arith; output = omega arith; ledger = omega arith })
+    (cause_wide rest platform platform_now rest.tape rest.tape stop of cause) is
 
-pub blame_platform : (rest rest_now : Counts) (platform platform_now : ℕ) (stop : DeviceStop) (result : Result Outcome Halt) → NoneFell rest rest_now → platform ≤ platform_now → IsOfCall stop → HasRisen (counts platform 0 0 0 0) (counts platform_now 0 0 0 0) stop → result ≡ outcome_after stop
-    → Blames (record rest { platform = platform }) (record rest_now { platform = platform_now }) result
-blame_platform rest rest_now platform platform_now stop result fell le of cause is =
-    blame_stop (record rest { platform = platform }) (record rest_now { platform = platform_now }) stop result (record { platform = le; tape = fell.tape; input = fell.input; output = fell.output; ledger = fell.ledger })
-    (of_platform rest rest_now platform platform_now stop of cause) is
+-- what is let go of an input behind a stop, or not looked at
+pub blame_given : (before now : Counts) (input input_now : ℕ) (stop : DeviceStop) (outcome : Outcome) (result : Result Outcome Halt) → outcome_after stop ≡ Ok outcome → HasCause before now stop
+    → ((rest : Counts) → Blames (record rest { input = input }) (record rest { input = input_now }) result) → Blames (record before { input = input }) (record now { input = input_now }) result
+blame_given before now input input_now device.Platform outcome result is cause blame = absurd cc
+blame_given before now input input_now device.Tape outcome result is cause blame = absurd cc
+blame_given before now input input_now device.Ledger outcome result is cause blame = absurd cc
+blame_given before now input input_now device.BadRoot outcome result is cause blame = absurd cc
+blame_given before now input input_now (device.BadRecord addr) outcome result is cause blame = subst (λ (c : Counts). Blames (record before { input = input }) (record c { input = input_now }) result) (sym cause) (blame before)
+blame_given before now input input_now device.Memory outcome result is cause blame = subst (λ (c : Counts). Blames (record before { input = input }) (record c { input = input_now }) result) (sym cause) (blame before)
 
--- a call that may draw
-pub cause_wide : (rest rest_now : Counts) (platform platform_now tape tape_now : ℕ) (stop : DeviceStop) → IsOfCall stop → HasRisen (counts platform tape 0 0 0) (counts platform_now tape_now 0 0 0) stop
-    → HasRisen (record rest { platform = platform; tape = tape }) (record rest_now { platform = platform_now; tape = tape_now }) stop
-cause_wide rest rest_now platform platform_now tape tape_now device.Platform of cause = cause
-cause_wide rest rest_now platform platform_now tape tape_now device.Tape of cause = cause
-cause_wide rest rest_now platform platform_now tape tape_now device.Ledger of cause = absurd of
-cause_wide rest rest_now platform platform_now tape tape_now device.BadRoot of cause = tt
-cause_wide rest rest_now platform platform_now tape tape_now (device.BadRecord addr) of cause = tt
-cause_wide rest rest_now platform platform_now tape tape_now device.Memory of cause = tt
+pub blame_halted : (before now : Counts) (input : ℕ) (stop : DeviceStop) (halt : Halt) → IsOfCall stop → outcome_after stop ≡ Err halt → NoneFell before now → HasCause before now stop → Blames {X = Outcome} (record before { input = input }) (record now { input = input }) (Err halt)
+blame_halted before now input stop halt of is fell cause =
+    blame_stop (record before { input = input }) (record now { input = input }) stop (Err halt) (record { platform = fell.platform; tape = fell.tape; input = omega arith; output = fell.output; ledger = fell.ledger }) (by stop of cause) (sym is)
+  where
+    by : (s : DeviceStop) → IsOfCall s → HasCause before now s → HasCause (record before { input = input }) (record now { input = input }) s
+    by device.Platform of (rose, same) = (rose, ap (λ (c : Counts). record c { input = input }) same)
+    by device.Tape of (rose, same) = (rose, ap (λ (c : Counts). record c { input = input }) same)
+    by device.Ledger of cause = absurd of
+    by device.BadRoot of cause = absurd of
+    by (device.BadRecord addr) of same = ap (λ (c : Counts). record c { input = input }) same
+    by device.Memory of same = ap (λ (c : Counts). record c { input = input }) same
+
+-- a commit that stopped
+pub blame_commit : {X : Type 0} (rest : Counts) (platform platform_now tape tape_now ledger ledger_now : ℕ) (stop : DeviceStop) (halt : Halt) → OfCommit stop → halt ≡ commit_halt stop
+    → NoneFell (counts platform tape 0 0 ledger) (counts platform_now tape_now 0 0 ledger_now) → HasCause (counts platform tape 0 0 ledger) (counts platform_now tape_now 0 0 ledger_now) stop
+    → Blames {X = X} (record rest { platform = platform; tape = tape; ledger = ledger }) (record rest { platform = platform_now; tape = tape_now; ledger = ledger_now }) (Err halt)
+blame_commit {X = X} rest platform platform_now tape tape_now ledger ledger_now stop halt of is fell cause =
+    subst (λ (h : Halt). Blames {X = X} (record rest { platform = platform; tape = tape; ledger = ledger }) (record rest { platform = platform_now; tape = tape_now; ledger = ledger_now }) (Err h)) (sym is)
+    (record { fell = record { platform = fell.platform; tape = fell.tape; input = omega arith; output = omega arith; ledger = fell.ledger }; quiet = tt; cause = by stop of cause })
+  where
+    by : (s : DeviceStop) → OfCommit s → HasCause (counts platform tape 0 0 ledger) (counts platform_now tape_now 0 0 ledger_now) s
+        → IsDueTo (record rest { platform = platform; tape = tape; ledger = ledger }) (record rest { platform = platform_now; tape = tape_now; ledger = ledger_now }) (commit_halt s)
+    by device.Platform of (rose, same) = (rose, ap (λ (c : Counts). record rest { platform = c.platform; tape = c.tape; ledger = c.ledger }) same)
+    by device.Tape of (rose, same) = (rose, ap (λ (c : Counts). record rest { platform = c.platform; tape = c.tape; ledger = c.ledger }) same)
+    by device.Ledger of (rose, same) = (rose, ap (λ (c : Counts). record rest { platform = c.platform; tape = c.tape; ledger = c.ledger }) same)
+    by device.Memory of same = ap (λ (c : Counts). record rest { platform = c.platform; tape = c.tape; ledger = c.ledger }) same
+    by device.BadRoot of cause = absurd of
+    by (device.BadRecord addr) of cause = absurd of
+
+pub blame_committed : {X : Type 0} (rest : Counts) (platform platform_now tape tape_now ledger ledger_now : ℕ) (x : X) → counts platform_now tape_now 0 0 ledger_now ≡ counts platform tape 0 0 ledger
+    → Blames (record rest { platform = platform; tape = tape; ledger = ledger }) (record rest { platform = platform_now; tape = tape_now; ledger = ledger_now }) (Ok x)
+blame_committed rest platform platform_now tape tape_now ledger ledger_now x same =
+    blame_done (record rest { platform = platform; tape = tape; ledger = ledger }) (record rest { platform = platform_now; tape = tape_now; ledger = ledger_now }) x (ap (λ (c : Counts). record rest { platform = c.platform; tape = c.tape; ledger = c.ledger }) same)
 
 -- ---- a request without bytes behind its head
 
@@ -92,45 +140,56 @@ of_commit P T platform platform_now tape tape_now device.Memory left = tt
 of_commit P T platform platform_now tape tape_now device.BadRoot left = left
 of_commit P T platform platform_now tape tape_now (device.BadRecord addr) left = left
 
--- a stop of the input
-pub blame_source : {X : Type 0} (before now : Counts) (stop : Stop) → NoneFell before now → (stop ≡ stops.Source) ⊎ (stop ≡ stops.Limit) → (stop ≡ stops.Source → Rose before.input now.input) → Blames {X = X} before now (Err (halts.Client stop))
-blame_source before now stops.Source fell which cause = record { fell = fell; cause = cause refl }
-blame_source before now stops.Limit fell which cause = record { fell = fell; cause = tt }
-blame_source before now stops.Broken fell which cause = record { fell = fell; cause = tt }
-blame_source before now stops.Sink fell (inl same) cause = absurd cc
-blame_source before now stops.Sink fell (inr same) cause = absurd cc
+-- ---- the input and the output
 
-due_earlier : (first before now : Counts) (halt : Halt) → NoneFell first before → NoneFell before now → IsDueTo before now halt → IsDueTo first now halt
-due_earlier first before now (halts.Client stops.Source) one two cause = rose_later first.input before.input now.input one.input cause two.input
-due_earlier first before now (halts.Client stops.Sink) one two cause = rose_later first.output before.output now.output one.output cause two.output
-due_earlier first before now (halts.Client stops.Limit) one two cause = tt
-due_earlier first before now (halts.Client stops.Broken) one two cause = tt
-due_earlier first before now halts.Platform one two cause = rose_later first.platform before.platform now.platform one.platform cause two.platform
-due_earlier first before now halts.Tape one two cause = rose_later first.tape before.tape now.tape one.tape cause two.tape
-due_earlier first before now halts.Ledger one two cause = rose_later first.ledger before.ledger now.ledger one.ledger cause two.ledger
-due_earlier first before now halts.BadRoot one two cause = tt
-due_earlier first before now halts.NoDevice one two cause = tt
-due_earlier first before now halts.Unfinished one two cause = tt
-due_earlier first before now halts.Memory one two cause = tt
+-- what takes of the input
+pub blame_take : {X : Type 0} (rest : Counts) (input input_now : ℕ) (stop : Stop) → input ≤ input_now → TellsTake {X = Bool} (Err stop) input input_now → Blames {X = X} (record rest { input = input }) (record rest { input = input_now }) (Err (halts.Client stop))
+blame_take rest input input_now stops.Source le rose = record { fell = record { platform = omega arith; tape = omega arith; input = le; output = omega arith; ledger = omega arith }; quiet = tt; cause = (rose, refl) }
+blame_take rest input input_now stops.Limit le same = record { fell = record { platform = omega arith; tape = omega arith; input = le; output = omega arith; ledger = omega arith }; quiet = tt; cause = ap (λ (n : ℕ). record rest { input = n }) same }
+blame_take rest input input_now stops.Broken le same = record { fell = record { platform = omega arith; tape = omega arith; input = le; output = omega arith; ledger = omega arith }; quiet = tt; cause = ap (λ (n : ℕ). record rest { input = n }) same }
+blame_take rest input input_now stops.Sink le never = absurd never
 
-pub fell_then : (first before now : Counts) → NoneFell first before → NoneFell before now → NoneFell first now
-fell_then first before now one two = record {
-  platform = omega (arith, one.platform, two.platform);
-  tape = omega (arith, one.tape, two.tape);
-  input = omega (arith, one.input, two.input);
-  output = omega (arith, one.output, two.output);
-  ledger = omega (arith, one.ledger, two.ledger);
-}
+-- where the input ended, or sent what is none of a client's words
+pub blame_broken : {X : Type 0} (rest : Counts) (input input_now : ℕ) → input_now ≡ input → Blames {X = X} (record rest { input = input }) (record rest { input = input_now }) (Err (halts.Client stops.Broken))
+blame_broken rest input input_now same =
+    let is : record rest { input = input_now } ≡ record rest { input = input } = ap (λ (n : ℕ). record rest { input = n }) same in
+    record { fell = same_fell (record rest { input = input }) (record rest { input = input_now }) is; quiet = tt; cause = is }
 
--- from an earlier time on
-pub blame_earlier : {X : Type 0} (first before now : Counts) (result : Result X Halt) → NoneFell first before → Blames before now result → Blames first now result
-blame_earlier first before now (Ok x) one two = record { fell = fell_then first before now one two.fell; cause = tt }
-blame_earlier first before now (Err halt) one two = record { fell = fell_then first before now one two.fell; cause = due_earlier first before now halt one two.fell two.cause }
+pub blame_taken : {X : Type 0} (rest : Counts) (input input_now : ℕ) (x : X) → input_now ≡ input → Blames (record rest { input = input }) (record rest { input = input_now }) (Ok x)
+blame_taken rest input input_now x same = blame_done (record rest { input = input }) (record rest { input = input_now }) x (ap (λ (n : ℕ). record rest { input = n }) same)
+
+-- where it ended, with so many bytes before its end that are no request
+pub blame_ended : (rest : Counts) (input input_now count : ℕ) (result : Result (Option Request) Halt) → input_now ≡ input → (count ≡ 0 → result ≡ Ok None) → (0 < count → result ≡ Err (halts.Client stops.Broken))
+    → Blames (record rest { input = input }) (record rest { input = input_now }) result
+blame_ended rest input input_now count result same none broken = elim (cases_lt 0 count) [
+  | inl some ↦ subst (λ (r : Result (Option Request) Halt). Blames (record rest { input = input }) (record rest { input = input_now }) r) (sym (broken some)) (blame_broken rest input input_now same)
+  | inr few ↦ subst (λ (r : Result (Option Request) Halt). Blames (record rest { input = input }) (record rest { input = input_now }) r) (sym (none (omega (arith, few)))) (blame_taken rest input input_now None same)
+]
+
+-- a talk that stopped
+pub blame_talk : {X : Type 0} (rest : Counts) (input input_now output output_now : ℕ) (stop : Stop) → input ≤ input_now → output ≤ output_now → TellsTalk {X = Agreed} (Err stop) input input_now output output_now
+    → Blames {X = X} (record rest { input = input; output = output }) (record rest { input = input_now; output = output_now }) (Err (halts.Client stop))
+blame_talk rest input input_now output output_now stop le less tells = record { fell = record { platform = omega arith; tape = omega arith; input = le; output = less; ledger = omega arith }; quiet = tt; cause = by stop tells }
+  where
+    by : (s : Stop) → TellsTalk {X = Agreed} (Err s) input input_now output output_now → IsDueTo (record rest { input = input; output = output }) (record rest { input = input_now; output = output_now }) (halts.Client s)
+    by stops.Source (rose, same) = (rose, ap (λ (n : ℕ). record rest { input = input_now; output = n }) same)
+    by stops.Sink (rose, same) = (rose, ap (λ (n : ℕ). record rest { input = n; output = output_now }) same)
+    by stops.Limit (in_same, out_same) = ap (λ (n : ℕ). record rest { input = n; output = output_now }) in_same ∙ ap (λ (n : ℕ). record rest { input = input; output = n }) out_same
+    by stops.Broken (in_same, out_same) = ap (λ (n : ℕ). record rest { input = n; output = output_now }) in_same ∙ ap (λ (n : ℕ). record rest { input = input; output = n }) out_same
+
+-- ---- one after another
+
+-- no count rose before
+pub blame_then : {X : Type 0} (first before now : Counts) (result : Result X Halt) → before ≡ first → Blames before now result → Blames first now result
+blame_then first before now result same blames = subst (λ (c : Counts). Blames c now result) same blames
 
 -- a run that is over says so of what was to come too
 pub blame_as : {X Y : Type 0} (before now : Counts) (halt : Halt) → Blames {X = X} before now (Err halt) → Blames {X = Y} before now (Err halt)
-blame_as before now halt blames = record { fell = blames.fell; cause = blames.cause }
+blame_as before now halt blames = record { fell = blames.fell; quiet = tt; cause = blames.cause }
+
+pub blame_on : {X Y : Type 0} (before now : Counts) (x : X) (y : Y) → Blames before now (Ok x) → Blames before now (Ok y)
+blame_on before now x y blames = record { fell = blames.fell; quiet = blames.quiet; cause = tt }
 
 -- a stop of the output
-pub blame_sink : {X : Type 0} (before now : Counts) (stop : Stop) → NoneFell before now → stop ≡ stops.Sink → Rose before.output now.output → Blames {X = X} before now (Err (halts.Client stop))
-blame_sink {X = X} before now stop fell is rose = subst (λ (s : Stop). Blames {X = X} before now (Err (halts.Client s))) (sym is) (record { fell = fell; cause = rose })
+pub blame_sink : {X : Type 0} (before now : Counts) (stop : Stop) → NoneFell before now → stop ≡ stops.Sink → OutputRose before now → Blames {X = X} before now (Err (halts.Client stop))
+blame_sink {X = X} before now stop fell is rose = subst (λ (s : Stop). Blames {X = X} before now (Err (halts.Client s))) (sym is) (record { fell = fell; quiet = tt; cause = rose })

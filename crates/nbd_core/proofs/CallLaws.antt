@@ -1,15 +1,13 @@
 -- Calls for blocks, one after another.
-use Rattle.std.proofs.Common.{◌≡◌, ◌≤◌, ◌+◌, ℕ, Result, Ok, Err, inl, inr, arith}
+use Rattle.std.proofs.Common.{◌≡◌, ◌≤◌, ◌+◌, ◌∙◌, ℕ, Result, Ok, Err, ap, subst, arith}
+use Rattle.std.specs.Prelude.{IfErr, OnOk}
 use Rattle.platform.specs.declared.platforms.Platform.{Ghosts as PlatformGhosts}
 use Rattle.device_session.specs.Sessions.{Session}
-use Rattle.sdbt_base.specs.Faults.{Rose}
 use Rattle.session_calls.specs.Along.{Along, Drawn}
-use Rattle.sdbt_base.specs.Counts.{Counts, NoneFell, counts}
+use Rattle.sdbt_base.specs.Counts.{Counts, counts}
 use Rattle.session_calls.specs.Blame.{HasCause}
-use Rattle.nbd_core.specs.Halts.{HasRisen}
 use Rattle.session_calls.specs.Goes.{Goes}
 use Rattle.session_calls.specs.declared.stops.DeviceStop.{DeviceStop}
-use Rattle.session_calls.specs.declared.stops.DeviceStop.TheVariants as stops
 use Rattle.session_calls.proofs.AlongLaws.{along_then}
 use Rattle.nbd_core.specs.Serving.{Calls}
 
@@ -30,42 +28,13 @@ along_more P some more platform platform_now drawn drawn_now session now le a = 
   fell = a.fell;
 }
 
--- a count that rose later rose
-pub rose_later : (before mid now : ℕ) → before ≤ mid → Rose mid now → mid ≤ now → Rose before now
-rose_later before mid now fell (inl rose) le = inl (omega (arith, fell, rose))
-rose_later before mid now fell (inr full) le = elim (Rattle.std.proofs.lemmas.Bool.cases_lt before now) [ inl less ↦ inl less | inr more ↦ inr (omega (arith, full, more, fell, le)) ]
-
-pub cause_later : (before mid now : Counts) (stop : DeviceStop) → NoneFell before mid → NoneFell mid now → HasRisen mid now stop → HasRisen before now stop
-cause_later before mid now stops.Platform one two cause = rose_later before.platform mid.platform now.platform one.platform cause two.platform
-cause_later before mid now stops.Tape one two cause = rose_later before.tape mid.tape now.tape one.tape cause two.tape
-cause_later before mid now stops.Ledger one two cause = rose_later before.ledger mid.ledger now.ledger one.ledger cause two.ledger
-cause_later before mid now stops.BadRoot one two cause = tt
-cause_later before mid now (stops.BadRecord addr) one two cause = tt
-cause_later before mid now stops.Memory one two cause = tt
-
-cause_of : {X : Type 0} (before mid now : Counts) (result : Result X DeviceStop) → NoneFell before mid → NoneFell mid now → Rattle.std.specs.Prelude.IfErr result (HasRisen mid now) → Rattle.std.specs.Prelude.IfErr result (HasRisen before now)
-cause_of before mid now (Ok x) one two cause = tt
-cause_of before mid now (Err stop) one two cause = cause_later before mid now stop one two cause
-
--- what a call of a session says of a stop
-pub has_risen : (before now : Counts) (stop : DeviceStop) → HasCause before now stop → HasRisen before now stop
-has_risen before now stops.Platform cause = cause.0
-has_risen before now stops.Tape cause = cause.0
-has_risen before now stops.Ledger cause = cause.0
-has_risen before now stops.BadRoot cause = tt
-has_risen before now (stops.BadRecord addr) cause = tt
-has_risen before now stops.Memory cause = tt
-
-pub risen_of : {X : Type 0} (before now : Counts) (result : Result X DeviceStop) → Rattle.std.specs.Prelude.IfErr result (HasCause before now) → Rattle.std.specs.Prelude.IfErr result (HasRisen before now)
-risen_of before now (Ok x) cause = tt
-risen_of before now (Err stop) cause = has_risen before now stop cause
-
 -- one call
 pub calls_of : {S X : Type 0} (P : PlatformGhosts S) (updates : ℕ) (platform platform_now : S) (drawn drawn_now : Drawn) (session now : Session) (result : Result X DeviceStop) → Goes P updates platform platform_now drawn drawn_now session now result → Calls P updates platform platform_now drawn drawn_now session now result
 calls_of P updates platform platform_now drawn drawn_now session now result goes = record {
   along = goes.along;
   stops = goes.stops;
-  cause = risen_of (counts (P.faults platform) drawn.faults 0 0 0) (counts (P.faults platform_now) drawn_now.faults 0 0 0) result goes.cause;
+  quiet = goes.quiet;
+  cause = goes.cause;
 }
 
 -- a stop, where more updates could have been
@@ -74,18 +43,33 @@ pub calls_stopped : {S X Y : Type 0} (P : PlatformGhosts S) (some more : ℕ) (p
 calls_stopped P some more platform platform_now drawn drawn_now session now stop le calls = record {
   along = along_more P some more platform platform_now drawn drawn_now session now le calls.along;
   stops = calls.stops;
+  quiet = tt;
   cause = calls.cause;
 }
 
--- one part after another
+-- one part after another, where no count rose in the first
 pub calls_then : {S X : Type 0} (P : PlatformGhosts S) (some more : ℕ) (first second third : S) (drawn mid drawn_now : Drawn) (session between now : Session) (result : Result X DeviceStop)
-    → Along P some first second drawn mid session between → Calls P more second third mid drawn_now between now result → Calls P (some + more) first third drawn drawn_now session now result
-calls_then P some more first second third drawn mid drawn_now session between now result one two = record {
-  along = along_then P some more first second third drawn mid drawn_now session between now one two.along;
-  stops = two.stops;
-  cause = cause_of (counts (P.faults first) drawn.faults 0 0 0) (counts (P.faults second) mid.faults 0 0 0) (counts (P.faults third) drawn_now.faults 0 0 0) result one.fell two.along.fell two.cause;
-}
+    → Along P some first second drawn mid session between → P.faults second ≡ P.faults first → mid.faults ≡ drawn.faults → Calls P more second third mid drawn_now between now result → Calls P (some + more) first third drawn drawn_now session now result
+calls_then P some more first second third drawn mid drawn_now session between now result one platform tape two =
+    let same : counts (P.faults second) mid.faults 0 0 0 ≡ counts (P.faults first) drawn.faults 0 0 0 = ap (λ (p : ℕ). counts p mid.faults 0 0 0) platform ∙ ap (λ (t : ℕ). counts (P.faults first) t 0 0 0) tape in
+    record {
+      along = along_then P some more first second third drawn mid drawn_now session between now one two.along;
+      stops = two.stops;
+      quiet = subst (λ (c : Counts). OnOk result (counts (P.faults third) drawn_now.faults 0 0 0 ≡ c)) same two.quiet;
+      cause = subst (λ (c : Counts). IfErr result (HasCause c (counts (P.faults third) drawn_now.faults 0 0 0))) same two.cause;
+    }
+
+-- no count rose where a call was done
+pub platform_quiet : (before now : Counts) → now ≡ before → now.platform ≡ before.platform
+platform_quiet before now same = ap (λ (c : Counts). c.platform) same
+
+pub tape_quiet : (before now : Counts) → now ≡ before → now.tape ≡ before.tape
+tape_quiet before now same = ap (λ (c : Counts). c.tape) same
 
 -- nothing that a call draws
 abbrev pub no_draw : Drawn
 no_draw = record { keys = Rattle.std.proofs.Common.None; faults = 0 }
+
+-- with so many faults of a tape
+abbrev pub draws_none : ℕ → Drawn
+draws_none faults = record { keys = Rattle.std.proofs.Common.None; faults = faults }

@@ -92,6 +92,17 @@ bytes_came a b c old mid read new head result fits first there same passed =
     (λ next short. head_awaits_option head (read.ahead ++ next) fits short)
     (subst (λ (left_to_take : ℕ). Came a b old left_to_take AwaitsOption (option_head head ++ read.ahead)) (sym same) (subst (Came a b old mid.left AwaitsOption) there first)) passed.came
 
+-- the same of an option whose head is read where it lies, once all of it is there
+pub option_taken : (a b c d : Option (List ℕ)) (old first whole read new : Room) (seen seen_whole : List ℕ) (head : OptionHead) (result : Result Bool Stop) → 8 ≤ length first.ahead → seen ≡ first.ahead → take 8 seen ≡ codes "IHAVEOPT" → Came a b old first.left (IsShorter 8) first.ahead
+    → Came b c first whole.left (IsShorter 16) whole.ahead → seen_whole ≡ whole.ahead → FitsOptionHead head → codes "IHAVEOPT" ++ take 8 (drop 8 seen_whole) ≡ option_head head → read.ahead ≡ drop 16 whole.ahead → read.left ≡ whole.left
+    → (passed : Passed c d read new head.length result) → Came a d old new.left AwaitsOption (option_head head ++ (passed.gone ++ new.ahead))
+option_taken a b c d old first whole read new seen seen_whole head result long there magic came more there_whole fits spelled rest left passed =
+    let front : take 8 first.ahead ≡ codes "IHAVEOPT" = ap (take 8) (sym there) ∙ magic in
+    let words : codes "IHAVEOPT" ++ take 8 (drop 8 whole.ahead) ≡ option_head head = ap (λ (l : List ℕ). codes "IHAVEOPT" ++ take 8 (drop 8 l)) (sym there_whole) ∙ spelled in
+    let is : whole.ahead ≡ option_head head ++ read.ahead =
+    head_there whole.ahead head (magic_stays first.ahead more.taken whole.ahead long front more.is) words ∙ ap (λ (l : List ℕ). option_head head ++ l) (sym rest) in
+    bytes_came a c d old whole read new head result fits (head_came a b c old first whole long front came more) is left passed
+
 pub option_whole : (a c : Option (List ℕ)) (old new : Room) (head : OptionHead) (bytes : List ℕ) → FitsOptionHead head → length bytes ≡ head.length → Came a c old new.left AwaitsOption (option_head head ++ (bytes ++ new.ahead)) → OptionCame a c old new (Ok (Some head))
 option_whole a c old new head bytes fits whole takes = record {
   came = option_head head ++ (bytes ++ new.ahead);

@@ -12,3 +12,8 @@ pub mod SpanLaws
 pub mod StatusLaws
 pub mod ServedLaws
 pub mod ArrayLaws
+pub mod TurnLaws
+pub mod DamageLaws
+pub mod TookLaws
+pub mod AmpleLaws
+pub mod CompleteLaws

@@ -39,13 +39,13 @@ head_there all request front spelled =
     ∙ ap (λ (l : List ℕ). request_magic ++ (take 24 (drop 4 all) ++ l)) (drop-drop 24 4 all) ∙ sym (append_assoc request_magic (take 24 (drop 4 all)) (drop 28 all))
     ∙ ap (λ (l : List ℕ). l ++ drop 28 all) spelled
 
-pub head_stopped : (a b : Option (List ℕ)) (old new : Room) (stop : Stop) → Came a b old new.left AwaitsRequest new.ahead → AwaitsRequest new.ahead → (stop ≡ stops.Source) ⊎ (stop ≡ stops.Limit) → HeadCame a b old new (Err (halts.Client stop))
-head_stopped a b old new stops.Source takes awaits which = record { came = new.ahead; takes = takes; ends = awaits }
-head_stopped a b old new stops.Limit takes awaits which = record { came = new.ahead; takes = takes; ends = awaits }
-head_stopped a b old new stops.Broken takes awaits (inl same) = absurd cc
-head_stopped a b old new stops.Broken takes awaits (inr same) = absurd cc
-head_stopped a b old new stops.Sink takes awaits (inl same) = absurd cc
-head_stopped a b old new stops.Sink takes awaits (inr same) = absurd cc
+pub head_stopped : (a b : Option (List ℕ)) (old new : Room) (stop : Stop) → Came a b old new.left AwaitsRequest new.ahead → AwaitsRequest new.ahead → (stop ≡ stops.Source) ⊎ (stop ≡ stops.Limit) → (stop ≡ stops.Limit → new.left ≡ 0) → HeadCame a b old new (Err (halts.Client stop))
+head_stopped a b old new stops.Source takes awaits which limit = record { came = new.ahead; takes = takes; ends = awaits; limit = λ is. absurd cc }
+head_stopped a b old new stops.Limit takes awaits which limit = record { came = new.ahead; takes = takes; ends = awaits; limit = λ is. limit refl }
+head_stopped a b old new stops.Broken takes awaits (inl same) limit = absurd cc
+head_stopped a b old new stops.Broken takes awaits (inr same) limit = absurd cc
+head_stopped a b old new stops.Sink takes awaits (inl same) limit = absurd cc
+head_stopped a b old new stops.Sink takes awaits (inr same) limit = absurd cc
 
 none_there : (bytes : List ℕ) → length bytes ≤ 0 → bytes ≡ []
 none_there [] few = refl
@@ -56,9 +56,9 @@ pub head_ended : (a b : Option (List ℕ)) (old new : Room) (count : ℕ) (resul
     → (count ≡ 0 → result ≡ Ok None) → (0 < count → result ≡ Err (halts.Client stops.Broken)) → HeadCame a b old new result
 head_ended a b old new count result came end short is none broken = elim (cases_lt 0 (length new.ahead)) [
   | inl some ↦ subst (λ (r : Result (Option Request) Halt). HeadCame a b old new r) (sym (broken (omega (arith, some, is))))
-      (record { came = new.ahead; takes = first_came a b old new came; ends = inl (end, some, shorter_awaits new.ahead short) })
+      (record { came = new.ahead; takes = first_came a b old new came; ends = inl (end, some, shorter_awaits new.ahead short); limit = λ is. absurd cc })
   | inr few ↦ subst (λ (r : Result (Option Request) Halt). HeadCame a b old new r) (sym (none (omega (arith, few, is))))
-      (record { came = new.ahead; takes = first_came a b old new came; ends = (none_there new.ahead few, end) })
+      (record { came = new.ahead; takes = first_came a b old new came; ends = (none_there new.ahead few, end); limit = tt })
 ]
 
 -- there is less to come

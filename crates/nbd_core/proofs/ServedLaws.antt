@@ -1,22 +1,35 @@
 -- Requests and their replies, one after another.
 use Rattle.std.proofs.Common.{◌≡◌, ◌≢◌, ℕ, ◌+◌, ◌<◌, ◌≤◌, Option, None, Some, Result, Ok, Err, List, [], ◌∷◌, ◌++◌, length, take, drop, refl, sym, ap, subst, ◌∙◌, append_assoc, append-nil, length-append, length-take, length-drop, inl, inr, arith}
-use Rattle.std.specs.Prelude.{All, IfErr, IfSome}
+use Rattle.std.specs.Prelude.{All, IfErr, IfSome, map}
 use Rattle.nbd_lang.specs.Refusals.{refusal}
 use Rattle.std.specs.List.{flat_map}
+use Rattle.std.proofs.lemmas.List.{length-map, map-append}
 use Rattle.std.proofs.lemmas.List.Elements.{All-push}
 use Rattle.std.proofs.lemmas.Grind.{flat_map-append}
 use Rattle.record_fields.specs.Fields.{append_same}
 use Rattle.sdbt_base.specs.Told.{Got, GotPart}
 use Rattle.sdbt_base.proofs.ToldLaws.{Got-nothing, Got-then}
+use Rattle.sdbt_base.specs.Arrays.{closed}
+use Rattle.device_course.specs.States.{Outside}
+use Rattle.device_course.proofs.MadeLaws.{made_start, shut}
 use Rattle.device_session.specs.Sessions.{Session}
 use Rattle.nbd_lang.specs.Replies.{Reply, reply_bytes}
 use Rattle.nbd_lang.specs.Requests.{RequestSent, FitsRequest, FitsSent, bytes_behind, request_head, request_bytes}
 use Rattle.nbd_lang.specs.declared.requests.Request.{Request}
 use Rattle.nbd_lang.specs.declared.requests.RequestKind.TheVariants as kinds
 use Rattle.nbd_lang.proofs.ReadingLaws.{request_head_same}
+use Rattle.nbd_terms.specs.Held.{Held}
+use Rattle.nbd_terms.specs.Leading.{last_of}
+use Rattle.nbd_terms.specs.Turn.{Ends, IsUnfinished, Turn}
 use Rattle.nbd_core.specs.Room.{Room, Came, IsShorter}
-use Rattle.nbd_core.specs.Requests.{AwaitsRequest, HeadCame, DataEnd}
-use Rattle.nbd_core.specs.Served.{Answered, AnswerEnd, AwaitsMore, EndsByDisconnect, Exchange, FitsExchange, IsGoodbye, IsReplyTo, Served, ServedEnd, bytes_told, sent_bytes, replied_bytes}
+use Rattle.nbd_core.specs.Requests.{AwaitsRequest, HeadCame, HeadEnd, DataEnd}
+use Rattle.platform.specs.History.{Extends, History}
+use Rattle.platform.proofs.Moments.{Extends-refl}
+use Rattle.nbd_core.specs.Damages.{HasMetDamage, IsDamage}
+use Rattle.nbd_core.proofs.DamageLaws.{damage_later, damage_now}
+use Rattle.nbd_core.specs.Exchanges.{Exchange, sent_of, told_of}
+use Rattle.nbd_core.specs.Served.{Answered, AnswerEnd, AwaitsMore, EndsByDisconnect, FitsExchange, IsAhead, IsCommit, IsCutOff, IsGoodbye, IsReplyTo, Served, ServedEnd, bytes_told, sent_bytes, replied_bytes}
+use Rattle.nbd_core.specs.Turns.{Finishes, Halted, Halts, HaltsAt, IsHeld, IsOfCommit, Turns}
 use Rattle.nbd_lang.specs.declared.replies.Outcome.{Outcome}
 use Rattle.nbd_lang.specs.declared.replies.Outcome.TheVariants as outcomes
 use Rattle.nbd_lang.specs.declared.requests.RequestKind.{RequestKind}
@@ -27,6 +40,8 @@ use Rattle.nbd_core.specs.declared.stop.Stop.TheVariants as stops
 use Rattle.nbd_core.specs.declared.halts.Halt.{Halt}
 use Rattle.nbd_core.specs.declared.halts.Halt.TheVariants as halts
 use Rattle.nbd_core.proofs.CameLaws.{came_nothing, came_then, came_weaker}
+use Rattle.nbd_core.proofs.AmpleLaws.{leads_room, room_finished}
+use Rattle.nbd_core.proofs.TurnLaws.{Ending, LedTo, led_start, led_more, led_end}
 
 -- ---- a head, and fewer bytes than follow it
 
@@ -49,8 +64,8 @@ awaits_more_too : (exchanges : List Exchange) (exchange : Exchange) (bytes : Lis
 awaits_more_too exchanges exchange bytes (first, others, part, split, is, awaits) =
     (first, others ++ exchange ∷ [], part, ap (λ (l : List Exchange). l ++ exchange ∷ []) split ∙ append_assoc first others (exchange ∷ []), is, awaits)
 
--- these requests came, and were replied to
-pub record Replied (size : ℕ) (left left_now : Option (List ℕ)) (old now : Room) (written written_now : Option (List ℕ)) (exchanges : List Exchange) : Type 0 where
+-- these requests came, and were replied to, and this session goes on
+pub record Replied (From : Held → Type 0) (tells : Type 0) (before mid : Outside) (session : Session) (size : ℕ) (left left_now : Option (List ℕ)) (old now : Room) (written written_now : Option (List ℕ)) (exchanges : List Exchange) : Type 0 where
   pub came : List ℕ
   pub put : List ℕ
   pub takes : Came left left_now old now.left (AwaitsMore exchanges) came
@@ -58,9 +73,12 @@ pub record Replied (size : ℕ) (left left_now : Option (List ℕ)) (old now : R
   pub fit : All (FitsExchange size) exchanges
   pub said : came ≡ flat_map sent_bytes exchanges ++ now.ahead
   pub replied : put ≡ flat_map replied_bytes exchanges
+  pub damage : tells → All (HasMetDamage before.history mid.history) exchanges
+  pub led : (entry : Held) → From entry → LedTo before.capacity before mid session entry (map sent_of exchanges) (map told_of exchanges)
 
-pub replied_nothing : (size : ℕ) (left : Option (List ℕ)) (old : Room) (written : Option (List ℕ)) → Replied size left left old old written written []
-replied_nothing size left old written = record {
+pub replied_nothing : (From : Held → Type 0) (tells : Type 0) (here : Outside) (session : Session) (size : ℕ) (left : Option (List ℕ)) (old : Room) (written : Option (List ℕ)) → ((entry : Held) → From entry → IsHeld here.history.present here.head session entry)
+    → Replied From tells here here session size left left old old written written []
+replied_nothing From tells here session size left old written held = record {
   came = old.ahead;
   put = [];
   takes = came_nothing left old (AwaitsMore []);
@@ -68,12 +86,14 @@ replied_nothing size left old written = record {
   fit = λ k d below. absurd (omega (arith, below));
   said = refl;
   replied = refl;
+  damage = λ told k d below. absurd (omega (arith, below));
+  led = λ entry from. led_start here.capacity here session entry (held entry from);
 }
 
 -- more came, which awaits a request
-came_more_of : (size : ℕ) (a b c : Option (List ℕ)) (old mid : Room) (left_to_take : ℕ) (w0 w1 : Option (List ℕ)) (exchanges : List Exchange) (came : List ℕ)
-    → Replied size a b old mid w0 w1 exchanges → Came b c mid left_to_take AwaitsRequest came → Came a c old left_to_take (AwaitsMore exchanges) (flat_map sent_bytes exchanges ++ came)
-came_more_of size a b c old mid left_to_take w0 w1 exchanges came so_far next =
+came_more_of : (From : Held → Type 0) (tells : Type 0) (before there : Outside) (session : Session) (size : ℕ) (a b c : Option (List ℕ)) (old mid : Room) (left_to_take : ℕ) (w0 w1 : Option (List ℕ)) (exchanges : List Exchange) (came : List ℕ)
+    → Replied From tells before there session size a b old mid w0 w1 exchanges → Came b c mid left_to_take AwaitsRequest came → Came a c old left_to_take (AwaitsMore exchanges) (flat_map sent_bytes exchanges ++ came)
+came_more_of From tells before there session size a b c old mid left_to_take w0 w1 exchanges came so_far next =
     came_then a b c old mid left_to_take (AwaitsMore exchanges) AwaitsRequest (AwaitsMore exchanges) (flat_map sent_bytes exchanges) came (λ bytes awaits. awaits)
     (λ more awaits. awaits_more exchanges (mid.ahead ++ more) awaits) (subst (Came a b old mid.left (AwaitsMore exchanges)) so_far.said so_far.takes) next
 
@@ -84,11 +104,19 @@ whole_came b c d mid read left_to_take request came head next =
     came_then b c d mid read left_to_take AwaitsRequest (IsShorter (bytes_behind request.kind request.length)) AwaitsRequest (request_head request) came (λ bytes awaits. awaits)
     (λ more short. head_awaits request (read.ahead ++ more) head.ends.0 short) (subst (Came b c mid read.left AwaitsRequest) head.ends.1 head.takes) next
 
+-- as many replies as requests
+same_count : (exchanges : List Exchange) → length (map told_of exchanges) ≡ length (map sent_of exchanges)
+same_count exchanges = length-map exchanges told_of ∙ sym (length-map exchanges sent_of)
+
+damages_later : (first second third : History) (exchanges : List Exchange) → Extends second third → All (HasMetDamage first second) exchanges → All (HasMetDamage first third) exchanges
+damages_later first second third exchanges extends all = λ k d below. λ damaged. damage_later first second third extends (all k d below damaged)
+
 -- one request more, and its reply
-pub replied_more : (size : ℕ) (a b c d : Option (List ℕ)) (old mid read now : Room) (w0 w1 w2 : Option (List ℕ)) (exchanges : List Exchange) (request : Request) (session : Session) → request.kind ≢ kinds.Disconnect
-    → Replied size a b old mid w0 w1 exchanges → HeadCame b c mid read (Ok (Some request)) → Answered size request c d read now w1 w2 (Ok session)
-    → (exchange : Exchange) × Replied size a d old now w0 w2 (exchanges ++ exchange ∷ [])
-replied_more size a b c d old mid read now w0 w1 w2 exchanges request session other so_far head answered =
+pub replied_more : (From : Held → Type 0) (tells : Type 0) (before mid_outside after : Outside) (session next : Session) (size : ℕ) (a b c d : Option (List ℕ)) (old mid read now : Room) (w0 w1 w2 : Option (List ℕ)) (exchanges : List Exchange) (request : Request)
+    → ((entry : Held) → From entry → tells) → mid_outside.capacity ≡ before.capacity → (tells → Extends before.history mid_outside.history) → (tells → Extends mid_outside.history after.history) → request.kind ≢ kinds.Disconnect
+    → Replied From tells before mid_outside session size a b old mid w0 w1 exchanges → HeadCame b c mid read (Ok (Some request)) → Answered tells mid_outside after session size request c d read now w1 w2 (Ok next)
+    → (exchange : Exchange) × Replied From tells before after next size a d old now w0 w2 (exchanges ++ exchange ∷ [])
+replied_more From tells before mid_outside after session next size a b c d old mid read now w0 w1 w2 exchanges request told same until on other so_far head answered =
     let sent : RequestSent = record { head = request; bytes = answered.gone } in
     let reply : Reply = answered.ends.1 in
     let exchange : Exchange = record { sent = sent; reply = reply } in
@@ -100,54 +128,97 @@ replied_more size a b c d old mid read now w0 w1 w2 exchanges request session ot
         came = flat_map sent_bytes exchanges ++ came;
         put = so_far.put ++ reply_bytes reply;
         takes = came_weaker a d old now.left (AwaitsMore exchanges) (AwaitsMore (exchanges ++ exchange ∷ [])) (flat_map sent_bytes exchanges ++ came) (awaits_more_too exchanges exchange)
-            (came_more_of size a b d old mid now.left w0 w1 exchanges came so_far (whole_came b c d mid read now.left request (answered.gone ++ now.ahead) head answered.came));
+            (came_more_of From tells before mid_outside session size a b d old mid now.left w0 w1 exchanges came so_far (whole_came b c d mid read now.left request (answered.gone ++ now.ahead) head answered.came));
         got = Got-then w0 so_far.put w1 (reply_bytes reply) w2 so_far.got answered.ends.3;
         fit = All-push (FitsExchange size) exchanges exchange so_far.fit (record { sent = record { head = head.ends.0; bytes = answered.ends.0 }; other = other; reply = answered.ends.2 });
         said =
             ap (λ (l : List ℕ). flat_map sent_bytes exchanges ++ l) (sym (append_assoc (request_head request) answered.gone now.ahead)) ∙ sym (append_assoc (flat_map sent_bytes exchanges) (request_bytes sent) now.ahead)
             ∙ ap (λ (l : List ℕ). (flat_map sent_bytes exchanges ++ l) ++ now.ahead) (sym (append-nil (request_bytes sent))) ∙ ap (λ (l : List ℕ). l ++ now.ahead) (sym words);
         replied = ap (λ (l : List ℕ). l ++ reply_bytes reply) so_far.replied ∙ ap (λ (l : List ℕ). flat_map replied_bytes exchanges ++ l) (sym (append-nil (reply_bytes reply))) ∙ sym answers;
+        damage = λ told_so.
+            All-push (HasMetDamage before.history after.history) exchanges exchange
+            (damages_later before.history mid_outside.history after.history exchanges (on told_so) (so_far.damage told_so))
+            (λ damaged. damage_now before.history after.history (omega (arith, (until told_so).later, (on told_so).later)) (answered.ends.5 told_so damaged));
+        led = λ entry from.
+            let led = so_far.led entry from in
+            subst (λ (l : List Reply). LedTo before.capacity before after next entry (map sent_of (exchanges ++ exchange ∷ [])) l) (sym (map-append told_of exchanges (exchange ∷ [])))
+            (subst (λ (l : List RequestSent). LedTo before.capacity before after next entry l (map told_of exchanges ++ reply ∷ [])) (sym (map-append sent_of exchanges (exchange ∷ [])))
+            (led_more before.capacity before mid_outside after session next entry (map sent_of exchanges) (map told_of exchanges) sent reply (same_count exchanges) same led (answered.ends.4 (told entry from) (last_of entry led.led.states) led.held)));
       },
     )
 
 -- ---- how it ends
 
-served_by : (size : ℕ) (a b c : Option (List ℕ)) (old mid now : Room) (w0 w1 w2 : Option (List ℕ)) (exchanges : List Exchange) (rest part : List ℕ) (result : Result (Unit {0}) Halt)
-    → Replied size a b old mid w0 w1 exchanges → Came b c mid now.left AwaitsRequest rest → Got w1 part w2 → ServedEnd size rest part c now.ahead result → Served size a c old now w0 w2 result
-served_by size a b c old mid now w0 w1 w2 exchanges rest part result so_far next got ends = record {
+unfinished_at : (capacity size : ℕ) (rest tail part : List ℕ) (result : Result (Unit {0}) Halt) (last : Held) (ahead : List Held) → result ≡ Err halts.Unfinished → IsAhead capacity size rest tail part result last ahead → IsUnfinished capacity last
+unfinished_at capacity size rest tail part result last ahead is ends = (subst (λ (r : Result (Unit {0}) Halt). IsAhead capacity size rest tail part r last ahead) is ends).1
+
+served_by : (From : Held → Type 0) (tells : Type 0) (before there after : Outside) (session : Session) (size : ℕ) (a b c : Option (List ℕ)) (old mid now : Room) (w0 w1 w2 : Option (List ℕ)) (exchanges : List Exchange) (rest part : List ℕ) (result : Result (Unit {0}) Halt)
+    → Replied From tells before there session size a b old mid w0 w1 exchanges → Came b c mid now.left AwaitsRequest rest → Got w1 part w2 → ServedEnd size rest part c now.ahead result
+    → IfErr result (λ halt. halt ≡ halts.Client stops.Limit → now.left ≡ 0) → (tells → Extends there.history after.history)
+    → ((entry : Held) → From entry → (last : Held) → IsHeld there.history.present there.head session last → Ending before.capacity there after (IsAhead before.capacity size rest now.ahead part result) last)
+    → Served From tells before after size a c old now w0 w2 result
+served_by From tells before there after session size a b c old mid now w0 w1 w2 exchanges rest part result so_far next got ends limit on made = record {
   exchanges = exchanges;
   came = flat_map sent_bytes exchanges ++ rest;
   put = so_far.put ++ part;
   rest = rest;
   part = part;
-  takes = came_more_of size a b c old mid now.left w0 w1 exchanges rest so_far next;
+  takes = came_more_of From tells before there session size a b c old mid now.left w0 w1 exchanges rest so_far next;
   got = Got-then w0 so_far.put w1 part w2 so_far.got got;
   fit = so_far.fit;
   said = refl;
   replied = ap (λ (l : List ℕ). l ++ part) so_far.replied;
   ends = ends;
+  limit = limit;
+  damage = λ told. damages_later before.history there.history after.history exchanges (on told) (so_far.damage told);
+  led = λ entry from.
+      let led = so_far.led entry from in
+      let end = made entry from (last_of entry led.led.states) led.held in
+      led_end before there after session entry (map sent_of exchanges) (map told_of exchanges) (IsAhead before.capacity size rest now.ahead part result) end.ahead led end.made end.is;
+  complete = λ entry from is room.
+      let led = so_far.led entry from in
+      let last : Held = last_of entry led.led.states in
+      let end = made entry from last led.held in
+      let all = leads_room before.capacity size entry exchanges led.led.states is room led.led.leads in
+      record { done = all.0; ends = λ unfinished. room_finished before.capacity last all.1 (unfinished_at before.capacity size rest now.ahead part result last end.ahead unfinished end.is) };
+}
+
+-- where nothing was done any more
+nothing_ahead : (capacity : ℕ) (here : Outside) (session : Session) (last : Held) (Is : Held → List Held → Type 0) → IsHeld here.history.present here.head session last → Is last [] → Ending capacity here here Is last
+nothing_ahead capacity here session last Is held is = record {
+  ahead = [];
+  made = made_start here.history None (closed (Some last.device)) (shut here.history.present (Some last.device) held.at.there.device held.at.served);
+  is = is;
 }
 
 -- without a head that is whole
-pub served_stopped : (size : ℕ) (a b c : Option (List ℕ)) (old mid now : Room) (w0 w1 : Option (List ℕ)) (exchanges : List Exchange) (halt : Halt)
-    → Replied size a b old mid w0 w1 exchanges → HeadCame b c mid now (Err halt) → Served size a c old now w0 w1 (Err halt)
-served_stopped size a b c old mid now w0 w1 exchanges (halts.Client stops.Source) so_far head = served_by size a b c old mid now w0 w1 w1 exchanges head.came [] (Err (halts.Client stops.Source)) so_far head.takes (Got-nothing w1) (refl, head.ends)
-served_stopped size a b c old mid now w0 w1 exchanges (halts.Client stops.Limit) so_far head = served_by size a b c old mid now w0 w1 w1 exchanges head.came [] (Err (halts.Client stops.Limit)) so_far head.takes (Got-nothing w1) (refl, head.ends)
-served_stopped size a b c old mid now w0 w1 exchanges (halts.Client stops.Broken) so_far head = served_by size a b c old mid now w0 w1 w1 exchanges head.came [] (Err (halts.Client stops.Broken)) so_far head.takes (Got-nothing w1) (refl, head.ends)
-served_stopped size a b c old mid now w0 w1 exchanges (halts.Client stops.Sink) so_far head = absurd head.ends
-served_stopped size a b c old mid now w0 w1 exchanges halts.Platform so_far head = absurd head.ends
-served_stopped size a b c old mid now w0 w1 exchanges halts.Tape so_far head = absurd head.ends
-served_stopped size a b c old mid now w0 w1 exchanges halts.Ledger so_far head = absurd head.ends
-served_stopped size a b c old mid now w0 w1 exchanges halts.BadRoot so_far head = absurd head.ends
-served_stopped size a b c old mid now w0 w1 exchanges halts.NoDevice so_far head = absurd head.ends
-served_stopped size a b c old mid now w0 w1 exchanges halts.Unfinished so_far head = absurd head.ends
-served_stopped size a b c old mid now w0 w1 exchanges halts.Memory so_far head = absurd head.ends
+pub served_stopped : (From : Held → Type 0) (tells : Type 0) (before there : Outside) (session : Session) (size : ℕ) (a b c : Option (List ℕ)) (old mid now : Room) (w0 w1 : Option (List ℕ)) (exchanges : List Exchange) (halt : Halt)
+    → Replied From tells before there session size a b old mid w0 w1 exchanges → HeadCame b c mid now (Err halt) → Served From tells before there size a c old now w0 w1 (Err halt)
+served_stopped From tells before there session size a b c old mid now w0 w1 exchanges halt so_far head = by halt head.limit head.ends
+  where
+    stop : (h : Halt) → (h ≡ halts.Client stops.Limit → now.left ≡ 0) → ServedEnd size head.came [] c now.ahead (Err h) → ((last : Held) → IsAhead before.capacity size head.came now.ahead [] (Err h) last []) → Served From tells before there size a c old now w0 w1 (Err h)
+    stop h limit ends none = served_by From tells before there there session size a b c old mid now w0 w1 w1 exchanges head.came [] (Err h) so_far head.takes (Got-nothing w1) ends limit (λ told. Extends-refl there.history)
+        (λ entry from last held. nothing_ahead before.capacity there session last (IsAhead before.capacity size head.came now.ahead [] (Err h)) held (none last))
+
+    by : (h : Halt) → (h ≡ halts.Client stops.Limit → now.left ≡ 0) → HeadEnd c now.ahead head.came (Err h) → Served From tells before there size a c old now w0 w1 (Err h)
+    by (halts.Client stops.Source) limit ends = stop (halts.Client stops.Source) limit (refl, ends) (λ last. refl)
+    by (halts.Client stops.Limit) limit ends = stop (halts.Client stops.Limit) limit (refl, ends) (λ last. refl)
+    by (halts.Client stops.Broken) limit ends = stop (halts.Client stops.Broken) limit (refl, ends) (λ last. refl)
+    by (halts.Client stops.Sink) limit ends = absurd ends
+    by halts.Platform limit ends = absurd ends
+    by halts.Tape limit ends = absurd ends
+    by halts.Ledger limit ends = absurd ends
+    by halts.BadRoot limit ends = absurd ends
+    by halts.NoDevice limit ends = absurd ends
+    by halts.Unfinished limit ends = absurd ends
+    by halts.Memory limit ends = absurd ends
 
 -- where the input ended between two requests
-pub served_over : (size : ℕ) (a b c : Option (List ℕ)) (old mid now : Room) (w0 w1 : Option (List ℕ)) (exchanges : List Exchange)
-    → Replied size a b old mid w0 w1 exchanges → HeadCame b c mid now (Ok None) → Served size a c old now w0 w1 (Ok tt)
-served_over size a b c old mid now w0 w1 exchanges so_far head =
-    served_by size a b c old mid now w0 w1 w1 exchanges head.came [] (Ok tt) so_far head.takes (Got-nothing w1) (refl, inl head.ends)
+pub served_over : (From : Held → Type 0) (tells : Type 0) (before there : Outside) (session : Session) (size : ℕ) (a b c : Option (List ℕ)) (old mid now : Room) (w0 w1 : Option (List ℕ)) (exchanges : List Exchange)
+    → Replied From tells before there session size a b old mid w0 w1 exchanges → HeadCame b c mid now (Ok None) → Served From tells before there size a c old now w0 w1 (Ok tt)
+served_over From tells before there session size a b c old mid now w0 w1 exchanges so_far head =
+    served_by From tells before there there session size a b c old mid now w0 w1 w1 exchanges head.came [] (Ok tt) so_far head.takes (Got-nothing w1) (refl, inl head.ends) tt (λ told. Extends-refl there.history)
+    (λ entry from last held. nothing_ahead before.capacity there session last (IsAhead before.capacity size head.came now.ahead [] (Ok tt)) held (inl (head.ends.0, refl)))
 
 goodbye_end : (size : ℕ) (rest ahead : List ℕ) (left : Option (List ℕ)) (result : Result (Unit {0}) Halt) → IsGoodbye rest ahead → EndsByDisconnect result → ServedEnd size rest [] left ahead result
 goodbye_end size rest ahead left (Ok done) bye ends = (refl, inr bye)
@@ -160,15 +231,77 @@ goodbye_end size rest ahead left (Err halts.BadRoot) bye ends = absurd ends
 goodbye_end size rest ahead left (Err halts.NoDevice) bye ends = absurd ends
 goodbye_end size rest ahead left (Err (halts.Client stop)) bye ends = absurd ends
 
-pub served_goodbye : (size : ℕ) (a b c : Option (List ℕ)) (old mid now : Room) (w0 w1 : Option (List ℕ)) (exchanges : List Exchange) (request : Request) (result : Result (Unit {0}) Halt) → request.kind ≡ kinds.Disconnect
-    → Replied size a b old mid w0 w1 exchanges → HeadCame b c mid now (Ok (Some request)) → EndsByDisconnect result → Served size a c old now w0 w1 result
-served_goodbye size a b c old mid now w0 w1 exchanges request result is so_far head ends =
-    served_by size a b c old mid now w0 w1 w1 exchanges head.came [] result so_far head.takes (Got-nothing w1) (goodbye_end size head.came now.ahead c result (request, is, head.ends.1) ends)
+-- the states of a request that halted
+halted_end : (capacity size : ℕ) (there after : Outside) (rest tail : List ℕ) (last : Held) (kind : RequestKind) (halt : Halt) → there.capacity ≡ capacity → (IsOfCommit kind → IsCommit rest) → IsLate halt → halt ≢ halts.Client stops.Sink → Halted there after last kind halt
+    → Ending capacity there after (IsAhead capacity size rest tail [] (Err halt)) last
+halted_end capacity size there after rest tail last kind halt same commit late other halted = record { ahead = halted.ahead; made = halted.made; is = by halt late other (subst (λ (n : ℕ). HaltsAt n last kind halted.ahead halt) same halted.is) }
+  where
+    by : (h : Halt) → IsLate h → h ≢ halts.Client stops.Sink → HaltsAt capacity last kind halted.ahead h → IsAhead capacity size rest tail [] (Err h) last halted.ahead
+    by halts.Platform late other (inl none) = inl none
+    by halts.Platform late other (inr (of, next, is, ends)) = inr (commit of, next, is, ends)
+    by halts.Unfinished late other is = is
+    by halts.Tape late other is = is
+    by halts.Ledger late other is = is
+    by halts.Memory late other is = is
+    by halts.BadRoot late other is = late
+    by halts.NoDevice late other is = late
+    by (halts.Client stops.Source) late other is = is
+    by (halts.Client stops.Limit) late other is = is
+    by (halts.Client stops.Broken) late other is = is
+    by (halts.Client stops.Sink) late other is = absurd (other refl)
+
+goodbye_ends : (capacity size : ℕ) (tells : Type 0) (there after : Outside) (session : Session) (rest tail : List ℕ) (last : Held) (result : Result (Unit {0}) Halt) → tells → there.capacity ≡ capacity → IsGoodbye rest tail → EndsByDisconnect result → IsHeld there.history.present there.head session last
+    → Finishes tells there after session result → Ending capacity there after (IsAhead capacity size rest tail [] result) last
+goodbye_ends capacity size tells there after session rest tail last (Ok done) told same bye ends held finishes =
+    let end = finishes told last held in
+    record { ahead = end.next ∷ []; made = end.made; is = inr (bye, end.next, refl, subst (λ (n : ℕ). Ends n last end.next) same end.is) }
+goodbye_ends capacity size tells there after session rest tail last (Err halt) told same bye ends held finishes =
+    halted_end capacity size there after rest tail last kinds.Disconnect halt same (λ of. (bye.0, tail, subst IsOfCommit (sym bye.1) tt, bye.2)) (late_goodbye halt ends) (no_sink halt ends) (finishes told last held)
+  where
+    late_goodbye : (h : Halt) → EndsByDisconnect (Err h) → IsLate h
+    late_goodbye halts.Platform ends = tt
+    late_goodbye halts.Tape ends = tt
+    late_goodbye halts.Ledger ends = tt
+    late_goodbye halts.Memory ends = tt
+    late_goodbye halts.Unfinished ends = tt
+    late_goodbye halts.BadRoot ends = absurd ends
+    late_goodbye halts.NoDevice ends = absurd ends
+    late_goodbye (halts.Client stop) ends = absurd ends
+
+    no_sink : (h : Halt) → EndsByDisconnect (Err h) → h ≢ halts.Client stops.Sink
+    no_sink (halts.Client stop) ends same = absurd ends
+    no_sink halts.Platform ends same = absurd cc
+    no_sink halts.Tape ends same = absurd cc
+    no_sink halts.Ledger ends same = absurd cc
+    no_sink halts.Memory ends same = absurd cc
+    no_sink halts.Unfinished ends same = absurd cc
+    no_sink halts.BadRoot ends same = absurd cc
+    no_sink halts.NoDevice ends same = absurd cc
+
+goodbye_limit : (result : Result (Unit {0}) Halt) (left : ℕ) → EndsByDisconnect result → IfErr result (λ halt. halt ≡ halts.Client stops.Limit → left ≡ 0)
+goodbye_limit (Ok done) left ends = tt
+goodbye_limit (Err (halts.Client stop)) left ends = absurd ends
+goodbye_limit (Err halts.Platform) left ends = λ is. absurd cc
+goodbye_limit (Err halts.Tape) left ends = λ is. absurd cc
+goodbye_limit (Err halts.Ledger) left ends = λ is. absurd cc
+goodbye_limit (Err halts.Memory) left ends = λ is. absurd cc
+goodbye_limit (Err halts.Unfinished) left ends = λ is. absurd cc
+goodbye_limit (Err halts.BadRoot) left ends = absurd ends
+goodbye_limit (Err halts.NoDevice) left ends = absurd ends
+
+pub served_goodbye : (From : Held → Type 0) (tells : Type 0) (before there after : Outside) (session : Session) (size : ℕ) (a b c : Option (List ℕ)) (old mid now : Room) (w0 w1 : Option (List ℕ)) (exchanges : List Exchange) (request : Request) (result : Result (Unit {0}) Halt)
+    → ((entry : Held) → From entry → tells) → there.capacity ≡ before.capacity → (tells → Extends there.history after.history) → request.kind ≡ kinds.Disconnect
+    → Replied From tells before there session size a b old mid w0 w1 exchanges → HeadCame b c mid now (Ok (Some request)) → EndsByDisconnect result → Finishes tells there after session result → Served From tells before after size a c old now w0 w1 result
+served_goodbye From tells before there after session size a b c old mid now w0 w1 exchanges request result told same on is so_far head ends finishes =
+    let bye : IsGoodbye head.came now.ahead = (request, is, head.ends.1) in
+    served_by From tells before there after session size a b c old mid now w0 w1 w1 exchanges head.came [] result so_far head.takes (Got-nothing w1) (goodbye_end size head.came now.ahead c result bye ends) (goodbye_limit result now.left ends) on
+    (λ entry from last held. goodbye_ends before.capacity size tells there after session head.came now.ahead last result (told entry from) same bye ends held finishes)
 
 -- in a request: without its reply, or with a part of it
-pub served_halted : (size : ℕ) (a b c d : Option (List ℕ)) (old mid read now : Room) (w0 w1 w2 : Option (List ℕ)) (exchanges : List Exchange) (request : Request) (halt : Halt) → request.kind ≢ kinds.Disconnect
-    → Replied size a b old mid w0 w1 exchanges → HeadCame b c mid read (Ok (Some request)) → Answered size request c d read now w1 w2 (Err halt) → Served size a d old now w0 w2 (Err halt)
-served_halted size a b c d old mid read now w0 w1 w2 exchanges request halt other so_far head answered = by halt answered.ends
+pub served_halted : (From : Held → Type 0) (tells : Type 0) (before there after : Outside) (session : Session) (size : ℕ) (a b c d : Option (List ℕ)) (old mid read now : Room) (w0 w1 w2 : Option (List ℕ)) (exchanges : List Exchange) (request : Request) (halt : Halt)
+    → ((entry : Held) → From entry → tells) → there.capacity ≡ before.capacity → (tells → Extends there.history after.history) → request.kind ≢ kinds.Disconnect
+    → Replied From tells before there session size a b old mid w0 w1 exchanges → HeadCame b c mid read (Ok (Some request)) → Answered tells there after session size request c d read now w1 w2 (Err halt) → Served From tells before after size a d old now w0 w2 (Err halt)
+served_halted From tells before there after session size a b c d old mid read now w0 w1 w2 exchanges request halt told same on other so_far head answered = by halt answered.limit answered.ends
   where
     rest : List ℕ
     rest = request_head request ++ (answered.gone ++ now.ahead)
@@ -176,26 +309,30 @@ served_halted size a b c d old mid read now w0 w1 w2 exchanges request halt othe
     takes : Came b d mid now.left AwaitsRequest rest
     takes = whole_came b c d mid read now.left request (answered.gone ++ now.ahead) head answered.came
 
-    none : (h : Halt) → w2 ≡ w1 → ServedEnd size rest [] d now.ahead (Err h) → Served size a d old now w0 w2 (Err h)
-    none h same ends = served_by size a b d old mid now w0 w1 w2 exchanges rest [] (Err h) so_far takes (subst (Got w1 []) (sym same) (Got-nothing w1)) ends
+    none : (h : Halt) → (h ≡ halts.Client stops.Limit → now.left ≡ 0) → w2 ≡ w1 → ServedEnd size rest [] d now.ahead (Err h) → IsLate h → h ≢ halts.Client stops.Sink → Halts tells there after session request.kind h → Served From tells before after size a d old now w0 w2 (Err h)
+    none h limit same_put ends late no_sink halts_so = served_by From tells before there after session size a b d old mid now w0 w1 w2 exchanges rest [] (Err h) so_far takes (subst (Got w1 []) (sym same_put) (Got-nothing w1)) ends limit on
+        (λ entry from last held. halted_end before.capacity size there after rest now.ahead last request.kind h same (λ of. (request, answered.gone ++ now.ahead, of, refl)) late no_sink (halts_so (told entry from) last held))
 
-    by : (h : Halt) → AnswerEnd size request d answered.gone now.ahead w1 w2 (Err h) → Served size a d old now w0 w2 (Err h)
-    by (halts.Client stops.Sink) (whole, reply, is, part) =
+    by : (h : Halt) → (h ≡ halts.Client stops.Limit → now.left ≡ 0) → AnswerEnd tells there after session size request d answered.gone now.ahead w1 w2 (Err h) → Served From tells before after size a d old now w0 w2 (Err h)
+    by (halts.Client stops.Sink) limit (whole, reply, is, part, turns, damage) =
         let sent : RequestSent = record { head = request; bytes = answered.gone } in
         let exchange : Exchange = record { sent = sent; reply = reply } in
         let fits : FitsExchange size exchange = record { sent = record { head = head.ends.0; bytes = whole }; other = other; reply = is } in
-        served_by size a b d old mid now w0 w1 w2 exchanges rest (take part.0 (reply_bytes reply)) (Err (halts.Client stops.Sink)) so_far takes part.1
-        (record { exchange = exchange; fits = fits; is = sym (append_assoc (request_head request) answered.gone now.ahead); count = part.0; put = refl })
-    by (halts.Client stops.Source) (same, short) = none (halts.Client stops.Source) same (refl, head_awaits request (answered.gone ++ now.ahead) head.ends.0 short)
-    by (halts.Client stops.Limit) (same, short) = none (halts.Client stops.Limit) same (refl, head_awaits request (answered.gone ++ now.ahead) head.ends.0 short)
-    by (halts.Client stops.Broken) (same, both) = none (halts.Client stops.Broken) same (refl, inl (both.1, omega arith, head_awaits request (answered.gone ++ now.ahead) head.ends.0 both.0))
-    by halts.Platform (same, ends) = none halts.Platform same refl
-    by halts.Tape (same, ends) = none halts.Tape same refl
-    by halts.Ledger (same, ends) = none halts.Ledger same refl
-    by halts.Memory (same, ends) = none halts.Memory same refl
-    by halts.BadRoot (same, ends) = absurd ends
-    by halts.NoDevice (same, ends) = absurd ends
-    by halts.Unfinished (same, ends) = absurd ends
+        let cut : IsCutOff size rest now.ahead (take part.0 (reply_bytes reply)) = record { exchange = exchange; fits = fits; is = sym (append_assoc (request_head request) answered.gone now.ahead); count = part.0; put = refl } in
+        served_by From tells before there after session size a b d old mid now w0 w1 w2 exchanges rest (take part.0 (reply_bytes reply)) (Err (halts.Client stops.Sink)) so_far takes part.1 cut limit on
+        (λ entry from last held.
+        let turned = turns (told entry from) last held in
+        record { ahead = turned.next ∷ []; made = turned.made; is = (cut, turned.next, refl, subst (λ (n : ℕ). Turn n last sent reply turned.next) same turned.turn) })
+    by (halts.Client stops.Source) limit (same_put, short, halts_so) = none (halts.Client stops.Source) limit same_put (refl, head_awaits request (answered.gone ++ now.ahead) head.ends.0 short) tt (λ e. cc) halts_so
+    by (halts.Client stops.Limit) limit (same_put, short, halts_so) = none (halts.Client stops.Limit) limit same_put (refl, head_awaits request (answered.gone ++ now.ahead) head.ends.0 short) tt (λ e. cc) halts_so
+    by (halts.Client stops.Broken) limit (same_put, both, halts_so) = none (halts.Client stops.Broken) limit same_put (refl, inl (both.1, omega arith, head_awaits request (answered.gone ++ now.ahead) head.ends.0 both.0)) tt (λ e. cc) halts_so
+    by halts.Platform limit (same_put, ends, halts_so) = none halts.Platform limit same_put refl tt (λ e. cc) halts_so
+    by halts.Tape limit (same_put, ends, halts_so) = none halts.Tape limit same_put refl tt (λ e. cc) halts_so
+    by halts.Ledger limit (same_put, ends, halts_so) = none halts.Ledger limit same_put refl tt (λ e. cc) halts_so
+    by halts.Memory limit (same_put, ends, halts_so) = none halts.Memory limit same_put refl tt (λ e. cc) halts_so
+    by halts.BadRoot limit (same_put, ends, halts_so) = absurd ends
+    by halts.NoDevice limit (same_put, ends, halts_so) = absurd ends
+    by halts.Unfinished limit (same_put, ends, halts_so) = absurd ends
 
 -- ---- one request
 
@@ -214,18 +351,19 @@ flush_ends halts.NoDevice ends = ends
 flush_ends halts.Unfinished ends = tt
 
 -- one that halted
-pub answer_halted : (size : ℕ) (request : Request) (left : Option (List ℕ)) (gone ahead : List ℕ) (written : Option (List ℕ)) (halt : Halt) → DataEnd left (bytes_behind request.kind request.length) (gone ++ ahead) halt → AnswerEnd size request left gone ahead written written (Err halt)
-answer_halted size request left gone ahead written (halts.Client stops.Source) ends = (refl, ends)
-answer_halted size request left gone ahead written (halts.Client stops.Limit) ends = (refl, ends)
-answer_halted size request left gone ahead written (halts.Client stops.Broken) ends = (refl, ends)
-answer_halted size request left gone ahead written (halts.Client stops.Sink) ends = absurd ends
-answer_halted size request left gone ahead written halts.Platform ends = (refl, ends)
-answer_halted size request left gone ahead written halts.Tape ends = (refl, ends)
-answer_halted size request left gone ahead written halts.Ledger ends = (refl, ends)
-answer_halted size request left gone ahead written halts.Memory ends = (refl, ends)
-answer_halted size request left gone ahead written halts.BadRoot ends = (refl, ends)
-answer_halted size request left gone ahead written halts.NoDevice ends = (refl, ends)
-answer_halted size request left gone ahead written halts.Unfinished ends = (refl, ends)
+pub answer_halted : (tells : Type 0) (before after : Outside) (session : Session) (size : ℕ) (request : Request) (left : Option (List ℕ)) (gone ahead : List ℕ) (written : Option (List ℕ)) (halt : Halt) → DataEnd left (bytes_behind request.kind request.length) (gone ++ ahead) halt
+    → Halts tells before after session request.kind halt → AnswerEnd tells before after session size request left gone ahead written written (Err halt)
+answer_halted tells before after session size request left gone ahead written (halts.Client stops.Source) ends halts_so = (refl, ends, halts_so)
+answer_halted tells before after session size request left gone ahead written (halts.Client stops.Limit) ends halts_so = (refl, ends, halts_so)
+answer_halted tells before after session size request left gone ahead written (halts.Client stops.Broken) ends halts_so = (refl, ends, halts_so)
+answer_halted tells before after session size request left gone ahead written (halts.Client stops.Sink) ends halts_so = absurd ends
+answer_halted tells before after session size request left gone ahead written halts.Platform ends halts_so = (refl, ends, halts_so)
+answer_halted tells before after session size request left gone ahead written halts.Tape ends halts_so = (refl, ends, halts_so)
+answer_halted tells before after session size request left gone ahead written halts.Ledger ends halts_so = (refl, ends, halts_so)
+answer_halted tells before after session size request left gone ahead written halts.Memory ends halts_so = (refl, ends, halts_so)
+answer_halted tells before after session size request left gone ahead written halts.BadRoot ends halts_so = (refl, ends, halts_so)
+answer_halted tells before after session size request left gone ahead written halts.NoDevice ends halts_so = (refl, ends, halts_so)
+answer_halted tells before after session size request left gone ahead written halts.Unfinished ends halts_so = (refl, ends, halts_so)
 
 reply_length : (kind : RequestKind) (count : ℕ) (outcome : Outcome) (room : List ℕ) → (kind ≡ kinds.Read → outcome ≡ outcomes.Done → 16 + count ≤ length room) → length (bytes_of_reply kind count outcome room) ≡ bytes_told kind outcome count
 reply_length kinds.Read count outcomes.Done room there = let long = there refl refl in omega (arith, long, length-take count (drop 16 room), length-drop 16 room)
@@ -244,15 +382,22 @@ pub is_reply : (size : ℕ) (request : Request) (outcome : Outcome) (room : List
 is_reply size request outcome room refused there = record { cookie = refl; refused = refused; bytes = reply_length request.kind request.length outcome room there }
 
 -- one that could not be told whole
-pub answer_cut : (size : ℕ) (request : Request) (left : Option (List ℕ)) (gone ahead : List ℕ) (written written_now : Option (List ℕ)) (stop : Stop) (reply : Reply) → stop ≡ stops.Sink → length gone ≡ bytes_behind request.kind request.length → IsReplyTo size request reply
-    → GotPart written (reply_bytes reply) written_now → AnswerEnd size request left gone ahead written written_now (Err (halts.Client stop))
-answer_cut size request left gone ahead written written_now stop reply is whole fits part =
-    subst (λ (s : Stop). AnswerEnd size request left gone ahead written written_now (Err (halts.Client s))) (sym is) (whole, reply, fits, part)
+pub answer_cut : (tells : Type 0) (before after : Outside) (session : Session) (size : ℕ) (request : Request) (left : Option (List ℕ)) (gone ahead : List ℕ) (written written_now : Option (List ℕ)) (stop : Stop) (reply : Reply) → stop ≡ stops.Sink
+    → length gone ≡ bytes_behind request.kind request.length → IsReplyTo size request reply → GotPart written (reply_bytes reply) written_now → Turns tells before after session None (record { head = request; bytes = gone }) reply → (tells → IsDamage after.history.present reply.outcome)
+    → AnswerEnd tells before after session size request left gone ahead written written_now (Err (halts.Client stop))
+answer_cut tells before after session size request left gone ahead written written_now stop reply is whole fits part turns damage =
+    subst (λ (s : Stop). AnswerEnd tells before after session size request left gone ahead written written_now (Err (halts.Client s))) (sym is) (whole, reply, fits, part, turns, damage)
+
+pub broken_no_limit : (n : ℕ) → halts.Client stops.Broken ≡ halts.Client stops.Limit → n ≡ 0
+broken_no_limit n is = absurd cc
+
+pub sink_no_limit : (stop : Stop) → stop ≡ stops.Sink → halts.Client stop ≡ halts.Client stops.Limit → ⊥
+sink_no_limit stop is same = cc
 
 -- there is no more to come than before
-pub less_of_answer : (size : ℕ) (request : Request) (a c : Option (List ℕ)) (old new : Room) (written written_now : Option (List ℕ)) (result : Result Session Halt) → Answered size request a c old new written written_now result
-    → length new.ahead + new.left ≤ length old.ahead + old.left
-less_of_answer size request a c old new written written_now result answered =
+pub less_of_answer : (tells : Type 0) (before after : Outside) (session : Session) (size : ℕ) (request : Request) (a c : Option (List ℕ)) (old new : Room) (written written_now : Option (List ℕ)) (result : Result Session Halt)
+    → Answered tells before after session size request a c old new written written_now result → length new.ahead + new.left ≤ length old.ahead + old.left
+less_of_answer tells before after session size request a c old new written written_now result answered =
     omega (arith, ap length answered.came.is, length-append answered.gone new.ahead, length-append old.ahead answered.came.taken, answered.came.count)
 
 -- the end of requests is behind the look at the cell
@@ -267,10 +412,10 @@ late_served size rest part left ahead halts.NoDevice ends = ends
 late_served size rest part left ahead halts.Unfinished ends = tt
 
 -- the same of a device whose size is said in another way
-pub answered_on : (size other : ℕ) (request : Request) (a c : Option (List ℕ)) (old new : Room) (written written_now : Option (List ℕ)) (result : Result Session Halt) → size ≡ other → Answered size request a c old new written written_now result
-    → Answered other request a c old new written written_now result
-answered_on size other request a c old new written written_now result same answered = subst (λ (n : ℕ). Answered n request a c old new written written_now result) same answered
+pub answered_on : (tells : Type 0) (before after : Outside) (session : Session) (size other : ℕ) (request : Request) (a c : Option (List ℕ)) (old new : Room) (written written_now : Option (List ℕ)) (result : Result Session Halt) → size ≡ other
+    → Answered tells before after session size request a c old new written written_now result → Answered tells before after session other request a c old new written written_now result
+answered_on tells before after session size other request a c old new written written_now result same answered = subst (λ (n : ℕ). Answered tells before after session n request a c old new written written_now result) same answered
 
-pub late_of : (size : ℕ) (a c : Option (List ℕ)) (old new : Room) (written written_now : Option (List ℕ)) (result : Result (Unit {0}) Halt) → Served size a c old new written written_now result → IfErr result IsLate
-late_of size a c old new written written_now (Ok done) served = tt
-late_of size a c old new written written_now (Err halt) served = late_served size served.rest served.part c new.ahead halt served.ends
+pub late_of : (From : Held → Type 0) (tells : Type 0) (before after : Outside) (size : ℕ) (a c : Option (List ℕ)) (old new : Room) (written written_now : Option (List ℕ)) (result : Result (Unit {0}) Halt) → Served From tells before after size a c old new written written_now result → IfErr result IsLate
+late_of From tells before after size a c old new written written_now (Ok done) served = tt
+late_of From tells before after size a c old new written written_now (Err halt) served = late_served size served.rest served.part c new.ahead halt served.ends

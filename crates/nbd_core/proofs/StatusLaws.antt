@@ -1,5 +1,5 @@
 -- The exit status of a run, and what it says.
-use Rattle.std.proofs.Common.{◌≡◌, List, [], ◌∷◌, Err, inl, inr, refl, length, arith}
+use Rattle.std.proofs.Common.{◌≡◌, List, [], ◌∷◌, Ok, Err, inl, inr, refl, length, arith}
 use Rattle.std.specs.Prelude.{map}
 use Rattle.sdbt_base.specs.Counts.{Counts}
 use Rattle.nbd_core.specs.Halts.{Blames, status_at}
@@ -61,18 +61,34 @@ at_eight halts.NoDevice is = absurd (omega (arith, is))
 at_eight halts.Unfinished is = absurd (omega (arith, is))
 at_eight halts.Memory is = absurd (omega (arith, is))
 
+pub at_twelve : (halt : Halt) → status_at halt ≡ 12 → halt ≡ halts.Client stops.Limit
+at_twelve (halts.Client stops.Limit) is = refl
+at_twelve (halts.Client stops.Source) is = absurd (omega (arith, is))
+at_twelve (halts.Client stops.Sink) is = absurd (omega (arith, is))
+at_twelve (halts.Client stops.Broken) is = absurd (omega (arith, is))
+at_twelve halts.Platform is = absurd (omega (arith, is))
+at_twelve halts.Tape is = absurd (omega (arith, is))
+at_twelve halts.Ledger is = absurd (omega (arith, is))
+at_twelve halts.BadRoot is = absurd (omega (arith, is))
+at_twelve halts.NoDevice is = absurd (omega (arith, is))
+at_twelve halts.Unfinished is = absurd (omega (arith, is))
+at_twelve halts.Memory is = absurd (omega (arith, is))
+
 pub blamed : (before now : Counts) (halt : Halt) → Blames {X = Unit {0}} before now (Err halt) → IsBlamedAt (status_at halt) before now
-blamed before now (halts.Client stops.Source) b = record { none_fell = b.fell; input = λ is. b.cause; output = λ is. absurd (omega (arith, is)); platform = λ is. absurd (omega (arith, is)); tape = λ is. absurd (omega (arith, is)); ledger = λ is. absurd (omega (arith, is)) }
-blamed before now (halts.Client stops.Sink) b = record { none_fell = b.fell; input = λ is. absurd (omega (arith, is)); output = λ is. b.cause; platform = λ is. absurd (omega (arith, is)); tape = λ is. absurd (omega (arith, is)); ledger = λ is. absurd (omega (arith, is)) }
-blamed before now (halts.Client stops.Limit) b = record { none_fell = b.fell; input = λ is. absurd (omega (arith, is)); output = λ is. absurd (omega (arith, is)); platform = λ is. absurd (omega (arith, is)); tape = λ is. absurd (omega (arith, is)); ledger = λ is. absurd (omega (arith, is)) }
-blamed before now (halts.Client stops.Broken) b = record { none_fell = b.fell; input = λ is. absurd (omega (arith, is)); output = λ is. absurd (omega (arith, is)); platform = λ is. absurd (omega (arith, is)); tape = λ is. absurd (omega (arith, is)); ledger = λ is. absurd (omega (arith, is)) }
-blamed before now halts.Platform b = record { none_fell = b.fell; input = λ is. absurd (omega (arith, is)); output = λ is. absurd (omega (arith, is)); platform = λ is. b.cause; tape = λ is. absurd (omega (arith, is)); ledger = λ is. absurd (omega (arith, is)) }
-blamed before now halts.Tape b = record { none_fell = b.fell; input = λ is. absurd (omega (arith, is)); output = λ is. absurd (omega (arith, is)); platform = λ is. absurd (omega (arith, is)); tape = λ is. b.cause; ledger = λ is. absurd (omega (arith, is)) }
-blamed before now halts.Ledger b = record { none_fell = b.fell; input = λ is. absurd (omega (arith, is)); output = λ is. absurd (omega (arith, is)); platform = λ is. absurd (omega (arith, is)); tape = λ is. absurd (omega (arith, is)); ledger = λ is. b.cause }
-blamed before now halts.BadRoot b = record { none_fell = b.fell; input = λ is. absurd (omega (arith, is)); output = λ is. absurd (omega (arith, is)); platform = λ is. absurd (omega (arith, is)); tape = λ is. absurd (omega (arith, is)); ledger = λ is. absurd (omega (arith, is)) }
-blamed before now halts.NoDevice b = record { none_fell = b.fell; input = λ is. absurd (omega (arith, is)); output = λ is. absurd (omega (arith, is)); platform = λ is. absurd (omega (arith, is)); tape = λ is. absurd (omega (arith, is)); ledger = λ is. absurd (omega (arith, is)) }
-blamed before now halts.Unfinished b = record { none_fell = b.fell; input = λ is. absurd (omega (arith, is)); output = λ is. absurd (omega (arith, is)); platform = λ is. absurd (omega (arith, is)); tape = λ is. absurd (omega (arith, is)); ledger = λ is. absurd (omega (arith, is)) }
-blamed before now halts.Memory b = record { none_fell = b.fell; input = λ is. absurd (omega (arith, is)); output = λ is. absurd (omega (arith, is)); platform = λ is. absurd (omega (arith, is)); tape = λ is. absurd (omega (arith, is)); ledger = λ is. absurd (omega (arith, is)) }
+blamed before now (halts.Client stops.Source) b = record { none_fell = b.fell; input = λ is. b.cause; output = λ is. absurd (omega (arith, is)); platform = λ is. absurd (omega (arith, is)); tape = λ is. absurd (omega (arith, is)); ledger = λ is. absurd (omega (arith, is)); quiet = λ outside. absurd (outside (omega arith) (omega arith)) }
+blamed before now (halts.Client stops.Sink) b = record { none_fell = b.fell; input = λ is. absurd (omega (arith, is)); output = λ is. b.cause; platform = λ is. absurd (omega (arith, is)); tape = λ is. absurd (omega (arith, is)); ledger = λ is. absurd (omega (arith, is)); quiet = λ outside. absurd (outside (omega arith) (omega arith)) }
+blamed before now (halts.Client stops.Limit) b = record { none_fell = b.fell; input = λ is. absurd (omega (arith, is)); output = λ is. absurd (omega (arith, is)); platform = λ is. absurd (omega (arith, is)); tape = λ is. absurd (omega (arith, is)); ledger = λ is. absurd (omega (arith, is)); quiet = λ outside. b.cause }
+blamed before now (halts.Client stops.Broken) b = record { none_fell = b.fell; input = λ is. absurd (omega (arith, is)); output = λ is. absurd (omega (arith, is)); platform = λ is. absurd (omega (arith, is)); tape = λ is. absurd (omega (arith, is)); ledger = λ is. absurd (omega (arith, is)); quiet = λ outside. b.cause }
+blamed before now halts.Platform b = record { none_fell = b.fell; input = λ is. absurd (omega (arith, is)); output = λ is. absurd (omega (arith, is)); platform = λ is. b.cause; tape = λ is. absurd (omega (arith, is)); ledger = λ is. absurd (omega (arith, is)); quiet = λ outside. absurd (outside (omega arith) (omega arith)) }
+blamed before now halts.Tape b = record { none_fell = b.fell; input = λ is. absurd (omega (arith, is)); output = λ is. absurd (omega (arith, is)); platform = λ is. absurd (omega (arith, is)); tape = λ is. b.cause; ledger = λ is. absurd (omega (arith, is)); quiet = λ outside. absurd (outside (omega arith) (omega arith)) }
+blamed before now halts.Ledger b = record { none_fell = b.fell; input = λ is. absurd (omega (arith, is)); output = λ is. absurd (omega (arith, is)); platform = λ is. absurd (omega (arith, is)); tape = λ is. absurd (omega (arith, is)); ledger = λ is. b.cause; quiet = λ outside. absurd (outside (omega arith) (omega arith)) }
+blamed before now halts.BadRoot b = record { none_fell = b.fell; input = λ is. absurd (omega (arith, is)); output = λ is. absurd (omega (arith, is)); platform = λ is. absurd (omega (arith, is)); tape = λ is. absurd (omega (arith, is)); ledger = λ is. absurd (omega (arith, is)); quiet = λ outside. b.cause }
+blamed before now halts.NoDevice b = record { none_fell = b.fell; input = λ is. absurd (omega (arith, is)); output = λ is. absurd (omega (arith, is)); platform = λ is. absurd (omega (arith, is)); tape = λ is. absurd (omega (arith, is)); ledger = λ is. absurd (omega (arith, is)); quiet = λ outside. b.cause }
+blamed before now halts.Unfinished b = record { none_fell = b.fell; input = λ is. absurd (omega (arith, is)); output = λ is. absurd (omega (arith, is)); platform = λ is. absurd (omega (arith, is)); tape = λ is. absurd (omega (arith, is)); ledger = λ is. absurd (omega (arith, is)); quiet = λ outside. b.cause }
+blamed before now halts.Memory b = record { none_fell = b.fell; input = λ is. absurd (omega (arith, is)); output = λ is. absurd (omega (arith, is)); platform = λ is. absurd (omega (arith, is)); tape = λ is. absurd (omega (arith, is)); ledger = λ is. absurd (omega (arith, is)); quiet = λ outside. b.cause }
+
+pub blamed_none : (before now : Counts) → Blames {X = Unit {0}} before now (Ok tt) → IsBlamedAt 0 before now
+blamed_none before now b = record { none_fell = b.fell; input = λ is. absurd (omega (arith, is)); output = λ is. absurd (omega (arith, is)); platform = λ is. absurd (omega (arith, is)); tape = λ is. absurd (omega (arith, is)); ledger = λ is. absurd (omega (arith, is)); quiet = λ outside. b.quiet }
 
 -- no words
 pub no_words : {A B : Type 0} (spelled : A → B) (words : List A) → length words ≡ 0 → map spelled words ≡ []

@@ -5,10 +5,11 @@ use Rattle.platform.specs.Image.{Image}
 use Rattle.byte_arrays.specs.Arrays.{bytes_at, with_bytes}
 use Rattle.byte_arrays.specs.Parts.{IsPart}
 use Rattle.device_course.specs.States.{IsAt}
+use Rattle.device_session.specs.Open.{needed_by}
 use Rattle.device_session.specs.Sessions.{Session}
 use Rattle.nbd_lang.specs.declared.replies.Outcome.{Outcome}
 use Rattle.nbd_lang.specs.declared.replies.Outcome.TheVariants as outcomes
-use Rattle.nbd_terms.specs.Held.{array_of}
+use Rattle.nbd_terms.specs.Held.{array_of, write_all}
 use Rattle.session_calls.specs.declared.stops.DeviceStop.{DeviceStop}
 use Rattle.session_calls.specs.declared.stops.DeviceStop.TheVariants as stops
 
@@ -22,9 +23,9 @@ ReadsBytes image now device array place bytes (Err stops.Ledger) = ⊥
 ReadsBytes image now device array place bytes (Err stops.BadRoot) = ⊥
 ReadsBytes image now device array place bytes (Err (stops.BadRecord addr)) = ⊥
 
--- a trim that came to this outcome trimmed so many of the blocks: all where it was done; and no record
--- that doesn't fit was met
-pub record TrimmedSome (array : OpenSession) (blocks : List ℕ) (outcome : Outcome) (n : ℕ) : Type 0 where
+-- a trim or a write that came to this outcome did so many of its blocks, the first ones: all where it
+-- was done; and no record that doesn't fit was met
+pub record DidSome (blocks : List ℕ) (outcome : Outcome) (n : ℕ) : Type 0 where
   pub few : n ≤ length blocks
   pub sound : (outcome ≡ outcomes.Done) ⊎ (outcome ≡ outcomes.NoMemory)
   pub all : outcome ≡ outcomes.Done → n ≡ length blocks
@@ -46,6 +47,15 @@ WritesPart image now device array block start count bytes (Err stops.Tape) = IsA
 WritesPart image now device array block start count bytes (Err stops.Ledger) = ⊥
 WritesPart image now device array block start count bytes (Err stops.BadRoot) = ⊥
 WritesPart image now device array block start count bytes (Err (stops.BadRecord addr)) = ⊥
+
+-- a range that was written up to this outcome: so many of its blocks, each with what the array is to have
+-- there with these bytes in their place from the offset on; each is a page
+pub record WroteRange (image : Image) (head head_now needed : ℕ) (now : Session) (device : Device) (array : OpenSession) (offset : ℕ) (bytes : List ℕ) (blocks : List ℕ) (outcome : Outcome) : Type 0 where
+  pub many : ℕ
+  pub did : DidSome blocks outcome many
+  pub pages : head_now ≡ head + many
+  pub needs : needed_by now ≤ needed + 41 * many
+  pub at : IsAt image (Some now) (mounted device (write_all array (with_bytes (array_of array) offset bytes) (take many blocks)))
 
 -- how many pages a write of a block adds
 abbrev pub AddsOne : ℕ → ℕ → Result (Unit {0}) DeviceStop → Type 0

@@ -1,9 +1,10 @@
 -- Why a run ends, its status, and what that is due to.
-use Rattle.std.specs.Prelude.{ℕ, Result, Ok, Err, IfErr}
-use Rattle.sdbt_base.specs.Faults.{Rose}
+use Rattle.std.specs.Prelude.{◌≡◌, ℕ, Result, Ok, Err, IfErr, OnOk}
+use Rattle.device_session.specs.declared.refusals.CommitReply.{CommitReply}
+use Rattle.device_session.specs.declared.refusals.CommitReply.TheVariants as replies
 use Rattle.nbd_lang.specs.declared.replies.Outcome.{Outcome}
 use Rattle.nbd_lang.specs.declared.replies.Outcome.TheVariants as outcomes
-use Rattle.sdbt_base.specs.Counts.{Counts, NoneFell}
+use Rattle.sdbt_base.specs.Counts.{Counts, InputRose, LedgerRose, NoneFell, OutputRose, PlatformRose, TapeRose}
 use Rattle.session_calls.specs.declared.stops.DeviceStop.{DeviceStop}
 use Rattle.session_calls.specs.declared.stops.DeviceStop.TheVariants as device
 use Rattle.nbd_core.specs.Stops.{status_of}
@@ -48,32 +49,31 @@ commit_halt device.Memory = halts.Memory
 commit_halt device.BadRoot = halts.BadRoot
 commit_halt (device.BadRecord addr) = halts.Memory
 
--- a run ends at a fault only where the count of that object rose
+-- what a flush comes to whose commit was answered
+abbrev pub commit_outcome : CommitReply → Outcome
+commit_outcome (replies.Committed number) = outcomes.Done
+commit_outcome (replies.Full needed free) = outcomes.NoSpace
+
+-- a run ends at a fault only where the count of that object rose, and that of no other; at each other
+-- end all are as they were
 abbrev pub IsDueTo : Counts → Counts → Halt → Type 0
-IsDueTo before now (halts.Client stops.Source) = Rose before.input now.input
-IsDueTo before now (halts.Client stops.Sink) = Rose before.output now.output
-IsDueTo before now (halts.Client stops.Limit) = Unit {0}
-IsDueTo before now (halts.Client stops.Broken) = Unit {0}
-IsDueTo before now halts.Platform = Rose before.platform now.platform
-IsDueTo before now halts.Tape = Rose before.tape now.tape
-IsDueTo before now halts.Ledger = Rose before.ledger now.ledger
-IsDueTo before now halts.BadRoot = Unit {0}
-IsDueTo before now halts.NoDevice = Unit {0}
-IsDueTo before now halts.Unfinished = Unit {0}
-IsDueTo before now halts.Memory = Unit {0}
+IsDueTo before now (halts.Client stops.Source) = InputRose before now
+IsDueTo before now (halts.Client stops.Sink) = OutputRose before now
+IsDueTo before now (halts.Client stops.Limit) = now ≡ before
+IsDueTo before now (halts.Client stops.Broken) = now ≡ before
+IsDueTo before now halts.Platform = PlatformRose before now
+IsDueTo before now halts.Tape = TapeRose before now
+IsDueTo before now halts.Ledger = LedgerRose before now
+IsDueTo before now halts.BadRoot = now ≡ before
+IsDueTo before now halts.NoDevice = now ≡ before
+IsDueTo before now halts.Unfinished = now ≡ before
+IsDueTo before now halts.Memory = now ≡ before
 
--- a stop of the device that names an object came where the count of that object rose
-abbrev pub HasRisen : Counts → Counts → DeviceStop → Type 0
-HasRisen before now device.Platform = Rose before.platform now.platform
-HasRisen before now device.Tape = Rose before.tape now.tape
-HasRisen before now device.Ledger = Rose before.ledger now.ledger
-HasRisen before now device.BadRoot = Unit {0}
-HasRisen before now (device.BadRecord addr) = Unit {0}
-HasRisen before now device.Memory = Unit {0}
-
--- no count fell, and a run that ended at a fault did so where the count of that object rose
+-- no count fell; all are as they were where a run goes on, and one that ended at a fault did so where
+-- the count of that object alone rose
 pub record Blames {X : Type 0} (before now : Counts) (result : Result X Halt) : Type 0 where
   pub fell : NoneFell before now
+  pub quiet : OnOk result (now ≡ before)
   pub cause : IfErr result (IsDueTo before now)
 
 -- a run ended behind the look at its cell

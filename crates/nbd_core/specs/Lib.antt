@@ -5,6 +5,10 @@ pub mod Haggling
 pub mod Halts
 pub mod Requests
 pub mod Serving
+pub mod Turns
+pub mod Exchanges
+pub mod Damages
+pub mod Ample
 pub mod Served
 pub mod Arrays
 pub mod Running

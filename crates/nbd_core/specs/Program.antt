@@ -1,17 +1,29 @@
 -- What the server promises of a run.
-use Rattle.std.specs.Prelude.{◌≡◌, ◌≢◌, ◌⊎◌, ◌↔◌, ℕ, List, [], Option, None, Result, Ok, Err}
-use Rattle.sdbt_base.specs.Faults.{Rose}
+use Rattle.std.proofs.Common.{inl, inr}
+use Rattle.std.specs.Prelude.{◌≡◌, ◌≢◌, ◌≤◌, ◌+◌, ◌*◌, ◌⊎◌, ◌↔◌, ◌^◌, ℕ, List, [], All, length, Option, None, Some, Result, Ok, Err}
+use Rattle.sdbt_base.specs.Told.{Gave}
 use Rattle.sdbt_base.specs.declared.sinks.Sink.{Ghosts as SinkGhosts}
 use Rattle.sdbt_base.specs.declared.sources.Source.{Ghosts as SourceGhosts}
 use Rattle.sdbt_base.specs.declared.tapes.Tape.{Ghosts as TapeGhosts}
 use Rattle.platform.specs.declared.platforms.Platform.{Ghosts as PlatformGhosts}
 use Rattle.device_course.specs.States.{Outside, around}
 use Rattle.device_terms.specs.Served.{IsServedImage}
-use Rattle.sdbt_base.specs.Counts.{Counts, NoneFell}
+use Rattle.sdbt_base.specs.Counts.{Counts, InputRose, LedgerRose, NoneFell, NoneRose, OutputRose, PlatformRose, TapeRose}
+use Rattle.sdbt_base.specs.Arrays.{Device}
+use Rattle.page_store.specs.Stands.{Stands}
+use Rattle.nbd_terms.specs.Held.{Held}
+use Rattle.nbd_core.specs.Ample.{IsServedOut, changed_in}
+use Rattle.nbd_core.specs.Exchanges.{Exchange}
 use Rattle.nbd_core.specs.Halts.{status_at}
+use Rattle.nbd_core.specs.Room.{Room}
+use Rattle.nbd_core.specs.Turns.{IsStart}
+use Rattle.nbd_core.specs.declared.haggling.Agreed.{Agreed}
+use Rattle.nbd_core.specs.declared.haggling.Agreed.TheVariants as agreed
+use Rattle.nbd_core.specs.declared.stop.Stop.{Stop}
 use Rattle.nbd_core.specs.Serving.{counts_of}
-use Rattle.nbd_core.specs.Running.{Untouched, Talks}
+use Rattle.nbd_core.specs.Running.{GoesOn, Talks, Untouched}
 use Rattle.nbd_core.specs.declared.halts.Halt.{Halt}
+use Rattle.nbd_core.specs.declared.halts.Halt.TheVariants as halts
 
 -- the five objects at one moment, and what they tell then: the moments of the platform, its pages,
 -- the keys that the tape drew and what the ledger has got; what the input has left; what the output
@@ -50,21 +62,31 @@ abbrev pub IsStatus : ℕ → Type 0
 IsStatus status =
     (status ≡ 0) ⊎ (status ≡ 2) ⊎ (status ≡ 3) ⊎ (status ≡ 4) ⊎ (status ≡ 5) ⊎ (status ≡ 6) ⊎ (status ≡ 7) ⊎ (status ≡ 8) ⊎ (status ≡ 10) ⊎ (status ≡ 11) ⊎ (status ≡ 12) ⊎ (status ≡ 14)
 
--- no count fell; and an exit status that names a fault comes only where the count of that object rose
+-- no count fell; and an exit status that names a fault comes only where the count of that object rose,
+-- and that of no other: at each other one all are as they were
 pub record IsBlamedAt (status : ℕ) (before now : Counts) : Type 0 where
   pub none_fell : NoneFell before now
-  pub input : status ≡ 3 → Rose before.input now.input
-  pub output : status ≡ 4 → Rose before.output now.output
-  pub platform : status ≡ 5 → Rose before.platform now.platform
-  pub tape : status ≡ 6 → Rose before.tape now.tape
-  pub ledger : status ≡ 7 → Rose before.ledger now.ledger
+  pub input : status ≡ 3 → InputRose before now
+  pub output : status ≡ 4 → OutputRose before now
+  pub platform : status ≡ 5 → PlatformRose before now
+  pub tape : status ≡ 6 → TapeRose before now
+  pub ledger : status ≡ 7 → LedgerRose before now
+  pub quiet : (3 ≤ status → status ≤ 7 → ⊥) → now ≡ before
+
+-- what was taken when a run ended with this exit status: 2^40 bytes at most; all of them at 12, and none
+-- where words are given
+pub record Took (status : ℕ) (taken : List ℕ) : Type 0 where
+  pub most : length taken ≤ 2 ^ 40
+  pub limit : status ≡ 12 → length taken ≡ 2 ^ 40
+  pub nothing : status ≡ 2 → taken ≡ []
 
 -- the exit status is one that there is, and 2 exactly where words are given; one that names a fault
--- comes only where the count of that object rose
+-- comes only where the count of that object alone rose, and each other one where none did
 pub record Exits {S R I O L : Type 0} (words : List (List ℕ)) (status : ℕ) (old new : Handed S R I O L) : Type 0 where
   pub is : IsStatus status
   pub refused : (status ≡ 2) ↔ (words ≢ [])
   pub blame : IsBlamedAt status old.counts new.counts
+  pub taken : (bytes : List ℕ) × Gave old.left bytes new.left × Took status bytes
 
 -- all is as it was, at each moment
 abbrev pub IsAsBefore : {S R I O L : Type 0} → Type 0 → Handed S R I O L → Handed S R I O L → Type 0
@@ -78,9 +100,34 @@ pub record Refuses {S R I O L : Type 0} (tells : Type 0) (words : List (List ℕ
   pub bad_root : tells → (IsServedImage old.outside.history.present → ⊥) → words ≡ [] → (status ≡ 8) ⊎ (status ≡ 5)
   pub no_device : tells → old.outside.history.present.cell ≡ None → words ≡ [] → ((status ≡ 10) × IsAsBefore tells old new) ⊎ (status ≡ 5)
 
+-- the requests that came in what was said, with their replies
+abbrev pub exchanges_behind : (From : Held → Type 0) (tells : Type 0) (before after : Outside) (size : ℕ) (agreed : Result Agreed Stop) (room : Room) (left left_now written written_now : Option (List ℕ)) (ending : Result (Unit {0}) Halt)
+    → GoesOn From tells before after size agreed room left left_now written written_now ending → List Exchange
+exchanges_behind From tells before after size (Ok agreed.Requests) room left left_now written written_now ending (last, served) = served.exchanges
+exchanges_behind From tells before after size (Ok agreed.Nothing) room left left_now written written_now ending goes_on = []
+exchanges_behind From tells before after size (Err stop) room left left_now written written_now ending goes_on = []
+
+abbrev pub exchanges_in : (tells : Type 0) (before after : Outside) (left left_now written written_now : Option (List ℕ)) (ending : Result (Unit {0}) Halt) → Talks tells before after left left_now written written_now ending → List Exchange
+exchanges_in tells before after left left_now written written_now ending (inl silent) = []
+exchanges_in tells before after left left_now written written_now ending (inr there) =
+    let conversed = there.conversed in
+    exchanges_behind (IsStart tells before) tells before after there.size conversed.agreed conversed.room conversed.left_then left_now conversed.written_then written_now ending conversed.goes_on
+
+-- the run did all that it was asked for, as far as memory was given: each request is done that its head
+-- doesn't refuse
+pub record IsComplete (size : ℕ) (status : ℕ) (exchanges : List Exchange) : Type 0 where
+  pub ends : (status ≡ 0) ⊎ (status ≡ 11)
+  pub done : All (IsServedOut size) exchanges
+
 -- what was said: nothing, or the greeting and the answers to the options that came, and what goes on
--- from there
+-- from there. A run completes over an image that stands for a device, if no count of faults rises, the
+-- client sends nothing that is none of its words, fewer bytes come than may be taken, and 42 pages are
+-- free for each block that its requests change
 pub record Serving {S R I O L : Type 0} (tells : Type 0) (status : ℕ) (old new : Handed S R I O L) : Type 0 where
   pub ending : Result (Unit {0}) Halt
   pub status_is : status ≡ exit_of ending
-  pub talks : Talks tells old.outside.history.present old.left new.left old.written new.written ending
+  pub no_device : tells → ending ≡ Err halts.NoDevice → old.outside.history.present.cell ≡ None
+  pub talks : Talks tells old.outside new.outside old.left new.left old.written new.written ending
+  pub complete : tells → (there : Device) → Stands old.outside.history.present (Some there) → IsServedImage old.outside.history.present → NoneRose old.counts new.counts → status ≢ 12 → status ≢ 14
+      → old.outside.head + 42 * changed_in (4096 * there.blocks) (exchanges_in tells old.outside new.outside old.left new.left old.written new.written ending talks) ≤ old.outside.capacity
+      → IsComplete (4096 * there.blocks) status (exchanges_in tells old.outside new.outside old.left new.left old.written new.written ending talks)

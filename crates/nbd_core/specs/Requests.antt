@@ -46,6 +46,7 @@ pub record HeadCame (left left_now : Option (List ℕ)) (old new : Room) (result
   pub came : List ℕ
   pub takes : Came left left_now old new.left AwaitsRequest came
   pub ends : HeadEnd left_now new.ahead came result
+  pub limit : IfErr result (λ halt. halt ≡ halts.Client stops.Limit → new.left ≡ 0)
 
 -- where a request halts of which so many bytes were to come behind its head, fewer came if its
 -- client is to blame
@@ -62,9 +63,11 @@ DataEnd left count came halts.BadRoot = ⊥
 DataEnd left count came halts.NoDevice = ⊥
 DataEnd left count came halts.Unfinished = ⊥
 
--- of what came so many bytes are gone, or the run is over
-pub record DataCame {X : Type 0} (left left_now : Option (List ℕ)) (old new : Room) (count : ℕ) (result : Result X Halt) : Type 0 where
+-- of what came so many bytes are gone, or the run is over; and this was done with those that are gone
+pub record DataCame {X : Type 0} (left left_now : Option (List ℕ)) (old new : Room) (count : ℕ) (Did : List ℕ → Type 0) (result : Result X Halt) : Type 0 where
   pub gone : List ℕ
   pub came : Came left left_now old new.left (IsShorter count) (gone ++ new.ahead)
   pub whole : IfOk result (λ x. length gone ≡ count)
   pub ends : IfErr result (DataEnd left_now count (gone ++ new.ahead))
+  pub limit : IfErr result (λ halt. halt ≡ halts.Client stops.Limit → new.left ≡ 0)
+  pub did : Did gone

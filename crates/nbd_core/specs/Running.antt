@@ -11,10 +11,13 @@ use Rattle.device_course.specs.Marks.{last_mark}
 use Rattle.device_course.specs.States.{Outside, IsLater}
 use Rattle.session_calls.specs.declared.stops.DeviceStop.{DeviceStop}
 use Rattle.session_calls.specs.declared.stops.DeviceStop.TheVariants as device
+use Rattle.nbd_terms.specs.Held.{Held}
 use Rattle.nbd_core.specs.Room.{Room}
 use Rattle.nbd_core.specs.Haggling.{Haggled}
 use Rattle.nbd_core.specs.Served.{Served}
+use Rattle.nbd_core.specs.Turns.{IsStart, Stayed}
 use Rattle.nbd_core.specs.declared.stop.Stop.{Stop}
+use Rattle.nbd_core.specs.declared.stop.Stop.TheVariants as stops
 use Rattle.nbd_core.specs.declared.halts.Halt.{Halt}
 use Rattle.nbd_core.specs.declared.halts.Halt.TheVariants as halts
 use Rattle.nbd_core.specs.declared.haggling.Agreed.{Agreed}
@@ -89,14 +92,14 @@ pub record IsOnCell (image : Image) : Type 0 where
   pub served : IsServedImage image
 
 -- how a run goes on behind the options: with requests, or not at all
-abbrev pub GoesOn : ℕ → Result Agreed Stop → Room → Option (List ℕ) → Option (List ℕ) → Option (List ℕ) → Option (List ℕ) → Result (Unit {0}) Halt → Type 0
-GoesOn size (Ok agreed.Requests) room left left_now written written_now result = (last : Room) × Served size left left_now room last written written_now result
-GoesOn size (Ok agreed.Nothing) room left left_now written written_now result = (left_now ≡ left) × (written_now ≡ written) × (result ≡ Ok tt)
-GoesOn size (Err stop) room left left_now written written_now result = (left_now ≡ left) × (written_now ≡ written) × (result ≡ Err (halts.Client stop))
+abbrev pub GoesOn : (Held → Type 0) → Type 0 → Outside → Outside → ℕ → Result Agreed Stop → Room → Option (List ℕ) → Option (List ℕ) → Option (List ℕ) → Option (List ℕ) → Result (Unit {0}) Halt → Type 0
+GoesOn From tells before after size (Ok agreed.Requests) room left left_now written written_now result = (last : Room) × Served From tells before after size left left_now room last written written_now result
+GoesOn From tells before after size (Ok agreed.Nothing) room left left_now written written_now result = (left_now ≡ left) × (written_now ≡ written) × (result ≡ Ok tt) × Stayed From before.history after.history
+GoesOn From tells before after size (Err stop) room left left_now written written_now result = (left_now ≡ left) × (written_now ≡ written) × (result ≡ Err (halts.Client stop)) × Stayed From before.history after.history
 
 -- what is said on a device of so many bytes: with nothing taken yet the greeting and the answers to
 -- options, and what goes on from there
-pub record Conversed (size : ℕ) (left left_now written written_now : Option (List ℕ)) (result : Result (Unit {0}) Halt) : Type 0 where
+pub record Conversed (From : Held → Type 0) (tells : Type 0) (before after : Outside) (size : ℕ) (left left_now written written_now : Option (List ℕ)) (result : Result (Unit {0}) Halt) : Type 0 where
   pub first : Room
   pub room : Room
   pub fresh : (first.ahead ≡ []) × (first.left ≡ 2 ^ 40)
@@ -104,7 +107,8 @@ pub record Conversed (size : ℕ) (left left_now written written_now : Option (L
   pub written_then : Option (List ℕ)
   pub agreed : Result Agreed Stop
   pub haggled : Haggled size left left_then first room written written_then agreed
-  pub goes_on : GoesOn size agreed room left_then left_now written_then written_now result
+  pub limit : IfErr agreed (λ stop. stop ≡ stops.Limit → room.left ≡ 0)
+  pub goes_on : GoesOn From tells before after size agreed room left_then left_now written_then written_now result
 
 -- a run that ends before it says anything
 abbrev pub IsEarly : Result (Unit {0}) Halt → Type 0
@@ -118,15 +122,25 @@ IsEarly (Err halts.Ledger) = ⊥
 IsEarly (Err halts.Unfinished) = ⊥
 IsEarly (Err (halts.Client stop)) = ⊥
 
-abbrev pub IsSilent : Option (List ℕ) → Option (List ℕ) → Option (List ℕ) → Option (List ℕ) → Result (Unit {0}) Halt → Type 0
-IsSilent left left_now written written_now result = (left_now ≡ left) × (written_now ≡ written) × IsEarly result
+pub record IsSilent (From : Held → Type 0) (before after : Outside) (left left_now written written_now : Option (List ℕ)) (result : Result (Unit {0}) Halt) : Type 0 where
+  pub untaken : left_now ≡ left
+  pub unput : written_now ≡ written
+  pub early : IsEarly result
+  pub stayed : Stayed From before.history after.history
+
+-- a run says nothing, or has such a talk
+abbrev pub Says : (Held → Type 0) → Type 0 → Outside → Outside → ℕ → Option (List ℕ) → Option (List ℕ) → Option (List ℕ) → Option (List ℕ) → Result (Unit {0}) Halt → Type 0
+Says From tells before after size left left_now written written_now result =
+    IsSilent From before after left left_now written written_now result ⊎ Conversed From tells before after size left left_now written written_now result
 
 -- the same on a device: the one that the image stands for
-pub record Conversation (tells : Type 0) (image : Image) (left left_now written written_now : Option (List ℕ)) (result : Result (Unit {0}) Halt) : Type 0 where
+pub record Conversation (tells : Type 0) (before after : Outside) (left left_now written written_now : Option (List ℕ)) (result : Result (Unit {0}) Halt) : Type 0 where
   pub size : ℕ
-  pub is : tells → (there : Device) → Stands image (Some there) → size ≡ 4096 * there.blocks
-  pub conversed : Conversed size left left_now written written_now result
+  pub is : tells → (there : Device) → Stands before.history.present (Some there) → size ≡ 4096 * there.blocks
+  pub conversed : Conversed (IsStart tells before) tells before after size left left_now written written_now result
 
--- a run says nothing, or has a conversation
-abbrev pub Talks : Type 0 → Image → Option (List ℕ) → Option (List ℕ) → Option (List ℕ) → Option (List ℕ) → Result (Unit {0}) Halt → Type 0
-Talks tells image left left_now written written_now result = IsSilent left left_now written written_now result ⊎ Conversation tells image left left_now written written_now result
+-- a run says nothing, or has a conversation, on the array of bytes of the device that there is, if the
+-- image stands for one
+abbrev pub Talks : Type 0 → Outside → Outside → Option (List ℕ) → Option (List ℕ) → Option (List ℕ) → Option (List ℕ) → Result (Unit {0}) Halt → Type 0
+Talks tells before after left left_now written written_now result =
+    IsSilent (IsStart tells before) before after left left_now written written_now result ⊎ Conversation tells before after left left_now written written_now result

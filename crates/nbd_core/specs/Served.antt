@@ -1,18 +1,25 @@
 -- Requests that came, and their replies, on any image.
-use Rattle.std.specs.Prelude.{◌≡◌, ◌≢◌, ◌⊎◌, ℕ, List, [], ◌++◌, All, Option, Result, Ok, Err, IfSome, length, take}
+use Rattle.std.specs.Prelude.{◌≡◌, ◌≢◌, ◌⊎◌, ℕ, List, [], ◌∷◌, ◌++◌, All, Option, None, Some, Result, Ok, Err, IfErr, IfSome, length, map, take}
 use Rattle.std.specs.List.{flat_map}
 use Rattle.sdbt_base.specs.Told.{Got, GotPart, IsAtEnd}
+use Rattle.device_course.specs.States.{Outside}
 use Rattle.device_session.specs.Sessions.{Session}
 use Rattle.nbd_lang.specs.Refusals.{refusal}
 use Rattle.nbd_lang.specs.Replies.{Reply, reply_bytes}
-use Rattle.nbd_lang.specs.Requests.{RequestSent, FitsSent, bytes_behind, request_head, request_bytes}
+use Rattle.nbd_lang.specs.Requests.{FitsSent, bytes_behind, request_head, request_bytes}
 use Rattle.nbd_lang.specs.declared.replies.Outcome.{Outcome}
 use Rattle.nbd_lang.specs.declared.replies.Outcome.TheVariants as outcomes
 use Rattle.nbd_lang.specs.declared.requests.Request.{Request}
 use Rattle.nbd_lang.specs.declared.requests.RequestKind.{RequestKind}
 use Rattle.nbd_lang.specs.declared.requests.RequestKind.TheVariants as kinds
+use Rattle.nbd_terms.specs.Held.{Held, size_of}
+use Rattle.nbd_terms.specs.Turn.{Turn, Ends, IsUnfinished}
+use Rattle.nbd_core.specs.Ample.{Completes, HasRoom}
+use Rattle.nbd_core.specs.Damages.{HasMetDamage, IsDamage}
+use Rattle.nbd_core.specs.Exchanges.{Exchange, sent_of, told_of}
 use Rattle.nbd_core.specs.Room.{Room, Came, IsShorter}
 use Rattle.nbd_core.specs.Requests.{AwaitsRequest, IsBrokenRequest, DataEnd}
+use Rattle.nbd_core.specs.Turns.{Turns, Halts, IsOfCommit, OnArray}
 use Rattle.nbd_core.specs.declared.stop.Stop.TheVariants as stops
 use Rattle.nbd_core.specs.declared.halts.Halt.{Halt}
 use Rattle.nbd_core.specs.declared.halts.Halt.TheVariants as halts
@@ -30,22 +37,21 @@ pub record IsReplyTo (size : ℕ) (request : Request) (reply : Reply) : Type 0 w
 
 -- how a request ended of which these bytes came behind its head: its reply was put, or a part of it;
 -- or none was
-abbrev pub AnswerEnd : ℕ → Request → Option (List ℕ) → List ℕ → List ℕ → Option (List ℕ) → Option (List ℕ) → Result Session Halt → Type 0
-AnswerEnd size request left gone ahead written written_now (Ok session) =
+abbrev pub AnswerEnd : Type 0 → Outside → Outside → Session → ℕ → Request → Option (List ℕ) → List ℕ → List ℕ → Option (List ℕ) → Option (List ℕ) → Result Session Halt → Type 0
+AnswerEnd tells before after session size request left gone ahead written written_now (Ok next) =
     (length gone ≡ bytes_behind request.kind request.length) × (reply : Reply) × IsReplyTo size request reply × Got written (reply_bytes reply) written_now
-AnswerEnd size request left gone ahead written written_now (Err (halts.Client stops.Sink)) =
+    × Turns tells before after session (Some next) (record { head = request; bytes = gone }) reply × (tells → IsDamage after.history.present reply.outcome)
+AnswerEnd tells before after session size request left gone ahead written written_now (Err (halts.Client stops.Sink)) =
     (length gone ≡ bytes_behind request.kind request.length) × (reply : Reply) × IsReplyTo size request reply × GotPart written (reply_bytes reply) written_now
-AnswerEnd size request left gone ahead written written_now (Err halt) = (written_now ≡ written) × DataEnd left (bytes_behind request.kind request.length) (gone ++ ahead) halt
+    × Turns tells before after session None (record { head = request; bytes = gone }) reply × (tells → IsDamage after.history.present reply.outcome)
+AnswerEnd tells before after session size request left gone ahead written written_now (Err halt) =
+    (written_now ≡ written) × DataEnd left (bytes_behind request.kind request.length) (gone ++ ahead) halt × Halts tells before after session request.kind halt
 
-pub record Answered (size : ℕ) (request : Request) (left left_now : Option (List ℕ)) (old new : Room) (written written_now : Option (List ℕ)) (result : Result Session Halt) : Type 0 where
+pub record Answered (tells : Type 0) (before after : Outside) (session : Session) (size : ℕ) (request : Request) (left left_now : Option (List ℕ)) (old new : Room) (written written_now : Option (List ℕ)) (result : Result Session Halt) : Type 0 where
   pub gone : List ℕ
   pub came : Came left left_now old new.left (IsShorter (bytes_behind request.kind request.length)) (gone ++ new.ahead)
-  pub ends : AnswerEnd size request left_now gone new.ahead written written_now result
-
--- a request and its reply
-pub record Exchange : Type 0 where
-  pub sent : RequestSent
-  pub reply : Reply
+  pub ends : AnswerEnd tells before after session size request left_now gone new.ahead written written_now result
+  pub limit : IfErr result (λ halt. halt ≡ halts.Client stops.Limit → new.left ≡ 0)
 
 pub record FitsExchange (size : ℕ) (exchange : Exchange) : Type 0 where
   pub sent : FitsSent exchange.sent
@@ -90,8 +96,32 @@ ServedEnd size rest part left ahead (Err halts.Memory) = part ≡ []
 ServedEnd size rest part left ahead (Err halts.BadRoot) = ⊥
 ServedEnd size rest part left ahead (Err halts.NoDevice) = ⊥
 
--- requests that came, and the replies that were put, one for each in their order
-pub record Served (size : ℕ) (left left_now : Option (List ℕ)) (old new : Room) (written written_now : Option (List ℕ)) (result : Result (Unit {0}) Halt) : Type 0 where
+-- these bytes begin with a flush or a disconnect
+abbrev pub IsCommit : List ℕ → Type 0
+IsCommit rest = (request : Request) × (more : List ℕ) × IsOfCommit request.kind × (rest ≡ request_head request ++ more)
+
+-- the state that lies ahead of the last one when requests ended, if one does: that of a disconnect
+-- that was served; that of a request of which the reply was put in part; or, where the platform failed
+-- in its commit, perhaps that of a flush or a disconnect
+abbrev pub IsAhead : ℕ → ℕ → List ℕ → List ℕ → List ℕ → Result (Unit {0}) Halt → Held → List Held → Type 0
+IsAhead capacity size rest tail part (Ok done) last ahead = ((rest ≡ []) × (ahead ≡ [])) ⊎ (IsGoodbye rest tail × (next : Held) × (ahead ≡ next ∷ []) × Ends capacity last next)
+IsAhead capacity size rest tail part (Err (halts.Client stops.Sink)) last ahead = (cut : IsCutOff size rest tail part) × (next : Held) × (ahead ≡ next ∷ []) × Turn capacity last cut.exchange.sent cut.exchange.reply next
+IsAhead capacity size rest tail part (Err halts.Platform) last ahead = (ahead ≡ []) ⊎ (IsCommit rest × (next : Held) × (ahead ≡ next ∷ []) × Ends capacity last next)
+IsAhead capacity size rest tail part (Err halts.Unfinished) last ahead = (ahead ≡ []) × IsUnfinished capacity last
+IsAhead capacity size rest tail part (Err (halts.Client stops.Source)) last ahead = ahead ≡ []
+IsAhead capacity size rest tail part (Err (halts.Client stops.Limit)) last ahead = ahead ≡ []
+IsAhead capacity size rest tail part (Err (halts.Client stops.Broken)) last ahead = ahead ≡ []
+IsAhead capacity size rest tail part (Err halts.Tape) last ahead = ahead ≡ []
+IsAhead capacity size rest tail part (Err halts.Ledger) last ahead = ahead ≡ []
+IsAhead capacity size rest tail part (Err halts.Memory) last ahead = ahead ≡ []
+IsAhead capacity size rest tail part (Err halts.BadRoot) last ahead = ⊥
+IsAhead capacity size rest tail part (Err halts.NoDevice) last ahead = ⊥
+
+-- requests that came, and the replies that were put, one for each in their order. From each state that
+-- the run may have begun from the replies are those of the array, and each moment of the run has one
+-- of the devices that they lead through; and with enough pages free each request is done. A reply that
+-- tells of damage, which none does from such a state, was put where a page didn't fit its place
+pub record Served (From : Held → Type 0) (tells : Type 0) (before after : Outside) (size : ℕ) (left left_now : Option (List ℕ)) (old new : Room) (written written_now : Option (List ℕ)) (result : Result (Unit {0}) Halt) : Type 0 where
   pub exchanges : List Exchange
   pub came : List ℕ
   pub put : List ℕ
@@ -103,6 +133,10 @@ pub record Served (size : ℕ) (left left_now : Option (List ℕ)) (old new : Ro
   pub said : came ≡ flat_map sent_bytes exchanges ++ rest
   pub replied : put ≡ flat_map replied_bytes exchanges ++ part
   pub ends : ServedEnd size rest part left_now new.ahead result
+  pub limit : IfErr result (λ halt. halt ≡ halts.Client stops.Limit → new.left ≡ 0)
+  pub led : (entry : Held) → From entry → OnArray before after entry (map sent_of exchanges) (map told_of exchanges) (IsAhead before.capacity size rest new.ahead part result)
+  pub damage : tells → All (HasMetDamage before.history after.history) exchanges
+  pub complete : (entry : Held) → From entry → size ≡ size_of entry → HasRoom before.capacity size entry exchanges → Completes size exchanges result
 
 -- how a disconnect may end
 abbrev pub EndsByDisconnect : Result (Unit {0}) Halt → Type 0

@@ -1,5 +1,5 @@
 -- What a part of the serving of requests does, on any image.
-use Rattle.std.specs.Prelude.{◌≡◌, ◌≤◌, ◌+◌, ◌*◌, ℕ, List, Option, None, Some, Result, Ok, Err, IfSome, IfErr, [], take, drop}
+use Rattle.std.specs.Prelude.{◌≡◌, ◌≤◌, ◌+◌, ◌*◌, ℕ, List, Option, None, Some, Result, Ok, Err, IfSome, IfErr, OnOk, [], take, drop}
 use Rattle.sdbt_base.specs.Arrays.{Device, State}
 use Rattle.sdbt_base.specs.declared.sinks.Sink.{Ghosts as SinkGhosts}
 use Rattle.sdbt_base.specs.declared.sources.Source.{Ghosts as SourceGhosts}
@@ -10,6 +10,7 @@ use Rattle.device_course.specs.Keys.{KeepsOn}
 use Rattle.device_course.specs.States.{Outside, IsAt, IsListed}
 use Rattle.device_session.specs.Open.{IsOpen, blocks_of}
 use Rattle.device_session.specs.Sessions.{Session}
+use Rattle.nbd_lang.specs.Replies.{Reply}
 use Rattle.nbd_lang.specs.declared.requests.Request.{Request}
 use Rattle.nbd_lang.specs.declared.requests.RequestKind.{RequestKind}
 use Rattle.nbd_lang.specs.declared.requests.RequestKind.TheVariants as kinds
@@ -17,8 +18,7 @@ use Rattle.nbd_lang.specs.declared.replies.Outcome.{Outcome}
 use Rattle.nbd_lang.specs.declared.replies.Outcome.TheVariants as outcomes
 use Rattle.session_calls.specs.Along.{Along, Drawn}
 use Rattle.sdbt_base.specs.Counts.{Counts, counts}
-use Rattle.session_calls.specs.Blame.{IsOfCall}
-use Rattle.nbd_core.specs.Halts.{HasRisen}
+use Rattle.session_calls.specs.Blame.{HasCause, IsOfCall}
 use Rattle.session_calls.specs.Damage.{IsMounted}
 use Rattle.session_calls.specs.declared.stops.DeviceStop.{DeviceStop}
 use Rattle.nbd_core.specs.declared.halts.Halt.{Halt}
@@ -33,12 +33,14 @@ pub record IsReady (tells : Type 0) (here : Outside) (session : Session) : Type 
   pub is_open : IsOpen session here.head
   pub mounted : tells → IsMounted here.history.present session
 
--- calls for blocks, with so many updates at most: the session goes on, whatever they answered, and a
--- stop at a fault came where the count of that object rose
+-- calls for blocks, with so many updates at most: the session goes on, whatever they answered; the
+-- counts are as they were where they were done, and where they stopped at a fault that of this object
+-- rose alone
 pub record Calls {S X : Type 0} (P : PlatformGhosts S) (updates : ℕ) (platform platform_now : S) (drawn drawn_now : Drawn) (session now : Session) (result : Result X DeviceStop) : Type 0 where
   pub along : Along P updates platform platform_now drawn drawn_now session now
   pub stops : IfErr result IsOfCall
-  pub cause : IfErr result (HasRisen (counts (P.faults platform) drawn.faults 0 0 0) (counts (P.faults platform_now) drawn_now.faults 0 0 0))
+  pub quiet : OnOk result (counts (P.faults platform_now) drawn_now.faults 0 0 0 ≡ counts (P.faults platform) drawn.faults 0 0 0)
+  pub cause : IfErr result (HasCause (counts (P.faults platform) drawn.faults 0 0 0) (counts (P.faults platform_now) drawn_now.faults 0 0 0))
 
 -- a part of a run that began with this session, and ended with that one, if the run goes on: it is
 -- ready for more then; pages were only added; keys were kept, what was deleted stays so, and the
@@ -69,3 +71,6 @@ IsWithin request blocks = request.offset + request.length ≤ 4096 * blocks
 abbrev pub bytes_of_reply : RequestKind → ℕ → Outcome → List ℕ → List ℕ
 bytes_of_reply kinds.Read count outcomes.Done room = take count (drop 16 room)
 bytes_of_reply _ count _ room = []
+
+abbrev pub reply_of : Request → Outcome → List ℕ → Reply
+reply_of request outcome room = record { outcome = outcome; cookie = request.cookie; bytes = bytes_of_reply request.kind request.length outcome room }

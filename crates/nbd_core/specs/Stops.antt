@@ -1,5 +1,5 @@
 -- Exit statuses of a run that its client doesn't end.
-use Rattle.std.specs.Prelude.{◌≡◌, ℕ}
+use Rattle.std.specs.Prelude.{◌≡◌, ℕ, Result, Ok, Err}
 use Rattle.sdbt_base.specs.Faults.{Rose}
 use Rattle.nbd_core.specs.declared.stop.Stop.{Stop}
 use Rattle.nbd_core.specs.declared.stop.Stop.TheVariants.{Source, Sink, Limit, Broken}
@@ -10,10 +10,23 @@ status_of Sink = 4
 status_of Limit = 12
 status_of Broken = 14
 
--- a stop of the input or the output comes only where its count of faults rose, and the limit's
--- where nothing more may be taken
-abbrev pub HasCause : ℕ → ℕ → ℕ → ℕ → ℕ → Stop → Type 0
-HasCause input input_now output output_now left_to_take Source = Rose input input_now
-HasCause input input_now output output_now left_to_take Sink = Rose output output_now
-HasCause input input_now output output_now left_to_take Limit = left_to_take ≡ 0
-HasCause input input_now output output_now left_to_take Broken = Unit {0}
+-- the count of an input after what takes of it: it rose where the input failed, and is as it was at all else
+abbrev pub TellsTake : {X : Type 0} → Result X Stop → ℕ → ℕ → Type 0
+TellsTake (Ok x) before now = now ≡ before
+TellsTake (Err Source) before now = Rose before now
+TellsTake (Err Limit) before now = now ≡ before
+TellsTake (Err Broken) before now = now ≡ before
+TellsTake (Err Sink) before now = ⊥
+
+-- the count of an output after what is put: it rose where the output failed, which is the only stop
+abbrev pub TellsPut : {X : Type 0} → Result X Stop → ℕ → ℕ → Type 0
+TellsPut (Ok x) before now = now ≡ before
+TellsPut (Err stop) before now = (stop ≡ Sink) × Rose before now
+
+-- both counts after a talk: that of the one which failed rose, and all else are as they were
+abbrev pub TellsTalk : {X : Type 0} → Result X Stop → ℕ → ℕ → ℕ → ℕ → Type 0
+TellsTalk (Ok x) input input_now output output_now = (input_now ≡ input) × (output_now ≡ output)
+TellsTalk (Err Source) input input_now output output_now = Rose input input_now × (output_now ≡ output)
+TellsTalk (Err Sink) input input_now output output_now = Rose output output_now × (input_now ≡ input)
+TellsTalk (Err Limit) input input_now output output_now = (input_now ≡ input) × (output_now ≡ output)
+TellsTalk (Err Broken) input input_now output output_now = (input_now ≡ input) × (output_now ≡ output)

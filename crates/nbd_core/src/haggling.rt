@@ -1,10 +1,9 @@
 //! What is said before requests: the greeting, the client's flags, and options.
 ghost use Rattle.std.specs.Prelude.{◌≡◌, ◌⊎◌, ◌<◌, ◌≤◌, ◌^◌, [], IfOk, IfErr, OnOk, OnErr};
-ghost use Rattle.sdbt_base.specs.Faults.{Rose};
 ghost use Rattle.sdbt_base.specs.Told.{Got, GotPart};
 ghost use Rattle.nbd_lang.specs.Options.{OptionSent, option_bytes};
 ghost use Rattle.nbd_lang.specs.Answers.{option_reply, export_answer};
-ghost use Rattle.nbd_core.specs.Stops.{HasCause};
+ghost use Rattle.nbd_core.specs.Stops.{TellsPut, TellsTake, TellsTalk};
 ghost use Rattle.nbd_core.specs.Haggling.{answer_by, FlagsCame, OptionCame, Talk, Haggled};
 
 use crate::intake::Intake;
@@ -36,9 +35,9 @@ pub fn haggle<I: Source, O: Sink>(
     requires { intake.old.ahead ≡ [] }
     ensures haggled { Haggled size (I.left input.old) (I.left input.new) intake.old intake.new
         (O.written output.old) (O.written output.new) result }
-    ensures cause { IfErr result
-        (HasCause (I.faults input.old) (I.faults input.new) (O.faults output.old)
-        (O.faults output.new) intake.new.left) }
+    ensures cause { TellsTalk result (I.faults input.old) (I.faults input.new)
+        (O.faults output.old) (O.faults output.new) }
+    ensures limit { IfErr result (λ stop. stop ≡ Stop.Limit → intake.new.left ≡ 0) }
     ensures input { I.faults input.old ≤ I.faults input.new }
     ensures output { O.faults output.old ≤ O.faults output.new }
 {
@@ -52,8 +51,7 @@ fn take_flags<I: Source>(intake: &mut Intake, input: &mut I) -> Result<ClientFla
     ensures came { FlagsCame (I.left input.old) (I.left input.new) intake.old intake.new result }
     ensures limit { IfErr result (λ stop. stop ≡ Stop.Limit → intake.new.left ≡ 0) }
     ensures fell { I.faults input.old ≤ I.faults input.new }
-    ensures cause { IfErr result (λ stop. stop ≡ Stop.Source
-        → Rose (I.faults input.old) (I.faults input.new)) }
+    ensures cause { TellsTake result (I.faults input.old) (I.faults input.new) }
 {
     if !intake.need(input, CLIENT_FLAGS)? {
         return Err(Stop::Broken);
@@ -76,9 +74,9 @@ fn answer_options<I: Source, O: Sink>(
     ensures talk { Talk size flags.no_zeroes (I.left input.old)
         (I.left input.new) intake.old intake.new (O.written output.old)
         (O.written output.new) result }
-    ensures cause { IfErr result
-        (HasCause (I.faults input.old) (I.faults input.new) (O.faults output.old)
-        (O.faults output.new) intake.new.left) }
+    ensures cause { TellsTalk result (I.faults input.old) (I.faults input.new)
+        (O.faults output.old) (O.faults output.new) }
+    ensures limit { IfErr result (λ stop. stop ≡ Stop.Limit → intake.new.left ≡ 0) }
     ensures input { I.faults input.old ≤ I.faults input.new }
     ensures output { O.faults output.old ≤ O.faults output.new }
 {
@@ -98,8 +96,7 @@ fn next_option<I: Source>(intake: &mut Intake, input: &mut I) -> Result<Option<O
     ensures came { OptionCame (I.left input.old) (I.left input.new) intake.old intake.new result }
     ensures limit { IfErr result (λ stop. stop ≡ Stop.Limit → intake.new.left ≡ 0) }
     ensures fell { I.faults input.old ≤ I.faults input.new }
-    ensures cause { IfErr result (λ stop. stop ≡ Stop.Source
-        → Rose (I.faults input.old) (I.faults input.new)) }
+    ensures cause { TellsTake result (I.faults input.old) (I.faults input.new) }
 {
     if !intake.need(input, OPTION_MAGIC)? {
         if intake.count() > 0 {
@@ -134,8 +131,7 @@ fn put_answer<O: Sink>(
         (GotPart (O.written output.old) (answer_by size flags.no_zeroes kind)
         (O.written output.new)) }
     ensures fell { O.faults output.old ≤ O.faults output.new }
-    ensures cause { IfErr result (λ stop. (stop ≡ Stop.Sink)
-        × Rose (O.faults output.old) (O.faults output.new)) }
+    ensures cause { TellsPut result (O.faults output.old) (O.faults output.new) }
 {
     match kind {
         OptionKind::Export => put_export(size, flags, output),
@@ -154,8 +150,7 @@ fn put_export<O: Sink>(size: u64, flags: ClientFlags, output: &mut O) -> Result<
         (GotPart (O.written output.old) (export_answer size flags.no_zeroes)
         (O.written output.new)) }
     ensures fell { O.faults output.old ≤ O.faults output.new }
-    ensures cause { IfErr result (λ stop. (stop ≡ Stop.Sink)
-        × Rose (O.faults output.old) (O.faults output.new)) }
+    ensures cause { TellsPut result (O.faults output.old) (O.faults output.new) }
 {
     let mut answer = [0; EXPORT_ANSWER];
     let count = write_export_answer(size, flags, &mut answer);
@@ -169,8 +164,7 @@ fn put_reply<O: Sink>(kind: OptionKind, answer: Answer, output: &mut O) -> Resul
     ensures part { OnErr result
         (GotPart (O.written output.old) (option_reply kind answer) (O.written output.new)) }
     ensures fell { O.faults output.old ≤ O.faults output.new }
-    ensures cause { IfErr result (λ stop. (stop ≡ Stop.Sink)
-        × Rose (O.faults output.old) (O.faults output.new)) }
+    ensures cause { TellsPut result (O.faults output.old) (O.faults output.new) }
 {
     let mut reply = [0; OPTION_REPLY];
     write_option_reply(kind, answer, &mut reply);
@@ -182,8 +176,7 @@ pub(crate) fn put<O: Sink>(bytes: &[u8], output: &mut O) -> Result<(), Stop>
     ensures put { OnOk result (Got (O.written output.old) bytes.now (O.written output.new)) }
     ensures part { OnErr result (GotPart (O.written output.old) bytes.now (O.written output.new)) }
     ensures fell { O.faults output.old ≤ O.faults output.new }
-    ensures cause { IfErr result (λ stop. (stop ≡ Stop.Sink)
-        × Rose (O.faults output.old) (O.faults output.new)) }
+    ensures cause { TellsPut result (O.faults output.old) (O.faults output.new) }
 {
     match output.put(bytes) {
         Ok(()) => Ok(()),

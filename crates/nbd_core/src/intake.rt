@@ -1,9 +1,10 @@
 //! What came of an input, and isn't used yet.
 ghost use Rattle.std.specs.Prelude.{◌≡◌, ◌⊎◌, ◌+◌, ◌-◌, ◌<◌, ◌≤◌, ◌++◌, ℕ, List, [], IfOk, IfErr, OnOk, OnErr, true, false, length, take, drop};
-ghost use Rattle.sdbt_base.specs.Faults.{Rose};
+ghost use Rattle.sdbt_base.specs.Faults.{Tells};
 ghost use Rattle.sdbt_base.specs.Told.{Gave, IsAtEnd};
 ghost use Rattle.nbd_core.specs.Room.{Room, Takes, Came, IsShorter};
 ghost use Rattle.nbd_core.specs.Passed.{Passed};
+ghost use Rattle.nbd_core.specs.Stops.{TellsTake};
 
 use crate::stop::Stop;
 use sdbt_base::{Memory, Source, SourceFault};
@@ -87,8 +88,7 @@ impl Intake {
         ensures limit { IfErr result (λ stop. stop ≡ Stop.Limit → self.new.left ≡ 0) }
         ensures input { IfErr result (λ stop. (stop ≡ Stop.Source) ⊎ (stop ≡ Stop.Limit)) }
         ensures fell { I.faults input.old ≤ I.faults input.new }
-        ensures cause { IfErr result (λ stop. stop ≡ Stop.Source
-            → Rose (I.faults input.old) (I.faults input.new)) }
+        ensures cause { TellsTake result (I.faults input.old) (I.faults input.new) }
     {
         while self.count() < count {
             match self.more(input) {
@@ -109,8 +109,7 @@ impl Intake {
         ensures input { IfErr result (λ stop. (stop ≡ Stop.Source) ⊎ (stop ≡ Stop.Limit)) }
         ensures end { IfOk result (λ whole. whole ≡ false → IsAtEnd (I.left input.new)) }
         ensures fell { I.faults input.old ≤ I.faults input.new }
-        ensures cause { IfErr result (λ stop. stop ≡ Stop.Source
-            → Rose (I.faults input.old) (I.faults input.new)) }
+        ensures cause { TellsTake result (I.faults input.old) (I.faults input.new) }
     {
         let mut left = count;
         while left > 0 {
@@ -137,8 +136,7 @@ impl Intake {
         ensures limit { IfErr result (λ stop. stop ≡ Stop.Limit → self.new.left ≡ 0) }
         ensures input { IfErr result (λ stop. (stop ≡ Stop.Source) ⊎ (stop ≡ Stop.Limit)) }
         ensures fell { I.faults input.old ≤ I.faults input.new }
-        ensures cause { IfErr result (λ stop. stop ≡ Stop.Source
-            → Rose (I.faults input.old) (I.faults input.new)) }
+        ensures cause { TellsTake result (I.faults input.old) (I.faults input.new) }
     {
         let here = self.to - self.from;
         settle(&mut self.room, self.from, self.to);
@@ -183,7 +181,7 @@ fn take_behind<I: Source>(
     ensures size { length room.new ≡ length room.old }
     ensures nothing_taken { OnErr result (I.left input.new ≡ I.left input.old) }
     ensures fell { I.faults input.old ≤ I.faults input.new }
-    ensures cause { OnErr result (Rose (I.faults input.old) (I.faults input.new)) }
+    ensures cause { Tells result (I.faults input.old) (I.faults input.new) }
 {
     match input.take(&mut room[at..at + most]) {
         Ok(count) => Ok(count),

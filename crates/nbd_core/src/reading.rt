@@ -2,18 +2,22 @@
 ghost use Rattle.std.specs.Prelude.{Some, ◌≡◌, ◌+◌, ◌*◌, ◌≤◌, ◌<◌, ℕ, List, Option, IfErr, IfOk, IsTrue, length};
 ghost use Rattle.device_session.specs.Open.{IsOpen, blocks_of};
 ghost use Rattle.session_calls.specs.Along.{Along, Drawn};
-ghost use Rattle.sdbt_base.specs.Counts.{Counts, NoneFell};
+ghost use Rattle.sdbt_base.specs.Counts.{Counts};
 ghost use Rattle.sdbt_base.specs.Arrays.{Device, Session as OpenSession, mounted};
 ghost use Rattle.device_course.specs.States.{IsAt};
 ghost use Rattle.nbd_core.specs.Arrays.{ReadsBytes};
+ghost use Rattle.session_calls.specs.Damage.{IsMounted, MeetsDamage};
+ghost use Rattle.nbd_core.specs.Damages.{TellsDamage};
 ghost use Rattle.nbd_core.specs.Halts.{Blames};
 ghost use Rattle.nbd_core.specs.Requests.{DataEnd};
-ghost use Rattle.nbd_core.specs.Serving.{Calls, IsWithin};
+ghost use Rattle.nbd_terms.specs.Turn.{Reads};
+ghost use Rattle.nbd_core.specs.Serving.{Calls, IsWithin, bytes_of_reply};
+ghost use Rattle.nbd_core.specs.Turns.{LeadsOn};
 
 use crate::halts::{Halt, after_stop};
 use byte_arrays::Part;
 use device_session::Session;
-use nbd_lang::{Outcome, REPLY_HEAD, Request};
+use nbd_lang::{Outcome, REPLY_HEAD, Request, RequestKind};
 use platform::Platform;
 use sdbt_base::BLOCK;
 use session_calls::{DeviceStop, read_block};
@@ -30,12 +34,17 @@ pub(crate) fn read<P: Platform>(
     requires within { IsWithin request.now (blocks_of session.old) }
     ensures along { (drawn : Drawn) → Along P.Platform 0 platform.old platform.new drawn drawn
         session.old session.new }
-    ensures blame { (rest rest_now : Counts) → NoneFell rest rest_now
+    ensures blame { (rest : Counts)
         → Blames (record rest { platform = P.faults platform.old })
-        (record rest_now { platform = P.faults platform.new }) result }
+        (record rest { platform = P.faults platform.new }) result }
     ensures halts { (left : Option (List ℕ)) (came : List ℕ) → IfErr result (DataEnd left 0 came) }
     ensures room { IfOk result (λ outcome. outcome ≡ Outcome.Done
         → 16 + request.now.length ≤ length reply.new.items) }
+    ensures leads { LeadsOn P.Platform platform.old platform.new session.old session.new
+        (λ outcome entry next. Reads entry request.now outcome
+        (bytes_of_reply RequestKind.Read request.now.length outcome reply.new.items) next) result }
+    ensures damage { P.tells → IsMounted (P.history platform.old).present session.old
+        → TellsDamage (P.history platform.new).present result }
 {
     let length = request.length as usize;
     if !has_room(reply, REPLY_HEAD + length) {
@@ -71,6 +80,8 @@ fn read_range<P: Platform>(
     ensures reads { P.tells → (device : Device) (array : OpenSession)
         → IsAt (P.history platform.old).present (Some session.old) (mounted device array)
         → ReadsBytes (P.history platform.new).present session.new device array at out.new result }
+    ensures damage { P.tells → IsMounted (P.history platform.old).present session.old
+        → MeetsDamage (P.history platform.new).present result }
 {
     let mut done = 0;
     while done < out.len() {
@@ -103,6 +114,8 @@ fn read_part<P: Platform>(
         → IsAt (P.history platform.old).present (Some session.old) (mounted device array)
         → ReadsBytes (P.history platform.new).present session.new device array
         (4096 * part.block + part.start) out.new result }
+    ensures damage { P.tells → IsMounted (P.history platform.old).present session.old
+        → MeetsDamage (P.history platform.new).present result }
 {
     if part.is_whole() {
         return read_block(session, platform, part.block, out);

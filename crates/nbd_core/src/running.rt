@@ -5,7 +5,8 @@ ghost use Rattle.device_course.specs.States.{around};
 ghost use Rattle.device_session.specs.Open.{blocks_of};
 ghost use Rattle.nbd_core.specs.Halts.{Blames, IsLate};
 ghost use Rattle.nbd_core.specs.Serving.{Carries, IsReady, counts_of};
-ghost use Rattle.nbd_core.specs.Running.{Spans, IsSilent, Conversed, Talks, Looked, Untouched, OfCell, OfMount, cell_halt, mount_halt, IsOnCell};
+ghost use Rattle.nbd_core.specs.Turns.{IsFrom};
+ghost use Rattle.nbd_core.specs.Running.{Spans, Says, Talks, Looked, Untouched, OfCell, OfMount, cell_halt, mount_halt, IsOnCell};
 
 use crate::haggling::{Agreed, haggle};
 use crate::halts::Halt;
@@ -42,8 +43,10 @@ pub(crate) fn run<P: Platform, T: Tape, I: Source, O: Sink, L: Sink>(
     ensures looked { Looked P.tells (P.history platform.old).present
         (Untouched P.tells tape.old tape.new input.old input.new output.old output.new ledger.old ledger.new
         (P.head platform.old) (P.head platform.new) (P.history platform.old) (P.history platform.new)) result }
-    ensures talks { Talks P.tells (P.history platform.old).present (I.left input.old) (I.left input.new)
-        (O.written output.old) (O.written output.new) result }
+    ensures talks { Talks P.tells
+        (around P.Platform T.Tape L.Sink platform.old tape.old ledger.old)
+        (around P.Platform T.Tape L.Sink platform.new tape.new ledger.new)
+        (I.left input.old) (I.left input.new) (O.written output.old) (O.written output.new) result }
 {
     match check_cell(platform) {
         Ok(Some(_)) => {}
@@ -83,8 +86,10 @@ fn serve_device<P: Platform, T: Tape, I: Source, O: Sink, L: Sink>(
         (counts_of P.Platform T.Tape I.Source O.Sink L.Sink platform.new tape.new input.new output.new ledger.new)
         result }
     ensures halts { P.tells → IfErr result IsLate }
-    ensures talks { Talks P.tells (P.history platform.old).present (I.left input.old) (I.left input.new)
-        (O.written output.old) (O.written output.new) result }
+    ensures talks { Talks P.tells
+        (around P.Platform T.Tape L.Sink platform.old tape.old ledger.old)
+        (around P.Platform T.Tape L.Sink platform.new tape.new ledger.new)
+        (I.left input.old) (I.left input.new) (O.written output.old) (O.written output.new) result }
 {
     match mount_session(alloc, platform, CACHED_NODES) {
         Ok(Some(session)) => serve_client(alloc, session, platform, tape, input, output, ledger),
@@ -125,9 +130,12 @@ fn serve_client<P: Platform, T: Tape, I: Source, O: Sink, L: Sink>(
         (counts_of P.Platform T.Tape I.Source O.Sink L.Sink platform.new tape.new input.new output.new ledger.new)
         result }
     ensures halts { IfErr result IsLate }
-    ensures says { IsSilent (I.left input.old) (I.left input.new) (O.written output.old)
-        (O.written output.new) result
-        ⊎ Conversed (4096 * blocks_of session) (I.left input.old) (I.left input.new)
+    ensures says { Says
+        (IsFrom P.tells (around P.Platform T.Tape L.Sink platform.old tape.old ledger.old) session)
+        P.tells
+        (around P.Platform T.Tape L.Sink platform.old tape.old ledger.old)
+        (around P.Platform T.Tape L.Sink platform.new tape.new ledger.new)
+        (4096 * blocks_of session) (I.left input.old) (I.left input.new)
         (O.written output.old) (O.written output.new) result }
 {
     let Ok(mut intake) = Intake::new(alloc, MOST_INPUT) else {

@@ -1,6 +1,8 @@
 //! Requests, one after another.
-ghost use Rattle.std.specs.Prelude.{◌≡◌, ◌≢◌, ◌+◌, ◌*◌, ◌≤◌, ◌<◌, ℕ, List, Option, None, Some, IsOk, IfOk, IfErr, OnOk, OnErr, IfSome, IsTrue, ◌↔◌, [], length, take, drop};
-ghost use Rattle.sdbt_base.specs.Faults.{Rose};
+ghost use Rattle.std.specs.Prelude.{◌≡◌, ◌≢◌, ◌+◌, ◌-◌, ◌*◌, ◌≤◌, ◌<◌, ℕ, List, Option, None, Some, IsOk, IfOk, IfErr, OnOk, OnErr, IfSome, IsTrue, ◌↔◌, [], length, take, drop};
+ghost use Rattle.session_calls.specs.Damage.{IsMounted};
+ghost use Rattle.nbd_core.specs.Damages.{IsDamage, TellsDamage};
+ghost use Rattle.nbd_core.specs.Stops.{TellsPut};
 ghost use Rattle.sdbt_base.specs.Told.{Got, GotPart};
 ghost use Rattle.device_course.specs.States.{around};
 ghost use Rattle.device_session.specs.Open.{IsOpen, blocks_of};
@@ -8,10 +10,12 @@ ghost use Rattle.nbd_lang.specs.Requests.{bytes_behind};
 ghost use Rattle.nbd_lang.specs.Refusals.{refusal};
 ghost use Rattle.nbd_lang.specs.Replies.{Reply, reply_bytes};
 ghost use Rattle.session_calls.specs.Along.{Along, drawn_by};
-ghost use Rattle.sdbt_base.specs.Counts.{Counts, NoneFell, counts};
-ghost use Rattle.nbd_core.specs.Halts.{Blames};
+ghost use Rattle.sdbt_base.specs.Counts.{Counts};
+ghost use Rattle.nbd_terms.specs.Turn.{Answers};
+ghost use Rattle.nbd_core.specs.Halts.{Blames, commit_outcome};
 ghost use Rattle.nbd_core.specs.Requests.{DataCame, DataEnd, HeadCame};
 ghost use Rattle.nbd_core.specs.Served.{Answered, EndsByDisconnect, Served};
+ghost use Rattle.nbd_core.specs.Turns.{Finishes, Flushed, IsFrom, LeadsOn, Performs};
 ghost use Rattle.nbd_core.specs.Serving.{Carries, IsReady, counts_of, goes_on, performed, bytes_of_reply};
 
 use crate::haggling::put;
@@ -75,7 +79,12 @@ pub(crate) fn serve<P: Platform, T: Tape, I: Source, O: Sink, L: Sink>(
         (counts_of P.Platform T.Tape I.Source O.Sink L.Sink platform.old tape.old input.old output.old ledger.old)
         (counts_of P.Platform T.Tape I.Source O.Sink L.Sink platform.new tape.new input.new output.new ledger.new)
         result }
-    ensures served { Served (4096 * blocks_of first) (I.left input.old) (I.left input.new)
+    ensures served { Served
+        (IsFrom P.tells (around P.Platform T.Tape L.Sink platform.old tape.old ledger.old) first)
+        P.tells
+        (around P.Platform T.Tape L.Sink platform.old tape.old ledger.old)
+        (around P.Platform T.Tape L.Sink platform.new tape.new ledger.new)
+        (4096 * blocks_of first) (I.left input.old) (I.left input.new)
         intake.old intake.new (O.written output.old) (O.written output.new) result }
 {
     let mut session = first;
@@ -90,7 +99,7 @@ pub(crate) fn serve<P: Platform, T: Tape, I: Source, O: Sink, L: Sink>(
             Err(halt) => return Err(halt),
         }
     }
-    Ok(())
+    Ok(()) // what was not flushed is dropped with the session
 }
 
 /// Whether a request is a disconnect.
@@ -103,9 +112,9 @@ fn is_disconnect(request: &Request) -> bool
 /// Takes the head of the next request. `None` where the input ends before it.
 fn next_request<I: Source>(intake: &mut Intake, input: &mut I) -> Result<Option<Request>, Halt>
     ensures came { HeadCame (I.left input.old) (I.left input.new) intake.old intake.new result }
-    ensures blame { (rest rest_now : Counts) → NoneFell rest rest_now
+    ensures blame { (rest : Counts)
         → Blames (record rest { input = I.faults input.old })
-        (record rest_now { input = I.faults input.new }) result }
+        (record rest { input = I.faults input.new }) result }
 {
     match intake.need(input, REQUEST_MAGIC) {
         Ok(true) => {}
@@ -158,8 +167,11 @@ fn answer<P: Platform, T: Tape, I: Source, O: Sink, L: Sink>(
         (counts_of P.Platform T.Tape I.Source O.Sink L.Sink platform.old tape.old input.old output.old ledger.old)
         (counts_of P.Platform T.Tape I.Source O.Sink L.Sink platform.new tape.new input.new output.new ledger.new)
         result }
-    ensures answered { Answered (4096 * blocks_of session) request.now (I.left input.old)
-        (I.left input.new) intake.old intake.new (O.written output.old) (O.written output.new) result }
+    ensures answered { Answered P.tells
+        (around P.Platform T.Tape L.Sink platform.old tape.old ledger.old)
+        (around P.Platform T.Tape L.Sink platform.new tape.new ledger.new) session
+        (4096 * blocks_of session) request.now (I.left input.old) (I.left input.new)
+        intake.old intake.new (O.written output.old) (O.written output.new) result }
 {
     match perform(
         session, desk, intake, platform, tape, input, ledger, request,
@@ -191,15 +203,21 @@ fn perform<P: Platform, T: Tape, I: Source, L: Sink>(
         (around P.Platform T.Tape L.Sink platform.old tape.old ledger.old)
         (around P.Platform T.Tape L.Sink platform.new tape.new ledger.new) first
         (performed result) (IsOk result) }
-    ensures blame { (rest rest_now : Counts) → NoneFell rest rest_now
+    ensures blame { (rest : Counts)
         → Blames (record rest { platform = P.faults platform.old; tape = T.faults tape.old; input = I.faults input.old; ledger = L.faults ledger.old })
-        (record rest_now { platform = P.faults platform.new; tape = T.faults tape.new; input = I.faults input.new; ledger = L.faults ledger.new }) result }
+        (record rest { platform = P.faults platform.new; tape = T.faults tape.new; input = I.faults input.new; ledger = L.faults ledger.new }) result }
     ensures bytes { DataCame (I.left input.old) (I.left input.new) intake.old intake.new
-        (bytes_behind request.now.kind request.now.length) result }
+        (bytes_behind request.now.kind request.now.length)
+        (λ gone. Performs P.tells
+        (around P.Platform T.Tape L.Sink platform.old tape.old ledger.old)
+        (around P.Platform T.Tape L.Sink platform.new tape.new ledger.new) first
+        (record { head = request.now; bytes = gone }) desk.new.reply.items result) result }
     ensures room { IfOk result (λ done. request.now.kind ≡ RequestKind.Read → done.outcome ≡ Outcome.Done
         → 16 + request.now.length ≤ length desk.new.reply.items) }
     ensures refused { IfOk result (λ done. IfSome (refusal (4096 * blocks_of first) request.now)
         (λ why. done.outcome ≡ why)) }
+    ensures damage { P.tells → IfOk result
+        (λ done. IsDamage (P.history platform.new).present done.outcome) }
 {
     let refused = request.refusal(first.blocks() * BLOCK as u64);
     if is_flush(request, refused) {
@@ -244,14 +262,21 @@ fn serve_blocks<P: Platform, T: Tape, I: Source>(
     requires kind { (request.now.kind ≢ RequestKind.Disconnect) × (refused ≡ None → request.now.kind ≢ RequestKind.Flush) }
     ensures along { (updates : ℕ) × Along P.Platform updates platform.old platform.new
         (drawn_by T.Tape tape.old) (drawn_by T.Tape tape.new) session.old session.new }
-    ensures blame { (rest rest_now : Counts) → NoneFell rest rest_now
+    ensures blame { (rest : Counts)
         → Blames (record rest { platform = P.faults platform.old; tape = T.faults tape.old; input = I.faults input.old })
-        (record rest_now { platform = P.faults platform.new; tape = T.faults tape.new; input = I.faults input.new }) result }
+        (record rest { platform = P.faults platform.new; tape = T.faults tape.new; input = I.faults input.new }) result }
     ensures bytes { DataCame (I.left input.old) (I.left input.new) intake.old intake.new
-        (bytes_behind request.now.kind request.now.length) result }
+        (bytes_behind request.now.kind request.now.length)
+        (λ gone. LeadsOn P.Platform platform.old platform.new session.old session.new
+        (λ outcome entry next. Answers (P.capacity platform.old - entry.pages) refused entry
+        (record { head = request.now; bytes = gone }) outcome
+        (bytes_of_reply request.now.kind request.now.length outcome desk.new.reply.items) next)
+        result) result }
     ensures room { IfOk result (λ outcome. request.now.kind ≡ RequestKind.Read → outcome ≡ Outcome.Done
         → 16 + request.now.length ≤ length desk.new.reply.items) }
     ensures refused { IfOk result (λ outcome. IfSome refused (λ why. outcome ≡ why)) }
+    ensures damage { P.tells → IsMounted (P.history platform.old).present session.old
+        → TellsDamage (P.history platform.new).present result }
 {
     if let Some(outcome) = refused {
         return let_go(intake, input, bytes_of(request), outcome);
@@ -295,9 +320,13 @@ fn flush<P: Platform, T: Tape, L: Sink>(
         (around P.Platform T.Tape L.Sink platform.new tape.new ledger.new) session
         (performed result) (IsOk result) }
     ensures halts { (left : Option (List ℕ)) (came : List ℕ) → IfErr result (DataEnd left 0 came) }
-    ensures blame { (rest rest_now : Counts) → NoneFell rest rest_now
+    ensures blame { (rest : Counts)
         → Blames (record rest { platform = P.faults platform.old; tape = T.faults tape.old; ledger = L.faults ledger.old })
-        (record rest_now { platform = P.faults platform.new; tape = T.faults tape.new; ledger = L.faults ledger.new }) result }
+        (record rest { platform = P.faults platform.new; tape = T.faults tape.new; ledger = L.faults ledger.new }) result }
+    ensures flushes { Flushed P.tells
+        (around P.Platform T.Tape L.Sink platform.old tape.old ledger.old)
+        (around P.Platform T.Tape L.Sink platform.new tape.new ledger.new) session result }
+    ensures sound { IfOk result (λ done. done.outcome ≢ Outcome.Damaged) }
 {
     match commit_session(session, platform, tape, ledger) {
         Ok(done) => Ok(Performed {
@@ -309,7 +338,9 @@ fn flush<P: Platform, T: Tape, L: Sink>(
 }
 
 /// What a flush comes to.
-fn outcome_of(reply: &CommitReply) -> Outcome {
+fn outcome_of(reply: &CommitReply) -> Outcome
+    ensures { result ≡ commit_outcome reply.now }
+{
     match reply {
         CommitReply::Committed { .. } => Outcome::Done,
         CommitReply::Full { .. } => Outcome::NoSpace,
@@ -328,10 +359,13 @@ fn finish<P: Platform, T: Tape, L: Sink>(
         (around P.Platform T.Tape L.Sink platform.old tape.old ledger.old)
         (around P.Platform T.Tape L.Sink platform.new tape.new ledger.new) session
         None (IsOk result) }
-    ensures blame { (rest rest_now : Counts) → NoneFell rest rest_now
+    ensures blame { (rest : Counts)
         → Blames (record rest { platform = P.faults platform.old; tape = T.faults tape.old; ledger = L.faults ledger.old })
-        (record rest_now { platform = P.faults platform.new; tape = T.faults tape.new; ledger = L.faults ledger.new }) result }
+        (record rest { platform = P.faults platform.new; tape = T.faults tape.new; ledger = L.faults ledger.new }) result }
     ensures ends { EndsByDisconnect result }
+    ensures finishes { Finishes P.tells
+        (around P.Platform T.Tape L.Sink platform.old tape.old ledger.old)
+        (around P.Platform T.Tape L.Sink platform.new tape.new ledger.new) session result }
 {
     match flush(session, platform, tape, ledger) {
         Ok(done) if done.outcome == Outcome::Done => Ok(()),
@@ -364,8 +398,7 @@ fn put_reply<O: Sink>(
         }))
         (O.written output.new)) }
     ensures fell { O.faults output.old ≤ O.faults output.new }
-    ensures cause { IfErr result (λ stop. (stop ≡ Stop.Sink)
-        × Rose (O.faults output.old) (O.faults output.new)) }
+    ensures cause { TellsPut result (O.faults output.old) (O.faults output.new) }
 {
     if has_bytes(request, outcome) {
         let whole = &mut desk.reply[..REPLY_HEAD + request.length as usize];
@@ -391,8 +424,7 @@ fn put_read<O: Sink>(whole: &mut [u8], cookie: u64, output: &mut O) -> Result<()
         (reply_bytes (record { outcome = Outcome.Done; cookie = cookie; bytes = drop 16 whole.old }))
         (O.written output.new)) }
     ensures fell { O.faults output.old ≤ O.faults output.new }
-    ensures cause { IfErr result (λ stop. (stop ≡ Stop.Sink)
-        × Rose (O.faults output.old) (O.faults output.new)) }
+    ensures cause { TellsPut result (O.faults output.old) (O.faults output.new) }
 {
     write_reply_head(Outcome::Done, cookie, whole);
     put(whole, output)
@@ -407,8 +439,7 @@ fn put_head<O: Sink>(outcome: Outcome, cookie: u64, output: &mut O) -> Result<()
         (reply_bytes (record { outcome = outcome; cookie = cookie; bytes = [] }))
         (O.written output.new)) }
     ensures fell { O.faults output.old ≤ O.faults output.new }
-    ensures cause { IfErr result (λ stop. (stop ≡ Stop.Sink)
-        × Rose (O.faults output.old) (O.faults output.new)) }
+    ensures cause { TellsPut result (O.faults output.old) (O.faults output.new) }
 {
     let mut head = [0; REPLY_HEAD];
     write_reply_head(outcome, cookie, &mut head);

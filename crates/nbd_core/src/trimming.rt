@@ -1,16 +1,16 @@
 //! Trims.
-ghost use Rattle.std.specs.Prelude.{Some, IfOk, take, ◌≡◌, ◌+◌, ◌*◌, ◌≤◌, ℕ, List, Option, IfErr, length};
+ghost use Rattle.std.specs.Prelude.{ℕ, List, Option, IfErr};
 ghost use Rattle.byte_arrays.specs.Ranges.{covered_blocks};
-ghost use Rattle.device_session.specs.Open.{IsOpen, blocks_of, needed_by};
-ghost use Rattle.device_course.specs.States.{IsAt};
-ghost use Rattle.nbd_terms.specs.Held.{trim_all};
-ghost use Rattle.sdbt_base.specs.Arrays.{Device, Session as OpenSession, mounted};
+ghost use Rattle.device_session.specs.Open.{IsOpen, blocks_of};
+ghost use Rattle.nbd_terms.specs.Turn.{Trims};
 ghost use Rattle.session_calls.specs.Along.{Along, Drawn};
-ghost use Rattle.sdbt_base.specs.Counts.{Counts, NoneFell};
-ghost use Rattle.nbd_core.specs.Arrays.{TrimmedSome};
+ghost use Rattle.sdbt_base.specs.Counts.{Counts};
+ghost use Rattle.session_calls.specs.Damage.{IsMounted};
+ghost use Rattle.nbd_core.specs.Damages.{TellsDamage};
 ghost use Rattle.nbd_core.specs.Halts.{Blames};
 ghost use Rattle.nbd_core.specs.Requests.{DataEnd};
 ghost use Rattle.nbd_core.specs.Serving.{IsWithin};
+ghost use Rattle.nbd_core.specs.Turns.{LeadsOn};
 
 use crate::halts::{Halt, after_stop};
 use byte_arrays::covered;
@@ -29,18 +29,15 @@ pub(crate) fn trim<P: Platform>(
     requires within { IsWithin request.now (blocks_of session.old) }
     ensures along { (updates : ℕ) × ((drawn : Drawn)
         → Along P.Platform updates platform.old platform.new drawn drawn session.old session.new) }
-    ensures blame { (rest rest_now : Counts) → NoneFell rest rest_now
+    ensures blame { (rest : Counts)
         → Blames (record rest { platform = P.faults platform.old })
-        (record rest_now { platform = P.faults platform.new }) result }
+        (record rest { platform = P.faults platform.new }) result }
     ensures halts { (left : Option (List ℕ)) (came : List ℕ) → IfErr result (DataEnd left 0 came) }
-    ensures trims { P.tells → (device : Device) (array : OpenSession)
-        → IsAt (P.history platform.old).present (Some session.old) (mounted device array)
-        → IfOk result (λ outcome. (n : ℕ)
-        × TrimmedSome array (covered_blocks request.now.offset request.now.length) outcome n
-        × (needed_by session.new ≤ needed_by session.old + 41 * n)
-        × IsAt (P.history platform.new).present (Some session.new) (mounted device
-        (trim_all array (take n (covered_blocks request.now.offset request.now.length))))) }
-    ensures head { P.head platform.new ≡ P.head platform.old }
+    ensures leads { LeadsOn P.Platform platform.old platform.new session.old session.new
+        (λ outcome entry next. Trims entry
+        (covered_blocks request.now.offset request.now.length) outcome next) result }
+    ensures damage { P.tells → IsMounted (P.history platform.old).present session.old
+        → TellsDamage (P.history platform.new).present result }
 {
     let blocks = covered(request.offset, request.length as u64);
     for block in blocks.start..blocks.end {

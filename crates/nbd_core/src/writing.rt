@@ -1,17 +1,20 @@
 //! Writes.
-ghost use Rattle.std.specs.Prelude.{Some, OnErr, ◌≡◌, ◌≢◌, ◌+◌, ◌*◌, ◌≤◌, ◌<◌, ◌^◌, ℕ, IfOk, length};
+ghost use Rattle.std.specs.Prelude.{Some, OnErr, ◌≡◌, ◌≢◌, ◌+◌, ◌-◌, ◌*◌, ◌≤◌, ◌<◌, ◌^◌, ℕ, IfOk, length};
 ghost use Rattle.byte_arrays.specs.Ranges.{touched_blocks};
 ghost use Rattle.device_session.specs.Open.{IsOpen, blocks_of, needed_by};
 ghost use Rattle.device_course.specs.States.{IsAt};
 ghost use Rattle.sdbt_base.specs.Arrays.{Device, Session as OpenSession, mounted};
-ghost use Rattle.nbd_core.specs.Arrays.{AddsOne, WritesPart};
+ghost use Rattle.nbd_terms.specs.Turn.{Writes};
+ghost use Rattle.nbd_core.specs.Arrays.{AddsOne, WritesPart, WroteRange};
 ghost use Rattle.session_calls.specs.Along.{Along, drawn_by};
 ghost use Rattle.sdbt_base.specs.Counts.{Counts, NoneFell};
-ghost use Rattle.session_calls.specs.Blame.{IsOfCall};
-ghost use Rattle.nbd_core.specs.Halts.{HasRisen};
-ghost use Rattle.nbd_core.specs.Halts.{Blames};
+ghost use Rattle.session_calls.specs.Blame.{HasCause, IsOfCall};
+ghost use Rattle.session_calls.specs.Damage.{IsMounted, MeetsDamage};
+ghost use Rattle.nbd_core.specs.Damages.{TellsDamage};
+ghost use Rattle.nbd_core.specs.Halts.{Blames, outcome_after};
 ghost use Rattle.nbd_core.specs.Serving.{Calls, IsWithin};
 ghost use Rattle.nbd_core.specs.Requests.{DataCame};
+ghost use Rattle.nbd_core.specs.Turns.{LeadsOn};
 
 use crate::halts::{Halt, after_stop};
 use crate::intake::Intake;
@@ -37,11 +40,17 @@ pub(crate) fn write<P: Platform, T: Tape, I: Source>(
     requires within { IsWithin request.now (blocks_of session.old) }
     ensures along { (updates : ℕ) × Along P.Platform updates platform.old platform.new
         (drawn_by T.Tape tape.old) (drawn_by T.Tape tape.new) session.old session.new }
-    ensures blame { (rest rest_now : Counts) → NoneFell rest rest_now
+    ensures blame { (rest : Counts)
         → Blames (record rest { platform = P.faults platform.old; tape = T.faults tape.old; input = I.faults input.old })
-        (record rest_now { platform = P.faults platform.new; tape = T.faults tape.new; input = I.faults input.new }) result }
+        (record rest { platform = P.faults platform.new; tape = T.faults tape.new; input = I.faults input.new }) result }
     ensures bytes { DataCame (I.left input.old) (I.left input.new) intake.old intake.new
-        request.now.length result }
+        request.now.length
+        (λ gone. LeadsOn P.Platform platform.old platform.new session.old session.new
+        (λ outcome entry next. Writes (P.capacity platform.old - entry.pages) entry
+        request.now.offset gone (touched_blocks request.now.offset request.now.length)
+        outcome next) result) result }
+    ensures damage { P.tells → IsMounted (P.history platform.old).present session.old
+        → TellsDamage (P.history platform.new).present result }
 {
     let blocks = touched(request.offset, request.length as u64);
     if blocks.end - blocks.start > platform.capacity() - platform.head() {
@@ -78,11 +87,17 @@ fn write_range<P: Platform, T: Tape, I: Source>(
         ≤ P.capacity platform.old }
     ensures along { (updates : ℕ) × Along P.Platform updates platform.old platform.new
         (drawn_by T.Tape tape.old) (drawn_by T.Tape tape.new) session.old session.new }
-    ensures blame { (rest rest_now : Counts) → NoneFell rest rest_now
+    ensures blame { (rest : Counts)
         → Blames (record rest { platform = P.faults platform.old; tape = T.faults tape.old; input = I.faults input.old })
-        (record rest_now { platform = P.faults platform.new; tape = T.faults tape.new; input = I.faults input.new }) result }
-    ensures bytes { DataCame (I.left input.old) (I.left input.new) intake.old intake.new
-        count result }
+        (record rest { platform = P.faults platform.new; tape = T.faults tape.new; input = I.faults input.new }) result }
+    ensures bytes { DataCame (I.left input.old) (I.left input.new) intake.old intake.new count
+        (λ gone. P.tells → (device : Device) (array : OpenSession)
+        → IsAt (P.history platform.old).present (Some session.old) (mounted device array)
+        → IfOk result (WroteRange (P.history platform.new).present (P.head platform.old)
+        (P.head platform.new) (needed_by session.old) session.new device array at gone
+        (touched_blocks at count))) result }
+    ensures damage { P.tells → IsMounted (P.history platform.old).present session.old
+        → TellsDamage (P.history platform.new).present result }
 {
     let mut done = 0;
     while done < count {
@@ -112,11 +127,12 @@ fn give_up<I: Source>(
     left: u64,
 ) -> Result<Outcome, Halt>
     requires { IsOfCall stop }
-    ensures blame { (rest rest_now : Counts) → NoneFell rest rest_now → HasRisen rest rest_now stop
-        → Blames (record rest { input = I.faults input.old })
-        (record rest_now { input = I.faults input.new }) result }
+    ensures blame { (before now : Counts) → NoneFell before now → HasCause before now stop
+        → Blames (record before { input = I.faults input.old })
+        (record now { input = I.faults input.new }) result }
     ensures bytes { DataCame (I.left input.old) (I.left input.new) intake.old intake.new left
-        result }
+        (λ gone. Unit {0}) result }
+    ensures outcome { IfOk result (λ outcome. outcome_after stop ≡ Ok outcome) }
 {
     match after_stop(stop) {
         Ok(outcome) => let_go(intake, input, left, outcome),
@@ -132,11 +148,11 @@ pub(crate) fn let_go<I: Source>(
     outcome: Outcome,
 ) -> Result<Outcome, Halt>
     ensures outcome { IfOk result (λ it. it ≡ outcome) }
-    ensures blame { (rest rest_now : Counts) → NoneFell rest rest_now
+    ensures blame { (rest : Counts)
         → Blames (record rest { input = I.faults input.old })
-        (record rest_now { input = I.faults input.new }) result }
+        (record rest { input = I.faults input.new }) result }
     ensures bytes { DataCame (I.left input.old) (I.left input.new) intake.old intake.new count
-        result }
+        (λ gone. Unit {0}) result }
 {
     match intake.pass(input, count) {
         Ok(true) => Ok(outcome),
@@ -166,6 +182,8 @@ fn write_part<P: Platform, T: Tape>(
         part.block part.start part.count bytes.now result }
     ensures adds { AddsOne (P.head platform.old) (P.head platform.new) result }
     ensures needs { OnErr result (needed_by session.new ≤ needed_by session.old) }
+    ensures damage { P.tells → IsMounted (P.history platform.old).present session.old
+        → MeetsDamage (P.history platform.new).present result }
 {
     if part.is_whole() {
         return write_block(session, platform, tape, part.block, bytes);

@@ -59,8 +59,8 @@ options-preserved g c =
       options = so_far.options ++ more.0 ∷ [];
       heard = more.2;
       others = others_more so_far.options more.0 c.in-Some.option c.in-Other.field-0 so_far.others more.1 c.in-Other.is;
-      input = omega (arith, so_far.input, c.in_ok-option.ensures.fell);
-      output = omega (arith, so_far.output, c.in_ok-put_answer.ensures.fell);
+      input = omega (arith, so_far.input, c.in_ok-option.ensures.cause);
+      output = omega (arith, so_far.output, c.in_ok-put_answer.ensures.cause);
     }
 
 pub returns-clause-talk : goal.returns-clause-talk

@@ -1,4 +1,4 @@
-use Rattle.std.specs.Prelude.{◌+◌, ◌≤◌, List, length}
+use Rattle.std.specs.Prelude.{◌≡◌, ◌+◌, List, length}
 use Rattle.nbd_lang.specs.Options.{OptionSent}
 use Rattle.nbd_core.specs.Haggling.{AreOthers}
 use Rattle.nbd_core.proofs.HaggleLaws.{Heard}
@@ -9,8 +9,8 @@ invariant-options g l = record {
   options : List OptionSent;
   heard : Heard l.size l.flags.no_zeroes (g.I.Source.left l.fn.input) (g.I.Source.left l.input) l.fn.intake l.intake (g.O.Sink.written l.fn.output) (g.O.Sink.written l.output) options;
   others : AreOthers options;
-  input : g.I.Source.faults l.fn.input ≤ g.I.Source.faults l.input;
-  output : g.O.Sink.faults l.fn.output ≤ g.O.Sink.faults l.output;
+  input : g.I.Source.faults l.input ≡ g.I.Source.faults l.fn.input;
+  output : g.O.Sink.faults l.output ≡ g.O.Sink.faults l.fn.output;
 }
 
 abbrev pub decreases-options : goal.decreases-options

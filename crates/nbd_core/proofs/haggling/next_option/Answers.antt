@@ -1,8 +1,8 @@
-use Rattle.std.proofs.Common.{◌≡◌, ◌≢◌, Ok, Err, true, false, refl, arith, ap, inl, inr, take, drop, List, ℕ, ◌++◌, ◌∙◌, sym, length, length-append}
+use Rattle.std.proofs.Common.{◌≡◌, ◌≢◌, Ok, Err, true, false, refl, arith, ap, inl, inr, take, ◌++◌, ◌∙◌, sym, length, length-append}
 use Rattle.std.specs.Prelude.{codes}
 use Rattle.nbd_lang.specs.Options.{option_head}
 use Rattle.std.proofs.lemmas.Result.{err_from_is_err_and}
-use Rattle.nbd_core.proofs.HaggleLaws.{short_awaits_option, shorter_awaits_option, head_awaits_option, magic_stays, option_stopped, magic_came, head_came, head_there, bytes_came, option_whole}
+use Rattle.nbd_core.proofs.HaggleLaws.{short_awaits_option, shorter_awaits_option, head_awaits_option, magic_stays, option_stopped, magic_came, head_came, option_taken, option_whole}
 use Rattle.nbd_core.proofs.haggling.next_option.Goals as goal
 
 pub returns-in_err-need-clause-came : goal.returns-in_err-need-clause-came
@@ -63,16 +63,9 @@ returns-in_err-pass-clause-came g c =
     let p = err_from_is_err_and c.from_residual-in_err-pass.result c.from_residual-in_err-pass.ensures.1 in
     let passed = c.in_err-pass.ensures.passed in
     let head = c.read_option-option.result in
-    let more = c.in_ok-need-2.ensures.came in
-    let all : List ℕ = c.need-2.new.self.ahead in
-    let long = c.in_ok-need.ensures.there c.if-not-branch.false in
-    let magic : take 8 c.need.new.self.ahead ≡ codes "IHAVEOPT" = ap (take 8) (sym c.ahead.ensures) ∙ c.if-not-is_option.ensures.0 refl in
-    let spelled : codes "IHAVEOPT" ++ take 8 (drop 8 all) ≡ option_head head = ap (λ (l : List ℕ). codes "IHAVEOPT" ++ take 8 (drop 8 l)) (sym c.ahead-2.ensures) ∙ c.read_option-option.ensures.spelled in
-    let there : all ≡ option_head head ++ c.skip.new.self.ahead =
-    head_there all head (magic_stays c.need.new.self.ahead more.taken all long magic more.is) spelled ∙ ap (λ (l : List ℕ). option_head head ++ l) (sym c.skip.ensures.ahead) in
     let takes =
-    bytes_came (g.I.Source.left c.args.input.now) (g.I.Source.left c.need-2.new.input) (g.I.Source.left c.pass.new.input) c.args.intake.now c.need-2.new.self c.skip.new.self c.pass.new.self head (Err c.in_err-pass.field-0.0) c.read_option-option.ensures.fits
-    (head_came (g.I.Source.left c.args.input.now) (g.I.Source.left c.need.new.input) (g.I.Source.left c.need-2.new.input) c.args.intake.now c.need.new.self c.need-2.new.self long magic c.in_ok-need.ensures.came more) there c.skip.ensures.left passed in
+    option_taken _ _ _ _ _ _ _ _ c.pass.new.self _ _ head (Err c.in_err-pass.field-0.0) (c.in_ok-need.ensures.there c.if-not-branch.false) c.ahead.ensures (c.if-not-is_option.ensures.0 refl) c.in_ok-need.ensures.came
+    c.in_ok-need-2.ensures.came c.ahead-2.ensures c.read_option-option.ensures.fits c.read_option-option.ensures.spelled c.skip.ensures.ahead c.skip.ensures.left passed in
     rw (p.1, p.2) (option_stopped (g.I.Source.left c.args.input.now) (g.I.Source.left c.pass.new.input) c.args.intake.now c.pass.new.self (option_head head ++ (passed.gone ++ c.pass.new.self.ahead)) c.in_err-pass.field-0.0
     takes (head_awaits_option head (passed.gone ++ c.pass.new.self.ahead) c.read_option-option.ensures.fits passed.stopped) c.in_err-pass.ensures.input)
 
@@ -80,16 +73,9 @@ pub returns-then-not-branch-3-clause-came : goal.returns-then-not-branch-3-claus
 returns-then-not-branch-3-clause-came g c =
     let passed = c.in_ok-pass.ensures.passed in
     let head = c.read_option-option.result in
-    let more = c.in_ok-need-2.ensures.came in
-    let all : List ℕ = c.need-2.new.self.ahead in
-    let long = c.in_ok-need.ensures.there c.if-not-branch.false in
-    let magic : take 8 c.need.new.self.ahead ≡ codes "IHAVEOPT" = ap (take 8) (sym c.ahead.ensures) ∙ c.if-not-is_option.ensures.0 refl in
-    let spelled : codes "IHAVEOPT" ++ take 8 (drop 8 all) ≡ option_head head = ap (λ (l : List ℕ). codes "IHAVEOPT" ++ take 8 (drop 8 l)) (sym c.ahead-2.ensures) ∙ c.read_option-option.ensures.spelled in
-    let there : all ≡ option_head head ++ c.skip.new.self.ahead =
-    head_there all head (magic_stays c.need.new.self.ahead more.taken all long magic more.is) spelled ∙ ap (λ (l : List ℕ). option_head head ++ l) (sym c.skip.ensures.ahead) in
     let takes =
-    bytes_came (g.I.Source.left c.args.input.now) (g.I.Source.left c.need-2.new.input) (g.I.Source.left c.pass.new.input) c.args.intake.now c.need-2.new.self c.skip.new.self c.pass.new.self head (Ok c.in_ok-pass.field-0) c.read_option-option.ensures.fits
-    (head_came (g.I.Source.left c.args.input.now) (g.I.Source.left c.need.new.input) (g.I.Source.left c.need-2.new.input) c.args.intake.now c.need.new.self c.need-2.new.self long magic c.in_ok-need.ensures.came more) there c.skip.ensures.left passed in
+    option_taken _ _ _ _ _ _ _ _ c.pass.new.self _ _ head (Ok c.in_ok-pass.field-0) (c.in_ok-need.ensures.there c.if-not-branch.false) c.ahead.ensures (c.if-not-is_option.ensures.0 refl) c.in_ok-need.ensures.came
+    c.in_ok-need-2.ensures.came c.ahead-2.ensures c.read_option-option.ensures.fits c.read_option-option.ensures.spelled c.skip.ensures.ahead c.skip.ensures.left passed in
     record {
       came = option_head head ++ (passed.gone ++ c.pass.new.self.ahead);
       takes = takes;
@@ -105,14 +91,7 @@ pub returns-clause-came : goal.returns-clause-came
 returns-clause-came g c =
     let passed = c.in_ok-pass.ensures.passed in
     let head = c.read_option-option.result in
-    let more = c.in_ok-need-2.ensures.came in
-    let all : List ℕ = c.need-2.new.self.ahead in
-    let long = c.in_ok-need.ensures.there c.if-not-branch.false in
-    let magic : take 8 c.need.new.self.ahead ≡ codes "IHAVEOPT" = ap (take 8) (sym c.ahead.ensures) ∙ c.if-not-is_option.ensures.0 refl in
-    let spelled : codes "IHAVEOPT" ++ take 8 (drop 8 all) ≡ option_head head = ap (λ (l : List ℕ). codes "IHAVEOPT" ++ take 8 (drop 8 l)) (sym c.ahead-2.ensures) ∙ c.read_option-option.ensures.spelled in
-    let there : all ≡ option_head head ++ c.skip.new.self.ahead =
-    head_there all head (magic_stays c.need.new.self.ahead more.taken all long magic more.is) spelled ∙ ap (λ (l : List ℕ). option_head head ++ l) (sym c.skip.ensures.ahead) in
     let takes =
-    bytes_came (g.I.Source.left c.args.input.now) (g.I.Source.left c.need-2.new.input) (g.I.Source.left c.pass.new.input) c.args.intake.now c.need-2.new.self c.skip.new.self c.pass.new.self head (Ok c.in_ok-pass.field-0) c.read_option-option.ensures.fits
-    (head_came (g.I.Source.left c.args.input.now) (g.I.Source.left c.need.new.input) (g.I.Source.left c.need-2.new.input) c.args.intake.now c.need.new.self c.need-2.new.self long magic c.in_ok-need.ensures.came more) there c.skip.ensures.left passed in
+    option_taken _ _ _ _ _ _ _ _ c.pass.new.self _ _ head (Ok c.in_ok-pass.field-0) (c.in_ok-need.ensures.there c.if-not-branch.false) c.ahead.ensures (c.if-not-is_option.ensures.0 refl) c.in_ok-need.ensures.came
+    c.in_ok-need-2.ensures.came c.ahead-2.ensures c.read_option-option.ensures.fits c.read_option-option.ensures.spelled c.skip.ensures.ahead c.skip.ensures.left passed in
     option_whole (g.I.Source.left c.args.input.now) (g.I.Source.left c.pass.new.input) c.args.intake.now c.pass.new.self head passed.gone c.read_option-option.ensures.fits (passed.whole c.if-not-branch-3.false) takes

@@ -5,13 +5,15 @@ use Rattle.byte_arrays.specs.Arrays.{bytes_at}
 use Rattle.nbd_terms.specs.Held.{array_of}
 use Rattle.session_calls.proofs.AlongLaws.{along_start, along_then}
 use Rattle.nbd_core.proofs.ArrayLaws.{range_stopped, read_more}
-use Rattle.nbd_core.proofs.CallLaws.{calls_then, no_draw}
+use Rattle.sdbt_base.specs.Counts.{counts}
+use Rattle.nbd_core.proofs.CallLaws.{calls_then, no_draw, platform_quiet}
 use Rattle.nbd_core.proofs.reading.read_range.Goals as goal
 
 pub loop-done-init : goal.loop-done-init
 loop-done-init g c = record {
   along = λ drawn. along_start g.P.Platform _ drawn _ c.requires.open;
   within = omega arith;
+  quiet = refl;
   reads = λ told device array at. (at, refl);
 }
 
@@ -38,16 +40,17 @@ loop-done-preserved g c = record {
             (take-put_mid c.loop-done.done _ out piece (c.loop-done.done + k) (omega (arith, size)) c.loop-done.invariant.within),
       );
   along = λ drawn. along_then g.P.Platform 0 0 _ _ _ drawn drawn drawn _ _ _ (c.loop-done.invariant.along drawn) (c.in-Ok.ensures.calls drawn).along;
+  quiet = platform_quiet _ _ (c.in-Ok.ensures.calls no_draw).quiet ∙ c.loop-done.invariant.quiet;
   within =
       let part = c.first-part.ensures (c.args.at + c.loop-done.done) 0 (omega arith) (inl refl) in
       omega (arith, part.within);
 }
 
 pub returns-in-Err-clause-calls : goal.returns-in-Err-clause-calls
-returns-in-Err-clause-calls g c drawn = calls_then g.P.Platform 0 0 _ _ _ drawn drawn drawn _ _ _ _ (c.loop-done.invariant.along drawn) (c.in-Err.ensures.calls drawn)
+returns-in-Err-clause-calls g c drawn = calls_then g.P.Platform 0 0 _ _ _ drawn drawn drawn _ _ _ _ (c.loop-done.invariant.along drawn) c.loop-done.invariant.quiet refl (c.in-Err.ensures.calls drawn)
 
 pub returns-clause-calls : goal.returns-clause-calls
-returns-clause-calls g c drawn = record { along = c.loop-done.invariant.along drawn; stops = tt; cause = tt }
+returns-clause-calls g c drawn = record { along = c.loop-done.invariant.along drawn; stops = tt; quiet = ap (λ (n : ℕ). counts n drawn.faults 0 0 0) c.loop-done.invariant.quiet; cause = tt }
 
 pub slice_bounds-place-end : goal.slice_bounds-place-end
 slice_bounds-place-end g c =
@@ -68,3 +71,6 @@ returns-clause-reads g c told device array at =
     let so_far = c.loop-done.invariant.reads told device array at in
     let all : c.loop-done.done ≡ length c.loop-done.out = omega (arith, c.loop-done.invariant.within, c.loop-done-test.false) in
     (so_far.0, sym (take_all c.loop-done.done c.loop-done.out (omega (arith, all))) ∙ so_far.1 ∙ ap (bytes_at (array_of array) c.args.at) all)
+
+pub returns-in-Err-clause-damage : goal.returns-in-Err-clause-damage
+returns-in-Err-clause-damage g c told mounted = c.in-Err.ensures.damage told ((c.loop-done.invariant.along no_draw).mounted told mounted)

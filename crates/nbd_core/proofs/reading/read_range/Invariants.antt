@@ -12,6 +12,7 @@ invariant-loop-done g l = record {
   reads : g.P.Platform.tells → (device : Device) (array : OpenSession) → IsAt (g.P.Platform.history l.fn.platform).present (Some l.fn.session) (mounted device array)
       → IsAt (g.P.Platform.history l.platform).present (Some l.session) (mounted device array) × (take l.done l.out ≡ bytes_at (array_of array) l.at l.done);
   within : l.done ≤ length l.out;
+  quiet : g.P.Platform.faults l.platform ≡ g.P.Platform.faults l.fn.platform;
 }
 
 abbrev pub decreases-loop-done : goal.decreases-loop-done

@@ -1,8 +1,6 @@
-use Rattle.std.proofs.Common.{inl, inr, refl, sym, subst, Some}
-use Rattle.platform.specs.Image.{Image}
-use Rattle.page_store.specs.Stands.{Stands}
+use Rattle.std.proofs.Common.{inl, refl}
 use Rattle.device_terms.proofs.MomentLaws.{one_look}
-use Rattle.nbd_core.proofs.SpanLaws.{spans_look, spans_looked}
+use Rattle.nbd_core.proofs.SpanLaws.{early_look, silent_look, spans_look, spans_looked, talks_looked}
 use Rattle.nbd_core.proofs.running.run.Goals as goal
 
 pub returns-in-Ok-None-clause-spans : goal.returns-in-Ok-None-clause-spans
@@ -21,11 +19,16 @@ returns-clause-spans g c =
     spans_looked _ _ _ _ _ refl refl e.head e.capacity e.image (λ told. one_look _ _ (e.time told) (e.image told)) c.serve_device.ensures.spans
 
 pub returns-clause-talks : goal.returns-clause-talks
-returns-clause-talks g c = elim c.serve_device.ensures.talks [
-  | inl silent ↦ inl silent
-  | inr there ↦ inr record {
-    size = there.size;
-    is = λ told device stands. there.is told device (subst (λ (i : Image). Stands i (Some device)) (sym (c.check_cell.ensures.image told)) stands);
-    conversed = there.conversed;
-  }
-]
+returns-clause-talks g c =
+    let e = c.check_cell.ensures in
+    talks_looked _ _ _ _ _ _ _ _ _ e.head e.capacity e.image (λ told. one_look _ _ (e.time told) (e.image told)) c.serve_device.ensures.talks
+
+pub returns-in-Ok-None-clause-talks : goal.returns-in-Ok-None-clause-talks
+returns-in-Ok-None-clause-talks g c =
+    let e = c.check_cell.ensures in
+    inl (silent_look _ _ _ _ _ _ tt (λ told. one_look _ _ (e.time told) (e.image told)))
+
+pub returns-in-Err-clause-talks : goal.returns-in-Err-clause-talks
+returns-in-Err-clause-talks g c =
+    let e = c.check_cell.ensures in
+    inl (silent_look _ _ _ _ _ _ (early_look c.in-Err.stop _ c.in-Err.ensures.stops c.after_look.ensures) (λ told. one_look _ _ (e.time told) (e.image told)))

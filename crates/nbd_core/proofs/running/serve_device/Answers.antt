@@ -1,6 +1,5 @@
-use Rattle.std.proofs.Common.{inl, inr, refl, ◌∙◌, ◌*◌, ap, Ok}
-use Rattle.device_session.specs.Open.{blocks_of}
-use Rattle.nbd_core.proofs.SpanLaws.{spans_look, spans_mounted, blocks_found}
+use Rattle.std.proofs.Common.{inl, refl, ◌∙◌, ap, Ok}
+use Rattle.nbd_core.proofs.SpanLaws.{early_mount, silent_look, spans_look, spans_mounted, talks_mounted}
 use Rattle.nbd_core.proofs.running.serve_device.Goals as goal
 
 pub returns-in-Ok-Some-clause-spans : goal.returns-in-Ok-Some-clause-spans
@@ -10,14 +9,10 @@ returns-in-Ok-Some-clause-spans g c =
     (c.mount_session.ensures.keeps (g.T.Tape.drawn c.args.tape.now) (g.L.Sink.written c.args.ledger.now)) c.mount_session.ensures.leads c.serve_client.ensures.carries
 
 pub returns-in-Ok-Some-clause-talks : goal.returns-in-Ok-Some-clause-talks
-returns-in-Ok-Some-clause-talks g c = elim c.serve_client.ensures.says [
-  | inl silent ↦ inl silent
-  | inr conversed ↦ inr record {
-    size = 4096 * blocks_of c.in-Ok-Some.session;
-    is = blocks_found g.P.Platform _ _ c.in-Ok-Some.session c.mount_session.result (c.in-Ok-Some.is ∙ ap Ok c.in-Ok-Some.field-0-is) c.mount_session.ensures.finds;
-    conversed = conversed;
-  }
-]
+returns-in-Ok-Some-clause-talks g c =
+    let is = c.in-Ok-Some.is ∙ ap Ok c.in-Ok-Some.field-0-is in
+    let looks = c.mount_session.ensures.looks in
+    talks_mounted g.P.Platform g.T.Tape g.L.Sink _ _ _ _ _ c.in-Ok-Some.session c.mount_session.result _ _ _ _ _ is looks c.mount_session.ensures.finds c.mount_session.ensures.leads c.serve_client.ensures.says
 
 pub returns-in-Ok-None-clause-spans : goal.returns-in-Ok-None-clause-spans
 returns-in-Ok-None-clause-spans g c =
@@ -28,3 +23,9 @@ pub returns-in-Err-clause-spans : goal.returns-in-Err-clause-spans
 returns-in-Err-clause-spans g c =
     let looks = c.mount_session.ensures.looks in
     spans_look _ _ _ _ refl refl looks.head looks.capacity (g.met.P.Platform.has_room c.mount_session.new.platform) looks.image looks.time
+
+pub returns-in-Ok-None-clause-talks : goal.returns-in-Ok-None-clause-talks
+returns-in-Ok-None-clause-talks g c = inl (silent_look _ _ _ _ _ _ tt c.mount_session.ensures.looks.time)
+
+pub returns-in-Err-clause-talks : goal.returns-in-Err-clause-talks
+returns-in-Err-clause-talks g c = inl (silent_look _ _ _ _ _ _ (early_mount _ _ _ c.in-Err.stop _ c.in-Err.ensures.stops c.after_mount.ensures) c.mount_session.ensures.looks.time)

@@ -1,5 +1,9 @@
 use Rattle.nbd_core.proofs.CarryLaws.{carries_committed, carries_stopped, carries_going}
-use Rattle.nbd_core.proofs.BlameLaws.{commit_halts, of_commit}
+use Rattle.nbd_core.proofs.BlameLaws.{blame_commit, blame_committed, commit_halts, of_commit}
+use Rattle.platform.proofs.Moments.{During-now}
+use Rattle.device_terms.specs.Served.{IsServedImage}
+use Rattle.nbd_core.proofs.DamageLaws.{commit_sound}
+use Rattle.nbd_core.proofs.TurnLaws.{commit_halted, flushed_to}
 use Rattle.nbd_core.proofs.serving.flush.Goals as goal
 
 pub returns-in-Ok-clause-carries : goal.returns-in-Ok-clause-carries
@@ -15,3 +19,23 @@ after_commit-requires g c = of_commit g.P.Platform g.T.Tape _ _ _ _ c.in-Err.sto
 
 pub returns-in-Err-clause-halts : goal.returns-in-Err-clause-halts
 returns-in-Err-clause-halts g c left came = commit_halts c.in-Err.stop _ left came (of_commit g.P.Platform g.T.Tape _ _ _ _ c.in-Err.stop c.in-Err.ensures.answers.left) c.after_commit.ensures
+
+pub returns-in-Ok-clause-flushes : goal.returns-in-Ok-clause-flushes
+returns-in-Ok-clause-flushes g c told entry held =
+    flushed_to g.P.Platform g.T.Tape g.L.Sink _ _ _ _ _ _ _ c.in-Ok.done _ entry c.requires.ready.is_open c.outcome_of.ensures held c.in-Ok.ensures.answers (c.in-Ok.ensures.leads told entry.device entry.session held.at)
+
+pub returns-in-Err-clause-flushes : goal.returns-in-Err-clause-flushes
+returns-in-Err-clause-flushes g c told entry held =
+    commit_halted g.P.Platform g.T.Tape g.L.Sink _ _ _ _ _ _ _ c.in-Err.stop _ entry c.requires.ready.is_open c.after_commit.ensures held c.in-Err.ensures.answers
+    (During-now _ _ IsServedImage (c.in-Err.ensures.goes.keeps.serves told held.at.served)) (c.in-Err.ensures.leads told entry.device entry.session held.at)
+
+pub returns-in-Ok-clause-blame : goal.returns-in-Ok-clause-blame
+returns-in-Ok-clause-blame g c rest = blame_committed rest _ _ _ _ _ _ _ c.in-Ok.ensures.goes.blame.quiet
+
+pub returns-in-Err-clause-blame : goal.returns-in-Err-clause-blame
+returns-in-Err-clause-blame g c rest =
+    let blame = c.in-Err.ensures.goes.blame in
+    blame_commit rest _ _ _ _ _ _ c.in-Err.stop _ (of_commit g.P.Platform g.T.Tape _ _ _ _ c.in-Err.stop c.in-Err.ensures.answers.left) c.after_commit.ensures blame.fell blame.cause
+
+pub returns-in-Ok-clause-sound : goal.returns-in-Ok-clause-sound
+returns-in-Ok-clause-sound g c = commit_sound c.in-Ok.done.reply _ c.outcome_of.ensures

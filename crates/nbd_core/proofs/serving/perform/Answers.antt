@@ -1,8 +1,17 @@
-use Rattle.std.proofs.Common.{refl, arith, ap}
+use Rattle.std.proofs.Common.{◌≡◌, ◌*◌, ◌∙◌, ℕ, refl, sym, arith, ap}
 use Rattle.nbd_lang.specs.Requests.{bytes_behind}
 use Rattle.nbd_core.proofs.CarryLaws.{carries_along, carries_end, carries_going}
-use Rattle.nbd_core.proofs.DataLaws.{no_data}
+use Rattle.device_session.specs.Open.{blocks_of}
+use Rattle.nbd_lang.specs.Refusals.{refusal}
+use Rattle.device_session.specs.Sessions.{Session}
+use Rattle.nbd_core.proofs.DataLaws.{data_over, data_went, no_data}
+use Rattle.nbd_core.proofs.BlameLaws.{blame_as, blame_on}
+use Rattle.nbd_core.proofs.DamageLaws.{on_performed}
+use Rattle.nbd_core.proofs.TurnLaws.{blocks_halted, blocks_performed, flush_performed}
 use Rattle.nbd_core.proofs.serving.perform.Goals as goal
+
+size_of_session : (session : Session) (blocks : ℕ) → blocks ≡ blocks_of session → 4096 * blocks_of session ≡ blocks * 4096
+size_of_session session blocks is = omega (arith, is)
 
 pub returns-in-Ok-clause-carries : goal.returns-in-Ok-clause-carries
 returns-in-Ok-clause-carries g c =
@@ -13,22 +22,33 @@ returns-in-Err-clause-carries g c =
     carries_end _ _ _ _ _ _ _ (λ never. tt) (carries_along g.P.Platform g.T.Tape g.L.Sink c.in-Err.ensures.along.0 _ _ _ _ _ _ _ c.requires.ready c.in-Err.ensures.along.1)
 
 pub returns-in-Ok-clause-blame : goal.returns-in-Ok-clause-blame
-returns-in-Ok-clause-blame g c rest rest_now fell =
-    let l = g.L.Sink.faults c.args.ledger.now in
-    let blames = c.in-Ok.ensures.blame (record rest { ledger = l }) (record rest_now { ledger = l }) (record { platform = fell.platform; tape = fell.tape; input = fell.input; output = fell.output; ledger = omega arith }) in
-    record { fell = blames.fell; cause = tt }
+returns-in-Ok-clause-blame g c rest = blame_on _ _ c.in-Ok.outcome _ (c.in-Ok.ensures.blame (record rest { ledger = g.L.Sink.faults c.args.ledger.now }))
 
 pub returns-in-Err-clause-blame : goal.returns-in-Err-clause-blame
-returns-in-Err-clause-blame g c rest rest_now fell =
-    let l = g.L.Sink.faults c.args.ledger.now in
-    let blames = c.in-Err.ensures.blame (record rest { ledger = l }) (record rest_now { ledger = l }) (record { platform = fell.platform; tape = fell.tape; input = fell.input; output = fell.output; ledger = omega arith }) in
-    record { fell = blames.fell; cause = blames.cause }
+returns-in-Err-clause-blame g c rest = blame_as _ _ c.in-Err.halt (c.in-Err.ensures.blame (record rest { ledger = g.L.Sink.faults c.args.ledger.now }))
 
 pub returns-then-is_flush-clause-blame : goal.returns-then-is_flush-clause-blame
-returns-then-is_flush-clause-blame g c rest rest_now fell =
-    let i = g.I.Source.faults c.args.input.now in
-    c.flush.ensures.blame (record rest { input = i }) (record rest_now { input = i }) (record { platform = fell.platform; tape = fell.tape; input = omega arith; output = fell.output; ledger = fell.ledger })
+returns-then-is_flush-clause-blame g c rest = c.flush.ensures.blame (record rest { input = g.I.Source.faults c.args.input.now })
 
 pub returns-then-is_flush-clause-bytes : goal.returns-then-is_flush-clause-bytes
 returns-then-is_flush-clause-bytes g c =
-    no_data (g.I.Source.left c.args.input.now) c.args.intake.now _ c.flush.result (ap (λ k. bytes_behind k c.args.request.now.length) (c.if-is_flush.ensures.0 refl).0) (c.flush.ensures.halts (g.I.Source.left c.args.input.now) c.args.intake.now.ahead)
+    let both = c.if-is_flush.ensures.0 refl in
+    no_data (g.I.Source.left c.args.input.now) c.args.intake.now _ _ c.flush.result (ap (λ k. bytes_behind k c.args.request.now.length) both.0) (c.flush.ensures.halts (g.I.Source.left c.args.input.now) c.args.intake.now.ahead)
+    (flush_performed _ _ _ _ c.args.request.now _ c.flush.result both.0 (ap (λ (n : ℕ). refusal n c.args.request.now) (size_of_session c.args.first _ c.blocks-2.ensures) ∙ sym c.refusal-refused.ensures ∙ both.1) c.flush.ensures.flushes)
+
+pub returns-in-Ok-clause-bytes : goal.returns-in-Ok-clause-bytes
+returns-in-Ok-clause-bytes g c =
+    let whole = c.refusal-refused.ensures ∙ ap (λ (n : ℕ). refusal n c.args.request.now) (sym (size_of_session c.args.first _ c.blocks-2.ensures)) in
+    data_went _ _ _ _ _ _ _ c.in-Ok.outcome (record { session = c.serve_blocks.new.session; outcome = c.in-Ok.outcome })
+    (λ gone leads. blocks_performed g.P.Platform g.T.Tape g.L.Sink _ _ _ _ _ _ _ c.args.request.now c.refusal-refused.result gone _ whole c.in-Ok.ensures.along.1.cell leads) c.in-Ok.ensures.bytes
+
+pub returns-in-Err-clause-bytes : goal.returns-in-Err-clause-bytes
+returns-in-Err-clause-bytes g c =
+    data_over _ _ _ _ _ _ _ c.in-Err.halt
+    (λ gone ends told entry held. blocks_halted _ _ _ entry c.args.request.now.kind _ _ _ c.in-Err.halt held ends (c.in-Err.ensures.along.1.cell told)) c.in-Err.ensures.bytes
+
+pub returns-then-is_flush-clause-damage : goal.returns-then-is_flush-clause-damage
+returns-then-is_flush-clause-damage g c told = on_performed _ c.flush.result c.flush.ensures.sound
+
+pub returns-in-Ok-clause-damage : goal.returns-in-Ok-clause-damage
+returns-in-Ok-clause-damage g c told = c.in-Ok.ensures.damage told (c.requires.ready.mounted told)

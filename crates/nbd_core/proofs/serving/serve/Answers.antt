@@ -1,9 +1,9 @@
-use Rattle.std.proofs.Common.{◌≡◌, ◌*◌, ◌++◌, ◌∷◌, [], ℕ, ap, true, false, refl, arith, subst, Ok, Option}
+use Rattle.std.proofs.Common.{◌≡◌, ◌*◌, ◌++◌, ◌∙◌, ◌∷◌, [], ℕ, ap, true, false, refl, arith, subst, Ok, Option}
 use Rattle.std.proofs.lemmas.Result.{err_from_is_err_and}
-use Rattle.sdbt_base.specs.Counts.{counts, NoneFell}
+use Rattle.sdbt_base.specs.Counts.{counts}
 use Rattle.nbd_lang.specs.declared.requests.Request.{Request}
 use Rattle.nbd_core.specs.Requests.{HeadCame}
-use Rattle.nbd_core.proofs.BlameLaws.{blame_earlier, blame_as, fell_then}
+use Rattle.nbd_core.proofs.BlameLaws.{blame_as, blame_on, blame_then}
 use Rattle.nbd_core.proofs.CarryLaws.{carries_start, carries_then, carries_end, carries_going}
 use Rattle.nbd_core.proofs.RequestLaws.{less_of_head}
 use Rattle.device_session.specs.Open.{blocks_of}
@@ -13,9 +13,9 @@ use Rattle.nbd_core.proofs.serving.serve.Goals as goal
 pub requests-init : goal.requests-init
 requests-init g c = record {
   exchanges = [];
-  replied = replied_nothing _ _ _ _;
+  replied = replied_nothing _ _ _ _ _ _ _ _ (λ entry from. from.1);
   carries = carries_start _ _ _ c.requires;
-  fell = record { platform = omega arith; tape = omega arith; input = omega arith; output = omega arith; ledger = omega arith };
+  quiet = refl;
 }
 
 pub returns-in_err-request-clause-carries : goal.returns-in_err-request-clause-carries
@@ -26,50 +26,34 @@ returns-in_err-request-clause-carries g c =
 pub returns-in_err-request-clause-blame : goal.returns-in_err-request-clause-blame
 returns-in_err-request-clause-blame g c =
     let p = err_from_is_err_and c.from_residual.result c.from_residual.ensures.1 in
-    let rest = counts (g.P.Platform.faults c.requests.platform) (g.T.Tape.faults c.requests.tape) 0 (g.O.Sink.faults c.requests.output) (g.L.Sink.faults c.requests.ledger) in
-    rw (p.1, p.2) (blame_earlier _ _ _ _ c.requests.invariant.fell (blame_as _ _ c.in_err-request.field-0.0 (c.in_err-request.ensures.blame rest rest (record { platform = omega arith; tape = omega arith; input = omega arith; output = omega arith; ledger = omega arith }))))
+    rw (p.1, p.2) (blame_then _ _ _ _ c.requests.invariant.quiet (blame_as _ _ c.in_err-request.field-0.0 (c.in_err-request.ensures.blame (counts (g.P.Platform.faults c.requests.platform) (g.T.Tape.faults c.requests.tape) 0 (g.O.Sink.faults c.requests.output) (g.L.Sink.faults c.requests.ledger)))))
 
 pub returns-then-is_disconnect-clause-carries : goal.returns-then-is_disconnect-clause-carries
 returns-then-is_disconnect-clause-carries g c = carries_then _ _ _ _ _ _ _ _ _ tt c.requests.invariant.carries c.finish.ensures.carries
 
 pub returns-then-is_disconnect-clause-blame : goal.returns-then-is_disconnect-clause-blame
 returns-then-is_disconnect-clause-blame g c =
-    let zero = counts 0 0 0 0 0 in
-    let none : NoneFell zero zero = record { platform = omega arith; tape = omega arith; input = omega arith; output = omega arith; ledger = omega arith } in
-    let came = c.in_ok-request.ensures.blame zero zero none in
     let o = g.O.Sink.faults c.requests.output in
-    blame_earlier _ _ _ _ c.requests.invariant.fell
-    (c.finish.ensures.blame (counts 0 0 (g.I.Source.faults c.requests.input) o 0) (counts 0 0 (g.I.Source.faults c.next_request.new.input) o 0)
-    (record { platform = omega arith; tape = omega arith; input = came.fell.input; output = omega arith; ledger = omega arith }))
+    blame_then _ _ _ _ c.requests.invariant.quiet
+    (blame_then _ _ _ _ (c.in_ok-request.ensures.blame (counts (g.P.Platform.faults c.requests.platform) (g.T.Tape.faults c.requests.tape) 0 (g.O.Sink.faults c.requests.output) (g.L.Sink.faults c.requests.ledger))).quiet (c.finish.ensures.blame (counts 0 0 (g.I.Source.faults c.next_request.new.input) o 0)))
 
 pub requests-smaller : goal.requests-smaller
 requests-smaller g c =
     let head = subst (λ (it : Option Request). HeadCame (g.I.Source.left c.requests.input) (g.I.Source.left c.next_request.new.input) c.requests.intake c.next_request.new.intake (Ok it)) c.in-Some.is c.in_ok-request.ensures.came in
-    omega (arith, less_of_head _ _ _ _ c.in-Some.request head, less_of_answer _ _ _ _ _ _ _ _ _ c.answer.ensures.answered)
+    omega (arith, less_of_head _ _ _ _ c.in-Some.request head, less_of_answer _ _ _ _ _ _ _ _ _ _ _ _ _ c.answer.ensures.answered)
 
 pub requests-preserved : goal.requests-preserved
 requests-preserved g c =
-    let zero = counts 0 0 0 0 0 in
-    let none : NoneFell zero zero = record { platform = omega arith; tape = omega arith; input = omega arith; output = omega arith; ledger = omega arith } in
-    let came = c.in_ok-request.ensures.blame zero zero none in
     let so_far = c.requests.invariant in
     let head = subst (λ (it : Option Request). HeadCame (g.I.Source.left c.requests.input) (g.I.Source.left c.next_request.new.input) c.requests.intake c.next_request.new.intake (Ok it)) c.in-Some.is c.in_ok-request.ensures.came in
     let size : 4096 * blocks_of c.requests.session ≡ 4096 * blocks_of c.args.first = ap (λ (n : ℕ). 4096 * n) so_far.carries.blocks in
-    let answered = answered_on _ _ _ _ _ _ _ _ _ _ size c.in-Ok.ensures.answered in
-    let more = replied_more (4096 * blocks_of c.args.first) _ _ _ _ _ _ _ _ _ _ _ so_far.exchanges c.in-Some.request c.in-Ok.next (λ is. let no : false ≡ true = c.if-is_disconnect.ensures.1 is in cc) so_far.replied head answered in
+    let answered = answered_on _ _ _ _ _ _ _ _ _ _ _ _ _ _ size c.in-Ok.ensures.answered in
+    let more = replied_more _ _ _ _ _ _ c.in-Ok.next (4096 * blocks_of c.args.first) _ _ _ _ _ _ _ _ _ _ _ so_far.exchanges c.in-Some.request (λ entry from. from.0) so_far.carries.capacity so_far.carries.keeps.keys.extends c.in-Ok.ensures.carries.keeps.keys.extends (λ is. let no : false ≡ true = c.if-is_disconnect.ensures.1 is in cc) so_far.replied head answered in
     record {
       exchanges = so_far.exchanges ++ more.0 ∷ [];
       replied = more.1;
       carries = carries_then _ _ _ _ _ _ _ _ _ tt c.requests.invariant.carries (carries_going _ _ _ _ _ _ _ (λ going. refl) c.in-Ok.ensures.carries);
-      fell =
-          fell_then _ _ _ c.requests.invariant.fell
-          (record {
-            platform = c.in-Ok.ensures.blame.fell.platform;
-            tape = c.in-Ok.ensures.blame.fell.tape;
-            input = omega (arith, came.fell.input, c.in-Ok.ensures.blame.fell.input);
-            output = c.in-Ok.ensures.blame.fell.output;
-            ledger = c.in-Ok.ensures.blame.fell.ledger;
-          });
+      quiet = c.in-Ok.ensures.blame.quiet ∙ ((c.in_ok-request.ensures.blame (counts (g.P.Platform.faults c.requests.platform) (g.T.Tape.faults c.requests.tape) 0 (g.O.Sink.faults c.requests.output) (g.L.Sink.faults c.requests.ledger))).quiet ∙ so_far.quiet);
     }
 
 pub returns-in-Err-clause-carries : goal.returns-in-Err-clause-carries
@@ -77,41 +61,33 @@ returns-in-Err-clause-carries g c = carries_then _ _ _ _ _ _ _ _ _ tt c.requests
 
 pub returns-in-Err-clause-blame : goal.returns-in-Err-clause-blame
 returns-in-Err-clause-blame g c =
-    let zero = counts 0 0 0 0 0 in
-    let none : NoneFell zero zero = record { platform = omega arith; tape = omega arith; input = omega arith; output = omega arith; ledger = omega arith } in
-    let came = c.in_ok-request.ensures.blame zero zero none in
-    blame_earlier _ _ _ _
-    (fell_then _ _ _ c.requests.invariant.fell (record { platform = omega arith; tape = omega arith; input = came.fell.input; output = omega arith; ledger = omega arith }))
-    (blame_as _ _ c.in-Err.halt c.in-Err.ensures.blame)
+    blame_then _ _ _ _ c.requests.invariant.quiet (blame_then _ _ _ _ (c.in_ok-request.ensures.blame (counts (g.P.Platform.faults c.requests.platform) (g.T.Tape.faults c.requests.tape) 0 (g.O.Sink.faults c.requests.output) (g.L.Sink.faults c.requests.ledger))).quiet (blame_as _ _ c.in-Err.halt c.in-Err.ensures.blame))
 
 pub returns-clause-carries : goal.returns-clause-carries
 returns-clause-carries g c = carries_end _ _ _ _ _ _ _ (λ going. tt) c.requests.invariant.carries
 
 pub returns-clause-blame : goal.returns-clause-blame
 returns-clause-blame g c =
-    let zero = counts 0 0 0 0 0 in
-    let none : NoneFell zero zero = record { platform = omega arith; tape = omega arith; input = omega arith; output = omega arith; ledger = omega arith } in
-    let came = c.in_ok-request.ensures.blame zero zero none in
-    record { fell = fell_then _ _ _ c.requests.invariant.fell (record { platform = omega arith; tape = omega arith; input = came.fell.input; output = omega arith; ledger = omega arith }); cause = tt }
+    blame_then _ _ _ _ c.requests.invariant.quiet (blame_on _ _ _ _ (c.in_ok-request.ensures.blame (counts (g.P.Platform.faults c.requests.platform) (g.T.Tape.faults c.requests.tape) 0 (g.O.Sink.faults c.requests.output) (g.L.Sink.faults c.requests.ledger))))
 
 pub returns-in_err-request-clause-served : goal.returns-in_err-request-clause-served
 returns-in_err-request-clause-served g c =
     let p = err_from_is_err_and c.from_residual.result c.from_residual.ensures.1 in
-    rw (p.1, p.2) (served_stopped _ _ _ _ _ _ _ _ _ c.requests.invariant.exchanges c.in_err-request.field-0.0 c.requests.invariant.replied c.in_err-request.ensures.came)
+    rw (p.1, p.2) (served_stopped _ _ _ _ _ _ _ _ _ _ _ _ _ _ c.requests.invariant.exchanges c.in_err-request.field-0.0 c.requests.invariant.replied c.in_err-request.ensures.came)
 
 pub returns-then-is_disconnect-clause-served : goal.returns-then-is_disconnect-clause-served
 returns-then-is_disconnect-clause-served g c =
     let head = subst (λ (it : Option Request). HeadCame (g.I.Source.left c.requests.input) (g.I.Source.left c.next_request.new.input) c.requests.intake c.next_request.new.intake (Ok it)) c.in-Some.is c.in_ok-request.ensures.came in
-    served_goodbye _ _ _ _ _ _ _ _ _ c.requests.invariant.exchanges c.in-Some.request _ (c.if-is_disconnect.ensures.0 refl) c.requests.invariant.replied head c.finish.ensures.ends
+    served_goodbye _ _ _ _ _ _ _ _ _ _ _ _ _ _ _ c.requests.invariant.exchanges c.in-Some.request _ (λ entry from. from.0) c.requests.invariant.carries.capacity c.finish.ensures.carries.keeps.keys.extends (c.if-is_disconnect.ensures.0 refl) c.requests.invariant.replied head c.finish.ensures.ends c.finish.ensures.finishes
 
 pub returns-in-Err-clause-served : goal.returns-in-Err-clause-served
 returns-in-Err-clause-served g c =
     let so_far = c.requests.invariant in
     let head = subst (λ (it : Option Request). HeadCame (g.I.Source.left c.requests.input) (g.I.Source.left c.next_request.new.input) c.requests.intake c.next_request.new.intake (Ok it)) c.in-Some.is c.in_ok-request.ensures.came in
     let size : 4096 * blocks_of c.requests.session ≡ 4096 * blocks_of c.args.first = ap (λ (n : ℕ). 4096 * n) so_far.carries.blocks in
-    served_halted (4096 * blocks_of c.args.first) _ _ _ _ _ _ _ _ _ _ _ so_far.exchanges c.in-Some.request c.in-Err.halt (λ is. let no : false ≡ true = c.if-is_disconnect.ensures.1 is in cc) so_far.replied head (answered_on _ _ _ _ _ _ _ _ _ _ size c.in-Err.ensures.answered)
+    served_halted _ _ _ _ _ _ (4096 * blocks_of c.args.first) _ _ _ _ _ _ _ _ _ _ _ so_far.exchanges c.in-Some.request c.in-Err.halt (λ entry from. from.0) so_far.carries.capacity c.in-Err.ensures.carries.keeps.keys.extends (λ is. let no : false ≡ true = c.if-is_disconnect.ensures.1 is in cc) so_far.replied head (answered_on _ _ _ _ _ _ _ _ _ _ _ _ _ _ size c.in-Err.ensures.answered)
 
 pub returns-clause-served : goal.returns-clause-served
 returns-clause-served g c =
     let head = subst (λ (it : Option Request). HeadCame (g.I.Source.left c.requests.input) (g.I.Source.left c.next_request.new.input) c.requests.intake c.next_request.new.intake (Ok it)) c.in_default.is c.in_ok-request.ensures.came in
-    served_over _ _ _ _ _ _ _ _ _ c.requests.invariant.exchanges c.requests.invariant.replied head
+    served_over _ _ _ _ _ _ _ _ _ _ _ _ _ _ c.requests.invariant.exchanges c.requests.invariant.replied head

@@ -1,9 +1,9 @@
-use Rattle.std.specs.Prelude.{◌*◌, List, ◌+◌, Some, length}
+use Rattle.std.specs.Prelude.{◌≡◌, ◌*◌, List, ◌+◌, Some, length}
 use Rattle.device_course.specs.States.{around}
-use Rattle.sdbt_base.specs.Counts.{NoneFell}
 use Rattle.device_session.specs.Open.{blocks_of}
-use Rattle.nbd_core.specs.Served.{Exchange}
+use Rattle.nbd_core.specs.Exchanges.{Exchange}
 use Rattle.nbd_core.proofs.ServedLaws.{Replied}
+use Rattle.nbd_core.specs.Turns.{IsFrom}
 use Rattle.nbd_core.specs.Serving.{Carries, counts_of}
 use Rattle.nbd_core.proofs.serving.serve.Given as goal
 
@@ -14,9 +14,9 @@ invariant-requests g l =
     let L = g.L.Sink in
     record {
       exchanges : List Exchange;
-      replied : Replied (4096 * blocks_of l.fn.first) (g.I.Source.left l.fn.input) (g.I.Source.left l.input) l.fn.intake l.intake (g.O.Sink.written l.fn.output) (g.O.Sink.written l.output) exchanges;
+      replied : Replied (IsFrom P.tells (around P T L l.fn.platform l.fn.tape l.fn.ledger) l.fn.first) P.tells (around P T L l.fn.platform l.fn.tape l.fn.ledger) (around P T L l.platform l.tape l.ledger) l.session (4096 * blocks_of l.fn.first) (g.I.Source.left l.fn.input) (g.I.Source.left l.input) l.fn.intake l.intake (g.O.Sink.written l.fn.output) (g.O.Sink.written l.output) exchanges;
       carries : Carries P.tells (around P T L l.fn.platform l.fn.tape l.fn.ledger) (around P T L l.platform l.tape l.ledger) l.fn.first (Some l.session) (Unit {0});
-      fell : NoneFell (counts_of P T g.I.Source g.O.Sink L l.fn.platform l.fn.tape l.fn.input l.fn.output l.fn.ledger) (counts_of P T g.I.Source g.O.Sink L l.platform l.tape l.input l.output l.ledger);
+      quiet : counts_of P T g.I.Source g.O.Sink L l.platform l.tape l.input l.output l.ledger ≡ counts_of P T g.I.Source g.O.Sink L l.fn.platform l.fn.tape l.fn.input l.fn.output l.fn.ledger;
     }
 
 abbrev pub decreases-requests : goal.decreases-requests

@@ -1,41 +1,51 @@
-use Rattle.std.proofs.Common.{arith, ap}
+use Rattle.std.proofs.Common.{ap, sym, []}
 use Rattle.nbd_lang.specs.Requests.{bytes_behind}
 use Rattle.session_calls.specs.Along.{drawn_by}
 use Rattle.session_calls.proofs.AlongLaws.{along_start}
-use Rattle.nbd_core.proofs.DataLaws.{no_data}
+use Rattle.nbd_core.proofs.DamageLaws.{refused_sound}
+use Rattle.nbd_core.proofs.DataLaws.{data_did, no_data}
+use Rattle.nbd_core.proofs.TurnLaws.{answers_read, answers_refused, answers_trim, answers_write, leads_as, leads_idle}
 use Rattle.nbd_core.proofs.serving.serve_blocks.Goals as goal
 
 pub returns-in-Some-clause-along : goal.returns-in-Some-clause-along
 returns-in-Some-clause-along g c = (0, along_start g.P.Platform _ (drawn_by g.T.Tape c.args.tape.now) _ c.requires.open)
 
 pub returns-in-Some-clause-blame : goal.returns-in-Some-clause-blame
-returns-in-Some-clause-blame g c rest rest_now fell =
-    let p = g.P.Platform.faults c.args.platform.now in
-    let t = g.T.Tape.faults c.args.tape.now in
-    c.let_go.ensures.blame (record rest { platform = p; tape = t }) (record rest_now { platform = p; tape = t }) (record { platform = omega arith; tape = omega arith; input = fell.input; output = fell.output; ledger = fell.ledger })
+returns-in-Some-clause-blame g c rest = c.let_go.ensures.blame (record rest { platform = g.P.Platform.faults c.args.platform.now; tape = g.T.Tape.faults c.args.tape.now })
 
 pub returns-in-Read-clause-along : goal.returns-in-Read-clause-along
 returns-in-Read-clause-along g c = (0, c.read.ensures.along (drawn_by g.T.Tape c.args.tape.now))
 
 pub returns-in-Read-clause-blame : goal.returns-in-Read-clause-blame
-returns-in-Read-clause-blame g c rest rest_now fell =
-    let t = g.T.Tape.faults c.args.tape.now in
-    let i = g.I.Source.faults c.args.input.now in
-    c.read.ensures.blame (record rest { tape = t; input = i }) (record rest_now { tape = t; input = i }) (record { platform = fell.platform; tape = omega arith; input = omega arith; output = fell.output; ledger = fell.ledger })
+returns-in-Read-clause-blame g c rest = c.read.ensures.blame (record rest { tape = g.T.Tape.faults c.args.tape.now; input = g.I.Source.faults c.args.input.now })
 
 pub returns-in-Read-clause-bytes : goal.returns-in-Read-clause-bytes
 returns-in-Read-clause-bytes g c =
-    no_data (g.I.Source.left c.args.input.now) c.args.intake.now _ c.read.result (ap (λ k. bytes_behind k c.args.request.now.length) c.in-Read.is) (c.read.ensures.halts (g.I.Source.left c.args.input.now) c.args.intake.now.ahead)
+    no_data (g.I.Source.left c.args.input.now) c.args.intake.now _ _ c.read.result (ap (λ k. bytes_behind k c.args.request.now.length) c.in-Read.is) (c.read.ensures.halts (g.I.Source.left c.args.input.now) c.args.intake.now.ahead)
+    (leads_as g.P.Platform _ _ _ _ _ _ _ (λ outcome entry next is. answers_read _ entry next c.args.request.now _ outcome [] _ c.in-Read.is c.in_default.is is) c.read.ensures.leads)
 
 pub returns-in-Trim-clause-along : goal.returns-in-Trim-clause-along
 returns-in-Trim-clause-along g c = (c.trim.ensures.along.0, c.trim.ensures.along.1 (drawn_by g.T.Tape c.args.tape.now))
 
 pub returns-in-Trim-clause-blame : goal.returns-in-Trim-clause-blame
-returns-in-Trim-clause-blame g c rest rest_now fell =
-    let t = g.T.Tape.faults c.args.tape.now in
-    let i = g.I.Source.faults c.args.input.now in
-    c.trim.ensures.blame (record rest { tape = t; input = i }) (record rest_now { tape = t; input = i }) (record { platform = fell.platform; tape = omega arith; input = omega arith; output = fell.output; ledger = fell.ledger })
+returns-in-Trim-clause-blame g c rest = c.trim.ensures.blame (record rest { tape = g.T.Tape.faults c.args.tape.now; input = g.I.Source.faults c.args.input.now })
 
 pub returns-in-Trim-clause-bytes : goal.returns-in-Trim-clause-bytes
 returns-in-Trim-clause-bytes g c =
-    no_data (g.I.Source.left c.args.input.now) c.args.intake.now _ c.trim.result (ap (λ k. bytes_behind k c.args.request.now.length) c.in-Trim.is) (c.trim.ensures.halts (g.I.Source.left c.args.input.now) c.args.intake.now.ahead)
+    no_data (g.I.Source.left c.args.input.now) c.args.intake.now _ _ c.trim.result (ap (λ k. bytes_behind k c.args.request.now.length) c.in-Trim.is) (c.trim.ensures.halts (g.I.Source.left c.args.input.now) c.args.intake.now.ahead)
+    (leads_as g.P.Platform _ _ _ _ _ _ _ (λ outcome entry next is. answers_trim _ entry next c.args.request.now _ outcome [] _ c.in-Trim.is c.in_default.is is) c.trim.ensures.leads)
+
+pub returns-in-Some-clause-bytes : goal.returns-in-Some-clause-bytes
+returns-in-Some-clause-bytes g c =
+    data_did _ _ _ _ _ _ _ _ _ c.bytes_of.ensures
+    (λ gone nothing. leads_idle g.P.Platform _ _ _ _ _ c.let_go.ensures.outcome (λ outcome entry held is. answers_refused _ entry _ c.args.request.now _ c.in-Some.outcome outcome gone _ c.requires.refusal c.in-Some.is is))
+    c.let_go.ensures.bytes
+
+pub returns-in-Write-clause-bytes : goal.returns-in-Write-clause-bytes
+returns-in-Write-clause-bytes g c =
+    data_did _ _ _ _ _ _ _ _ _ (sym (ap (λ k. bytes_behind k c.args.request.now.length) c.in-Write.is))
+    (λ gone leads. leads_as g.P.Platform _ _ _ _ _ _ _ (λ outcome entry next is. answers_write _ entry next c.args.request.now _ outcome gone _ c.in-Write.is c.in_default.is is) leads)
+    c.write.ensures.bytes
+
+pub returns-in-Some-clause-damage : goal.returns-in-Some-clause-damage
+returns-in-Some-clause-damage g c told mounted = refused_sound _ _ c.args.request.now _ c.in-Some.outcome _ c.requires.refusal c.in-Some.is c.let_go.ensures.outcome

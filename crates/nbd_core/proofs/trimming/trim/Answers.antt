@@ -1,14 +1,18 @@
-use Rattle.std.proofs.Common.{◌≡◌, ◌≤◌, ◌+◌, ◌-◌, ℕ, inl, refl, subst, sym, ◌∙◌, arith, Some}
+use Rattle.std.proofs.Common.{◌≡◌, ◌≤◌, ◌+◌, ◌-◌, ℕ, ap, inl, refl, subst, sym, ◌∙◌, arith, Ok, Some}
 use Rattle.sdbt_base.specs.Arrays.{mounted}
-use Rattle.byte_arrays.specs.Ranges.{blocks_from}
+use Rattle.byte_arrays.specs.Ranges.{blocks_from, covered_blocks}
 use Rattle.byte_arrays.proofs.RangeLaws.{covered_is}
 use Rattle.device_course.specs.States.{IsAt}
+use Rattle.device_session.specs.Open.{needed_by}
 use Rattle.nbd_terms.specs.Held.{trim_all}
 use Rattle.session_calls.specs.Along.{Along}
 use Rattle.session_calls.proofs.AlongLaws.{along_start, along_then}
+use Rattle.nbd_lang.specs.declared.replies.Outcome.TheVariants.{Done}
 use Rattle.nbd_core.proofs.ArrayLaws.{trim_halted, trim_step, trimmed_some}
-use Rattle.nbd_core.proofs.BlameLaws.{blame_going, blame_platform, stop_halts}
-use Rattle.nbd_core.proofs.CallLaws.{along_more, cause_later, has_risen, no_draw}
+use Rattle.nbd_core.proofs.DamageLaws.{damage_after, done_sound}
+use Rattle.nbd_core.proofs.TurnLaws.{trims_lead}
+use Rattle.nbd_core.proofs.BlameLaws.{blame_done, blame_platform, blame_then, stop_halts}
+use Rattle.nbd_core.proofs.CallLaws.{along_more, draws_none, no_draw, platform_quiet}
 use Rattle.nbd_core.proofs.trimming.trim.Goals as goal
 
 pub loop-block-init : goal.loop-block-init
@@ -19,6 +23,7 @@ loop-block-init g c = record {
       let none : first - first ≡ 0 = omega arith in
       subst (λ (n : ℕ). IsAt (g.P.Platform.history c.args.platform.now).present (Some c.args.session.now) (mounted device (trim_all array (blocks_from first n)))) (sym none) at;
   head = refl;
+  quiet = refl;
   few = omega arith;
 }
 
@@ -33,6 +38,7 @@ loop-block-preserved g c =
       along = λ drawn. subst (λ (n : ℕ). Along g.P.Platform n c.args.platform.now c.trim_block.new.platform drawn drawn c.args.session.now c.trim_block.new.session) count (along_then g.P.Platform (block - first) 1 _ _ _ drawn drawn drawn _ _ _ (so_far.along drawn) (c.in-Ok.ensures.goes drawn).along);
       trims = λ told device array at. trim_step _ _ device array first block from (c.in-Ok.ensures.leads told device _ (so_far.trims told device array at));
       head = c.in-Ok.ensures.head ∙ so_far.head;
+      quiet = platform_quiet _ _ (c.in-Ok.ensures.goes no_draw).quiet ∙ so_far.quiet;
       few = omega (arith, from, c.loop-block-test.true);
     }
 
@@ -50,23 +56,21 @@ returns-in-Err-clause-along g c =
     (n + 1, λ drawn. along_then g.P.Platform n 1 _ _ _ drawn drawn drawn _ _ _ (c.loop-block.invariant.along drawn) (c.in-Err.ensures.goes drawn).along)
 
 pub returns-in-Err-clause-blame : goal.returns-in-Err-clause-blame
-returns-in-Err-clause-blame g c rest rest_now fell =
-    let goes = c.in-Err.ensures.goes no_draw in
-    let before = (c.loop-block.invariant.along no_draw).fell in
-    blame_platform rest rest_now _ _ c.in-Err.stop _ fell (omega (arith, before.platform, goes.along.fell.platform)) goes.stops (cause_later _ _ _ c.in-Err.stop before goes.along.fell (has_risen _ _ c.in-Err.stop goes.cause)) c.after_stop.ensures
+returns-in-Err-clause-blame g c rest =
+    let goes = c.in-Err.ensures.goes (draws_none rest.tape) in
+    blame_then _ _ _ _ (ap (λ (n : ℕ). record rest { platform = n }) c.loop-block.invariant.quiet) (blame_platform rest _ _ c.in-Err.stop _ goes.along.fell.platform goes.stops goes.cause c.after_stop.ensures)
 
 pub returns-in-Err-clause-halts : goal.returns-in-Err-clause-halts
 returns-in-Err-clause-halts g c left came = stop_halts c.in-Err.stop _ left came (c.in-Err.ensures.goes no_draw).stops c.after_stop.ensures
 
-pub returns-in-Err-clause-trims : goal.returns-in-Err-clause-trims
-returns-in-Err-clause-trims g c told device array at =
+pub returns-in-Err-clause-leads : goal.returns-in-Err-clause-leads
+returns-in-Err-clause-leads g c =
     let goes = c.in-Err.ensures.goes no_draw in
     let so_far = c.loop-block.invariant in
-    trim_halted _ _ device array _ c.covered-blocks.result.start c.covered-blocks.result.end c.loop-block.block _ _ c.in-Err.stop _ c.after_stop.ensures (sym c.covered-blocks.ensures.blocks) c.loop-block.auto.block c.loop-block-test.true
-    (omega (arith, goes.needs_still, (so_far.along no_draw).needs)) (c.in-Err.ensures.leads told device _ (so_far.trims told device array at))
-
-pub returns-in-Err-clause-head : goal.returns-in-Err-clause-head
-returns-in-Err-clause-head g c = c.in-Err.ensures.head ∙ c.loop-block.invariant.head
+    trims_lead g.P.Platform _ _ _ _ _ _ (c.in-Err.ensures.head ∙ so_far.head)
+    (λ told there array at.
+    trim_halted _ _ there array _ c.covered-blocks.result.start c.covered-blocks.result.end c.loop-block.block (needed_by c.args.session.now) (needed_by c.trim_block.new.session) c.in-Err.stop _ c.after_stop.ensures (sym c.covered-blocks.ensures.blocks) c.loop-block.auto.block c.loop-block-test.true
+    (omega (arith, goes.needs_still, (so_far.along no_draw).needs)) (c.in-Err.ensures.leads told there _ (so_far.trims told there array at)))
 
 pub after_stop-requires : goal.after_stop-requires
 after_stop-requires g c = (c.in-Err.ensures.goes no_draw).stops
@@ -75,14 +79,20 @@ pub returns-clause-along : goal.returns-clause-along
 returns-clause-along g c = (c.loop-block.block - c.covered-blocks.result.start, c.loop-block.invariant.along)
 
 pub returns-clause-blame : goal.returns-clause-blame
-returns-clause-blame g c rest rest_now fell = blame_going rest rest_now _ _ _ fell (c.loop-block.invariant.along no_draw).fell.platform
+returns-clause-blame g c rest = blame_done _ _ _ (ap (λ (n : ℕ). record rest { platform = n }) c.loop-block.invariant.quiet)
 
-pub returns-clause-trims : goal.returns-clause-trims
-returns-clause-trims g c told device array at =
+pub returns-clause-leads : goal.returns-clause-leads
+returns-clause-leads g c =
     let so_far = c.loop-block.invariant in
     let past = c.loop-block-test.false in
-    trimmed_some _ _ device array _ c.covered-blocks.result.start c.covered-blocks.result.end (c.loop-block.block - c.covered-blocks.result.start) _ _ _ (sym c.covered-blocks.ensures.blocks) so_far.few
-    (so_far.along no_draw).needs (inl refl) (λ done. omega (arith, past, so_far.few)) (so_far.trims told device array at)
+    trims_lead g.P.Platform _ _ _ c.loop-block.session (covered_blocks c.args.request.now.offset c.args.request.now.length) (Ok Done) so_far.head
+    (λ told there array at.
+    trimmed_some _ _ there array _ c.covered-blocks.result.start c.covered-blocks.result.end (c.loop-block.block - c.covered-blocks.result.start) _ _ Done (sym c.covered-blocks.ensures.blocks) so_far.few
+    (so_far.along no_draw).needs (inl refl) (λ done. omega (arith, past, so_far.few)) (so_far.trims told there array at))
 
-pub returns-clause-head : goal.returns-clause-head
-returns-clause-head g c = c.loop-block.invariant.head
+pub returns-in-Err-clause-damage : goal.returns-in-Err-clause-damage
+returns-in-Err-clause-damage g c told mounted =
+    damage_after _ c.in-Err.stop _ (c.in-Err.ensures.damage told ((c.loop-block.invariant.along no_draw).mounted told mounted)) c.after_stop.ensures
+
+pub returns-clause-damage : goal.returns-clause-damage
+returns-clause-damage g c told mounted = done_sound _

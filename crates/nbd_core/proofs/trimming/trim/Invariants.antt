@@ -15,4 +15,5 @@ invariant-loop-block g l =
           → IsAt (P.history l.platform).present (Some l.session) (mounted device (trim_all array (blocks_from l.initial.block (l.block - l.initial.block))));
       few : l.block - l.initial.block ≤ l.block-end - l.initial.block;
       head : P.head l.platform ≡ P.head l.fn.platform;
+      quiet : P.faults l.platform ≡ P.faults l.fn.platform;
     }

@@ -1,19 +1,45 @@
-use Rattle.std.proofs.Common.{ap, length, arith, ◌-◌}
+use Rattle.std.proofs.Common.{ap, refl, length, arith, ◌-◌}
+use Rattle.byte_arrays.specs.Ranges.{touched_blocks}
 use Rattle.byte_arrays.proofs.RangeLaws.{length-blocks_from}
 use Rattle.session_calls.specs.Along.{drawn_by}
 use Rattle.session_calls.proofs.AlongLaws.{along_start}
+use Rattle.nbd_core.proofs.DamageLaws.{space_sound}
+use Rattle.nbd_core.proofs.DataLaws.{data_did}
+use Rattle.nbd_core.proofs.TurnLaws.{leads_idle, no_space, on_outcome, writes_held}
 use Rattle.nbd_core.proofs.writing.write.Goals as goal
 
 pub returns-then-blocks-capacity-clause-along : goal.returns-then-blocks-capacity-clause-along
 returns-then-blocks-capacity-clause-along g c = (0, along_start g.P.Platform _ (drawn_by g.T.Tape c.args.tape.now) _ c.requires.open)
 
 pub returns-then-blocks-capacity-clause-blame : goal.returns-then-blocks-capacity-clause-blame
-returns-then-blocks-capacity-clause-blame g c rest rest_now fell =
-    let p = g.P.Platform.faults c.args.platform.now in
-    let t = g.T.Tape.faults c.args.tape.now in
-    c.let_go.ensures.blame (record rest { platform = p; tape = t }) (record rest_now { platform = p; tape = t }) (record { platform = omega arith; tape = omega arith; input = fell.input; output = fell.output; ledger = fell.ledger })
+returns-then-blocks-capacity-clause-blame g c rest = c.let_go.ensures.blame (record rest { platform = g.P.Platform.faults c.args.platform.now; tape = g.T.Tape.faults c.args.tape.now })
 
 pub write_range-requires-clause-free : goal.write_range-requires-clause-free
 write_range-requires-clause-free g c =
     let blocks = c.touched-blocks.result in
     omega (arith, ap length c.touched-blocks.ensures.blocks, length-blocks_from blocks.start (blocks.end - blocks.start), g.met.P.Platform.has_room c.args.platform.now, c.if-blocks-capacity.false)
+
+pub returns-then-blocks-capacity-clause-bytes : goal.returns-then-blocks-capacity-clause-bytes
+returns-then-blocks-capacity-clause-bytes g c =
+    let blocks = c.touched-blocks.result in
+    data_did _ _ _ _ _ _ _ _ _ refl
+    (λ gone nothing. leads_idle g.P.Platform _ _ _ _ _ c.let_go.ensures.outcome
+    (λ outcome entry held is.
+    no_space _ _ entry gone (touched_blocks c.args.request.now.offset c.args.request.now.length) outcome is
+    (omega (arith, held.pages, ap length c.touched-blocks.ensures.blocks, length-blocks_from blocks.start (blocks.end - blocks.start), c.if-blocks-capacity.true))))
+    c.let_go.ensures.bytes
+
+pub returns-clause-bytes : goal.returns-clause-bytes
+returns-clause-bytes g c =
+    let blocks = c.touched-blocks.result in
+    data_did _ _ _ _ _ _ _ _ _ refl
+    (λ gone wrote told entry held.
+    on_outcome _ _ _
+    (λ outcome did.
+    writes_held _ _ _ _ _ _ _ _ entry gone _ outcome held
+    (omega (arith, held.pages, ap length c.touched-blocks.ensures.blocks, length-blocks_from blocks.start (blocks.end - blocks.start), c.if-blocks-capacity.false)) did)
+    (wrote told entry.device entry.session held.at))
+    c.write_range.ensures.bytes
+
+pub returns-then-blocks-capacity-clause-damage : goal.returns-then-blocks-capacity-clause-damage
+returns-then-blocks-capacity-clause-damage g c told mounted = space_sound _ _ c.let_go.ensures.outcome

@@ -1,7 +1,7 @@
 use Rattle.std.proofs.Common.{◌∙◌, ap, length, refl, arith}
 use Rattle.session_calls.specs.Along.{drawn_by}
 use Rattle.nbd_core.proofs.ArrayLaws.{adds_behind, adds_none, adds_one, on_stop, writes_patched, writes_unread, writes_whole}
-use Rattle.nbd_core.proofs.CallLaws.{calls_of, calls_then, calls_stopped}
+use Rattle.nbd_core.proofs.CallLaws.{calls_of, calls_then, calls_stopped, platform_quiet}
 use Rattle.nbd_core.proofs.writing.write_part.Goals as goal
 
 pub returns-then-is_whole-clause-calls : goal.returns-then-is_whole-clause-calls
@@ -45,7 +45,7 @@ write_block-requires-2-clause-free g c =
 pub returns-clause-calls : goal.returns-clause-calls
 returns-clause-calls g c =
     let d = drawn_by g.T.Tape c.args.tape.now in
-    calls_then g.P.Platform 0 1 _ _ _ d d _ _ _ _ _ (c.in-Ok.ensures.goes d).along (calls_of g.P.Platform 1 _ _ _ _ _ _ _ c.write_block-2.ensures.goes)
+    calls_then g.P.Platform 0 1 _ _ _ d d _ _ _ _ _ (c.in-Ok.ensures.goes d).along (platform_quiet _ _ (c.in-Ok.ensures.goes d).quiet) refl (calls_of g.P.Platform 1 _ _ _ _ _ _ _ c.write_block-2.ensures.goes)
 
 pub returns-clause-writes : goal.returns-clause-writes
 returns-clause-writes g c told device array at =
@@ -66,3 +66,6 @@ pub returns-clause-needs : goal.returns-clause-needs
 returns-clause-needs g c =
     let before = (c.in-Ok.ensures.goes (drawn_by g.T.Tape c.args.tape.now)).along.needs in
     on_stop c.write_block-2.result _ _ (λ same. omega (arith, same, before)) c.write_block-2.ensures.goes.needs_still
+
+pub returns-clause-damage : goal.returns-clause-damage
+returns-clause-damage g c told mounted = c.write_block-2.ensures.damage told ((c.in-Ok.ensures.goes (drawn_by g.T.Tape c.args.tape.now)).along.mounted told mounted)

@@ -1,11 +1,16 @@
-use Rattle.std.proofs.Common.{◌≡◌, ◌<◌, ◌+◌, ◌++◌, ◌-◌, ℕ, [], inl, refl, subst, length, length-append, take, arith}
+use Rattle.std.proofs.Common.{◌≡◌, ◌<◌, ◌+◌, ◌++◌, ◌-◌, ◌∙◌, ℕ, List, [], ap, sym, inl, refl, subst, length, length-append, take, arith}
+use Rattle.std.proofs.lemmas.List.{take-append-le, take_all}
+use Rattle.byte_arrays.specs.Parts.{IsPart}
 use Rattle.byte_arrays.specs.Ranges.{touched_blocks}
-use Rattle.byte_arrays.proofs.RangeLaws.{part_next}
+use Rattle.byte_arrays.proofs.RangeLaws.{part_last, part_next}
+use Rattle.nbd_lang.specs.declared.replies.Outcome.TheVariants.{Done}
 use Rattle.session_calls.specs.Along.{drawn_by}
 use Rattle.session_calls.proofs.AlongLaws.{along_start, along_then}
-use Rattle.nbd_core.proofs.BlameLaws.{blame_earlier, cause_wide}
-use Rattle.nbd_core.proofs.CallLaws.{cause_later}
+use Rattle.nbd_core.proofs.ArrayLaws.{front_of, range_halted, range_step, wrote_range}
+use Rattle.nbd_core.proofs.BlameLaws.{blame_done, blame_take, blame_then, cause_wide, same_blocks, same_fell}
+use Rattle.nbd_core.proofs.CallLaws.{platform_quiet, tape_quiet}
 use Rattle.nbd_core.proofs.CameLaws.{came_nothing, length-gone}
+use Rattle.nbd_core.proofs.DamageLaws.{damage_given, done_sound}
 use Rattle.nbd_core.proofs.DataLaws.{gone_then, gone_skip, data_whole, data_short, data_broken, data_then}
 use Rattle.nbd_core.proofs.PartLaws.{part_front, part_touched}
 use Rattle.nbd_core.proofs.writing.write_range.Goals as goal
@@ -19,7 +24,12 @@ loop-done-init g c = record {
   came = came_nothing _ _ _;
   all = refl;
   within = omega arith;
-  fell = omega arith;
+  head = omega arith;
+  last = λ none. ap (λ (n : ℕ). length (touched_blocks c.args.at n)) (sym none);
+  wrote = λ told device array at all long front. at;
+  platform = refl;
+  tape = refl;
+  input = refl;
 }
 
 pub returns-in-Ok-false-clause-along : goal.returns-in-Ok-false-clause-along
@@ -32,7 +42,15 @@ pub returns-clause-along : goal.returns-clause-along
 returns-clause-along g c = (c.loop-done.invariant.parts, c.loop-done.invariant.along)
 
 pub returns-clause-bytes : goal.returns-clause-bytes
-returns-clause-bytes g c = data_whole _ _ _ _ c.args.count c.loop-done.invariant.gone _ c.loop-done.invariant.came (omega (arith, c.loop-done.invariant.all, c.loop-done.invariant.within))
+returns-clause-bytes g c =
+    let so_far = c.loop-done.invariant in
+    let done : c.loop-done.done ≡ c.args.count = omega (arith, so_far.within, c.loop-done-test.false) in
+    let long : length so_far.gone ≡ c.args.count = omega (arith, so_far.all, done) in
+    let count = so_far.last done in
+    data_whole _ _ _ _ c.args.count _ so_far.gone _ so_far.came long
+    (λ told device array at.
+    wrote_range _ _ _ _ _ device array c.args.at c.args.count so_far.parts so_far.gone Done (omega (arith, count)) (inl refl) (λ same. omega (arith, count)) so_far.head so_far.along.needs
+    (so_far.wrote told device array at so_far.gone long (take_all c.loop-done.done so_far.gone (omega (arith, so_far.all)))))
 
 pub write_part-written-requires-clause-open : goal.write_part-written-requires-clause-open
 write_part-written-requires-clause-open g c = c.loop-done.invariant.along.is_open
@@ -57,17 +75,17 @@ returns-in-Ok-false-clause-bytes g c =
     let so_far = c.loop-done.invariant in
     let part = c.first-part.ensures c.args.at c.loop-done.done refl (part_front c.args.at c.loop-done.done so_far.parts (so_far.at c.loop-done-test.true)) in
     let end = c.in-Ok-false.ensures.end c.in-Ok-false.field-0-test in
-    data_broken _ _ _ _ c.args.count so_far.gone
+    data_broken _ _ _ _ c.args.count _ so_far.gone
     (gone_then _ _ _ _ _ _ c.args.count c.first-part.result.count so_far.gone _ so_far.came (omega (arith, so_far.all, part.within, so_far.within)) c.in-Ok-false.ensures.came)
-    (omega (arith, so_far.all, part.within, so_far.within, end.1, length-append so_far.gone c.need.new.self.ahead)) end.0
+    (omega (arith, so_far.all, part.within, so_far.within, end.1, length-append so_far.gone c.need.new.self.ahead)) end.0 (λ told device array at. tt)
 
 pub returns-in-Err-clause-bytes : goal.returns-in-Err-clause-bytes
 returns-in-Err-clause-bytes g c =
     let so_far = c.loop-done.invariant in
     let part = c.first-part.ensures c.args.at c.loop-done.done refl (part_front c.args.at c.loop-done.done so_far.parts (so_far.at c.loop-done-test.true)) in
-    data_short _ _ _ _ c.args.count so_far.gone c.in-Err.stop
+    data_short _ _ _ _ c.args.count _ so_far.gone c.in-Err.stop
     (gone_then _ _ _ _ _ _ c.args.count c.first-part.result.count so_far.gone _ so_far.came (omega (arith, so_far.all, part.within, so_far.within)) c.in-Err.ensures.came)
-    (omega (arith, so_far.all, part.within, so_far.within, c.in-Err.ensures.short, length-append so_far.gone c.need.new.self.ahead)) c.in-Err.ensures.input
+    (omega (arith, so_far.all, part.within, so_far.within, c.in-Err.ensures.short, length-append so_far.gone c.need.new.self.ahead)) c.in-Err.ensures.input c.in-Err.ensures.limit (λ told device array at. tt)
 
 pub loop-done-smaller : goal.loop-done-smaller
 loop-done-smaller g c =
@@ -99,7 +117,19 @@ loop-done-preserved g c =
           c.skip.ensures.ahead c.skip.ensures.left;
       all = omega (arith, so_far.all, length-gone so_far.gone c.need.new.self.ahead k there);
       within = omega (arith, part.within, so_far.within);
-      fell = omega (arith, so_far.fell, c.in-Ok-true.ensures.fell);
+      head = omega (arith, so_far.head, c.in-Ok.ensures.adds);
+      last = λ done.
+          let whole : c.loop-done.done + (c.args.count - c.loop-done.done) ≡ c.args.count = omega (arith, so_far.within) in
+          subst (λ (n : ℕ). length (touched_blocks c.args.at n) ≡ so_far.parts + 1) whole
+          (part_last c.args.at (c.loop-done.done + (c.args.count - c.loop-done.done)) c.loop-done.done _ _ _ so_far.parts part at (omega (arith, done, so_far.within)));
+      wrote = λ told device array there all long front.
+          let whole : c.loop-done.done + (c.args.count - c.loop-done.done) ≡ c.args.count = omega (arith, so_far.within) in
+          range_step (g.P.Platform.history c.write_part-written.new.platform).present c.write_part-written.new.session device array c.args.at c.args.count c.loop-done.done so_far.parts _ _ k so_far.gone (take k c.ahead.result.now) all
+          (subst (λ (n : ℕ). IsPart c.args.at n c.loop-done.done c.first-part.result.block c.first-part.result.start k) whole part) at so_far.all long (front ∙ ap (λ (l : List ℕ). so_far.gone ++ take k l) (sym c.ahead.ensures))
+          (c.in-Ok.ensures.writes told device _ (so_far.wrote told device array there all long (front_of c.loop-done.done k so_far.gone _ all so_far.all front)));
+      platform = platform_quiet _ _ c.in-Ok.ensures.calls.quiet ∙ so_far.platform;
+      tape = tape_quiet _ _ c.in-Ok.ensures.calls.quiet ∙ so_far.tape;
+      input = c.in-Ok-true.ensures.cause ∙ so_far.input;
     }
 
 pub returns-in-Err-written-clause-along : goal.returns-in-Err-written-clause-along
@@ -109,27 +139,65 @@ returns-in-Err-written-clause-along g c =
     (so_far.parts + 1, along_then g.P.Platform so_far.parts 1 _ _ _ (d c.args.tape.now) (d c.loop-done.tape) (d c.write_part-written.new.tape) _ _ _ so_far.along c.in-Err-written.ensures.calls.along)
 
 pub returns-in-Err-written-clause-blame : goal.returns-in-Err-written-clause-blame
-returns-in-Err-written-clause-blame g c rest rest_now fell =
+returns-in-Err-written-clause-blame g c rest =
     let so_far = c.loop-done.invariant in
     let calls = c.in-Err-written.ensures.calls in
-    let before = so_far.along.fell in
     let P = g.P.Platform in
     let T = g.T.Tape in
-    let cause = cause_wide rest rest_now (P.faults c.args.platform.now) (P.faults c.write_part-written.new.platform) (T.faults c.args.tape.now) (T.faults c.write_part-written.new.tape) c.in-Err-written.stop calls.stops
-    (cause_later _ _ _ c.in-Err-written.stop before calls.along.fell calls.cause) in
-    blame_earlier _ _ _ _
-    (record { platform = omega arith; tape = omega arith; input = omega (arith, so_far.fell, c.in-Ok-true.ensures.fell); output = omega arith; ledger = omega arith })
-    (c.give_up.ensures.blame (record rest { platform = P.faults c.args.platform.now; tape = T.faults c.args.tape.now }) (record rest_now { platform = P.faults c.write_part-written.new.platform; tape = T.faults c.write_part-written.new.tape })
-    (record { platform = omega (arith, before.platform, calls.along.fell.platform); tape = omega (arith, before.tape, calls.along.fell.tape); input = fell.input; output = fell.output; ledger = fell.ledger }) cause)
+    let i = g.I.Source.faults c.need.new.input in
+    let before = record rest { platform = P.faults c.loop-done.platform; tape = T.faults c.loop-done.tape } in
+    let now = record rest { platform = P.faults c.write_part-written.new.platform; tape = T.faults c.write_part-written.new.tape } in
+    blame_then _ (record before { input = i }) _ _ (same_blocks rest _ _ _ _ _ _ so_far.platform so_far.tape (c.in-Ok-true.ensures.cause ∙ so_far.input))
+    (c.give_up.ensures.blame before now (record { platform = calls.along.fell.platform; tape = calls.along.fell.tape; input = omega arith; output = omega arith; ledger = omega arith })
+    (cause_wide rest _ _ _ _ c.in-Err-written.stop calls.stops calls.cause))
+
+pub returns-in-Ok-false-clause-blame : goal.returns-in-Ok-false-clause-blame
+returns-in-Ok-false-clause-blame g c rest =
+    let so_far = c.loop-done.invariant in
+    let same = same_blocks rest _ _ _ _ _ _ so_far.platform so_far.tape (c.in-Ok-false.ensures.cause ∙ so_far.input) in
+    record { fell = same_fell _ _ same; quiet = tt; cause = same }
+
+pub returns-in-Err-clause-blame : goal.returns-in-Err-clause-blame
+returns-in-Err-clause-blame g c rest =
+    let so_far = c.loop-done.invariant in
+    let blocks = record rest { platform = g.P.Platform.faults c.loop-done.platform; tape = g.T.Tape.faults c.loop-done.tape } in
+    blame_then _ (record blocks { input = g.I.Source.faults c.loop-done.input }) _ _ (same_blocks rest _ _ _ _ _ _ so_far.platform so_far.tape so_far.input)
+    (blame_take blocks _ _ c.in-Err.stop c.in-Err.ensures.fell c.in-Err.ensures.cause)
+
+pub returns-clause-blame : goal.returns-clause-blame
+returns-clause-blame g c rest =
+    let so_far = c.loop-done.invariant in
+    blame_done _ _ _ (same_blocks rest _ _ _ _ _ _ so_far.platform so_far.tape so_far.input)
 
 pub returns-in-Err-written-clause-bytes : goal.returns-in-Err-written-clause-bytes
 returns-in-Err-written-clause-bytes g c =
     let so_far = c.loop-done.invariant in
-    let part = c.first-part.ensures c.args.at c.loop-done.done refl (part_front c.args.at c.loop-done.done so_far.parts (so_far.at c.loop-done-test.true)) in
+    let at = so_far.at c.loop-done-test.true in
+    let part = c.first-part.ensures c.args.at c.loop-done.done refl (part_front c.args.at c.loop-done.done so_far.parts at) in
     let k : ℕ = c.first-part.result.count in
     let there = c.in-Ok-true.ensures.there c.in-Ok-true.field-0-test in
-    data_then _ _ _ _ c.skip.new.self _ c.args.count (c.args.count - (c.loop-done.done + k)) (so_far.gone ++ take k c.need.new.self.ahead) _
+    let piece : List ℕ = take k c.need.new.self.ahead in
+    let whole : c.loop-done.done + (c.args.count - c.loop-done.done) ≡ c.args.count = omega (arith, so_far.within) in
+    let few : so_far.parts < length (touched_blocks c.args.at c.args.count) =
+    subst (λ (n : ℕ). so_far.parts < length (touched_blocks c.args.at n)) whole (part_touched c.args.at (c.loop-done.done + (c.args.count - c.loop-done.done)) c.loop-done.done _ _ _ so_far.parts part at) in
+    let size : length (so_far.gone ++ piece) ≡ c.loop-done.done + k = omega (arith, so_far.all, length-gone so_far.gone c.need.new.self.ahead k there) in
+    data_then _ _ _ _ c.skip.new.self _ c.args.count (c.args.count - (c.loop-done.done + k)) (so_far.gone ++ piece) _ _ _
     (gone_skip _ _ _ c.need.new.self c.skip.new.self c.args.count k so_far.gone
     (gone_then _ _ _ _ _ _ c.args.count k so_far.gone _ so_far.came (omega (arith, so_far.all, part.within, so_far.within)) c.in-Ok-true.ensures.came)
     c.skip.ensures.ahead c.skip.ensures.left)
-    (omega (arith, so_far.all, part.within, so_far.within, length-gone so_far.gone c.need.new.self.ahead k there)) c.give_up.ensures.bytes
+    (omega (arith, size, part.within, so_far.within))
+    (λ after long nothing told device array at_first.
+    let all : List ℕ = (so_far.gone ++ piece) ++ after in
+    range_halted _ _ _ _ _ _ device array c.args.at c.args.count so_far.parts c.first-part.result.block c.first-part.result.start k [] all c.in-Err-written.stop _ c.give_up.ensures.outcome few so_far.head c.in-Err-written.ensures.adds
+    (omega (arith, so_far.along.needs, c.in-Err-written.ensures.needs)) long
+    (λ whole_is.
+    c.in-Err-written.ensures.writes told device _
+    (so_far.wrote told device array at_first all whole_is (take-append-le c.loop-done.done (so_far.gone ++ piece) after (omega (arith, size)) ∙ take-append-le c.loop-done.done so_far.gone piece (omega (arith, so_far.all)) ∙ take_all c.loop-done.done so_far.gone (omega (arith, so_far.all))))))
+    c.give_up.ensures.bytes
+
+pub returns-in-Err-written-clause-damage : goal.returns-in-Err-written-clause-damage
+returns-in-Err-written-clause-damage g c told mounted =
+    damage_given _ c.in-Err-written.stop _ (c.in-Err-written.ensures.damage told (c.loop-done.invariant.along.mounted told mounted)) c.give_up.ensures.outcome
+
+pub returns-clause-damage : goal.returns-clause-damage
+returns-clause-damage g c told mounted = done_sound _
