@@ -6,7 +6,7 @@ ghost use Rattle.folder_files.specs.Found.{nothing, IsRootOrNone};
 ghost use Rattle.folder_files.specs.Honest.{IsHonest-prop};
 
 use crate::record::Record;
-use folder_platform::{FileCall, FolderCalls, FolderPlatform, OpenRefusal};
+use folder_platform::{FileCall, FolderCalls, FolderPlatform, InFolder, OpenRefusal, PageCalls};
 use platform::Platform;
 use sdbt_base::{RECORD, ROOT};
 use std::alloc::Global;
@@ -44,7 +44,7 @@ impl HonestFiles {
     }
 }
 
-impl FolderCalls for HonestFiles {
+impl PageCalls for HonestFiles {
     ghost use Rattle.folder_platform.specs.Honest.{IsHonest};
     ghost use Rattle.folder_files.specs.Found.{nothing, nothing-files};
 
@@ -102,7 +102,9 @@ impl FolderCalls for HonestFiles {
         self.calls.note(FileCall::SyncFolder, 0, true, &[]);
         Ok(())
     }
+}
 
+impl FolderCalls for HonestFiles {
     fn sync_root(&mut self) -> io::Result<()> {
         self.calls.note(FileCall::SyncRoot, 0, true, &[]);
         Ok(())
@@ -174,8 +176,10 @@ fn put_front(into: &mut [u8], bytes: &[u8])
 }
 
 /// A platform over them tells its history.
-pub fn open_honest(alloc: Global) -> Result<FolderPlatform<HonestFiles>, OpenRefusal>
-    ensures { ⟦<FolderPlatform<HonestFiles> as Platform>⟧.tells }
+pub fn open_honest(alloc: Global) -> Result<FolderPlatform<InFolder<HonestFiles>>, OpenRefusal>
+    ensures { ⟦<FolderPlatform<InFolder<HonestFiles>> as Platform>⟧.tells }
 {
-    FolderPlatform::open(HonestFiles::new(alloc))
+    FolderPlatform::open(InFolder {
+        files: HonestFiles::new(alloc),
+    })
 }
