@@ -1,6 +1,6 @@
 -- What a TPM was asked and answered, and what its replies say of a cell.
-use Rattle.std.specs.Prelude.{◌≡◌, ◌≢◌, ◌⊎◌, ℕ, Bool, true, false, List, Option, Some, None, replicate}
-use Rattle.tpm_nv.specs.Messages.{read_public_bytes, read_bytes, write_bytes, IsWritten, IsData}
+use Rattle.std.specs.Prelude.{◌≡◌, ◌≢◌, ◌⊎◌, ℕ, List, Option, Some, None, replicate}
+use Rattle.tpm_nv.specs.Messages.{read_public_bytes, read_bytes, write_bytes, IsWritten}
 use Rattle.tpm_nv.specs.Replies.{IsCause, SaysContent, IsContent}
 use Rattle.tpm_nv.specs.Areas.{Area, Describes, IsAbsent, IsFault, IsPublic}
 use Rattle.tpm_nv.specs.Attributes.{IsUsable}
