@@ -1,5 +1,7 @@
 //! A device whose root record is in a TPM.
-ghost use Rattle.std.specs.Prelude.{◌≡◌, is_ok};
+ghost use Rattle.std.specs.Prelude.{◌≡◌, ℕ, List, Option, Some, None, if◌then◌else◌, length, is_ok, IfOk, IsErr, OnOk};
+ghost use Rattle.folder_platform.specs.Sequences.{NotesCell, Replaces, Clears};
+ghost use Rattle.tpm_cell.specs.Asking.{no_root, IsInCell, Reads, Stores};
 
 use crate::{TpmCalls, TpmCell, TpmFault};
 use folder_files::StdPages;
@@ -10,7 +12,7 @@ use std::rt::Files;
 
 /// The pages of a folder, and a cell in place: an index of a TPM.
 ///
-/// Each call on the cell is noted as one with its answer.
+/// Each call on the cell is noted as one with its answer: done only where the TPM's replies say so.
 #[derive(Drop)]
 pub struct InTpm<R: Files, T: TpmCalls + Drop> {
     pages: StdPages<R>,
@@ -33,20 +35,6 @@ impl<R: Files, T: TpmCalls + Drop> InTpm<R, T> {
     /// Why the last call on the cell failed that did.
     pub fn failure(&self) -> Option<TpmFault> {
         self.failure
-    }
-
-    // What a call on the cell answered. Why it failed is kept.
-    fn told(&mut self, answer: Result<(), TpmFault>) -> io::Result<()>
-        ensures same { is_ok result ≡ is_ok answer }
-        ensures pages { self.new.pages ≡ self.old.pages }
-    {
-        match answer {
-            Ok(()) => Ok(()),
-            Err(fault) => {
-                self.failure = Some(fault);
-                Err(ErrorKind::Other.into())
-            }
-        }
     }
 }
 
@@ -102,7 +90,13 @@ impl<R: Files, T: TpmCalls + Drop> CellCalls for InTpm<R, T> {
         Ok(())
     }
 
-    fn load(&mut self, into: &mut [u8]) -> io::Result<bool> {
+    fn load(&mut self, into: &mut [u8]) -> io::Result<bool>
+        requires { length into.old ≡ ROOT }
+        ensures noted { NotesCell result into.new (self.old.pages.calls.events) (self.new.pages.calls.events) }
+        // What is noted is what the index holds.
+        ensures loaded { IfOk result (λ full. (held : Option (List ℕ)) × Reads T.TpmCalls.asks self.old.cell.index held self.old.cell.tpm self.new.cell.tpm
+            × IsInCell held (if full then Some into.new else None)) }
+    {
         match self.cell.load(into) {
             Ok(true) => {
                 self.pages.note(FileCall::ReadRoot, 1, true, into);
@@ -112,24 +106,49 @@ impl<R: Files, T: TpmCalls + Drop> CellCalls for InTpm<R, T> {
                 self.pages.note(FileCall::ReadRoot, 0, true, &[]);
                 Ok(false)
             }
+            Err(fault) => failed(&mut self.failure, fault),
+        }
+    }
+
+    fn replace(&mut self, bytes: &[u8]) -> io::Result<()>
+        requires { length bytes.now ≡ ROOT }
+        ensures noted { Replaces bytes.now (is_ok result) (self.old.pages.calls.events) (self.new.pages.calls.events) }
+        // It is noted as done only where the TPM stored the bytes.
+        ensures stored { OnOk result (Stores T.TpmCalls.asks self.old.cell.index bytes.now self.old.cell.tpm self.new.cell.tpm) }
+    {
+        match self.cell.replace(bytes) {
+            Ok(()) => {
+                self.pages.note(FileCall::ReplaceInPlace, 0, true, bytes);
+                Ok(())
+            }
             Err(fault) => {
-                self.failure = Some(fault);
-                Err(ErrorKind::Other.into())
+                self.pages.note(FileCall::ReplaceInPlace, 0, false, bytes);
+                failed(&mut self.failure, fault)
             }
         }
     }
 
-    fn replace(&mut self, bytes: &[u8]) -> io::Result<()> {
-        let answer = self.cell.replace(bytes);
-        self.pages
-            .note(FileCall::ReplaceInPlace, 0, answer.is_ok(), bytes);
-        self.told(answer)
+    fn clear(&mut self) -> io::Result<()>
+        ensures noted { Clears (is_ok result) (self.old.pages.calls.events) (self.new.pages.calls.events) }
+        ensures stored { OnOk result (Stores T.TpmCalls.asks self.old.cell.index no_root self.old.cell.tpm self.new.cell.tpm) }
+    {
+        match self.cell.clear() {
+            Ok(()) => {
+                self.pages.note(FileCall::ClearInPlace, 0, true, &[]);
+                Ok(())
+            }
+            Err(fault) => {
+                self.pages.note(FileCall::ClearInPlace, 0, false, &[]);
+                failed(&mut self.failure, fault)
+            }
+        }
     }
+}
 
-    fn clear(&mut self) -> io::Result<()> {
-        let answer = self.cell.clear();
-        self.pages
-            .note(FileCall::ClearInPlace, 0, answer.is_ok(), &[]);
-        self.told(answer)
-    }
+// A call on the cell failed, and why is kept.
+fn failed<V>(failure: &mut Option<TpmFault>, fault: TpmFault) -> io::Result<V>
+    ensures { IsErr result }
+{
+    *failure = Some(fault);
+    Err(ErrorKind::Other.into())
 }
