@@ -15,7 +15,12 @@ _sdbt() {
     if [ "$place" -gt 1 ] && [ "$first" = --root ]; then
         # CELL, FOLDER, and the word behind them
         case $place in
-        2 | 3) _sdbt_folders "$word" ;;
+        2)
+            COMPREPLY=($(compgen -W 'tpm:0x' -- "$word"))
+            test "${#COMPREPLY[@]}" = 0 || compopt -o nospace 2>/dev/null
+            _sdbt_folders "$word"
+            ;;
+        3) _sdbt_folders "$word" ;;
         4) COMPREPLY=($(compgen -W 'run check seize work' -- "$word")) ;;
         esac
         return

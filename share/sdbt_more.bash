@@ -22,6 +22,10 @@ _sdbt_more() {
         test "${#COMPREPLY[@]}" != 0 && test -n "$word" || _sdbt_more_folders "$word"
     elif [ "$place" -le 4 ] && [ "${COMP_WORDS[2]}" = --root ]; then
         # CELL, and FOLDER
+        if [ "$place" = 3 ]; then
+            COMPREPLY=($(compgen -W 'tpm:0x' -- "$word"))
+            test "${#COMPREPLY[@]}" = 0 || compopt -o nospace 2>/dev/null
+        fi
         _sdbt_more_folders "$word"
     fi
 }

@@ -1,7 +1,7 @@
 //! The files of a folder beside those that they should be by what was found in them and by the calls since.
 ghost use Rattle.std.specs.Prelude.{◌≡◌, length, IfSome};
 
-use folder_platform::FolderCalls;
+use folder_platform::{FolderCalls, PageCalls};
 use sdbt_base::{RECORD, ROOT};
 use std::alloc::Global;
 use std::io;
@@ -102,16 +102,16 @@ fn pages_of(alloc: Global, media: &[u8]) -> Option<Vec<[u8; RECORD]>> {
     Some(pages)
 }
 
-impl<C: FolderCalls + Drop> FolderCalls for Checked<C> {
-    ghost start = { λ checked. C.FolderCalls.start checked.files };
+impl<C: FolderCalls + Drop> PageCalls for Checked<C> {
+    ghost start = { λ checked. C.PageCalls.start checked.files };
 
-    ghost events = { λ checked. C.FolderCalls.events checked.files };
+    ghost events = { λ checked. C.PageCalls.events checked.files };
 
-    ghost occurs = { C.FolderCalls.occurs };
+    ghost occurs = { C.PageCalls.occurs };
 
-    ghost are_files = { λ checked. C.FolderCalls.are_files checked.files };
+    ghost are_files = { λ checked. C.PageCalls.are_files checked.files };
 
-    ghost occurred = { λ checked. C.FolderCalls.occurred checked.files };
+    ghost occurred = { λ checked. C.PageCalls.occurred checked.files };
 
     fn count_pages(&mut self) -> io::Result<u64> {
         let pages = self.files.count_pages()?;
@@ -141,7 +141,9 @@ impl<C: FolderCalls + Drop> FolderCalls for Checked<C> {
     fn sync_folder(&mut self) -> io::Result<()> {
         self.files.sync_folder()
     }
+}
 
+impl<C: FolderCalls + Drop> FolderCalls for Checked<C> {
     fn read_root(&mut self, into: &mut [u8]) -> io::Result<Option<usize>> {
         let answer = self.files.read_root(into)?;
         let root = answer.map(|len| RootBytes::of(&into[..len]));

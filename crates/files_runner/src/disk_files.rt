@@ -2,7 +2,7 @@
 ghost use Rattle.std.specs.Prelude.{◌≡◌, ◌≤◌, [], length, take, is_ok};
 
 use folder_files::Record;
-use folder_platform::{FileCall, FolderCalls};
+use folder_platform::{FileCall, FolderCalls, PageCalls};
 use sdbt_base::{RECORD, ROOT};
 use std::alloc::Global;
 use std::io::{self, ErrorKind};
@@ -124,7 +124,7 @@ fn spend(power: &mut u64) -> io::Result<()> {
     Ok(())
 }
 
-impl FolderCalls for DiskFiles {
+impl PageCalls for DiskFiles {
     ghost use Rattle.folder_files.specs.Found.{nothing, nothing-files};
 
     ghost start = { λ _. nothing };
@@ -184,7 +184,9 @@ impl FolderCalls for DiskFiles {
         self.calls.note(FileCall::SyncFolder, 0, done, &[]);
         answer(done)
     }
+}
 
+impl FolderCalls for DiskFiles {
     fn read_root(&mut self, into: &mut [u8]) -> io::Result<Option<usize>> {
         spend(&mut self.power)?;
         let Some(held) = self.root else {

@@ -16,7 +16,7 @@ mod serving;
 use checked::Checked;
 use disk_files::{DiskFiles, Unsynced};
 use folder_files::{LockFile, files_in_folders};
-use folder_platform::FolderPlatform;
+use folder_platform::{FolderPlatform, InFolder};
 use key_tape::SeedTape;
 use sdbt_base::Line;
 use serving::serve;
@@ -110,7 +110,8 @@ fn lose_power(rt: &(impl Input + Print + Alloc<A = Global>), loss: &Loss) -> Opt
     let mut tape = SeedTape::new(1);
     let mut ledger = Line::new(alloc);
     let mut text = Line::new(alloc);
-    let mut platform = FolderPlatform::open(DiskFiles::new(alloc, loss.calls)).ok()?;
+    let files = DiskFiles::new(alloc, loss.calls);
+    let mut platform = FolderPlatform::open(InFolder { files }).ok()?;
     serve(
         alloc,
         &[],
@@ -120,8 +121,9 @@ fn lose_power(rt: &(impl Input + Print + Alloc<A = Global>), loss: &Loss) -> Opt
         &mut ledger,
         &mut text,
     )?;
-    let left = platform.into_files().left(loss.unsynced, loss.falls_back);
-    let mut platform = FolderPlatform::open(left).ok()?;
+    let ended = platform.into_files().files;
+    let files = ended.left(loss.unsynced, loss.falls_back);
+    let mut platform = FolderPlatform::open(InFolder { files }).ok()?;
     serve(
         alloc,
         &[],
@@ -166,8 +168,8 @@ where
     let files = files_in_folders(rt.clone().ok()?, folder, folder).ok()?;
     let found = fs::read(rt, media.as_str()).ok()?;
     let held = fs::read(rt, root.as_str()).ok();
-    let checked = Checked::new(alloc, files, &found, held.as_deref())?;
-    let mut platform = FolderPlatform::open(checked).ok()?;
+    let files = Checked::new(alloc, files, &found, held.as_deref())?;
+    let mut platform = FolderPlatform::open(InFolder { files }).ok()?;
     let mut tape = SeedTape::new(media_seed(&found));
     let mut text = Line::new(alloc);
     let mut ledger = Line::new(alloc);
@@ -181,7 +183,7 @@ where
         &mut text,
     )?;
     io::writer(rt).write_all(text.bytes()).ok()?;
-    let checked = platform.into_files();
+    let checked = platform.into_files().files;
     let left = fs::read(rt, media.as_str()).ok()?;
     let held = fs::read(rt, root.as_str()).ok();
     let is_right = checked.is_right(&left, held.as_deref());

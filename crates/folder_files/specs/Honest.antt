@@ -7,7 +7,7 @@ use Rattle.folder_platform.specs.Events.{Event}
 use Rattle.folder_platform.specs.Model.{Model, replay}
 use Rattle.folder_platform.specs.Honest.{Answers, IsHonest}
 use Rattle.folder_platform.specs.declared.file_call.FileCall.{FileCall}
-use Rattle.folder_platform.specs.declared.file_call.FileCall.TheVariants.{CountPages, ReadPage, WritePage, SyncMedia, SyncFolder, ReadRoot, SyncRoot, RemoveRoot, RemoveNew, MakeNew, SyncNew, RenameNew, SyncCell}
+use Rattle.folder_platform.specs.declared.file_call.FileCall.TheVariants.{CountPages, ReadPage, WritePage, SyncMedia, SyncFolder, ReadRoot, SyncRoot, RemoveRoot, RemoveNew, MakeNew, SyncNew, RenameNew, SyncCell, ReplaceInPlace, ClearInPlace}
 
 pub Answers-prop : (call : FileCall) (n : ℕ) (done : Bool) (bytes : List ℕ) (m : Model) → IsProp (Answers call n done bytes m)
 Answers-prop CountPages n done bytes m = hlevel props
@@ -23,6 +23,8 @@ Answers-prop MakeNew n done bytes m = Unit-prop
 Answers-prop SyncNew n done bytes m = Unit-prop
 Answers-prop RenameNew n done bytes m = Unit-prop
 Answers-prop SyncCell n done bytes m = Unit-prop
+Answers-prop ReplaceInPlace n done bytes m = Unit-prop
+Answers-prop ClearInPlace n done bytes m = Unit-prop
 
 pub IsHonest-prop : (files : Files) (events : List Event) → IsProp (IsHonest files events)
 IsHonest-prop files [] = Unit-prop

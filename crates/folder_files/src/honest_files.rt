@@ -6,13 +6,16 @@ ghost use Rattle.folder_files.specs.Found.{nothing, IsRootOrNone};
 ghost use Rattle.folder_files.specs.Honest.{IsHonest-prop};
 
 use crate::record::Record;
-use folder_platform::{FileCall, FolderCalls, FolderPlatform, OpenRefusal};
+use folder_platform::{
+    CellCalls, FileCall, FolderCalls, FolderPlatform, InFolder, OpenRefusal, PageCalls,
+};
 use platform::Platform;
 use sdbt_base::{RECORD, ROOT};
 use std::alloc::Global;
 use std::io::{self, ErrorKind};
 
-/// No file at first. Each record of calls on it is honest, so a platform over it tells.
+/// No file at first, and the root record in a folder or in place. Each record of calls on it is honest, so a platform
+/// over it tells.
 #[derive(Drop)]
 pub struct HonestFiles {
     pages: Vec<[u8; RECORD]>,
@@ -44,7 +47,7 @@ impl HonestFiles {
     }
 }
 
-impl FolderCalls for HonestFiles {
+impl PageCalls for HonestFiles {
     ghost use Rattle.folder_platform.specs.Honest.{IsHonest};
     ghost use Rattle.folder_files.specs.Found.{nothing, nothing-files};
 
@@ -102,7 +105,9 @@ impl FolderCalls for HonestFiles {
         self.calls.note(FileCall::SyncFolder, 0, true, &[]);
         Ok(())
     }
+}
 
+impl FolderCalls for HonestFiles {
     fn sync_root(&mut self) -> io::Result<()> {
         self.calls.note(FileCall::SyncRoot, 0, true, &[]);
         Ok(())
@@ -164,6 +169,47 @@ impl FolderCalls for HonestFiles {
     }
 }
 
+impl CellCalls for HonestFiles {
+    fn tidy(&mut self) -> Result<(), OpenRefusal> {
+        self.new_root = None;
+        self.calls.note(FileCall::RemoveNew, 0, true, &[]);
+        Ok(())
+    }
+
+    fn settle(&mut self) -> Result<(), OpenRefusal> {
+        self.calls.note(FileCall::SyncRoot, 0, true, &[]);
+        self.calls.note(FileCall::SyncCell, 0, true, &[]);
+        Ok(())
+    }
+
+    fn load(&mut self, into: &mut [u8]) -> io::Result<bool> {
+        if self.is_broken {
+            return Err(ErrorKind::Other.into());
+        }
+        let Some(bytes) = self.root else {
+            self.calls.note(FileCall::ReadRoot, 0, true, &[]);
+            return Ok(false);
+        };
+        into.copy_from_slice(&bytes);
+        self.calls.note(FileCall::ReadRoot, 1, true, into);
+        Ok(true)
+    }
+
+    fn replace(&mut self, bytes: &[u8]) -> io::Result<()> {
+        let mut copy = [0; ROOT];
+        copy.copy_from_slice(bytes);
+        self.root = Some(copy);
+        self.calls.note(FileCall::ReplaceInPlace, 0, true, bytes);
+        Ok(())
+    }
+
+    fn clear(&mut self) -> io::Result<()> {
+        self.root = None;
+        self.calls.note(FileCall::ClearInPlace, 0, true, &[]);
+        Ok(())
+    }
+}
+
 // The buffer begins with these bytes.
 fn put_front(into: &mut [u8], bytes: &[u8])
     requires room { ROOT ≤ length into.old }
@@ -174,7 +220,16 @@ fn put_front(into: &mut [u8], bytes: &[u8])
 }
 
 /// A platform over them tells its history.
-pub fn open_honest(alloc: Global) -> Result<FolderPlatform<HonestFiles>, OpenRefusal>
+pub fn open_honest(alloc: Global) -> Result<FolderPlatform<InFolder<HonestFiles>>, OpenRefusal>
+    ensures { ⟦<FolderPlatform<InFolder<HonestFiles>> as Platform>⟧.tells }
+{
+    FolderPlatform::open(InFolder {
+        files: HonestFiles::new(alloc),
+    })
+}
+
+/// So does one whose root record is in place.
+pub fn open_honest_in_place(alloc: Global) -> Result<FolderPlatform<HonestFiles>, OpenRefusal>
     ensures { ⟦<FolderPlatform<HonestFiles> as Platform>⟧.tells }
 {
     FolderPlatform::open(HonestFiles::new(alloc))

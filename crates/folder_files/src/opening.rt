@@ -7,8 +7,8 @@ ghost use Rattle.folder_files.specs.Answers.{TellsHeld};
 use crate::media_file::PAGE_LEN;
 use crate::record::Record;
 use crate::root_file::OWNER_ALONE;
-use crate::{LockFile, StdFiles};
-use folder_platform::{FolderFile, FolderPlatform, OpenRefusal, told};
+use crate::{LockFile, StdFiles, StdPages};
+use folder_platform::{FolderFile, FolderPlatform, InFolder, OpenRefusal, told};
 use platform::Platform;
 use sdbt_base::MAX_PAGES;
 use std::fs::{self, OpenFile, OpenOptions};
@@ -25,15 +25,16 @@ pub fn open_in_folders<R: Files + Alloc + Clone + Drop>(
     rt: R,
     cell: &str,
     folder: &str,
-) -> Result<FolderPlatform<StdFiles<R>>, OpenRefusal>
+) -> Result<FolderPlatform<InFolder<StdFiles<R>>>, OpenRefusal>
 where
     R::File: LockFile,
-    ensures faults { IfOk result (λ platform. ⟦<FolderPlatform<StdFiles<R>> as Platform>⟧.faults platform ≡ 0) }
+    ensures faults { IfOk result (λ platform. ⟦<FolderPlatform<InFolder<StdFiles<R>>> as Platform>⟧.faults platform ≡ 0) }
     ensures sound { IfOk result (λ platform. platform.is_stuck ≡ false) }
     // That another has a lock is said only where a file says that it is held.
     ensures cause { IfErr result (ShowsCause ((held : R.File) × R.File.is_held held)) }
 {
-    FolderPlatform::open(files_in_folders(rt, cell, folder)?)
+    let files = files_in_folders(rt, cell, folder)?;
+    FolderPlatform::open(InFolder { files })
 }
 
 /// The files of two folders, with both locks, and no call on them yet: see [`open_in_folders`].
@@ -44,7 +45,7 @@ pub fn files_in_folders<R: Files + Alloc + Clone + Drop>(
 ) -> Result<StdFiles<R>, OpenRefusal>
 where
     R::File: LockFile,
-    ensures new { IfOk result (λ files. files.calls.events ≡ []) }
+    ensures new { IfOk result (λ files. files.pages.calls.events ≡ []) }
     ensures cause { IfErr result (ShowsCause ((held : R.File) × R.File.is_held held)) }
 {
     let root = format!(in rt.alloc(); "{cell}/root")?;
@@ -53,18 +54,44 @@ where
     let cell = open_folder(&rt, FolderFile::Cell, cell)?;
     let folder = open_folder(&rt, FolderFile::Folder, folder)?;
     lock(FolderFile::Cell, &cell)?;
-    let media = told(FolderFile::Media, open_media(&rt, media.as_str()))?;
-    lock(FolderFile::Media, &media)?;
-    let metadata = told(FolderFile::Media, media.metadata())?;
-    not_too_long(metadata.len())?;
+    let pages = lock_pages(&rt, folder, media.as_str())?;
     Ok(StdFiles {
+        pages,
         rt,
         root,
         new_root,
         cell,
+        new_file: None,
+    })
+}
+
+/// The pages of a device in a folder that exists, with the lock on `media`, and no call on them yet. Nothing is changed
+/// before it is taken, but that `media` is made where there is none.
+pub fn pages_in_folder<R: Files + Alloc>(rt: &R, folder: &str) -> Result<StdPages<R>, OpenRefusal>
+where
+    R::File: LockFile,
+    ensures new { IfOk result (λ pages. pages.calls.events ≡ []) }
+    ensures cause { IfErr result (ShowsCause ((held : R.File) × R.File.is_held held)) }
+{
+    let media = format!(in rt.alloc(); "{folder}/media")?;
+    let folder = open_folder(rt, FolderFile::Folder, folder)?;
+    lock_pages(rt, folder, media.as_str())
+}
+
+// The pages of an open folder, and of the file of this name in it, with the lock on that.
+fn lock_pages<R: Files>(rt: &R, folder: R::File, media: &str) -> Result<StdPages<R>, OpenRefusal>
+where
+    R::File: LockFile,
+    ensures new { IfOk result (λ pages. pages.calls.events ≡ []) }
+    ensures cause { IfErr result (ShowsCause ((held : R.File) × R.File.is_held held)) }
+{
+    let media = told(FolderFile::Media, open_media(rt, media))?;
+    lock(FolderFile::Media, &media)?;
+    let metadata = told(FolderFile::Media, media.metadata())?;
+    not_too_long(metadata.len())?;
+    Ok(StdPages {
         folder,
         media,
-        new_file: None,
         calls: Record::new(),
     })
 }

@@ -3,6 +3,7 @@
 //! The platform is made by `open_in_folders` of `folder_files`, first of all: it has the locks.
 #![tactic(auto)]
 
+mod ended;
 mod failures;
 mod key_source;
 mod ledger_file;
@@ -10,6 +11,7 @@ mod not_ready;
 mod watched;
 mod words;
 
+pub use ended::Ended;
 pub use failures::reason_of;
 pub use key_source::{RANDOM, open_keys};
 pub use ledger_file::{LedgerFile, open_ledger};

@@ -4,12 +4,17 @@ use crate::RANDOM;
 use folder_platform::{FolderFile, OpenRefusal};
 use std::alloc::AllocError;
 use std::io;
+use tpm_cell::{CellRefusal, TpmNotReady};
 
 /// Why a run over folders could not begin.
 #[derive(Drop)]
 pub enum NotReady {
     /// The folders can't be a platform.
     Platform(OpenRefusal),
+    /// The folder of a medium can't be one's, whose root record is elsewhere.
+    Medium(OpenRefusal),
+    /// The index of a TPM can't be a platform's cell.
+    Index(CellRefusal),
     /// The ledger could not be opened.
     Ledger(io::Error),
     /// The source of keys could not be opened.
@@ -35,10 +40,13 @@ impl NotReady {
 
     fn is_memory(&self) -> bool {
         match self {
-            NotReady::Platform(refusal) => matches!(refusal, OpenRefusal::Memory),
-            NotReady::Ledger(error) | NotReady::Keys(error) => {
-                error.kind() == io::ErrorKind::OutOfMemory
+            NotReady::Platform(refusal) | NotReady::Medium(refusal) => {
+                matches!(refusal, OpenRefusal::Memory)
             }
+            NotReady::Index(CellRefusal::Io(error))
+            | NotReady::Ledger(error)
+            | NotReady::Keys(error) => error.kind() == io::ErrorKind::OutOfMemory,
+            NotReady::Index(_) => false,
         }
     }
 
@@ -46,6 +54,8 @@ impl NotReady {
         eprintln!(rt; "folder not ready")?;
         match self {
             NotReady::Platform(refusal) => tell_refusal(refusal, rt, program, cell, folder),
+            NotReady::Medium(refusal) => tell_refusal(refusal, rt, program, folder, folder),
+            NotReady::Index(refusal) => eprintln!(rt; "{program}: {cell}: {refusal}"),
             NotReady::Ledger(error) => eprintln!(rt; "{program}: {folder}/ledger: {error}"),
             NotReady::Keys(error) => eprintln!(rt; "{program}: {RANDOM}: {error}"),
         }
@@ -78,6 +88,15 @@ fn tell_refusal(
 impl From<OpenRefusal> for NotReady {
     fn from(refusal: OpenRefusal) -> NotReady {
         NotReady::Platform(refusal)
+    }
+}
+
+impl From<TpmNotReady> for NotReady {
+    fn from(not_ready: TpmNotReady) -> NotReady {
+        match not_ready {
+            TpmNotReady::Cell(refusal) => NotReady::Index(refusal),
+            TpmNotReady::Folder(refusal) => NotReady::Medium(refusal),
+        }
     }
 }
 

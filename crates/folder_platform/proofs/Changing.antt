@@ -6,10 +6,10 @@ use Rattle.platform.specs.Image.{Image, IsWhole, IsEarlier, with_cell}
 use Rattle.platform.specs.History.{Steps, During}
 use Rattle.platform.proofs.Moments.{During-start, During-call, During-step, Turns-not, Turns-call, Turns-then}
 use Rattle.folder_platform.specs.Files.{Files}
-use Rattle.folder_platform.specs.Events.{Event, all_done, new_removed, new_made, new_synced, new_renamed, root_removed, cell_synced}
+use Rattle.folder_platform.specs.Events.{Event, all_done, new_removed, new_made, new_synced, new_renamed, root_removed, cell_synced, replaced_in_place, cleared_in_place}
 use Rattle.folder_platform.specs.Model.{replay}
 use Rattle.folder_platform.specs.Told.{record_of, past_of, now_of, reads_of, IsTold, told_by}
-use Rattle.folder_platform.specs.Sequences.{Replaces, Removes}
+use Rattle.folder_platform.specs.Sequences.{Renames, Unlinks, Replaces, Clears}
 use Rattle.folder_platform.specs.Loss.{Settled}
 use Rattle.folder_platform.proofs.Orderly.{earlier-same}
 use Rattle.folder_platform.proofs.Telling.{whole-told, told_as, told_same, steps_told}
@@ -111,22 +111,23 @@ changes-then files turn last old mid told held ok adds turns is keeps adds' same
       settled = rests;
     }
 
--- the same without the last one, which the change was, and which failed
-changes-turn : (files : Files) (turn : Event) (old mid : List Event) (told : IsTold files old) (held : Option (List ℕ))
+-- the same without the last one: the change was it
+changes-turn : (files : Files) (turn : Event) (old mid : List Event) (told : IsTold files old) (held : Option (List ℕ)) (ok : Bool)
     → past_of files (turn ∷ mid) ≡ past_of files mid ++ now_of files mid ∷ [] → now_of files (turn ∷ mid) ≡ with_cell (now_of files mid) held → ((bytes : List ℕ) → held ≡ Some bytes → IsBytes ROOT bytes)
-    → KeepsPages files mid (turn ∷ mid) → IsCalm files old mid told → Changes files old (turn ∷ mid) told held false
-changes-turn files turn old mid told held adds turns is keeps was =
+    → KeepsPages files mid (turn ∷ mid) → (ok ≡ true → Settled (replay files (turn ∷ mid))) → IsCalm files old mid told → Changes files old (turn ∷ mid) told held ok
+changes-turn files turn old mid told held ok adds turns is keeps rests was =
     let whole = whole-told files mid was.told_now in
     let before = λ (image : Image). image ≡ now_of files old in
     let after = λ (image : Image). image ≡ now_of files (turn ∷ mid) in
+    let turned : now_of files (turn ∷ mid) ≡ with_cell (now_of files old) held = turns ∙ ap (λ (image : Image). with_cell image held) was.image in
     record {
       told_now = told_as files turn mid adds was.told_now (with_cell (now_of files mid) held) turns (whole-cell (now_of files mid) held is whole) (earlier-cell (now_of files mid) held whole);
       time = λ told_now. Turns-call (told_by files old told) (told_by files mid was.told_now) (told_by files (turn ∷ mid) told_now) before after (was.during was.told_now)
           (steps_told files turn mid adds was.told_now told_now) refl;
-      done = λ no. cc;
-      either = inr (turns ∙ ap (λ (image : Image). with_cell image held) was.image);
+      done = λ yes. turned;
+      either = inr turned;
       keeps = keeps-more files turn old mid was.keeps keeps;
-      settled = λ no. cc;
+      settled = rests;
     }
 
 -- the parts of a replacement
@@ -135,14 +136,26 @@ module _ (files : Files) (old : List Event) (settled : Settled (replay files old
   calm_new_removed true = calm-more files (new_removed true) old old told refl refl (record { readable = refl; recorded = refl; reads = refl }) (calm files old told)
   calm_new_removed false = calm-more files (new_removed false) old old told refl refl (record { readable = refl; recorded = refl; reads = refl }) (calm files old told)
 
-  pub changes_removed : (ok : Bool) (new : List Event) → Removes ok old new → Changes files old new told None ok
-  changes_removed ok new (inr (failed, is)) = rw (failed, is) (changes-not files old (new_removed false ∷ old) told None (calm_new_removed false))
-  changes_removed ok new (inl (inr (failed, is))) =
-      rw (failed, is) (changes-turn files (root_removed false) old (new_removed true ∷ old) told None refl refl (λ bytes no. cc) (record { readable = refl; recorded = refl; reads = refl }) (calm_new_removed true))
-  changes_removed ok new (inl (inl (inr (failed, is)))) =
+  changes_unlinked : (ok : Bool) (new : List Event) → Unlinks ok old new → Changes files old new told None ok
+  changes_unlinked ok new (inr (failed, is)) = rw (failed, is) (changes-not files old (new_removed false ∷ old) told None (calm_new_removed false))
+  changes_unlinked ok new (inl (inr (failed, is))) =
+      rw (failed, is) (changes-turn files (root_removed false) old (new_removed true ∷ old) told None false refl refl (λ bytes no. cc) (record { readable = refl; recorded = refl; reads = refl }) (λ no. cc) (calm_new_removed true))
+  changes_unlinked ok new (inl (inl (inr (failed, is)))) =
       rw (failed, is) (changes-then files (root_removed true) (cell_synced false) old (new_removed true ∷ old) told None false refl refl (λ bytes no. cc) (record { readable = refl; recorded = refl; reads = refl }) refl refl (record { readable = refl; recorded = refl; reads = refl }) (λ no. cc) (calm_new_removed true))
-  changes_removed ok new (inl (inl (inl (done, is)))) =
+  changes_unlinked ok new (inl (inl (inl (done, is)))) =
       rw (done, is) (changes-then files (root_removed true) (cell_synced true) old (new_removed true ∷ old) told None true refl refl (λ bytes no. cc) (record { readable = refl; recorded = refl; reads = refl }) refl refl (record { readable = refl; recorded = refl; reads = refl }) (λ yes. record { named = settled.named; alone = refl; synced = refl; no_new = refl }) (calm_new_removed true))
+
+  in_place : (turn : Event) (held : Option (List ℕ)) (ok : Bool) → past_of files (turn ∷ old) ≡ past_of files old ++ now_of files old ∷ [] → now_of files (turn ∷ old) ≡ with_cell (now_of files old) held
+      → ((bytes : List ℕ) → held ≡ Some bytes → IsBytes ROOT bytes) → KeepsPages files old (turn ∷ old) → (ok ≡ true → Settled (replay files (turn ∷ old))) → Changes files old (turn ∷ old) told held ok
+  in_place turn held ok adds turns is keeps rests = changes-turn files turn old old told held ok adds turns is keeps rests (calm files old told)
+
+  cleared_now : (ok : Bool) → Changes files old (cleared_in_place ok ∷ old) told None ok
+  cleared_now true = in_place (cleared_in_place true) None true refl refl (λ bytes no. cc) (record { readable = refl; recorded = refl; reads = refl }) (λ yes. record { named = settled.named; alone = refl; synced = refl; no_new = settled.no_new })
+  cleared_now false = in_place (cleared_in_place false) None false refl refl (λ bytes no. cc) (record { readable = refl; recorded = refl; reads = refl }) (λ no. cc)
+
+  pub changes_cleared : (ok : Bool) (new : List Event) → Clears ok old new → Changes files old new told None ok
+  changes_cleared ok new (inl made) = changes_unlinked ok new made
+  changes_cleared ok new (inr is) = rw is (cleared_now ok)
 
   module _ (bytes : List ℕ) (is_root : IsBytes ROOT bytes) where
     calm_new_made : (ok : Bool) → IsCalm files old (new_made ok bytes ∷ new_removed true ∷ old) told
@@ -165,30 +178,49 @@ module _ (files : Files) (old : List Event) (settled : Settled (replay files old
     changed ok same keeps rests =
         changes-then files (new_renamed true) (cell_synced ok) old (new_synced true ∷ new_made true bytes ∷ new_removed true ∷ old) told (Some bytes) ok refl turned is_held (record { readable = refl; recorded = refl; reads = refl }) refl same keeps rests (calm_new_synced true)
 
-    pub changes_replaced : (ok : Bool) (new : List Event) → Replaces bytes ok old new → Changes files old new told (Some bytes) ok
-    changes_replaced ok new (inr (failed, is)) = rw (failed, is) (changes-not files old (new_removed false ∷ old) told (Some bytes) (calm_new_removed false))
-    changes_replaced ok new (inl (inr (failed, is))) = rw (failed, is) (changes-not files old (new_made false bytes ∷ new_removed true ∷ old) told (Some bytes) (calm_new_made false))
-    changes_replaced ok new (inl (inl (inr (failed, is)))) =
+    changes_renamed : (ok : Bool) (new : List Event) → Renames bytes ok old new → Changes files old new told (Some bytes) ok
+    changes_renamed ok new (inr (failed, is)) = rw (failed, is) (changes-not files old (new_removed false ∷ old) told (Some bytes) (calm_new_removed false))
+    changes_renamed ok new (inl (inr (failed, is))) = rw (failed, is) (changes-not files old (new_made false bytes ∷ new_removed true ∷ old) told (Some bytes) (calm_new_made false))
+    changes_renamed ok new (inl (inl (inr (failed, is)))) =
         rw (failed, is) (changes-not files old (new_synced false ∷ new_made true bytes ∷ new_removed true ∷ old) told (Some bytes) (calm_new_synced false))
-    changes_replaced ok new (inl (inl (inl (inr (failed, is))))) =
-        rw (failed, is) (changes-turn files (new_renamed false) old (new_synced true ∷ new_made true bytes ∷ new_removed true ∷ old) told (Some bytes) refl turned is_held (record { readable = refl; recorded = refl; reads = refl }) (calm_new_synced true))
-    changes_replaced ok new (inl (inl (inl (inl (inr (failed, is)))))) = rw (failed, is) (changed false refl (record { readable = refl; recorded = refl; reads = refl }) (λ no. cc))
-    changes_replaced ok new (inl (inl (inl (inl (inl (done, is)))))) = rw (done, is) (changed true refl (record { readable = refl; recorded = refl; reads = refl }) (λ yes. record { named = settled.named; alone = refl; synced = refl; no_new = refl }))
+    changes_renamed ok new (inl (inl (inl (inr (failed, is))))) =
+        rw (failed, is) (changes-turn files (new_renamed false) old (new_synced true ∷ new_made true bytes ∷ new_removed true ∷ old) told (Some bytes) false refl turned is_held (record { readable = refl; recorded = refl; reads = refl }) (λ no. cc) (calm_new_synced true))
+    changes_renamed ok new (inl (inl (inl (inl (inr (failed, is)))))) = rw (failed, is) (changed false refl (record { readable = refl; recorded = refl; reads = refl }) (λ no. cc))
+    changes_renamed ok new (inl (inl (inl (inl (inl (done, is)))))) = rw (done, is) (changed true refl (record { readable = refl; recorded = refl; reads = refl }) (λ yes. record { named = settled.named; alone = refl; synced = refl; no_new = refl }))
+
+    put_now : (ok : Bool) → now_of files (replaced_in_place ok bytes ∷ old) ≡ with_cell (now_of files old) (Some bytes)
+    put_now ok = ap (λ held. with_cell (now_of files old) held) (record_of_root bytes is_root.0)
+
+    replaced_now : (ok : Bool) → Changes files old (replaced_in_place ok bytes ∷ old) told (Some bytes) ok
+    replaced_now true = in_place (replaced_in_place true bytes) (Some bytes) true refl (put_now true) is_held (record { readable = refl; recorded = refl; reads = refl }) (λ yes. record { named = settled.named; alone = refl; synced = refl; no_new = settled.no_new })
+    replaced_now false = in_place (replaced_in_place false bytes) (Some bytes) false refl (put_now false) is_held (record { readable = refl; recorded = refl; reads = refl }) (λ no. cc)
+
+    pub changes_replaced : (ok : Bool) (new : List Event) → Replaces bytes ok old new → Changes files old new told (Some bytes) ok
+    changes_replaced ok new (inl made) = changes_renamed ok new made
+    changes_replaced ok new (inr is) = rw is (replaced_now ok)
 
 -- all of the calls were done, where the last one was
-pub replaced_done : (bytes : List ℕ) (ok : Bool) (old new : List Event) → Replaces bytes ok old new → ok ≡ true → all_done old ≡ true → all_done new ≡ true
-replaced_done bytes ok old new (inr (failed, is)) sure was = cc
-replaced_done bytes ok old new (inl (inr (failed, is))) sure was = cc
-replaced_done bytes ok old new (inl (inl (inr (failed, is)))) sure was = cc
-replaced_done bytes ok old new (inl (inl (inl (inr (failed, is))))) sure was = cc
-replaced_done bytes ok old new (inl (inl (inl (inl (inr (failed, is)))))) sure was = cc
-replaced_done bytes ok old new (inl (inl (inl (inl (inl (done, is)))))) sure was = ap all_done is ∙ was
+renamed_done : (bytes : List ℕ) (ok : Bool) (old new : List Event) → Renames bytes ok old new → ok ≡ true → all_done old ≡ true → all_done new ≡ true
+renamed_done bytes ok old new (inr (failed, is)) sure was = cc
+renamed_done bytes ok old new (inl (inr (failed, is))) sure was = cc
+renamed_done bytes ok old new (inl (inl (inr (failed, is)))) sure was = cc
+renamed_done bytes ok old new (inl (inl (inl (inr (failed, is))))) sure was = cc
+renamed_done bytes ok old new (inl (inl (inl (inl (inr (failed, is)))))) sure was = cc
+renamed_done bytes ok old new (inl (inl (inl (inl (inl (done, is)))))) sure was = ap all_done is ∙ was
 
-pub removed_done : (ok : Bool) (old new : List Event) → Removes ok old new → ok ≡ true → all_done old ≡ true → all_done new ≡ true
-removed_done ok old new (inr (failed, is)) sure was = cc
-removed_done ok old new (inl (inr (failed, is))) sure was = cc
-removed_done ok old new (inl (inl (inr (failed, is)))) sure was = cc
-removed_done ok old new (inl (inl (inl (done, is)))) sure was = ap all_done is ∙ was
+unlinked_done : (ok : Bool) (old new : List Event) → Unlinks ok old new → ok ≡ true → all_done old ≡ true → all_done new ≡ true
+unlinked_done ok old new (inr (failed, is)) sure was = cc
+unlinked_done ok old new (inl (inr (failed, is))) sure was = cc
+unlinked_done ok old new (inl (inl (inr (failed, is)))) sure was = cc
+unlinked_done ok old new (inl (inl (inl (done, is)))) sure was = ap all_done is ∙ was
+
+pub replaced_done : (bytes : List ℕ) (ok : Bool) (old new : List Event) → Replaces bytes ok old new → ok ≡ true → all_done old ≡ true → all_done new ≡ true
+replaced_done bytes ok old new (inl made) sure was = renamed_done bytes ok old new made sure was
+replaced_done bytes ok old new (inr is) sure was = ap all_done is ∙ rw sure was
+
+pub cleared_done : (ok : Bool) (old new : List Event) → Clears ok old new → ok ≡ true → all_done old ≡ true → all_done new ≡ true
+cleared_done ok old new (inl made) sure was = unlinked_done ok old new made sure was
+cleared_done ok old new (inr is) sure was = ap all_done is ∙ rw sure was
 
 -- the same, where the files are known by an equation
 pub changes_time : (files files' : Files) (old new : List Event) (told : IsTold files old) (held : Option (List ℕ)) (ok : Bool) → files' ≡ files → Changes files old new told held ok

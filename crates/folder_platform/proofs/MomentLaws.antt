@@ -15,7 +15,7 @@ use Rattle.folder_platform.specs.Told.{cell_with, past_of, now_of, IsTold, told_
 use Rattle.folder_platform.specs.Sequences.{opening, counts, counted, AreOpened}
 use Rattle.folder_platform.specs.Loss.{Leaves, MayHold, AreLeft, AllSafe, IsLeftAt, before_of, changes_cell}
 use Rattle.folder_platform.specs.declared.file_call.FileCall.{FileCall}
-use Rattle.folder_platform.specs.declared.file_call.FileCall.TheVariants.{CountPages, ReadPage, WritePage, SyncMedia, SyncFolder, ReadRoot, SyncRoot, RemoveRoot, RemoveNew, MakeNew, SyncNew, RenameNew, SyncCell}
+use Rattle.folder_platform.specs.declared.file_call.FileCall.TheVariants.{CountPages, ReadPage, WritePage, SyncMedia, SyncFolder, ReadRoot, SyncRoot, RemoveRoot, RemoveNew, MakeNew, SyncNew, RenameNew, SyncCell, ReplaceInPlace, ClearInPlace}
 use Rattle.folder_platform.proofs.Orderly.{get_or-end, more-before}
 use Rattle.folder_platform.proofs.Once.{counted_more}
 use Rattle.folder_platform.proofs.Leaving.{left_cell, synced-is_synced}
@@ -36,6 +36,8 @@ past-more files MakeNew n done bytes events other = refl
 past-more files SyncNew n done bytes events other = refl
 past-more files RenameNew n done bytes events other = refl
 past-more files SyncCell n done bytes events other = refl
+past-more files ReplaceInPlace n done bytes events other = refl
+past-more files ClearInPlace n done bytes events other = refl
 
 -- where pages are counted in the last of some calls, or not in it, they are counted as often or less before
 counted-before : (e : Event) (events : List Event) → counted events ≤ counted (e ∷ events)
@@ -111,6 +113,8 @@ alone-after SyncNew n false bytes m calm a = a
 alone-after RenameNew n done bytes m calm a = absurd (cc)
 alone-after SyncCell n true bytes m calm a = record { alone = refl; synced = a.synced }
 alone-after SyncCell n false bytes m calm a = a
+alone-after ReplaceInPlace n done bytes m calm a = absurd (cc)
+alone-after ClearInPlace n done bytes m calm a = absurd (cc)
 
 -- since an opening the cell was not changed, or the image from before its last change is one of a moment since then
 fallback : (files : Files) (more : List Event) (n : ℕ)

@@ -2,8 +2,8 @@
 use Rattle.std.proofs.Common.{◌≡◌, inl, inr, ℕ, Bool, true, false, List, [], ◌∷◌, Option, Some, None, Result, Ok, Err, refl, ◌∙◌, ap}
 use Rattle.std.specs.Prelude.{All, MatchResult}
 use Rattle.std.proofs.lemmas.List.Elements.{All-nil, All-cons, All-head, All-tail}
-use Rattle.folder_platform.specs.Events.{Event, page_read, root_read, new_removed, new_made, new_synced, new_renamed, root_removed, cell_synced}
-use Rattle.folder_platform.specs.Sequences.{Attempts, Replaces, Removes, NotesCell, opening, counts, counted}
+use Rattle.folder_platform.specs.Events.{Event, page_read, root_read, new_removed, new_made, new_synced, new_renamed, root_removed, cell_synced, replaced_in_place, cleared_in_place}
+use Rattle.folder_platform.specs.Sequences.{Attempts, Renames, Unlinks, Replaces, Clears, NotesCell, opening, counts, counted}
 
 pub once_opening : (n : ℕ) (events : List Event) → events ≡ opening n → counted events ≡ 1
 once_opening n events is = ap counted is
@@ -40,8 +40,8 @@ once_attempts (call ∷ calls) done old new countless (inl made) once =
     (once_event old (call true ∷ old) (call true) (All-head IsCountless call calls countless true) refl once)
 once_attempts (call ∷ calls) done old new countless (inr failed) once = once_event old new (call false) (All-head IsCountless call calls countless false) failed.1 once
 
-pub once_replaced : (bytes : List ℕ) (done : Bool) (old new : List Event) → Replaces bytes done old new → counted old ≡ 1 → counted new ≡ 1
-once_replaced bytes done old new made once =
+once_renamed : (bytes : List ℕ) (done : Bool) (old new : List Event) → Renames bytes done old new → counted old ≡ 1 → counted new ≡ 1
+once_renamed bytes done old new made once =
     let made_new : Bool → Event = λ done. new_made done bytes in
     let all : All IsCountless (new_removed ∷ made_new ∷ new_synced ∷ new_renamed ∷ cell_synced ∷ []) =
     All-cons IsCountless new_removed (made_new ∷ new_synced ∷ new_renamed ∷ cell_synced ∷ []) (λ done. refl)
@@ -51,10 +51,18 @@ once_replaced bytes done old new made once =
     (All-cons IsCountless cell_synced [] (λ done. refl) (All-nil IsCountless))))) in
     once_attempts (new_removed ∷ made_new ∷ new_synced ∷ new_renamed ∷ cell_synced ∷ []) done old new all made once
 
-pub once_removed : (done : Bool) (old new : List Event) → Removes done old new → counted old ≡ 1 → counted new ≡ 1
-once_removed done old new made once =
+once_unlinked : (done : Bool) (old new : List Event) → Unlinks done old new → counted old ≡ 1 → counted new ≡ 1
+once_unlinked done old new made once =
     let all : All IsCountless (new_removed ∷ root_removed ∷ cell_synced ∷ []) =
     All-cons IsCountless new_removed (root_removed ∷ cell_synced ∷ []) (λ done. refl)
     (All-cons IsCountless root_removed (cell_synced ∷ []) (λ done. refl)
     (All-cons IsCountless cell_synced [] (λ done. refl) (All-nil IsCountless))) in
     once_attempts (new_removed ∷ root_removed ∷ cell_synced ∷ []) done old new all made once
+
+pub once_replaced : (bytes : List ℕ) (done : Bool) (old new : List Event) → Replaces bytes done old new → counted old ≡ 1 → counted new ≡ 1
+once_replaced bytes done old new (inl made) once = once_renamed bytes done old new made once
+once_replaced bytes done old new (inr is) once = once_event old new (replaced_in_place done bytes) refl is once
+
+pub once_cleared : (done : Bool) (old new : List Event) → Clears done old new → counted old ≡ 1 → counted new ≡ 1
+once_cleared done old new (inl made) once = once_unlinked done old new made once
+once_cleared done old new (inr is) once = once_event old new (cleared_in_place done) refl is once

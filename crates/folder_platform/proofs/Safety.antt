@@ -4,10 +4,10 @@ use Rattle.std.specs.Prelude.{Contains, MatchResult, option_map}
 use Rattle.std.proofs.lemmas.List.Elements.{All-contains, All-cons, All-nil}
 use Rattle.platform.specs.Image.{Image}
 use Rattle.folder_platform.specs.Files.{Files, fitted}
-use Rattle.folder_platform.specs.Events.{Event, page_read, page_written, media_synced, root_read, root_removed, new_removed, new_made, new_synced, new_renamed, cell_synced}
-use Rattle.folder_platform.specs.Model.{NamedFile, Model, replay, durable, found, is_synced}
+use Rattle.folder_platform.specs.Events.{Event, page_read, page_written, media_synced, root_read, root_removed, new_removed, new_made, new_synced, new_renamed, cell_synced, replaced_in_place, cleared_in_place}
+use Rattle.folder_platform.specs.Model.{NamedFile, Model, replay, put_in_place, durable, found, is_synced}
 use Rattle.folder_platform.specs.Told.{shown, cell_of, now_of}
-use Rattle.folder_platform.specs.Sequences.{Replaces, Removes, NotesCell, opening, AreOpened}
+use Rattle.folder_platform.specs.Sequences.{Renames, Unlinks, Replaces, Clears, NotesCell, opening, AreOpened}
 use Rattle.folder_platform.specs.Loss.{Settled, before_of, IsSafe, AllSafe}
 use Rattle.folder_platform.proofs.Leaving.{left_cell, leaves_cell, synced-is_synced}
 
@@ -74,12 +74,25 @@ module _ (files : Files) (events : List Event) (as_many : length (replay files e
   safe_root_removed : (ok : Bool) → AllSafe files (root_removed ok ∷ new_removed true ∷ events)
   safe_root_removed ok = safe_more files (root_removed ok) (new_removed true ∷ events) (removed_here ok) (safe_new_removed true)
 
-  pub safe_removed : (ok : Bool) (new : List Event) → Removes ok events new → AllSafe files new
-  safe_removed ok new (inr (failed, is)) = rw is (safe_new_removed false)
-  safe_removed ok new (inl (inr (failed, is))) = rw is (safe_root_removed false)
-  safe_removed ok new (inl (inl (inr (failed, is)))) = rw is (safe_more files (cell_synced false) (root_removed true ∷ new_removed true ∷ events) (removed_here true) (safe_root_removed true))
-  safe_removed ok new (inl (inl (inl (done, is)))) =
+  safe_unlinked : (ok : Bool) (new : List Event) → Unlinks ok events new → AllSafe files new
+  safe_unlinked ok new (inr (failed, is)) = rw is (safe_new_removed false)
+  safe_unlinked ok new (inl (inr (failed, is))) = rw is (safe_root_removed false)
+  safe_unlinked ok new (inl (inl (inr (failed, is)))) = rw is (safe_more files (cell_synced false) (root_removed true ∷ new_removed true ∷ events) (removed_here true) (safe_root_removed true))
+  safe_unlinked ok new (inl (inl (inl (done, is)))) =
       rw is (safe_more files (cell_synced true) (root_removed true ∷ new_removed true ∷ events) (safe_alone _ (replay files (cell_synced true ∷ root_removed true ∷ new_removed true ∷ events)) as_many refl refl) (safe_root_removed true))
+
+  -- a call on a cell in place: it holds this alone where it was done, and else this or what it held before
+  safe_in_place : (file : NamedFile) (e : Event) (ok : Bool) → is_synced file ≡ true → replay files (e ∷ events) ≡ put_in_place file ok (replay files events) → before_of files (e ∷ events) ≡ now_of files events → AllSafe files (e ∷ events)
+  safe_in_place file e true synced puts before =
+      safe_more files e events (subst (λ (m : Model). IsSafe (before_of files (e ∷ events)) (shown m) m) (sym puts) (safe_alone _ (put_in_place file true (replay files events)) as_many refl synced)) safe
+  safe_in_place file e false synced puts before =
+      safe_more files e events (subst (λ (image : Image). IsSafe image (now_of files (e ∷ events)) (replay files (e ∷ events))) (sym before)
+      (subst (λ (m : Model). IsSafe (now_of files events) (shown m) m) (sym puts)
+      (safe_two (put_in_place file false (replay files events)) (replay files events) as_many refl refl refl (ap (option_map (λ (files : List NamedFile). file ∷ files)) settled.alone) synced settled.synced))) safe
+
+  pub safe_cleared : (ok : Bool) (new : List Event) → Clears ok events new → AllSafe files new
+  safe_cleared ok new (inl made) = safe_unlinked ok new made
+  safe_cleared ok new (inr is) = rw is (safe_in_place None (cleared_in_place ok) ok refl refl refl)
 
   module _ (bytes : List ℕ) where
     safe_new_made : (ok : Bool) → AllSafe files (new_made ok bytes ∷ new_removed true ∷ events)
@@ -97,16 +110,20 @@ module _ (files : Files) (events : List Event) (as_many : length (replay files e
     safe_renamed : (ok : Bool) → AllSafe files (new_renamed ok ∷ new_synced true ∷ new_made true bytes ∷ new_removed true ∷ events)
     safe_renamed ok = safe_more files (new_renamed ok) (new_synced true ∷ new_made true bytes ∷ new_removed true ∷ events) (renamed_here ok) (safe_new_synced true)
 
-    pub safe_replaced : (ok : Bool) (new : List Event) → Replaces bytes ok events new → AllSafe files new
-    safe_replaced ok new (inr (failed, is)) = rw is (safe_new_removed false)
-    safe_replaced ok new (inl (inr (failed, is))) = rw is (safe_new_made false)
-    safe_replaced ok new (inl (inl (inr (failed, is)))) = rw is (safe_new_synced false)
-    safe_replaced ok new (inl (inl (inl (inr (failed, is))))) = rw is (safe_renamed false)
-    safe_replaced ok new (inl (inl (inl (inl (inr (failed, is)))))) =
+    safe_renames : (ok : Bool) (new : List Event) → Renames bytes ok events new → AllSafe files new
+    safe_renames ok new (inr (failed, is)) = rw is (safe_new_removed false)
+    safe_renames ok new (inl (inr (failed, is))) = rw is (safe_new_made false)
+    safe_renames ok new (inl (inl (inr (failed, is)))) = rw is (safe_new_synced false)
+    safe_renames ok new (inl (inl (inl (inr (failed, is))))) = rw is (safe_renamed false)
+    safe_renames ok new (inl (inl (inl (inl (inr (failed, is)))))) =
         rw is (safe_more files (cell_synced false) (new_renamed true ∷ new_synced true ∷ new_made true bytes ∷ new_removed true ∷ events) (renamed_here true) (safe_renamed true))
-    safe_replaced ok new (inl (inl (inl (inl (inl (done, is)))))) =
+    safe_renames ok new (inl (inl (inl (inl (inl (done, is)))))) =
         rw is (safe_more files (cell_synced true) (new_renamed true ∷ new_synced true ∷ new_made true bytes ∷ new_removed true ∷ events)
         (safe_alone _ (replay files (cell_synced true ∷ new_renamed true ∷ new_synced true ∷ new_made true bytes ∷ new_removed true ∷ events)) as_many refl refl) (safe_renamed true))
+
+    pub safe_replaced : (ok : Bool) (new : List Event) → Replaces bytes ok events new → AllSafe files new
+    safe_replaced ok new (inl made) = safe_renames ok new made
+    safe_replaced ok new (inr is) = rw is (safe_in_place (Some (bytes, true)) (replaced_in_place ok bytes) ok refl refl refl)
 
 -- the same, where files and record are known by equations
 safe_to : (files files' : Files) (events' now : List Event) → files' ≡ files → events' ≡ now → AllSafe files now → AllSafe files' events'
@@ -133,8 +150,8 @@ module _ (files files' : Files) (events events' : List Event) (same : files' ≡
   pub safe_replace : (bytes : List ℕ) (ok : Bool) → Replaces bytes ok events events' → AllSafe files' events'
   safe_replace bytes ok calls = safe_to files files' events' events' same refl (safe_replaced files events as_many settled safe bytes ok events' calls)
 
-  pub safe_remove : (ok : Bool) → Removes ok events events' → AllSafe files' events'
-  safe_remove ok calls = safe_to files files' events' events' same refl (safe_removed files events as_many settled safe ok events' calls)
+  pub safe_clear : (ok : Bool) → Clears ok events events' → AllSafe files' events'
+  safe_clear ok calls = safe_to files files' events' events' same refl (safe_cleared files events as_many settled safe ok events' calls)
 
 -- what has an opening in it and is one is no more than that
 opening-alone : (n : ℕ) (later earlier : List Event) → opening n ≡ later ++ earlier → AreOpened earlier → earlier ≡ opening n

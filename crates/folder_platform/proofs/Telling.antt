@@ -16,7 +16,7 @@ use Rattle.folder_platform.specs.Told.{shown, past_of, now_of, reads_of, IsTold,
 use Rattle.folder_platform.specs.Sequences.{NotesCell}
 use Rattle.folder_platform.specs.Loss.{Settled}
 use Rattle.folder_platform.specs.declared.file_call.FileCall.{FileCall}
-use Rattle.folder_platform.specs.declared.file_call.FileCall.TheVariants.{CountPages, ReadPage, WritePage, SyncMedia, SyncFolder, ReadRoot, SyncRoot, RemoveRoot, RemoveNew, MakeNew, SyncNew, RenameNew, SyncCell}
+use Rattle.folder_platform.specs.declared.file_call.FileCall.TheVariants.{CountPages, ReadPage, WritePage, SyncMedia, SyncFolder, ReadRoot, SyncRoot, RemoveRoot, RemoveNew, MakeNew, SyncNew, RenameNew, SyncCell, ReplaceInPlace, ClearInPlace}
 use Rattle.folder_platform.proofs.Orderly.{orderly-more, earlier-same}
 
 -- pages
@@ -120,6 +120,8 @@ believed-after MakeNew n ok bytes m done was = was
 believed-after SyncNew n ok bytes m done was = rw done was
 believed-after RenameNew n ok bytes m done was = was
 believed-after SyncCell n ok bytes m done was = rw done was
+believed-after ReplaceInPlace n ok bytes m done was = was
+believed-after ClearInPlace n ok bytes m done was = was
 
 -- as long as all was done, a sync is believed
 pub believed_now : (files : Files) (events : List Event) → all_done events ≡ true → (replay files events).is_believed ≡ true

@@ -1,7 +1,7 @@
 -- The calls on the files of a device in folders, each with its answer.
 use Rattle.std.specs.Prelude.{◌&&◌, ℕ, Bool, true, List, [], ◌∷◌, Option, Some, None}
 use Rattle.folder_platform.specs.declared.file_call.FileCall.{FileCall}
-use Rattle.folder_platform.specs.declared.file_call.FileCall.TheVariants.{CountPages, ReadPage, WritePage, SyncMedia, SyncFolder, ReadRoot, SyncRoot, RemoveRoot, RemoveNew, MakeNew, SyncNew, RenameNew, SyncCell}
+use Rattle.folder_platform.specs.declared.file_call.FileCall.TheVariants.{CountPages, ReadPage, WritePage, SyncMedia, SyncFolder, ReadRoot, SyncRoot, RemoveRoot, RemoveNew, MakeNew, SyncNew, RenameNew, SyncCell, ReplaceInPlace, ClearInPlace}
 
 -- Which call it was, an address or a number, whether it was done, and bytes. A call that only looks and fails is no event, so
 -- each that was not done is one that changes something and failed.
@@ -60,6 +60,14 @@ new_renamed done = (RenameNew, 0, done, [])
 -- the folder of `root` was synced, or that failed
 abbrev pub cell_synced : Bool → Event
 cell_synced done = (SyncCell, 0, done, [])
+
+-- what a cell in place holds was replaced by these bytes, or that failed
+abbrev pub replaced_in_place : Bool → List ℕ → Event
+replaced_in_place done bytes = (ReplaceInPlace, 0, done, bytes)
+
+-- a cell in place was cleared, or that failed
+abbrev pub cleared_in_place : Bool → Event
+cleared_in_place done = (ClearInPlace, 0, done, [])
 
 -- no call failed that changes something
 abbrev pub all_done : List Event → Bool

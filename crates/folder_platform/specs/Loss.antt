@@ -10,7 +10,7 @@ use Rattle.folder_platform.specs.Model.{NamedFile, Model, replay, durable, is_sy
 use Rattle.folder_platform.specs.Told.{cell_with, now_of}
 use Rattle.folder_platform.specs.Sequences.{AreOpened}
 use Rattle.folder_platform.specs.declared.file_call.FileCall.{FileCall}
-use Rattle.folder_platform.specs.declared.file_call.FileCall.TheVariants.{RemoveRoot, RenameNew}
+use Rattle.folder_platform.specs.declared.file_call.FileCall.TheVariants.{RemoveRoot, RenameNew, ReplaceInPlace, ClearInPlace}
 
 -- a file that was synced has its bytes, and one that was not may have any
 abbrev pub Leaves : NamedFile → Option (List ℕ) → Type 0
@@ -52,6 +52,8 @@ pub record Settled (m : Model) : Type 0 where
 abbrev pub changes_cell : FileCall → Bool
 changes_cell RemoveRoot = true
 changes_cell RenameNew = true
+changes_cell ReplaceInPlace = true
+changes_cell ClearInPlace = true
 changes_cell other = false
 
 -- the image from before the last change of the cell

@@ -3,7 +3,7 @@ use Rattle.std.specs.Prelude.{ℕ, min, Bool, true, false, if◌then◌else◌, 
 use Rattle.folder_platform.specs.Files.{Files, zero_page, fitted, placed}
 use Rattle.folder_platform.specs.Events.{Event}
 use Rattle.folder_platform.specs.declared.file_call.FileCall.{FileCall}
-use Rattle.folder_platform.specs.declared.file_call.FileCall.TheVariants.{CountPages, ReadPage, WritePage, SyncMedia, SyncFolder, ReadRoot, SyncRoot, RemoveRoot, RemoveNew, MakeNew, SyncNew, RenameNew, SyncCell}
+use Rattle.folder_platform.specs.declared.file_call.FileCall.TheVariants.{CountPages, ReadPage, WritePage, SyncMedia, SyncFolder, ReadRoot, SyncRoot, RemoveRoot, RemoveNew, MakeNew, SyncNew, RenameNew, SyncCell, ReplaceInPlace, ClearInPlace}
 
 -- what a name leads to: no file, or one by its bytes, and whether these were synced
 abbrev pub NamedFile : Type 0
@@ -47,6 +47,10 @@ found (Some bytes) = Some (bytes, false)
 abbrev pub begun : Files → Model
 begun files = record { recorded = files.handed; readable = files.pages; synced = 0; is_believed = true; is_named = false; root = found files.root; new_root = found files.new_root; on_disk = None }
 
+-- A cell in place holds what was put there, on the disk too. Where that failed it may hold, whole, this or what it held before.
+abbrev pub put_in_place : NamedFile → Bool → Model → Model
+put_in_place file done m = record m { root = file; on_disk = if done then Some (file ∷ []) else option_map (λ files. file ∷ files) m.on_disk }
+
 -- What a call does. A write that fails leaves a page of which nothing is known. A file that is made, a rename and a removal count
 -- as done where they fail too: the file may have any bytes then, and on the disk the name may lead to what it led to before.
 abbrev pub after_call : FileCall → ℕ → Bool → List ℕ → Model → Model
@@ -66,6 +70,8 @@ after_call SyncNew n done bytes m = if done then record m { new_root = file_sync
 after_call RenameNew n done bytes m =
     record m { root = m.new_root; new_root = if done then None else m.new_root; on_disk = option_map (λ files. m.new_root ∷ files) m.on_disk }
 after_call SyncCell n done bytes m = if done then record m { on_disk = Some (m.root ∷ []) } else m
+after_call ReplaceInPlace n done bytes m = put_in_place (Some (bytes, true)) done m
+after_call ClearInPlace n done bytes m = put_in_place None done m
 
 -- what files that held this are after these calls, of which the newest comes first
 abbrev pub replay : Files → List Event → Model

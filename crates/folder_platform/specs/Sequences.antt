@@ -1,7 +1,7 @@
 -- Which calls on files a call of the platform consists of.
 use Rattle.std.specs.Prelude.{◌≡◌, ◌⊎◌, ◌↔◌, ◌+◌, if◌then◌else◌, ℕ, Bool, true, false, List, [], ◌∷◌, ◌++◌, Option, Some, None, Result, Ok, Err, take, IsTrue, IsSome}
 use Rattle.folder_platform.specs.Files.{Files}
-use Rattle.folder_platform.specs.Events.{Event, pages_counted, media_synced, folder_synced, root_read, root_synced, root_removed, new_removed, new_made, new_synced, new_renamed, cell_synced}
+use Rattle.folder_platform.specs.Events.{Event, pages_counted, media_synced, folder_synced, root_read, root_synced, root_removed, new_removed, new_made, new_synced, new_renamed, cell_synced, replaced_in_place, cleared_in_place}
 use Rattle.folder_platform.specs.Told.{cell_with}
 use Rattle.folder_platform.specs.declared.file_call.FileCall.{FileCall}
 use Rattle.folder_platform.specs.declared.file_call.FileCall.TheVariants.{CountPages}
@@ -12,12 +12,20 @@ Attempts [] done old new = (done ≡ true) × (new ≡ old)
 Attempts (call ∷ calls) done old new = Attempts calls done (call true ∷ old) new ⊎ ((done ≡ false) × (new ≡ call false ∷ old))
 
 -- `root.new` is removed, made with these bytes and synced, it becomes `root`, and the folder is synced
-abbrev pub Replaces : List ℕ → Bool → List Event → List Event → Type 0
-Replaces bytes = Attempts (new_removed ∷ (λ done. new_made done bytes) ∷ new_synced ∷ new_renamed ∷ cell_synced ∷ [])
+abbrev pub Renames : List ℕ → Bool → List Event → List Event → Type 0
+Renames bytes = Attempts (new_removed ∷ (λ done. new_made done bytes) ∷ new_synced ∷ new_renamed ∷ cell_synced ∷ [])
 
 -- `root.new` is removed, and `root`, and the folder is synced
-abbrev pub Removes : Bool → List Event → List Event → Type 0
-Removes = Attempts (new_removed ∷ root_removed ∷ cell_synced ∷ [])
+abbrev pub Unlinks : Bool → List Event → List Event → Type 0
+Unlinks = Attempts (new_removed ∷ root_removed ∷ cell_synced ∷ [])
+
+-- the cell holds these bytes: by names in a folder, or in place in one call
+abbrev pub Replaces : List ℕ → Bool → List Event → List Event → Type 0
+Replaces bytes done old new = Renames bytes done old new ⊎ (new ≡ replaced_in_place done bytes ∷ old)
+
+-- the cell holds nothing: the same
+abbrev pub Clears : Bool → List Event → List Event → Type 0
+Clears done old new = Unlinks done old new ⊎ (new ≡ cleared_in_place done ∷ old)
 
 -- an opening, the newest call first: `root.new` was removed, so many pages were counted, and `media`, its folder, `root` and its folder were synced
 abbrev pub opening : ℕ → List Event
@@ -48,7 +56,7 @@ NotesRoot (Ok None) into old new = new ≡ root_read None ∷ old
 NotesRoot (Ok (Some n)) into old new = new ≡ root_read (Some (take n into)) ∷ old
 NotesRoot (Err _) into old new = new ≡ old
 
--- whether the cell is full, and then what it holds, by one look at `root`
+-- whether the cell is full, and then what it holds, by one look at it
 abbrev pub NotesCell : {E : Type 0} → Result Bool E → List ℕ → List Event → List Event → Type 0
 NotesCell (Ok full) into old new = (root : Option (List ℕ)) × (new ≡ root_read root ∷ old) × (IsTrue full ↔ IsSome (cell_with root)) × (IsTrue full → cell_with root ≡ Some into)
 NotesCell (Err _) into old new = new ≡ old

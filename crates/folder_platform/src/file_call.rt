@@ -1,6 +1,6 @@
 //! Which calls there are on the files of a device in folders.
 
-/// A call on `media`, on `root` or `root.new`, or on the folder of either.
+/// A call on `media`, on `root` or `root.new`, on the folder of either, or on a cell in place.
 #[derive(Clone, Copy, Debug, PartialEq, Eq)]
 pub enum FileCall {
     /// `media` is filled up to whole pages, which are counted.
@@ -29,4 +29,8 @@ pub enum FileCall {
     RenameNew,
     /// The folder of `root` is synced.
     SyncCell,
+    /// What a cell in place holds is replaced.
+    ReplaceInPlace,
+    /// A cell in place is cleared.
+    ClearInPlace,
 }

@@ -1,108 +1,55 @@
-//! What is asked of the files of a device: that a record is kept of each call with its answer, whatever that is.
-ghost use Rattle.std.specs.Prelude.{◌≡◌, ◌∷◌, ◌≤◌, ◌+◌, List, [], length, ⊤, is_ok, IfOk, MatchResult, MatchOption};
-ghost use Rattle.folder_platform.specs.Files.{Files, AreFiles};
-ghost use Rattle.folder_platform.specs.Events.{Event, pages_counted, page_read, page_written, media_synced, folder_synced, root_synced, root_removed, new_removed, new_made, new_synced, new_renamed, cell_synced};
+//! What is asked of the files of a root record in a folder.
+ghost use Rattle.std.specs.Prelude.{◌≡◌, ◌∷◌, ◌≤◌, ◌+◌, length, ⊤, is_ok, IfOk, MatchOption};
+ghost use Rattle.folder_platform.specs.Events.{root_synced, root_removed, new_removed, new_made, new_synced, new_renamed, cell_synced};
 ghost use Rattle.folder_platform.specs.Sequences.{NotesRoot};
 
-use sdbt_base::{RECORD, ROOT};
+use crate::PageCalls;
+use sdbt_base::ROOT;
 use std::io;
 
-/// The file `media` in one folder, and the files `root` and `root.new` in the same or another one.
+/// The files `root` and `root.new` in one folder, beside the file `media` in the same or another one.
 ///
-/// Nothing is asked of the answers. What they are by an honest file system is `IsHonest`, a property of a record.
-/// No call can touch a file of another name.
-pub trait FolderCalls {
-    /// What the files held before the first call.
-    ghost start: { Self → Files };
-
-    /// Each call so far with its answer, the newest first.
-    ghost events: { Self → List Event };
-
-    /// The records that occur over files that held this. A theorem on a platform over any type of calls
-    /// has as its premise that these are honest; so it is one on each record for which there is a type.
-    ghost occurs: { Files → List Event → Type 0 };
-
-    /// How many pages `media` has. A last one that is there in part is filled up with zeros.
-    fn count_pages(&mut self) -> io::Result<u64>
-        ensures start { start self.new ≡ start self.old }
-        ensures noted { MatchResult result
-            (λ n. events self.new ≡ pages_counted n ∷ events self.old)
-            (λ _. events self.new ≡ events self.old) };
-
-    /// Reads the page of `RECORD` bytes at an address.
-    fn read_page(&mut self, addr: u64, into: &mut [u8]) -> io::Result<()>
-        requires { length into.old ≡ RECORD }
-        ensures start { start self.new ≡ start self.old }
-        ensures noted { MatchResult result
-            (λ _. events self.new ≡ page_read addr into.new ∷ events self.old)
-            (λ _. events self.new ≡ events self.old) };
-
-    /// Writes a page of `RECORD` bytes at an address.
-    fn write_page(&mut self, addr: u64, page: &[u8]) -> io::Result<()>
-        requires { length page.now ≡ RECORD }
-        ensures start { start self.new ≡ start self.old }
-        ensures noted { events self.new ≡ page_written addr (is_ok result) page.now ∷ events self.old };
-
-    /// Syncs `media`: its pages outlast a loss of power.
-    fn sync_media(&mut self) -> io::Result<()>
-        ensures start { start self.new ≡ start self.old }
-        ensures noted { events self.new ≡ media_synced (is_ok result) ∷ events self.old };
-
-    /// The same, with no more of what is noted beside the pages than a later read of them needs.
-    fn sync_pages(&mut self) -> io::Result<()>
-        ensures start { start self.new ≡ start self.old }
-        ensures noted { events self.new ≡ media_synced (is_ok result) ∷ events self.old };
-
-    /// Syncs the folder of `media`: so does that name.
-    fn sync_folder(&mut self) -> io::Result<()>
-        ensures start { start self.new ≡ start self.old }
-        ensures noted { events self.new ≡ folder_synced (is_ok result) ∷ events self.old };
-
+/// As of pages nothing is asked of the answers, and no call can touch a file of another name.
+pub trait FolderCalls: PageCalls {
     /// How many bytes of `root` were put into the buffer of `ROOT` and one, from the first on; or `None`, if it isn't there.
     fn read_root(&mut self, into: &mut [u8]) -> io::Result<Option<usize>>
         requires { length into.old ≡ ROOT + 1 }
-        ensures start { start self.new ≡ start self.old }
+        ensures start { Self.start self.new ≡ Self.start self.old }
         ensures within { IfOk result (λ n. MatchOption n ⊤ (λ n. n ≤ ROOT + 1)) }
-        ensures noted { NotesRoot result into.new (events self.old) (events self.new) };
+        ensures noted { NotesRoot result into.new (Self.events self.old) (Self.events self.new) };
 
     /// Syncs `root`, if it is there.
     fn sync_root(&mut self) -> io::Result<()>
-        ensures start { start self.new ≡ start self.old }
-        ensures noted { events self.new ≡ root_synced (is_ok result) ∷ events self.old };
+        ensures start { Self.start self.new ≡ Self.start self.old }
+        ensures noted { Self.events self.new ≡ root_synced (is_ok result) ∷ Self.events self.old };
 
     /// Removes `root`, if it is there.
     fn remove_root(&mut self) -> io::Result<()>
-        ensures start { start self.new ≡ start self.old }
-        ensures noted { events self.new ≡ root_removed (is_ok result) ∷ events self.old };
+        ensures start { Self.start self.new ≡ Self.start self.old }
+        ensures noted { Self.events self.new ≡ root_removed (is_ok result) ∷ Self.events self.old };
 
     /// Removes `root.new`, if it is there.
     fn remove_new(&mut self) -> io::Result<()>
-        ensures start { start self.new ≡ start self.old }
-        ensures noted { events self.new ≡ new_removed (is_ok result) ∷ events self.old };
+        ensures start { Self.start self.new ≡ Self.start self.old }
+        ensures noted { Self.events self.new ≡ new_removed (is_ok result) ∷ Self.events self.old };
 
     /// Makes `root.new`, which must not be there, with these bytes.
     fn make_new(&mut self, bytes: &[u8]) -> io::Result<()>
-        ensures start { start self.new ≡ start self.old }
-        ensures noted { events self.new ≡ new_made (is_ok result) bytes.now ∷ events self.old };
+        ensures start { Self.start self.new ≡ Self.start self.old }
+        ensures noted { Self.events self.new ≡ new_made (is_ok result) bytes.now ∷ Self.events self.old };
 
     /// Syncs `root.new`.
     fn sync_new(&mut self) -> io::Result<()>
-        ensures start { start self.new ≡ start self.old }
-        ensures noted { events self.new ≡ new_synced (is_ok result) ∷ events self.old };
+        ensures start { Self.start self.new ≡ Self.start self.old }
+        ensures noted { Self.events self.new ≡ new_synced (is_ok result) ∷ Self.events self.old };
 
     /// Renames `root.new` to `root`, in the place of what had that name.
     fn rename_new(&mut self) -> io::Result<()>
-        ensures start { start self.new ≡ start self.old }
-        ensures noted { events self.new ≡ new_renamed (is_ok result) ∷ events self.old };
+        ensures start { Self.start self.new ≡ Self.start self.old }
+        ensures noted { Self.events self.new ≡ new_renamed (is_ok result) ∷ Self.events self.old };
 
     /// Syncs the folder of `root`: what was renamed and removed in it outlasts a loss of power.
     fn sync_cell(&mut self) -> io::Result<()>
-        ensures start { start self.new ≡ start self.old }
-        ensures noted { events self.new ≡ cell_synced (is_ok result) ∷ events self.old };
-
-    /// Bytes are bytes, and pages have their size.
-    ghost are_files: { (calls : Self) → AreFiles (start calls) };
-
-    /// The record of each value is one that occurs.
-    ghost occurred: { (calls : Self) → occurs (start calls) (events calls) };
+        ensures start { Self.start self.new ≡ Self.start self.old }
+        ensures noted { Self.events self.new ≡ cell_synced (is_ok result) ∷ Self.events self.old };
 }

@@ -1,12 +1,18 @@
-//! A platform over the files of folders, told by a record of the calls on them.
+//! A platform over the pages of a folder and the cell of a root record, told by a record of the calls on both.
 #![tactic(auto)]
 
+mod cell_calls;
 mod file_call;
 mod folder_calls;
 mod folder_platform;
+mod in_folder;
+mod page_calls;
 mod refusals;
 
+pub use cell_calls::CellCalls;
 pub use file_call::FileCall;
 pub use folder_calls::FolderCalls;
 pub use folder_platform::FolderPlatform;
+pub use in_folder::InFolder;
+pub use page_calls::PageCalls;
 pub use refusals::{FolderFile, OpenRefusal, told};

@@ -1,4 +1,4 @@
-//! Two runs over folders: the second one opens what a loss of power left of the files of the first.
+//! Two runs over folders, or over a folder and a cell in place: the second one opens what a loss of power left of the first.
 #![tactic(auto)]
 
 ghost use Rattle.std.specs.Prelude.{◌≡◌, ◌++◌, ℕ, List, Option, None};
@@ -16,7 +16,7 @@ ghost use Rattle.folder_platform.specs.Loss.{MayHold, AreLeft, IsLeftAt, opened}
 ghost use Rattle.folder_runs.specs.Restarts.{RunsOver, IsOpenedAfter, DisclosesRuns, HaveCausesOver};
 
 use device_cli::run_main;
-use folder_platform::{FolderCalls, FolderPlatform};
+use folder_platform::{CellCalls, FolderPlatform};
 use platform::Platform;
 use sdbt_base::{Sink, Source, Tape};
 use std::alloc::Global;
@@ -25,14 +25,7 @@ use std::alloc::Global;
 ///
 /// It answers the exit statuses of both runs: see [`run_main`]. What it promises beyond that is about a `restarted` that was
 /// opened over files which a loss of power may have left after any call of the first run on its files.
-pub fn run_twice<
-    C: FolderCalls + Drop,
-    D: FolderCalls + Drop,
-    T: Tape,
-    I: Source,
-    O: Sink,
-    L: Sink,
->(
+pub fn run_twice<C: CellCalls + Drop, D: CellCalls + Drop, T: Tape, I: Source, O: Sink, L: Sink>(
     alloc: Global,
     platform: &mut FolderPlatform<C>,
     restarted: &mut FolderPlatform<D>,
@@ -44,10 +37,10 @@ pub fn run_twice<
 ) -> (u8, u8)
     // What a loss of power may leave after any call since the files were opened is left at a moment of the first run: at that of the call, or at one before
     // it, since when no page was handed over. No answer has to be honest for that.
-    ensures moments { (n : ℕ) → C.FolderCalls.events platform.old.calls ≡ opening n → (later earlier : List Event) → C.FolderCalls.events platform.new.calls ≡ later ++ earlier
-        → AreOpened earlier → (left : Files) → MayHold (replay (C.FolderCalls.start platform.new.calls) earlier) left
+    ensures moments { (n : ℕ) → C.PageCalls.events platform.old.calls ≡ opening n → (later earlier : List Event) → C.PageCalls.events platform.new.calls ≡ later ++ earlier
+        → AreOpened earlier → (left : Files) → MayHold (replay (C.PageCalls.start platform.new.calls) earlier) left
         → IsLeftAt (⟦<FolderPlatform<C> as Platform>⟧.history platform.old) (⟦<FolderPlatform<C> as Platform>⟧.history platform.new)
-        (replay (C.FolderCalls.start platform.new.calls) earlier).recorded left }
+        (replay (C.PageCalls.start platform.new.calls) earlier).recorded left }
     // Both answer their scripts, and whatever run is opened over what is left at a moment of the first one goes on from a device which that one passed.
     ensures runs { ⟦<FolderPlatform<C> as Platform>⟧.tells → ⟦<FolderPlatform<D> as Platform>⟧.tells → RunsOver
         (world_of ⟦<FolderPlatform<C> as Platform>⟧ None platform.old) (world_of ⟦<FolderPlatform<C> as Platform>⟧ None platform.new)

@@ -1,7 +1,7 @@
 //! Folders that a test makes, and what is left in them.
 use crate::doubles::{CallLog, LoggedFiles};
 use folder_files::{StdFiles, open_in_folders};
-use folder_platform::{FolderPlatform, OpenRefusal};
+use folder_platform::{FolderPlatform, InFolder, OpenRefusal};
 use sdbt_base::ROOT;
 use std::os::unix::fs::PermissionsExt;
 use std::{fs, io};
@@ -59,7 +59,7 @@ pub(crate) fn open<'a>(
     log: &'a CallLog,
     cell: &str,
     folder: &str,
-) -> Result<FolderPlatform<StdFiles<LoggedFiles<'a>>>, OpenRefusal> {
+) -> Result<FolderPlatform<InFolder<StdFiles<LoggedFiles<'a>>>>, OpenRefusal> {
     let inner = rt.clone().map_err(|_| OpenRefusal::Memory)?;
     open_in_folders(LoggedFiles { inner, log }, cell, folder)
 }

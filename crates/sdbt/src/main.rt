@@ -1,8 +1,8 @@
 //! The program: makes the objects of the outside, and hands them to the top call.
 //!
 //! `sdbt FOLDER` serves the script on standard input over a device in a folder,
-//! `sdbt --root CELL FOLDER` over one whose root record is in a folder of its own, and `sdbt -`
-//! over one in memory.
+//! `sdbt --root CELL FOLDER` over one whose root record is in a folder of its own or in an index of
+//! a TPM, and `sdbt -` over one in memory.
 #![tactic(auto)]
 
 mod texts;
@@ -10,15 +10,19 @@ mod texts;
 use crate::texts::{HELP, NAME, USAGE, VERSION};
 use device_cli::run_main;
 use folder_files::{LockFile, open_in_folders};
-use folder_objects::{NotReady, Watched, open_keys, open_ledger, print_texts, reason_of, words_of};
+use folder_objects::{
+    Ended, NotReady, Watched, open_keys, open_ledger, print_texts, reason_of, words_of,
+};
 use key_tape::SeedTape;
-use platform::MemPlatform;
+use platform::{MemPlatform, Platform};
 use sdbt_base::{MemSink, ReadSource, WriteSink};
 use std::alloc::Global;
 use std::io;
 use std::io::IsTerminal;
 use std::process::ExitCode;
 use std::rt::{Env, Files};
+use tpm_cell::open_in_tpm;
+use tpm_nv::{OnTpm, parse_cell};
 
 /// How many pages the medium in memory can have.
 const PAGES: u64 = 262_144;
@@ -33,44 +37,49 @@ const OUTPUT_FAULT: u8 = 4;
 const NO_MEMORY: u8 = 11;
 
 fn main(rt: HostRuntime) -> ExitCode {
-    let status = serve(&rt, rt.stderr().is_terminal());
-    tell_failure(&rt, status);
-    ExitCode::from(status)
+    let words = match words_of(&rt) {
+        Ok(words) => words,
+        Err(error) => {
+            let status = if error.kind() == io::ErrorKind::OutOfMemory {
+                NO_MEMORY
+            } else {
+                FAULTY
+            };
+            return ended(&rt, status.into());
+        }
+    };
+    ended(&rt, serve(&rt, rt.stderr().is_terminal(), words.as_slice()))
 }
 
-/// Says on standard error why a run ended with this status. At status 1 that was said before.
-fn tell_failure(rt: &impl Eprint, status: u8) {
-    if status == FAULTY {
+/// The exit status of a run, after standard error said why it ended so. At status 1 that was said before.
+fn ended(rt: &impl Eprint, run: Ended<'_>) -> ExitCode {
+    if run.status == FAULTY {
         let _ = eprint!(rt; "{USAGE}");
-    } else if let Some(reason) = reason_of(status) {
-        let _ = eprintln!(rt; "{NAME}: {reason}");
+    } else if let Some(reason) = reason_of(run.status) {
+        run.tell(rt, NAME, reason);
     }
+    ExitCode::from(run.status)
 }
 
-/// Does what the command line asks for, with standard error at a terminal or not. The answer is the exit status.
-fn serve<R>(rt: &R, at_terminal: bool) -> u8
+/// Does what the command line asks for, with standard error at a terminal or not.
+fn serve<'a, R>(rt: &R, at_terminal: bool, words: &'a [String]) -> Ended<'a>
 where
-    R: Env + Files + Alloc<A = Global> + Input + Print + Eprint + Clone + Drop,
+    R: Files + Alloc<A = Global> + Input + Print + Eprint + Clone + Drop,
     R::File: LockFile,
 {
-    let words = match words_of(rt) {
-        Ok(words) => words,
-        Err(error) if error.kind() == io::ErrorKind::OutOfMemory => return NO_MEMORY,
-        Err(_) => return FAULTY,
-    };
-    match words.as_slice() {
-        [] => serve_memory(rt, &[]),
+    match words {
+        [] => serve_memory(rt, &[]).into(),
         [first, others @ ..] => match first.as_str() {
-            "-" => serve_memory(rt, others),
-            "-h" | "--help" => print(rt, &[USAGE, HELP]),
-            "--version" => print(rt, &[VERSION]),
+            "-" => serve_memory(rt, others).into(),
+            "-h" | "--help" => print(rt, &[USAGE, HELP]).into(),
+            "--version" => print(rt, &[VERSION]).into(),
             "--root" => match others {
                 [cell, folder, others @ ..] if folder.as_str() != "-" => {
-                    serve_folders(rt, at_terminal, cell.as_str(), folder.as_str(), others)
+                    serve_apart(rt, at_terminal, cell.as_str(), folder.as_str(), others)
                 }
-                _ => FAULTY,
+                _ => FAULTY.into(),
             },
-            folder => serve_folders(rt, at_terminal, folder, folder, others),
+            folder => serve_folders(rt, at_terminal, folder, folder, others).into(),
         },
     }
 }
@@ -106,6 +115,30 @@ fn serve_memory(rt: &(impl Alloc<A = Global> + Input + Print), words: &[String])
     )
 }
 
+/// Serves the script on standard input over a device whose medium is in `folder`, and its root record
+/// in what `cell` names: a folder, or an index of a TPM.
+fn serve_apart<'a, R>(
+    rt: &R,
+    at_terminal: bool,
+    cell: &'a str,
+    folder: &str,
+    words: &[String],
+) -> Ended<'a>
+where
+    R: Files + Alloc<A = Global> + Input + Print + Eprint + Clone + Drop,
+    R::File: LockFile,
+{
+    let on_tpm = match parse_cell(cell) {
+        Ok(Some(on_tpm)) => on_tpm,
+        Ok(None) => return serve_folders(rt, at_terminal, cell, folder, words).into(),
+        Err(_) => return FAULTY.into(),
+    };
+    match run_in_tpm(rt, at_terminal, cell, &on_tpm, folder, words) {
+        Ok(run) => run,
+        Err(not_ready) => not_ready.status_told(rt, NAME, cell, folder).into(),
+    }
+}
+
 /// Serves the script on standard input over a device whose root record is in the folder `cell`, and
 /// its medium in `folder`. What is not ready is said on standard error.
 fn serve_folders<R>(rt: &R, at_terminal: bool, cell: &str, folder: &str, words: &[String]) -> u8
@@ -119,9 +152,7 @@ where
     }
 }
 
-/// Serves the script over folders. It is refused before the words are looked at where a folder, a
-/// file in it or the random source can't be made ready. The platform has its locks from before
-/// anything is changed until the run has ended.
+/// Serves the script over folders: see [`run_over`].
 fn run_in_folders<R>(
     rt: &R,
     at_terminal: bool,
@@ -133,14 +164,50 @@ where
     R: Files + Alloc<A = Global> + Input + Print + Eprint + Clone + Drop,
     R::File: LockFile,
 {
-    let is_seizure = words.first().is_some_and(|word| word.as_str() == "seize");
     let platform = open_in_folders(rt.clone()?, cell, folder)?;
+    let (status, _) = run_over(rt, at_terminal, platform, folder, words)?;
+    Ok(status)
+}
+
+/// The same over a folder and an index of a TPM, which `cell` names.
+fn run_in_tpm<'a, R>(
+    rt: &R,
+    at_terminal: bool,
+    cell: &'a str,
+    on_tpm: &OnTpm<'_>,
+    folder: &str,
+    words: &[String],
+) -> Result<Ended<'a>, NotReady>
+where
+    R: Files + Alloc<A = Global> + Input + Print + Eprint + Clone + Drop,
+    R::File: LockFile,
+{
+    let platform = open_in_tpm(rt, on_tpm, folder)?;
+    let (status, platform) = run_over(rt, at_terminal, platform, folder, words)?;
+    Ok(Ended::over_index(status, cell, platform.into_files().failure()))
+}
+
+/// Serves the script over a platform whose ledger is in `folder`. It is refused before the words are
+/// looked at where a folder, a file in it, an index or the random source can't be made ready. The
+/// platform has its locks from before anything is changed until the run has ended.
+fn run_over<R, P>(
+    rt: &R,
+    at_terminal: bool,
+    platform: P,
+    folder: &str,
+    words: &[String],
+) -> Result<(u8, P), NotReady>
+where
+    R: Files + Alloc<A = Global> + Input + Print + Eprint,
+    P: Platform + Drop,
+{
+    let is_seizure = words.first().is_some_and(|word| word.as_str() == "seize");
     let mut platform = Watched::new(platform, rt, NAME, at_terminal && is_seizure);
     let mut tape = open_keys(rt)?;
     let mut ledger = open_ledger(rt, folder)?;
     let mut input = ReadSource::new(rt.reader());
     let mut output = WriteSink::new(io::writer(rt));
-    Ok(run_main(
+    let status = run_main(
         rt.alloc(),
         words,
         &mut platform,
@@ -148,5 +215,6 @@ where
         &mut input,
         &mut output,
         &mut ledger,
-    ))
+    );
+    Ok((status, platform.into_inner()))
 }

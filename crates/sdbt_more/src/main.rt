@@ -1,20 +1,24 @@
 //! The second program: makes the objects of the outside, and hands them to a server.
 //!
 //! `sdbt_more nbd FOLDER` serves the device in a folder to a client of NBD on standard input and
-//! output, and `sdbt_more nbd --root CELL FOLDER` one whose root record is in a folder of its own.
+//! output, and `sdbt_more nbd --root CELL FOLDER` one whose root record is in a folder of its own or
+//! in an index of a TPM.
 #![tactic(auto)]
 
 mod texts;
 
 use crate::texts::{HELP, NAME, USAGE, VERSION};
 use folder_files::{LockFile, open_in_folders};
-use folder_objects::{NotReady, open_keys, open_ledger, print_texts, reason_of, words_of};
+use folder_objects::{Ended, NotReady, open_keys, open_ledger, print_texts, reason_of, words_of};
 use nbd_core::run_nbd;
+use platform::Platform;
 use sdbt_base::{ReadSource, WriteSink};
 use std::alloc::Global;
 use std::io;
 use std::process::ExitCode;
 use std::rt::{Env, Files};
+use tpm_cell::open_in_tpm;
+use tpm_nv::{OnTpm, parse_cell};
 
 /// The exit status of a faulty command line.
 const FAULTY: u8 = 2;
@@ -35,18 +39,28 @@ const TOO_LONG: u8 = 12;
 const BROKEN: u8 = 14;
 
 fn main(rt: HostRuntime) -> ExitCode {
-    let status = serve(&rt);
-    tell_failure(&rt, status);
-    ExitCode::from(status)
+    let words = match words_of(&rt) {
+        Ok(words) => words,
+        Err(error) => {
+            let status = if error.kind() == io::ErrorKind::OutOfMemory {
+                NO_MEMORY
+            } else {
+                FAULTY
+            };
+            return ended(&rt, status.into());
+        }
+    };
+    ended(&rt, serve(&rt, words.as_slice()))
 }
 
-/// Says on standard error why a run ended with this status. At status 1 that was said before.
-fn tell_failure(rt: &impl Eprint, status: u8) {
-    if status == FAULTY {
+/// The exit status of a run, after standard error said why it ended so. At status 1 that was said before.
+fn ended(rt: &impl Eprint, run: Ended<'_>) -> ExitCode {
+    if run.status == FAULTY {
         let _ = eprint!(rt; "{USAGE}");
-    } else if let Some(reason) = reason_here(status) {
-        let _ = eprintln!(rt; "{NAME}: {reason}");
+    } else if let Some(reason) = reason_here(run.status) {
+        run.tell(rt, NAME, reason);
     }
+    ExitCode::from(run.status)
 }
 
 /// What failed where a run ended with this status.
@@ -59,25 +73,20 @@ fn reason_here(status: u8) -> Option<&'static str> {
     }
 }
 
-/// Does what the command line asks for. The answer is the exit status.
-fn serve<R>(rt: &R) -> u8
+/// Does what the command line asks for.
+fn serve<'a, R>(rt: &R, words: &'a [String]) -> Ended<'a>
 where
-    R: Env + Files + Alloc<A = Global> + Input + Print + Eprint + Clone + Drop,
+    R: Files + Alloc<A = Global> + Input + Print + Eprint + Clone + Drop,
     R::File: LockFile,
 {
-    let words = match words_of(rt) {
-        Ok(words) => words,
-        Err(error) if error.kind() == io::ErrorKind::OutOfMemory => return NO_MEMORY,
-        Err(_) => return FAULTY,
-    };
-    let [first, others @ ..] = words.as_slice() else {
-        return FAULTY;
+    let [first, others @ ..] = words else {
+        return FAULTY.into();
     };
     match first.as_str() {
-        "-h" | "--help" => print(rt, &[USAGE, HELP]),
-        "--version" => print(rt, &[VERSION]),
+        "-h" | "--help" => print(rt, &[USAGE, HELP]).into(),
+        "--version" => print(rt, &[VERSION]).into(),
         "nbd" => serve_nbd(rt, others),
-        _ => FAULTY,
+        _ => FAULTY.into(),
     }
 }
 
@@ -90,20 +99,38 @@ fn print(rt: &impl Print, texts: &[&str]) -> u8 {
 }
 
 /// Serves the device that the words behind `nbd` name.
-fn serve_nbd<R>(rt: &R, words: &[String]) -> u8
+fn serve_nbd<'a, R>(rt: &R, words: &'a [String]) -> Ended<'a>
 where
     R: Files + Alloc<A = Global> + Input + Print + Eprint + Clone + Drop,
     R::File: LockFile,
 {
     let [first, others @ ..] = words else {
-        return FAULTY;
+        return FAULTY.into();
     };
     if first.as_str() != "--root" {
-        return serve_folders(rt, first.as_str(), first.as_str(), others);
+        return serve_folders(rt, first.as_str(), first.as_str(), others).into();
     }
     match others {
-        [cell, folder, others @ ..] => serve_folders(rt, cell.as_str(), folder.as_str(), others),
-        _ => FAULTY,
+        [cell, folder, others @ ..] => serve_apart(rt, cell.as_str(), folder.as_str(), others),
+        _ => FAULTY.into(),
+    }
+}
+
+/// Serves a client over a device whose medium is in `folder`, and its root record in what `cell`
+/// names: a folder, or an index of a TPM.
+fn serve_apart<'a, R>(rt: &R, cell: &'a str, folder: &str, words: &[String]) -> Ended<'a>
+where
+    R: Files + Alloc<A = Global> + Input + Print + Eprint + Clone + Drop,
+    R::File: LockFile,
+{
+    let on_tpm = match parse_cell(cell) {
+        Ok(Some(on_tpm)) => on_tpm,
+        Ok(None) => return serve_folders(rt, cell, folder, words).into(),
+        Err(_) => return FAULTY.into(),
+    };
+    match run_in_tpm(rt, cell, &on_tpm, folder, words) {
+        Ok(run) => run,
+        Err(not_ready) => not_ready.status_told(rt, NAME, cell, folder).into(),
     }
 }
 
@@ -120,20 +147,52 @@ where
     }
 }
 
-/// Serves a client over folders. It is refused before the words behind are looked at where a folder,
-/// a file in it or the random source can't be made ready. The platform has its locks from before
-/// anything is changed until the run has ended.
+/// Serves a client over folders: see [`run_over`].
 fn run_in_folders<R>(rt: &R, cell: &str, folder: &str, words: &[String]) -> Result<u8, NotReady>
 where
     R: Files + Alloc<A = Global> + Input + Print + Eprint + Clone + Drop,
     R::File: LockFile,
 {
-    let mut platform = open_in_folders(rt.clone()?, cell, folder)?;
+    let platform = open_in_folders(rt.clone()?, cell, folder)?;
+    let (status, _) = run_over(rt, platform, folder, words)?;
+    Ok(status)
+}
+
+/// The same over a folder and an index of a TPM, which `cell` names.
+fn run_in_tpm<'a, R>(
+    rt: &R,
+    cell: &'a str,
+    on_tpm: &OnTpm<'_>,
+    folder: &str,
+    words: &[String],
+) -> Result<Ended<'a>, NotReady>
+where
+    R: Files + Alloc<A = Global> + Input + Print + Eprint + Clone + Drop,
+    R::File: LockFile,
+{
+    let platform = open_in_tpm(rt, on_tpm, folder)?;
+    let (status, platform) = run_over(rt, platform, folder, words)?;
+    Ok(Ended::over_index(status, cell, platform.into_files().failure()))
+}
+
+/// Serves a client over a platform whose ledger is in `folder`. It is refused before the words behind
+/// are looked at where a folder, a file in it, an index or the random source can't be made ready. The
+/// platform has its locks from before anything is changed until the run has ended.
+fn run_over<R, P>(
+    rt: &R,
+    mut platform: P,
+    folder: &str,
+    words: &[String],
+) -> Result<(u8, P), NotReady>
+where
+    R: Files + Alloc<A = Global> + Input + Print,
+    P: Platform + Drop,
+{
     let mut tape = open_keys(rt)?;
     let mut ledger = open_ledger(rt, folder)?;
     let mut input = ReadSource::new(rt.reader());
     let mut output = WriteSink::new(io::writer(rt));
-    Ok(run_nbd(
+    let status = run_nbd(
         rt.alloc(),
         words,
         &mut platform,
@@ -141,5 +200,6 @@ where
         &mut input,
         &mut output,
         &mut ledger,
-    ))
+    );
+    Ok((status, platform))
 }

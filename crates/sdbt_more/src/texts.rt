@@ -17,13 +17,14 @@ record leads no more.
 
 WORDS
   nbd FOLDER   serves the device in this folder; its files are media, root and ledger
-  nbd --root CELL FOLDER  serves one whose root is in the folder CELL, and all else in FOLDER
+  nbd --root CELL FOLDER  serves one whose root is in the folder CELL, and all else in FOLDER; where
+               CELL is tpm:INDEX or tpm:INDEX@DEVICE, in an index of a TPM, as sdbt --help says
   -h, --help   prints this text
   --version    prints the version
 
 STATUS
   0   the client disconnected or gave up its options, or its input ended between two words
-  1   a folder, a file in it or the source of keys could not be made ready, or is in use
+  1   a folder, a file in it, an index or the source of keys could not be made ready, or is in use
   2   the words are not as above
   3   the input failed
   4   the output failed

@@ -10,9 +10,9 @@ pub returns-clause-moments : goal.returns-clause-moments
 returns-clause-moments g c n begun later earlier is opened left may =
     let was = c.args.platform.now in
     let now = c.run_main-status.new.platform in
-    let old : History = told_by (g.C.FolderCalls.start was.calls) (g.C.FolderCalls.events was.calls) was.told in
-    let four : moment old ≡ 4 = ap (λ events. length (past_of (g.C.FolderCalls.start was.calls) events)) begun in
-    left_at (g.C.FolderCalls.start now.calls) (g.C.FolderCalls.events now.calls) now.told now.once old four now.safe later earlier is opened left may
+    let old : History = told_by (g.C.PageCalls.start was.calls) (g.C.PageCalls.events was.calls) was.told in
+    let four : moment old ≡ 4 = ap (λ events. length (past_of (g.C.PageCalls.start was.calls) events)) begun in
+    left_at (g.C.PageCalls.start now.calls) (g.C.PageCalls.events now.calls) now.told now.once old four now.safe later earlier is opened left may
 
 pub returns-clause-runs : goal.returns-clause-runs
 returns-clause-runs g c told told' =

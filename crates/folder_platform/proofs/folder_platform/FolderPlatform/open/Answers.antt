@@ -6,14 +6,14 @@ use Rattle.folder_platform.proofs.folder_platform.FolderPlatform.open.Goals as g
 
 pub invariant_of-result : goal.invariant_of-result
 invariant_of-result g c =
-    let is : g.C.FolderCalls.events c.sync_cell.new.self ≡ opening c.in_ok-pages.pages = search rules in
-    let all = opens _ _ c.in_ok-pages.pages (g.met.C.FolderCalls.are_files c.sync_cell.new.self) is in
+    let is : g.C.PageCalls.events c.settle.new.self ≡ opening c.in_ok-pages.pages = search rules in
+    let all = opens _ _ c.in_ok-pages.pages (g.met.C.PageCalls.are_files c.settle.new.self) is in
     record { told = all.told; readable = all.readable; recorded = all.recorded; room = omega arith; sound = λ calm. all.sound; settled = λ calm. all.settled; safe = all.safe; once = once_opening c.in_ok-pages.pages _ is }
 
 pub returns-clause-image : goal.returns-clause-image
 returns-clause-image g c told =
-    let now = c.sync_cell.new.self in
-    let is : g.C.FolderCalls.events now ≡ opening c.in_ok-pages.pages = search rules in
-    let same : g.C.FolderCalls.start now ≡ g.C.FolderCalls.start c.args.calls = search rules in
-    let honest = told (g.C.FolderCalls.start now) (g.C.FolderCalls.events now) (g.met.C.FolderCalls.occurred now) in
-    opens_image _ _ _ c.in_ok-pages.pages (g.met.C.FolderCalls.are_files now) same is honest
+    let now = c.settle.new.self in
+    let is : g.C.PageCalls.events now ≡ opening c.in_ok-pages.pages = search rules in
+    let same : g.C.PageCalls.start now ≡ g.C.PageCalls.start c.args.calls = search rules in
+    let honest = told (g.C.PageCalls.start now) (g.C.PageCalls.events now) (g.met.C.PageCalls.occurred now) in
+    opens_image _ _ _ c.in_ok-pages.pages (g.met.C.PageCalls.are_files now) same is honest

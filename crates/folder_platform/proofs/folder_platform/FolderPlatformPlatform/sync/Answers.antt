@@ -9,14 +9,14 @@ pub invariant_of-self-then-is_err : goal.invariant_of-self-then-is_err
 invariant_of-self-then-is_err g c =
     let old = c.args.self.now in
     let e = c.sync_pages.ensures in
-    let all = kept_sync _ _ _ _ (is_ok c.sync_pages.result) e.start e.noted (believed_now (g.C.FolderCalls.start old.calls) (g.C.FolderCalls.events old.calls) (old.sound c.if-self.false)) (old.settled c.if-self.false).named old.told in
+    let all = kept_sync _ _ _ _ (is_ok c.sync_pages.result) e.start e.noted (believed_now (g.C.PageCalls.start old.calls) (g.C.PageCalls.events old.calls) (old.sound c.if-self.false)) (old.settled c.if-self.false).named old.told in
     record { told = all.told; readable = all.readable ∙ old.readable; recorded = all.recorded ∙ old.recorded; room = old.room; sound = λ no. cc; settled = λ no. cc; safe = safe_sync _ _ _ _ e.start (old.recorded ∙ sym old.readable) (old.settled c.if-self.false) old.safe (is_ok c.sync_pages.result) e.noted; once = once_event _ _ (media_synced (is_ok c.sync_pages.result)) refl e.noted old.once }
 
 pub invariant_of-self-else-is_err : goal.invariant_of-self-else-is_err
 invariant_of-self-else-is_err g c =
     let old = c.args.self.now in
     let e = c.sync_pages.ensures in
-    let all = kept_sync _ _ _ _ (is_ok c.sync_pages.result) e.start e.noted (believed_now (g.C.FolderCalls.start old.calls) (g.C.FolderCalls.events old.calls) (old.sound c.if-self.false)) (old.settled c.if-self.false).named old.told in
+    let all = kept_sync _ _ _ _ (is_ok c.sync_pages.result) e.start e.noted (believed_now (g.C.PageCalls.start old.calls) (g.C.PageCalls.events old.calls) (old.sound c.if-self.false)) (old.settled c.if-self.false).named old.told in
     record { told = all.told; readable = all.readable ∙ old.readable; recorded = all.recorded ∙ old.recorded; room = old.room; sound = λ calm. synced_done _ _ _ e.noted (grind arith) (old.sound calm); settled = λ calm. all.settled (old.settled calm); safe = safe_sync _ _ _ _ e.start (old.recorded ∙ sym old.readable) (old.settled c.if-self.false) old.safe (is_ok c.sync_pages.result) e.noted; once = once_event _ _ (media_synced (is_ok c.sync_pages.result)) refl e.noted old.once }
 
 pub returns-clause-time : goal.returns-clause-time
@@ -29,5 +29,5 @@ returns-clause-synced g c told =
     let old = c.args.self.now in
     let e = c.sync_pages.ensures in
     let ok : is_ok c.sync_pages.result ≡ true = grind arith in
-    let all = kept_sync _ _ _ _ (is_ok c.sync_pages.result) e.start e.noted (believed_now (g.C.FolderCalls.start old.calls) (g.C.FolderCalls.events old.calls) (old.sound c.if-self.false)) (old.settled c.if-self.false).named old.told in
+    let all = kept_sync _ _ _ _ (is_ok c.sync_pages.result) e.start e.noted (believed_now (g.C.PageCalls.start old.calls) (g.C.PageCalls.events old.calls) (old.sound c.if-self.false)) (old.settled c.if-self.false).named old.told in
     rw ok at all.shows

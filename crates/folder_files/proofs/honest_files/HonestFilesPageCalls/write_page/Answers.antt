@@ -1,7 +1,7 @@
 use Rattle.std.proofs.Common.{◌≡◌, [], ◌∷◌, ◌++◌, false, length, refl, sym, ◌∙◌, arith}
 use Rattle.std.proofs.lemmas.Grind.{common_steps}
 use Rattle.folder_files.proofs.Answering.{Keeps, keeps_wrote}
-use Rattle.folder_files.proofs.honest_files.HonestFilesFolderCalls.write_page.Goals as goal
+use Rattle.folder_files.proofs.honest_files.HonestFilesPageCalls.write_page.Goals as goal
 
 pub invariant_of-self-2 : goal.invariant_of-self-2
 invariant_of-self-2 c =

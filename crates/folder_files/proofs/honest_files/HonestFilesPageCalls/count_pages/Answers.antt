@@ -1,7 +1,7 @@
 use Rattle.std.proofs.Common.{◌≡◌, length, false, refl, arith}
 use Rattle.std.proofs.lemmas.Grind.{common_steps}
 use Rattle.folder_files.proofs.Answering.{Keeps, keeps_counted}
-use Rattle.folder_files.proofs.honest_files.HonestFilesFolderCalls.count_pages.Goals as goal
+use Rattle.folder_files.proofs.honest_files.HonestFilesPageCalls.count_pages.Goals as goal
 
 pub invariant_of-self : goal.invariant_of-self
 invariant_of-self c =

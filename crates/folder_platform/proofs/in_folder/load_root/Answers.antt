@@ -1,7 +1,7 @@
 use Rattle.std.proofs.Common.{◌≡◌, length, arith}
 use Rattle.folder_platform.specs.Told.{zero_root}
 use Rattle.folder_platform.proofs.Looking.{full_cell, other_cell, empty_cell}
-use Rattle.folder_platform.proofs.folder_platform.load_cell.Goals as goal
+use Rattle.folder_platform.proofs.in_folder.load_root.Goals as goal
 
 pub returns-in-Some-eq128-clause-noted : goal.returns-in-Some-eq128-clause-noted
 returns-in-Some-eq128-clause-noted g c =

@@ -1,0 +1,39 @@
+//! How a run over a platform ended.
+
+use tpm_cell::TpmFault;
+
+/// How a run ended: its exit status, and why a call on the index of a TPM failed, if one did.
+#[derive(Clone, Copy)]
+pub struct Ended<'a> {
+    /// The exit status.
+    pub status: u8,
+    // The word that named the index, and why.
+    fault: Option<(&'a str, TpmFault)>,
+}
+
+impl<'a> Ended<'a> {
+    /// A run over an index that this word named.
+    pub fn over_index(status: u8, cell: &'a str, fault: Option<TpmFault>) -> Ended<'a> {
+        Ended {
+            status,
+            fault: fault.map(|fault| (cell, fault)),
+        }
+    }
+
+    /// Says on standard error, for the program of this name, what failed for this reason.
+    pub fn tell(&self, rt: &impl Eprint, program: &str, reason: &str) {
+        let _ = eprintln!(rt; "{program}: {reason}");
+        if let Some((cell, fault)) = &self.fault {
+            let _ = eprintln!(rt; "{program}: {cell}: {fault}");
+        }
+    }
+}
+
+impl From<u8> for Ended<'_> {
+    fn from(status: u8) -> Self {
+        Ended {
+            status,
+            fault: None,
+        }
+    }
+}
