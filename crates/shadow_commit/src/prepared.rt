@@ -52,12 +52,23 @@ impl Prepared {
         ensures beside { Swaps P.Platform platform.old platform.new }
         ensures cause { Tells result (P.faults platform.old) (P.faults platform.new) }
     {
+        let Prepared {
+            root,
+            cert: _cert,
+            line: _line,
+        } = self;
         let mut bytes = [0; ROOT];
-        encode_root(&self.root, &mut bytes);
+        encode_root(&root, &mut bytes);
         platform.swap_root(&bytes)?;
-        Ok(self.root)
+        Ok(root)
     }
 
     /// Gives the commit up: its pages stay on the medium, and nothing names them.
-    pub fn abandon(self) {}
+    pub fn abandon(self) {
+        let Prepared {
+            root: _root,
+            cert: _cert,
+            line: _line,
+        } = self;
+    }
 }
