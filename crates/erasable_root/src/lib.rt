@@ -10,6 +10,9 @@ use std::marker::Model;
 pub const ROOT: usize = 128;
 
 /// The cell; contracts see the bytes that it holds, if it holds any.
+///
+/// These bytes are all that it is: its field can be told from them alone, so that it has no room for a record that was replaced or
+/// cleared. What the memory held before, a contract can't say.
 #[derive(Drop)]
 pub struct RootCell {
     record: Option<[u8; ROOT]>,
@@ -21,6 +24,8 @@ impl Model for RootCell {
     ghost view = { λ cell. cell.record };
 
     ghost invariant = { λ cell. IsCell cell.record };
+
+    ghost inverse = { λ held. record { «record» = held } };
 }
 
 impl RootCell {
