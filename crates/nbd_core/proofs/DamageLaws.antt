@@ -1,8 +1,8 @@
 -- Which outcomes tell of a record that doesn't fit.
 use Rattle.std.proofs.Common.{◌≡◌, ◌≢◌, ◌≤◌, ℕ, Bool, true, false, Option, Some, Result, Ok, Err, refl, sym, subst, ◌∙◌, arith}
-use Rattle.std.specs.Prelude.{All, IfOk, nat_lt, ◌+◌}
+use Rattle.std.specs.Prelude.{IfOk, nat_lt, ◌+◌}
 use Rattle.platform.specs.Image.{Image}
-use Rattle.platform.specs.History.{Extends, History, image_at, moment}
+use Rattle.platform.specs.History.{Extends, History, moment}
 use Rattle.platform.proofs.Moments.{image_at-now}
 use Rattle.device_session.specs.declared.refusals.CommitReply.{CommitReply}
 use Rattle.device_session.specs.declared.refusals.CommitReply.TheVariants as replies
@@ -12,7 +12,7 @@ use Rattle.nbd_lang.specs.declared.replies.Outcome.TheVariants as outcomes
 use Rattle.nbd_lang.specs.declared.requests.Request.{Request}
 use Rattle.nbd_lang.specs.declared.requests.RequestKind.{RequestKind}
 use Rattle.nbd_lang.specs.declared.requests.RequestKind.TheVariants as kinds
-use Rattle.session_calls.specs.Damage.{IsWrongPage, MeetsDamage}
+use Rattle.session_calls.specs.Damage.{MeetsDamage}
 use Rattle.session_calls.specs.declared.stops.DeviceStop.{DeviceStop}
 use Rattle.session_calls.specs.declared.stops.DeviceStop.TheVariants as device
 use Rattle.nbd_core.specs.Damages.{HasWrongPage, IsDamage, MetDamage, TellsDamage}
