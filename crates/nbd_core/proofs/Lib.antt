@@ -16,4 +16,5 @@ pub mod TurnLaws
 pub mod DamageLaws
 pub mod TookLaws
 pub mod AmpleLaws
+pub mod ShortLaws
 pub mod CompleteLaws

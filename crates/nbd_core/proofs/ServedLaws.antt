@@ -1,5 +1,5 @@
 -- Requests and their replies, one after another.
-use Rattle.std.proofs.Common.{◌≡◌, ◌≢◌, ℕ, ◌+◌, ◌<◌, ◌≤◌, Option, None, Some, Result, Ok, Err, List, [], ◌∷◌, ◌++◌, length, take, drop, refl, sym, ap, subst, ◌∙◌, append_assoc, append-nil, length-append, length-take, length-drop, inl, inr, arith}
+use Rattle.std.proofs.Common.{◌≡◌, ◌≢◌, ℕ, ◌-◌, ◌*◌, ◌+◌, ◌<◌, ◌≤◌, Option, None, Some, Result, Ok, Err, List, [], ◌∷◌, ◌++◌, length, take, drop, refl, sym, ap, subst, ◌∙◌, append_assoc, append-nil, length-append, length-take, length-drop, inl, inr, arith}
 use Rattle.std.specs.Prelude.{All, IfErr, IfSome, map}
 use Rattle.nbd_lang.specs.Refusals.{refusal}
 use Rattle.std.specs.List.{flat_map}
@@ -12,6 +12,7 @@ use Rattle.sdbt_base.proofs.ToldLaws.{Got-nothing, Got-then}
 use Rattle.sdbt_base.specs.Arrays.{closed}
 use Rattle.device_course.specs.States.{Outside}
 use Rattle.device_course.proofs.MadeLaws.{made_start, shut}
+use Rattle.device_session.specs.Open.{needed_by}
 use Rattle.device_session.specs.Sessions.{Session}
 use Rattle.nbd_lang.specs.Replies.{Reply, reply_bytes}
 use Rattle.nbd_lang.specs.Requests.{RequestSent, FitsRequest, FitsSent, bytes_behind, request_head, request_bytes}
@@ -29,6 +30,8 @@ use Rattle.nbd_core.specs.Damages.{HasMetDamage, IsDamage}
 use Rattle.nbd_core.proofs.DamageLaws.{damage_later, damage_now}
 use Rattle.nbd_core.specs.Exchanges.{Exchange, sent_of, told_of}
 use Rattle.nbd_core.specs.Served.{Answered, AnswerEnd, AwaitsMore, EndsByDisconnect, FitsExchange, IsAhead, IsCommit, IsCutOff, IsGoodbye, IsReplyTo, Served, ServedEnd, bytes_told, sent_bytes, replied_bytes}
+use Rattle.nbd_core.specs.Short.{AreShort, updates_in}
+use Rattle.nbd_core.proofs.ShortLaws.{short_less, short_push, updates_push}
 use Rattle.nbd_core.specs.Turns.{Finishes, Halted, Halts, HaltsAt, IsHeld, IsOfCommit, Turns}
 use Rattle.nbd_lang.specs.declared.replies.Outcome.{Outcome}
 use Rattle.nbd_lang.specs.declared.replies.Outcome.TheVariants as outcomes
@@ -74,11 +77,13 @@ pub record Replied (From : Held → Type 0) (tells : Type 0) (before mid : Outsi
   pub said : came ≡ flat_map sent_bytes exchanges ++ now.ahead
   pub replied : put ≡ flat_map replied_bytes exchanges
   pub damage : tells → All (HasMetDamage before.history mid.history) exchanges
+  pub short : AreShort size (mid.capacity - mid.head) 0 exchanges
+  pub needs : needed_by session ≤ 41 * updates_in size 0 exchanges
   pub led : (entry : Held) → From entry → LedTo before.capacity before mid session entry (map sent_of exchanges) (map told_of exchanges)
 
-pub replied_nothing : (From : Held → Type 0) (tells : Type 0) (here : Outside) (session : Session) (size : ℕ) (left : Option (List ℕ)) (old : Room) (written : Option (List ℕ)) → ((entry : Held) → From entry → IsHeld here.history.present here.head session entry)
+pub replied_nothing : (From : Held → Type 0) (tells : Type 0) (here : Outside) (session : Session) (size : ℕ) (left : Option (List ℕ)) (old : Room) (written : Option (List ℕ)) → ((entry : Held) → From entry → IsHeld here.history.present here.head session entry) → needed_by session ≡ 0
     → Replied From tells here here session size left left old old written written []
-replied_nothing From tells here session size left old written held = record {
+replied_nothing From tells here session size left old written held fresh = record {
   came = old.ahead;
   put = [];
   takes = came_nothing left old (AwaitsMore []);
@@ -87,6 +92,8 @@ replied_nothing From tells here session size left old written held = record {
   said = refl;
   replied = refl;
   damage = λ told k d below. absurd (omega (arith, below));
+  short = tt;
+  needs = omega (arith, fresh);
   led = λ entry from. led_start here.capacity here session entry (held entry from);
 }
 
@@ -113,10 +120,10 @@ damages_later first second third exchanges extends all = λ k d below. λ damage
 
 -- one request more, and its reply
 pub replied_more : (From : Held → Type 0) (tells : Type 0) (before mid_outside after : Outside) (session next : Session) (size : ℕ) (a b c d : Option (List ℕ)) (old mid read now : Room) (w0 w1 w2 : Option (List ℕ)) (exchanges : List Exchange) (request : Request)
-    → ((entry : Held) → From entry → tells) → mid_outside.capacity ≡ before.capacity → (tells → Extends before.history mid_outside.history) → (tells → Extends mid_outside.history after.history) → request.kind ≢ kinds.Disconnect
+    → ((entry : Held) → From entry → tells) → mid_outside.capacity ≡ before.capacity → after.capacity ≡ mid_outside.capacity → mid_outside.head ≤ after.head → (tells → Extends before.history mid_outside.history) → (tells → Extends mid_outside.history after.history) → request.kind ≢ kinds.Disconnect
     → Replied From tells before mid_outside session size a b old mid w0 w1 exchanges → HeadCame b c mid read (Ok (Some request)) → Answered tells mid_outside after session size request c d read now w1 w2 (Ok next)
     → (exchange : Exchange) × Replied From tells before after next size a d old now w0 w2 (exchanges ++ exchange ∷ [])
-replied_more From tells before mid_outside after session next size a b c d old mid read now w0 w1 w2 exchanges request told same until on other so_far head answered =
+replied_more From tells before mid_outside after session next size a b c d old mid read now w0 w1 w2 exchanges request told same room rises until on other so_far head answered =
     let sent : RequestSent = record { head = request; bytes = answered.gone } in
     let reply : Reply = answered.ends.1 in
     let exchange : Exchange = record { sent = sent; reply = reply } in
@@ -139,6 +146,10 @@ replied_more From tells before mid_outside after session next size a b c d old m
             All-push (HasMetDamage before.history after.history) exchanges exchange
             (damages_later before.history mid_outside.history after.history exchanges (on told_so) (so_far.damage told_so))
             (λ damaged. damage_now before.history after.history (omega (arith, (until told_so).later, (on told_so).later)) (answered.ends.5 told_so damaged));
+        short = short_push size (after.capacity - after.head) 0 exchanges exchange
+            (short_less size (mid_outside.capacity - mid_outside.head) (after.capacity - after.head) 0 exchanges (omega (arith, room, rises)) so_far.short)
+            (answered.ends.6 (updates_in size 0 exchanges) so_far.needs).short;
+        needs = omega (arith, (answered.ends.6 (updates_in size 0 exchanges) so_far.needs).needs, updates_push size 0 exchanges exchange);
         led = λ entry from.
             let led = so_far.led entry from in
             subst (λ (l : List Reply). LedTo before.capacity before after next entry (map sent_of (exchanges ++ exchange ∷ [])) l) (sym (map-append told_of exchanges (exchange ∷ [])))
@@ -149,15 +160,19 @@ replied_more From tells before mid_outside after session next size a b c d old m
 
 -- ---- how it ends
 
+halt_same : (one other : Halt) → ◌≡◌ {A = Result (Unit {0}) Halt} (Err one) (Err other) → one ≡ other
+halt_same one other same = cc
+
 unfinished_at : (capacity size : ℕ) (rest tail part : List ℕ) (result : Result (Unit {0}) Halt) (last : Held) (ahead : List Held) → result ≡ Err halts.Unfinished → IsAhead capacity size rest tail part result last ahead → IsUnfinished capacity last
 unfinished_at capacity size rest tail part result last ahead is ends = (subst (λ (r : Result (Unit {0}) Halt). IsAhead capacity size rest tail part r last ahead) is ends).1
 
 served_by : (From : Held → Type 0) (tells : Type 0) (before there after : Outside) (session : Session) (size : ℕ) (a b c : Option (List ℕ)) (old mid now : Room) (w0 w1 w2 : Option (List ℕ)) (exchanges : List Exchange) (rest part : List ℕ) (result : Result (Unit {0}) Halt)
     → Replied From tells before there session size a b old mid w0 w1 exchanges → Came b c mid now.left AwaitsRequest rest → Got w1 part w2 → ServedEnd size rest part c now.ahead result
     → IfErr result (λ halt. halt ≡ halts.Client stops.Limit → now.left ≡ 0) → (tells → Extends there.history after.history)
+    → after.capacity ≡ there.capacity → there.head ≤ after.head → (result ≡ Err halts.Unfinished → after.capacity - after.head < needed_by session)
     → ((entry : Held) → From entry → (last : Held) → IsHeld there.history.present there.head session last → Ending before.capacity there after (IsAhead before.capacity size rest now.ahead part result) last)
     → Served From tells before after size a c old now w0 w2 result
-served_by From tells before there after session size a b c old mid now w0 w1 w2 exchanges rest part result so_far next got ends limit on made = record {
+served_by From tells before there after session size a b c old mid now w0 w1 w2 exchanges rest part result so_far next got ends limit on room rises lacks made = record {
   exchanges = exchanges;
   came = flat_map sent_bytes exchanges ++ rest;
   put = so_far.put ++ part;
@@ -171,6 +186,8 @@ served_by From tells before there after session size a b c old mid now w0 w1 w2 
   ends = ends;
   limit = limit;
   damage = λ told. damages_later before.history there.history after.history exchanges (on told) (so_far.damage told);
+  short = short_less size (there.capacity - there.head) (after.capacity - after.head) 0 exchanges (omega (arith, room, rises)) so_far.short;
+  unfinished = λ is. omega (arith, lacks is, so_far.needs);
   led = λ entry from.
       let led = so_far.led entry from in
       let end = made entry from (last_of entry led.led.states) led.held in
@@ -196,14 +213,14 @@ pub served_stopped : (From : Held → Type 0) (tells : Type 0) (before there : O
     → Replied From tells before there session size a b old mid w0 w1 exchanges → HeadCame b c mid now (Err halt) → Served From tells before there size a c old now w0 w1 (Err halt)
 served_stopped From tells before there session size a b c old mid now w0 w1 exchanges halt so_far head = by halt head.limit head.ends
   where
-    stop : (h : Halt) → (h ≡ halts.Client stops.Limit → now.left ≡ 0) → ServedEnd size head.came [] c now.ahead (Err h) → ((last : Held) → IsAhead before.capacity size head.came now.ahead [] (Err h) last []) → Served From tells before there size a c old now w0 w1 (Err h)
-    stop h limit ends none = served_by From tells before there there session size a b c old mid now w0 w1 w1 exchanges head.came [] (Err h) so_far head.takes (Got-nothing w1) ends limit (λ told. Extends-refl there.history)
+    stop : (h : Halt) → (h ≢ halts.Unfinished) → (h ≡ halts.Client stops.Limit → now.left ≡ 0) → ServedEnd size head.came [] c now.ahead (Err h) → ((last : Held) → IsAhead before.capacity size head.came now.ahead [] (Err h) last []) → Served From tells before there size a c old now w0 w1 (Err h)
+    stop h other limit ends none = served_by From tells before there there session size a b c old mid now w0 w1 w1 exchanges head.came [] (Err h) so_far head.takes (Got-nothing w1) ends limit (λ told. Extends-refl there.history) refl (omega arith) (λ is. absurd (other (halt_same h halts.Unfinished is)))
         (λ entry from last held. nothing_ahead before.capacity there session last (IsAhead before.capacity size head.came now.ahead [] (Err h)) held (none last))
 
     by : (h : Halt) → (h ≡ halts.Client stops.Limit → now.left ≡ 0) → HeadEnd c now.ahead head.came (Err h) → Served From tells before there size a c old now w0 w1 (Err h)
-    by (halts.Client stops.Source) limit ends = stop (halts.Client stops.Source) limit (refl, ends) (λ last. refl)
-    by (halts.Client stops.Limit) limit ends = stop (halts.Client stops.Limit) limit (refl, ends) (λ last. refl)
-    by (halts.Client stops.Broken) limit ends = stop (halts.Client stops.Broken) limit (refl, ends) (λ last. refl)
+    by (halts.Client stops.Source) limit ends = stop (halts.Client stops.Source) (λ e. cc) limit (refl, ends) (λ last. refl)
+    by (halts.Client stops.Limit) limit ends = stop (halts.Client stops.Limit) (λ e. cc) limit (refl, ends) (λ last. refl)
+    by (halts.Client stops.Broken) limit ends = stop (halts.Client stops.Broken) (λ e. cc) limit (refl, ends) (λ last. refl)
     by (halts.Client stops.Sink) limit ends = absurd ends
     by halts.Platform limit ends = absurd ends
     by halts.Tape limit ends = absurd ends
@@ -217,7 +234,7 @@ served_stopped From tells before there session size a b c old mid now w0 w1 exch
 pub served_over : (From : Held → Type 0) (tells : Type 0) (before there : Outside) (session : Session) (size : ℕ) (a b c : Option (List ℕ)) (old mid now : Room) (w0 w1 : Option (List ℕ)) (exchanges : List Exchange)
     → Replied From tells before there session size a b old mid w0 w1 exchanges → HeadCame b c mid now (Ok None) → Served From tells before there size a c old now w0 w1 (Ok tt)
 served_over From tells before there session size a b c old mid now w0 w1 exchanges so_far head =
-    served_by From tells before there there session size a b c old mid now w0 w1 w1 exchanges head.came [] (Ok tt) so_far head.takes (Got-nothing w1) (refl, inl head.ends) tt (λ told. Extends-refl there.history)
+    served_by From tells before there there session size a b c old mid now w0 w1 w1 exchanges head.came [] (Ok tt) so_far head.takes (Got-nothing w1) (refl, inl head.ends) tt (λ told. Extends-refl there.history) refl (omega arith) (λ is. absurd cc)
     (λ entry from last held. nothing_ahead before.capacity there session last (IsAhead before.capacity size head.came now.ahead [] (Ok tt)) held (inl (head.ends.0, refl)))
 
 goodbye_end : (size : ℕ) (rest ahead : List ℕ) (left : Option (List ℕ)) (result : Result (Unit {0}) Halt) → IsGoodbye rest ahead → EndsByDisconnect result → ServedEnd size rest [] left ahead result
@@ -290,18 +307,19 @@ goodbye_limit (Err halts.BadRoot) left ends = absurd ends
 goodbye_limit (Err halts.NoDevice) left ends = absurd ends
 
 pub served_goodbye : (From : Held → Type 0) (tells : Type 0) (before there after : Outside) (session : Session) (size : ℕ) (a b c : Option (List ℕ)) (old mid now : Room) (w0 w1 : Option (List ℕ)) (exchanges : List Exchange) (request : Request) (result : Result (Unit {0}) Halt)
-    → ((entry : Held) → From entry → tells) → there.capacity ≡ before.capacity → (tells → Extends there.history after.history) → request.kind ≡ kinds.Disconnect
+    → ((entry : Held) → From entry → tells) → there.capacity ≡ before.capacity → (tells → Extends there.history after.history) → after.capacity ≡ there.capacity → there.head ≤ after.head
+    → (result ≡ Err halts.Unfinished → after.capacity - after.head < needed_by session) → request.kind ≡ kinds.Disconnect
     → Replied From tells before there session size a b old mid w0 w1 exchanges → HeadCame b c mid now (Ok (Some request)) → EndsByDisconnect result → Finishes tells there after session result → Served From tells before after size a c old now w0 w1 result
-served_goodbye From tells before there after session size a b c old mid now w0 w1 exchanges request result told same on is so_far head ends finishes =
+served_goodbye From tells before there after session size a b c old mid now w0 w1 exchanges request result told same on room rises lacks is so_far head ends finishes =
     let bye : IsGoodbye head.came now.ahead = (request, is, head.ends.1) in
-    served_by From tells before there after session size a b c old mid now w0 w1 w1 exchanges head.came [] result so_far head.takes (Got-nothing w1) (goodbye_end size head.came now.ahead c result bye ends) (goodbye_limit result now.left ends) on
+    served_by From tells before there after session size a b c old mid now w0 w1 w1 exchanges head.came [] result so_far head.takes (Got-nothing w1) (goodbye_end size head.came now.ahead c result bye ends) (goodbye_limit result now.left ends) on room rises lacks
     (λ entry from last held. goodbye_ends before.capacity size tells there after session head.came now.ahead last result (told entry from) same bye ends held finishes)
 
 -- in a request: without its reply, or with a part of it
 pub served_halted : (From : Held → Type 0) (tells : Type 0) (before there after : Outside) (session : Session) (size : ℕ) (a b c d : Option (List ℕ)) (old mid read now : Room) (w0 w1 w2 : Option (List ℕ)) (exchanges : List Exchange) (request : Request) (halt : Halt)
-    → ((entry : Held) → From entry → tells) → there.capacity ≡ before.capacity → (tells → Extends there.history after.history) → request.kind ≢ kinds.Disconnect
+    → ((entry : Held) → From entry → tells) → there.capacity ≡ before.capacity → (tells → Extends there.history after.history) → after.capacity ≡ there.capacity → there.head ≤ after.head → request.kind ≢ kinds.Disconnect
     → Replied From tells before there session size a b old mid w0 w1 exchanges → HeadCame b c mid read (Ok (Some request)) → Answered tells there after session size request c d read now w1 w2 (Err halt) → Served From tells before after size a d old now w0 w2 (Err halt)
-served_halted From tells before there after session size a b c d old mid read now w0 w1 w2 exchanges request halt told same on other so_far head answered = by halt answered.limit answered.ends
+served_halted From tells before there after session size a b c d old mid read now w0 w1 w2 exchanges request halt told same on room rises other so_far head answered = by halt answered.limit answered.ends
   where
     rest : List ℕ
     rest = request_head request ++ (answered.gone ++ now.ahead)
@@ -309,8 +327,8 @@ served_halted From tells before there after session size a b c d old mid read no
     takes : Came b d mid now.left AwaitsRequest rest
     takes = whole_came b c d mid read now.left request (answered.gone ++ now.ahead) head answered.came
 
-    none : (h : Halt) → (h ≡ halts.Client stops.Limit → now.left ≡ 0) → w2 ≡ w1 → ServedEnd size rest [] d now.ahead (Err h) → IsLate h → h ≢ halts.Client stops.Sink → Halts tells there after session request.kind h → Served From tells before after size a d old now w0 w2 (Err h)
-    none h limit same_put ends late no_sink halts_so = served_by From tells before there after session size a b d old mid now w0 w1 w2 exchanges rest [] (Err h) so_far takes (subst (Got w1 []) (sym same_put) (Got-nothing w1)) ends limit on
+    none : (h : Halt) → (h ≢ halts.Unfinished) → (h ≡ halts.Client stops.Limit → now.left ≡ 0) → w2 ≡ w1 → ServedEnd size rest [] d now.ahead (Err h) → IsLate h → h ≢ halts.Client stops.Sink → Halts tells there after session request.kind h → Served From tells before after size a d old now w0 w2 (Err h)
+    none h finished limit same_put ends late no_sink halts_so = served_by From tells before there after session size a b d old mid now w0 w1 w2 exchanges rest [] (Err h) so_far takes (subst (Got w1 []) (sym same_put) (Got-nothing w1)) ends limit on room rises (λ is. absurd (finished (halt_same h halts.Unfinished is)))
         (λ entry from last held. halted_end before.capacity size there after rest now.ahead last request.kind h same (λ of. (request, answered.gone ++ now.ahead, of, refl)) late no_sink (halts_so (told entry from) last held))
 
     by : (h : Halt) → (h ≡ halts.Client stops.Limit → now.left ≡ 0) → AnswerEnd tells there after session size request d answered.gone now.ahead w1 w2 (Err h) → Served From tells before after size a d old now w0 w2 (Err h)
@@ -319,17 +337,17 @@ served_halted From tells before there after session size a b c d old mid read no
         let exchange : Exchange = record { sent = sent; reply = reply } in
         let fits : FitsExchange size exchange = record { sent = record { head = head.ends.0; bytes = whole }; other = other; reply = is } in
         let cut : IsCutOff size rest now.ahead (take part.0 (reply_bytes reply)) = record { exchange = exchange; fits = fits; is = sym (append_assoc (request_head request) answered.gone now.ahead); count = part.0; put = refl } in
-        served_by From tells before there after session size a b d old mid now w0 w1 w2 exchanges rest (take part.0 (reply_bytes reply)) (Err (halts.Client stops.Sink)) so_far takes part.1 cut limit on
+        served_by From tells before there after session size a b d old mid now w0 w1 w2 exchanges rest (take part.0 (reply_bytes reply)) (Err (halts.Client stops.Sink)) so_far takes part.1 cut limit on room rises (λ is. absurd cc)
         (λ entry from last held.
         let turned = turns (told entry from) last held in
         record { ahead = turned.next ∷ []; made = turned.made; is = (cut, turned.next, refl, subst (λ (n : ℕ). Turn n last sent reply turned.next) same turned.turn) })
-    by (halts.Client stops.Source) limit (same_put, short, halts_so) = none (halts.Client stops.Source) limit same_put (refl, head_awaits request (answered.gone ++ now.ahead) head.ends.0 short) tt (λ e. cc) halts_so
-    by (halts.Client stops.Limit) limit (same_put, short, halts_so) = none (halts.Client stops.Limit) limit same_put (refl, head_awaits request (answered.gone ++ now.ahead) head.ends.0 short) tt (λ e. cc) halts_so
-    by (halts.Client stops.Broken) limit (same_put, both, halts_so) = none (halts.Client stops.Broken) limit same_put (refl, inl (both.1, omega arith, head_awaits request (answered.gone ++ now.ahead) head.ends.0 both.0)) tt (λ e. cc) halts_so
-    by halts.Platform limit (same_put, ends, halts_so) = none halts.Platform limit same_put refl tt (λ e. cc) halts_so
-    by halts.Tape limit (same_put, ends, halts_so) = none halts.Tape limit same_put refl tt (λ e. cc) halts_so
-    by halts.Ledger limit (same_put, ends, halts_so) = none halts.Ledger limit same_put refl tt (λ e. cc) halts_so
-    by halts.Memory limit (same_put, ends, halts_so) = none halts.Memory limit same_put refl tt (λ e. cc) halts_so
+    by (halts.Client stops.Source) limit (same_put, short, halts_so) = none (halts.Client stops.Source) (λ e. cc) limit same_put (refl, head_awaits request (answered.gone ++ now.ahead) head.ends.0 short) tt (λ e. cc) halts_so
+    by (halts.Client stops.Limit) limit (same_put, short, halts_so) = none (halts.Client stops.Limit) (λ e. cc) limit same_put (refl, head_awaits request (answered.gone ++ now.ahead) head.ends.0 short) tt (λ e. cc) halts_so
+    by (halts.Client stops.Broken) limit (same_put, both, halts_so) = none (halts.Client stops.Broken) (λ e. cc) limit same_put (refl, inl (both.1, omega arith, head_awaits request (answered.gone ++ now.ahead) head.ends.0 both.0)) tt (λ e. cc) halts_so
+    by halts.Platform limit (same_put, ends, halts_so) = none halts.Platform (λ e. cc) limit same_put refl tt (λ e. cc) halts_so
+    by halts.Tape limit (same_put, ends, halts_so) = none halts.Tape (λ e. cc) limit same_put refl tt (λ e. cc) halts_so
+    by halts.Ledger limit (same_put, ends, halts_so) = none halts.Ledger (λ e. cc) limit same_put refl tt (λ e. cc) halts_so
+    by halts.Memory limit (same_put, ends, halts_so) = none halts.Memory (λ e. cc) limit same_put refl tt (λ e. cc) halts_so
     by halts.BadRoot limit (same_put, ends, halts_so) = absurd ends
     by halts.NoDevice limit (same_put, ends, halts_so) = absurd ends
     by halts.Unfinished limit (same_put, ends, halts_so) = absurd ends
@@ -349,6 +367,9 @@ flush_ends halts.Memory ends = tt
 flush_ends halts.BadRoot ends = ends
 flush_ends halts.NoDevice ends = ends
 flush_ends halts.Unfinished ends = tt
+
+pub flush_finished : (halt : Halt) → DataEnd None 0 [] halt → ◌≡◌ {A = Result (Unit {0}) Halt} (Err halt) (Err halts.Unfinished) → ⊥
+flush_finished halt ends is = subst (DataEnd None 0 []) (halt_same halt halts.Unfinished is) ends
 
 -- one that halted
 pub answer_halted : (tells : Type 0) (before after : Outside) (session : Session) (size : ℕ) (request : Request) (left : Option (List ℕ)) (gone ahead : List ℕ) (written : Option (List ℕ)) (halt : Halt) → DataEnd left (bytes_behind request.kind request.length) (gone ++ ahead) halt

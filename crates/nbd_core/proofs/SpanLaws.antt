@@ -170,6 +170,8 @@ served_since Earlier From tells first second third size left left_now old new wr
       array_since first second third entry (map sent_of served.exchanges) (map told_of served.exchanges) (IsAhead second.capacity size served.rest new.ahead served.part result) (IsAhead first.capacity size served.rest new.ahead served.part result) same
       (λ last ahead is. subst (λ (n : ℕ). IsAhead n size served.rest new.ahead served.part result last ahead) same is) s.1 (served.led entry s.0);
   damage = λ told k d below. λ damaged. damage_since first.history second.history third.history (extends told) (served.damage told k d below damaged);
+  short = served.short;
+  unfinished = served.unfinished;
   complete = λ entry early is room. served.complete entry (since entry early).0 is (subst (λ (n : ℕ). HasRoom n size entry served.exchanges) (sym same) room);
 }
 
@@ -280,6 +282,12 @@ since_mount P platform platform_now old mid session result is old_history mid_hi
       (told, record { at = at; pages = start.pages ∙ old_head ∙ sym looks.head ∙ sym mid_head; needs = omega (arith, none) }),
       made_kept old.history mid.history entry.device start.stands start.served stays,
     )
+
+-- which needs no page
+pub fresh_found : {S : Type 0} (P : PlatformGhosts S) (platform platform_now : S) (session : Session) (result : Result (Option Session) DeviceStop) → result ≡ Ok (Some session) → IfOk result (IsFound P 256 platform platform_now) → needed_by session ≡ 0
+fresh_found P platform platform_now session result is finds =
+    let found : IsFound P 256 platform platform_now (Some session) = subst (λ (r : Result (Option Session) DeviceStop). IfOk r (IsFound P 256 platform platform_now)) is finds in
+    needs_none session (P.head platform_now) found.0.is_open found.0.untouched
 
 -- ---- what is said, from the start of a run
 

@@ -9,6 +9,7 @@ pub mod Turns
 pub mod Exchanges
 pub mod Damages
 pub mod Ample
+pub mod Short
 pub mod Served
 pub mod Arrays
 pub mod Running

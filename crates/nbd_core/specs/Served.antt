@@ -1,8 +1,9 @@
 -- Requests that came, and their replies, on any image.
-use Rattle.std.specs.Prelude.{◌≡◌, ◌≢◌, ◌⊎◌, ℕ, List, [], ◌∷◌, ◌++◌, All, Option, None, Some, Result, Ok, Err, IfErr, IfSome, length, map, take}
+use Rattle.std.specs.Prelude.{◌≡◌, ◌≢◌, ◌≤◌, ◌<◌, ◌-◌, ◌*◌, ◌⊎◌, ℕ, List, [], ◌∷◌, ◌++◌, All, Option, None, Some, Result, Ok, Err, IfErr, IfSome, length, map, take}
 use Rattle.std.specs.List.{flat_map}
 use Rattle.sdbt_base.specs.Told.{Got, GotPart, IsAtEnd}
 use Rattle.device_course.specs.States.{Outside}
+use Rattle.device_session.specs.Open.{needed_by}
 use Rattle.device_session.specs.Sessions.{Session}
 use Rattle.nbd_lang.specs.Refusals.{refusal}
 use Rattle.nbd_lang.specs.Replies.{Reply, reply_bytes}
@@ -19,6 +20,7 @@ use Rattle.nbd_core.specs.Damages.{HasMetDamage, IsDamage}
 use Rattle.nbd_core.specs.Exchanges.{Exchange, sent_of, told_of}
 use Rattle.nbd_core.specs.Room.{Room, Came, IsShorter}
 use Rattle.nbd_core.specs.Requests.{AwaitsRequest, IsBrokenRequest, DataEnd}
+use Rattle.nbd_core.specs.Short.{AreShort, Spends, updates_in}
 use Rattle.nbd_core.specs.Turns.{Turns, Halts, IsOfCommit, OnArray}
 use Rattle.nbd_core.specs.declared.stop.Stop.TheVariants as stops
 use Rattle.nbd_core.specs.declared.halts.Halt.{Halt}
@@ -41,6 +43,7 @@ abbrev pub AnswerEnd : Type 0 → Outside → Outside → Session → ℕ → Re
 AnswerEnd tells before after session size request left gone ahead written written_now (Ok next) =
     (length gone ≡ bytes_behind request.kind request.length) × (reply : Reply) × IsReplyTo size request reply × Got written (reply_bytes reply) written_now
     × Turns tells before after session (Some next) (record { head = request; bytes = gone }) reply × (tells → IsDamage after.history.present reply.outcome)
+    × ((n : ℕ) → needed_by session ≤ 41 * n → Spends size (after.capacity - after.head) n request next reply.outcome)
 AnswerEnd tells before after session size request left gone ahead written written_now (Err (halts.Client stops.Sink)) =
     (length gone ≡ bytes_behind request.kind request.length) × (reply : Reply) × IsReplyTo size request reply × GotPart written (reply_bytes reply) written_now
     × Turns tells before after session None (record { head = request; bytes = gone }) reply × (tells → IsDamage after.history.present reply.outcome)
@@ -120,7 +123,8 @@ IsAhead capacity size rest tail part (Err halts.NoDevice) last ahead = ⊥
 -- requests that came, and the replies that were put, one for each in their order. From each state that
 -- the run may have begun from the replies are those of the array, and each moment of the run has one
 -- of the devices that they lead through; and with enough pages free each request is done. A reply that
--- tells of damage, which none does from such a state, was put where a page didn't fit its place
+-- tells of damage, which none does from such a state, was put where a page didn't fit its place; and one
+-- that tells of want of pages says what is true of those that are free at the end
 pub record Served (From : Held → Type 0) (tells : Type 0) (before after : Outside) (size : ℕ) (left left_now : Option (List ℕ)) (old new : Room) (written written_now : Option (List ℕ)) (result : Result (Unit {0}) Halt) : Type 0 where
   pub exchanges : List Exchange
   pub came : List ℕ
@@ -136,6 +140,8 @@ pub record Served (From : Held → Type 0) (tells : Type 0) (before after : Outs
   pub limit : IfErr result (λ halt. halt ≡ halts.Client stops.Limit → new.left ≡ 0)
   pub led : (entry : Held) → From entry → OnArray before after entry (map sent_of exchanges) (map told_of exchanges) (IsAhead before.capacity size rest new.ahead part result)
   pub damage : tells → All (HasMetDamage before.history after.history) exchanges
+  pub short : AreShort size (after.capacity - after.head) 0 exchanges
+  pub unfinished : result ≡ Err halts.Unfinished → after.capacity - after.head < 41 * updates_in size 0 exchanges
   pub complete : (entry : Held) → From entry → size ≡ size_of entry → HasRoom before.capacity size entry exchanges → Completes size exchanges result
 
 -- how a disconnect may end

@@ -2,7 +2,7 @@
 ghost use Rattle.std.specs.Prelude.{◌≡◌, ◌≢◌, ◌⊎◌, ◌*◌, None, IsOk, IfErr, IsErrOf};
 ghost use Rattle.device_terms.specs.Served.{IsServedImage};
 ghost use Rattle.device_course.specs.States.{around};
-ghost use Rattle.device_session.specs.Open.{blocks_of};
+ghost use Rattle.device_session.specs.Open.{blocks_of, needed_by};
 ghost use Rattle.nbd_core.specs.Halts.{Blames, IsLate};
 ghost use Rattle.nbd_core.specs.Serving.{Carries, IsReady, counts_of};
 ghost use Rattle.nbd_core.specs.Turns.{IsFrom};
@@ -121,7 +121,8 @@ fn serve_client<P: Platform, T: Tape, I: Source, O: Sink, L: Sink>(
     output: &mut O,
     ledger: &mut L,
 ) -> Result<(), Halt>
-    requires { IsReady P.tells (around P.Platform T.Tape L.Sink platform.old tape.old ledger.old) session }
+    requires ready { IsReady P.tells (around P.Platform T.Tape L.Sink platform.old tape.old ledger.old) session }
+    requires fresh { needed_by session ≡ 0 }
     ensures carries { Carries P.tells
         (around P.Platform T.Tape L.Sink platform.old tape.old ledger.old)
         (around P.Platform T.Tape L.Sink platform.new tape.new ledger.new) session None (IsOk result) }

@@ -1,11 +1,14 @@
 //! Requests, one after another.
-ghost use Rattle.std.specs.Prelude.{◌≡◌, ◌≢◌, ◌+◌, ◌-◌, ◌*◌, ◌≤◌, ◌<◌, ℕ, List, Option, None, Some, IsOk, IfOk, IfErr, OnOk, OnErr, IfSome, IsTrue, ◌↔◌, [], length, take, drop};
+ghost use Rattle.std.specs.Prelude.{◌≡◌, ◌≢◌, ◌+◌, ◌-◌, ◌*◌, ◌≤◌, ◌<◌, ℕ, List, Option, None, Some, Err, IsOk, IfOk, IfErr, OnOk, OnErr, IfSome, IsTrue, ◌↔◌, [], length, take, drop};
 ghost use Rattle.session_calls.specs.Damage.{IsMounted};
+ghost use Rattle.nbd_core.specs.Ample.{blocks_of_range, unless_refused};
 ghost use Rattle.nbd_core.specs.Damages.{IsDamage, TellsDamage};
+ghost use Rattle.nbd_core.specs.Short.{FlushSpends, Spends};
 ghost use Rattle.nbd_core.specs.Stops.{TellsPut};
 ghost use Rattle.sdbt_base.specs.Told.{Got, GotPart};
 ghost use Rattle.device_course.specs.States.{around};
-ghost use Rattle.device_session.specs.Open.{IsOpen, blocks_of};
+ghost use Rattle.byte_arrays.specs.Ranges.{touched_blocks};
+ghost use Rattle.device_session.specs.Open.{IsOpen, blocks_of, needed_by};
 ghost use Rattle.nbd_lang.specs.Requests.{bytes_behind};
 ghost use Rattle.nbd_lang.specs.Refusals.{refusal};
 ghost use Rattle.nbd_lang.specs.Replies.{Reply, reply_bytes};
@@ -71,7 +74,8 @@ pub(crate) fn serve<P: Platform, T: Tape, I: Source, O: Sink, L: Sink>(
     output: &mut O,
     ledger: &mut L,
 ) -> Result<(), Halt>
-    requires { IsReady P.tells (around P.Platform T.Tape L.Sink platform.old tape.old ledger.old) first }
+    requires ready { IsReady P.tells (around P.Platform T.Tape L.Sink platform.old tape.old ledger.old) first }
+    requires fresh { needed_by first ≡ 0 }
     ensures carries { Carries P.tells
         (around P.Platform T.Tape L.Sink platform.old tape.old ledger.old)
         (around P.Platform T.Tape L.Sink platform.new tape.new ledger.new) first None (IsOk result) }
@@ -218,6 +222,9 @@ fn perform<P: Platform, T: Tape, I: Source, L: Sink>(
         (λ why. done.outcome ≡ why)) }
     ensures damage { P.tells → IfOk result
         (λ done. IsDamage (P.history platform.new).present done.outcome) }
+    ensures spends { (n : ℕ) → needed_by first ≤ 41 * n → IfOk result
+        (λ done. Spends (4096 * blocks_of first) (P.capacity platform.new - P.head platform.new) n
+        request.now done.session done.outcome) }
 {
     let refused = request.refusal(first.blocks() * BLOCK as u64);
     if is_flush(request, refused) {
@@ -260,8 +267,10 @@ fn serve_blocks<P: Platform, T: Tape, I: Source>(
     requires open { IsOpen session.old (P.head platform.old) }
     requires refusal { refused ≡ refusal (4096 * blocks_of session.old) request.now }
     requires kind { (request.now.kind ≢ RequestKind.Disconnect) × (refused ≡ None → request.now.kind ≢ RequestKind.Flush) }
-    ensures along { (updates : ℕ) × Along P.Platform updates platform.old platform.new
-        (drawn_by T.Tape tape.old) (drawn_by T.Tape tape.new) session.old session.new }
+    ensures along { Along P.Platform
+        (unless_refused refused (blocks_of_range request.now.kind request.now.offset request.now.length))
+        platform.old platform.new (drawn_by T.Tape tape.old) (drawn_by T.Tape tape.new)
+        session.old session.new }
     ensures blame { (rest : Counts)
         → Blames (record rest { platform = P.faults platform.old; tape = T.faults tape.old; input = I.faults input.old })
         (record rest { platform = P.faults platform.new; tape = T.faults tape.new; input = I.faults input.new }) result }
@@ -277,6 +286,9 @@ fn serve_blocks<P: Platform, T: Tape, I: Source>(
     ensures refused { IfOk result (λ outcome. IfSome refused (λ why. outcome ≡ why)) }
     ensures damage { P.tells → IsMounted (P.history platform.old).present session.old
         → TellsDamage (P.history platform.new).present result }
+    ensures short { IfOk result (λ outcome. refused ≡ None → request.now.kind ≡ RequestKind.Write
+        → outcome ≡ Outcome.NoSpace → P.capacity platform.new - P.head platform.new
+        < length (touched_blocks request.now.offset request.now.length)) }
 {
     if let Some(outcome) = refused {
         return let_go(intake, input, bytes_of(request), outcome);
@@ -327,6 +339,8 @@ fn flush<P: Platform, T: Tape, L: Sink>(
         (around P.Platform T.Tape L.Sink platform.old tape.old ledger.old)
         (around P.Platform T.Tape L.Sink platform.new tape.new ledger.new) session result }
     ensures sound { IfOk result (λ done. done.outcome ≢ Outcome.Damaged) }
+    ensures spends { IfOk result (λ done. FlushSpends (needed_by session)
+        (P.capacity platform.new - P.head platform.new) done.session done.outcome) }
 {
     match commit_session(session, platform, tape, ledger) {
         Ok(done) => Ok(Performed {
@@ -363,6 +377,8 @@ fn finish<P: Platform, T: Tape, L: Sink>(
         → Blames (record rest { platform = P.faults platform.old; tape = T.faults tape.old; ledger = L.faults ledger.old })
         (record rest { platform = P.faults platform.new; tape = T.faults tape.new; ledger = L.faults ledger.new }) result }
     ensures ends { EndsByDisconnect result }
+    ensures short { result ≡ Err Halt.Unfinished
+        → P.capacity platform.new - P.head platform.new < needed_by session }
     ensures finishes { Finishes P.tells
         (around P.Platform T.Tape L.Sink platform.old tape.old ledger.old)
         (around P.Platform T.Tape L.Sink platform.new tape.new ledger.new) session result }

@@ -1,5 +1,5 @@
 //! Trims.
-ghost use Rattle.std.specs.Prelude.{ℕ, List, Option, IfErr};
+ghost use Rattle.std.specs.Prelude.{ℕ, List, Option, IfErr, length};
 ghost use Rattle.byte_arrays.specs.Ranges.{covered_blocks};
 ghost use Rattle.device_session.specs.Open.{IsOpen, blocks_of};
 ghost use Rattle.nbd_terms.specs.Turn.{Trims};
@@ -27,8 +27,9 @@ pub(crate) fn trim<P: Platform>(
 ) -> Result<Outcome, Halt>
     requires open { IsOpen session.old (P.head platform.old) }
     requires within { IsWithin request.now (blocks_of session.old) }
-    ensures along { (updates : ℕ) × ((drawn : Drawn)
-        → Along P.Platform updates platform.old platform.new drawn drawn session.old session.new) }
+    ensures along { (drawn : Drawn) → Along P.Platform
+        (length (covered_blocks request.now.offset request.now.length))
+        platform.old platform.new drawn drawn session.old session.new }
     ensures blame { (rest : Counts)
         → Blames (record rest { platform = P.faults platform.old })
         (record rest { platform = P.faults platform.new }) result }

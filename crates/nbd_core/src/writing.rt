@@ -38,7 +38,8 @@ pub(crate) fn write<P: Platform, T: Tape, I: Source>(
 ) -> Result<Outcome, Halt>
     requires open { IsOpen session.old (P.head platform.old) }
     requires within { IsWithin request.now (blocks_of session.old) }
-    ensures along { (updates : ℕ) × Along P.Platform updates platform.old platform.new
+    ensures along { Along P.Platform
+        (length (touched_blocks request.now.offset request.now.length)) platform.old platform.new
         (drawn_by T.Tape tape.old) (drawn_by T.Tape tape.new) session.old session.new }
     ensures blame { (rest : Counts)
         → Blames (record rest { platform = P.faults platform.old; tape = T.faults tape.old; input = I.faults input.old })
@@ -51,6 +52,9 @@ pub(crate) fn write<P: Platform, T: Tape, I: Source>(
         outcome next) result) result }
     ensures damage { P.tells → IsMounted (P.history platform.old).present session.old
         → TellsDamage (P.history platform.new).present result }
+    ensures short { IfOk result (λ outcome. outcome ≡ Outcome.NoSpace
+        → P.capacity platform.new - P.head platform.new
+        < length (touched_blocks request.now.offset request.now.length)) }
 {
     let blocks = touched(request.offset, request.length as u64);
     if blocks.end - blocks.start > platform.capacity() - platform.head() {
@@ -85,7 +89,7 @@ fn write_range<P: Platform, T: Tape, I: Source>(
     requires within { at + count ≤ 4096 * blocks_of session.old }
     requires free { P.head platform.old + length (touched_blocks at count)
         ≤ P.capacity platform.old }
-    ensures along { (updates : ℕ) × Along P.Platform updates platform.old platform.new
+    ensures along { Along P.Platform (length (touched_blocks at count)) platform.old platform.new
         (drawn_by T.Tape tape.old) (drawn_by T.Tape tape.new) session.old session.new }
     ensures blame { (rest : Counts)
         → Blames (record rest { platform = P.faults platform.old; tape = T.faults tape.old; input = I.faults input.old })
@@ -98,6 +102,7 @@ fn write_range<P: Platform, T: Tape, I: Source>(
         (touched_blocks at count))) result }
     ensures damage { P.tells → IsMounted (P.history platform.old).present session.old
         → TellsDamage (P.history platform.new).present result }
+    ensures room { IfOk result (λ outcome. outcome ≢ Outcome.NoSpace) }
 {
     let mut done = 0;
     while done < count {

@@ -8,13 +8,13 @@ use Rattle.nbd_core.proofs.TurnLaws.{made_kept}
 use Rattle.nbd_core.proofs.running.serve_client.Goals as goal
 
 pub returns-in_default-clause-carries : goal.returns-in_default-clause-carries
-returns-in_default-clause-carries g c = carries_end _ _ _ _ _ _ _ (λ never. tt) (carries_start _ _ _ c.requires)
+returns-in_default-clause-carries g c = carries_end _ _ _ _ _ _ _ (λ never. tt) (carries_start _ _ _ c.requires.ready)
 
 pub returns-in-Ok-Nothing-clause-carries : goal.returns-in-Ok-Nothing-clause-carries
-returns-in-Ok-Nothing-clause-carries g c = carries_end _ _ _ _ _ _ _ (λ going. tt) (carries_start _ _ _ c.requires)
+returns-in-Ok-Nothing-clause-carries g c = carries_end _ _ _ _ _ _ _ (λ going. tt) (carries_start _ _ _ c.requires.ready)
 
 pub returns-in-Err-clause-carries : goal.returns-in-Err-clause-carries
-returns-in-Err-clause-carries g c = carries_end _ _ _ _ _ _ _ (λ never. tt) (carries_start _ _ _ c.requires)
+returns-in-Err-clause-carries g c = carries_end _ _ _ _ _ _ _ (λ never. tt) (carries_start _ _ _ c.requires.ready)
 
 pub returns-in-Ok-Requests-clause-says : goal.returns-in-Ok-Requests-clause-says
 returns-in-Ok-Requests-clause-says g c =

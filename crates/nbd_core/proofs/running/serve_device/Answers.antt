@@ -1,5 +1,5 @@
 use Rattle.std.proofs.Common.{inl, refl, ◌∙◌, ap, Ok}
-use Rattle.nbd_core.proofs.SpanLaws.{early_mount, silent_look, spans_look, spans_mounted, talks_mounted}
+use Rattle.nbd_core.proofs.SpanLaws.{early_mount, fresh_found, silent_look, spans_look, spans_mounted, talks_mounted}
 use Rattle.nbd_core.proofs.running.serve_device.Goals as goal
 
 pub returns-in-Ok-Some-clause-spans : goal.returns-in-Ok-Some-clause-spans
@@ -29,3 +29,6 @@ returns-in-Ok-None-clause-talks g c = inl (silent_look _ _ _ _ _ _ tt c.mount_se
 
 pub returns-in-Err-clause-talks : goal.returns-in-Err-clause-talks
 returns-in-Err-clause-talks g c = inl (silent_look _ _ _ _ _ _ (early_mount _ _ _ c.in-Err.stop _ c.in-Err.ensures.stops c.after_mount.ensures) c.mount_session.ensures.looks.time)
+
+pub serve_client-requires-clause-fresh : goal.serve_client-requires-clause-fresh
+serve_client-requires-clause-fresh g c = fresh_found g.P.Platform _ _ c.in-Ok-Some.session c.mount_session.result (c.in-Ok-Some.is ∙ ap Ok c.in-Ok-Some.field-0-is) c.mount_session.ensures.finds

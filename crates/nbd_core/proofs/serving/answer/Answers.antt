@@ -29,6 +29,7 @@ returns-in-Ok-put_reply-clause-answered g c =
         c.in-Ok-put_reply.ensures.put,
         came.did,
         c.in-Ok.ensures.damage,
+        c.in-Ok.ensures.spends,
       );
       limit = tt;
     }

@@ -5,7 +5,8 @@ use Rattle.nbd_lang.specs.declared.replies.Outcome.{Outcome}
 use Rattle.nbd_lang.specs.declared.replies.Outcome.TheVariants.{Done}
 use Rattle.nbd_core.proofs.BlameLaws.{blame_as, blame_on}
 use Rattle.nbd_core.proofs.CarryLaws.{carries_end}
-use Rattle.nbd_core.proofs.ServedLaws.{flush_ends}
+use Rattle.nbd_core.proofs.ServedLaws.{flush_ends, flush_finished}
+use Rattle.nbd_core.proofs.ShortLaws.{not_done}
 use Rattle.nbd_core.proofs.TurnLaws.{flush_ended, flush_halted, flush_unfinished}
 use Rattle.nbd_core.proofs.serving.finish.Goals as goal
 
@@ -39,3 +40,13 @@ returns-in-Ok-2-clause-finishes g c told entry held =
 
 pub returns-in-Err-clause-finishes : goal.returns-in-Err-clause-finishes
 returns-in-Err-clause-finishes g c told entry held = flush_halted _ _ entry c.in-Err.halt (c.in-Err.ensures.flushes told entry held)
+
+pub returns-in-Ok-clause-short : goal.returns-in-Ok-clause-short
+returns-in-Ok-clause-short g c is = absurd cc
+
+pub returns-in-Ok-2-clause-short : goal.returns-in-Ok-2-clause-short
+returns-in-Ok-2-clause-short g c is =
+    not_done _ _ c.in-Ok.done.session c.in-Ok.done.outcome (λ same. let no : false ≡ true = c.if-eq.ensures ∙ ap (λ (o : Outcome). sameb the_type o Done) same in cc) c.in-Ok.ensures.spends
+
+pub returns-in-Err-clause-short : goal.returns-in-Err-clause-short
+returns-in-Err-clause-short g c is = absurd (flush_finished c.in-Err.halt (c.in-Err.ensures.halts None []) is)

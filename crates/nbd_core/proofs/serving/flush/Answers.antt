@@ -3,6 +3,7 @@ use Rattle.nbd_core.proofs.BlameLaws.{blame_commit, blame_committed, commit_halt
 use Rattle.platform.proofs.Moments.{During-now}
 use Rattle.device_terms.specs.Served.{IsServedImage}
 use Rattle.nbd_core.proofs.DamageLaws.{commit_sound}
+use Rattle.nbd_core.proofs.ShortLaws.{flush_spent}
 use Rattle.nbd_core.proofs.TurnLaws.{commit_halted, flushed_to}
 use Rattle.nbd_core.proofs.serving.flush.Goals as goal
 
@@ -39,3 +40,6 @@ returns-in-Err-clause-blame g c rest =
 
 pub returns-in-Ok-clause-sound : goal.returns-in-Ok-clause-sound
 returns-in-Ok-clause-sound g c = commit_sound c.in-Ok.done.reply _ c.outcome_of.ensures
+
+pub returns-in-Ok-clause-spends : goal.returns-in-Ok-clause-spends
+returns-in-Ok-clause-spends g c = flush_spent g.P.Platform _ _ _ _ _ _ _ _ c.in-Ok.done.reply _ c.outcome_of.ensures c.in-Ok.ensures.answers

@@ -1,4 +1,4 @@
-use Rattle.std.proofs.Common.{◌≡◌, ◌*◌, ◌∙◌, ℕ, refl, sym, arith, ap}
+use Rattle.std.proofs.Common.{◌≡◌, ◌*◌, ◌∙◌, ℕ, true, false, refl, sym, arith, ap}
 use Rattle.nbd_lang.specs.Requests.{bytes_behind}
 use Rattle.nbd_core.proofs.CarryLaws.{carries_along, carries_end, carries_going}
 use Rattle.device_session.specs.Open.{blocks_of}
@@ -7,6 +7,7 @@ use Rattle.device_session.specs.Sessions.{Session}
 use Rattle.nbd_core.proofs.DataLaws.{data_over, data_went, no_data}
 use Rattle.nbd_core.proofs.BlameLaws.{blame_as, blame_on}
 use Rattle.nbd_core.proofs.DamageLaws.{on_performed}
+use Rattle.nbd_core.proofs.ShortLaws.{blocks_spend, flush_spends}
 use Rattle.nbd_core.proofs.TurnLaws.{blocks_halted, blocks_performed, flush_performed}
 use Rattle.nbd_core.proofs.serving.perform.Goals as goal
 
@@ -15,11 +16,11 @@ size_of_session session blocks is = omega (arith, is)
 
 pub returns-in-Ok-clause-carries : goal.returns-in-Ok-clause-carries
 returns-in-Ok-clause-carries g c =
-    carries_going _ _ _ _ _ _ _ (λ going. tt) (carries_along g.P.Platform g.T.Tape g.L.Sink c.in-Ok.ensures.along.0 _ _ _ _ _ _ _ c.requires.ready c.in-Ok.ensures.along.1)
+    carries_going _ _ _ _ _ _ _ (λ going. tt) (carries_along g.P.Platform g.T.Tape g.L.Sink _ _ _ _ _ _ _ _ c.requires.ready c.in-Ok.ensures.along)
 
 pub returns-in-Err-clause-carries : goal.returns-in-Err-clause-carries
 returns-in-Err-clause-carries g c =
-    carries_end _ _ _ _ _ _ _ (λ never. tt) (carries_along g.P.Platform g.T.Tape g.L.Sink c.in-Err.ensures.along.0 _ _ _ _ _ _ _ c.requires.ready c.in-Err.ensures.along.1)
+    carries_end _ _ _ _ _ _ _ (λ never. tt) (carries_along g.P.Platform g.T.Tape g.L.Sink _ _ _ _ _ _ _ _ c.requires.ready c.in-Err.ensures.along)
 
 pub returns-in-Ok-clause-blame : goal.returns-in-Ok-clause-blame
 returns-in-Ok-clause-blame g c rest = blame_on _ _ c.in-Ok.outcome _ (c.in-Ok.ensures.blame (record rest { ledger = g.L.Sink.faults c.args.ledger.now }))
@@ -40,15 +41,27 @@ pub returns-in-Ok-clause-bytes : goal.returns-in-Ok-clause-bytes
 returns-in-Ok-clause-bytes g c =
     let whole = c.refusal-refused.ensures ∙ ap (λ (n : ℕ). refusal n c.args.request.now) (sym (size_of_session c.args.first _ c.blocks-2.ensures)) in
     data_went _ _ _ _ _ _ _ c.in-Ok.outcome (record { session = c.serve_blocks.new.session; outcome = c.in-Ok.outcome })
-    (λ gone leads. blocks_performed g.P.Platform g.T.Tape g.L.Sink _ _ _ _ _ _ _ c.args.request.now c.refusal-refused.result gone _ whole c.in-Ok.ensures.along.1.cell leads) c.in-Ok.ensures.bytes
+    (λ gone leads. blocks_performed g.P.Platform g.T.Tape g.L.Sink _ _ _ _ _ _ _ c.args.request.now c.refusal-refused.result gone _ whole c.in-Ok.ensures.along.cell leads) c.in-Ok.ensures.bytes
 
 pub returns-in-Err-clause-bytes : goal.returns-in-Err-clause-bytes
 returns-in-Err-clause-bytes g c =
     data_over _ _ _ _ _ _ _ c.in-Err.halt
-    (λ gone ends told entry held. blocks_halted _ _ _ entry c.args.request.now.kind _ _ _ c.in-Err.halt held ends (c.in-Err.ensures.along.1.cell told)) c.in-Err.ensures.bytes
+    (λ gone ends told entry held. blocks_halted _ _ _ entry c.args.request.now.kind _ _ _ c.in-Err.halt held ends (c.in-Err.ensures.along.cell told)) c.in-Err.ensures.bytes
 
 pub returns-then-is_flush-clause-damage : goal.returns-then-is_flush-clause-damage
 returns-then-is_flush-clause-damage g c told = on_performed _ c.flush.result c.flush.ensures.sound
 
 pub returns-in-Ok-clause-damage : goal.returns-in-Ok-clause-damage
 returns-in-Ok-clause-damage g c told = c.in-Ok.ensures.damage told (c.requires.ready.mounted told)
+
+pub returns-then-is_flush-clause-spends : goal.returns-then-is_flush-clause-spends
+returns-then-is_flush-clause-spends g c n few =
+    let both = c.if-is_flush.ensures.0 refl in
+    flush_spends _ _ n c.args.request.now c.args.first c.flush.result both.0
+    (ap (λ (s : ℕ). refusal s c.args.request.now) (size_of_session c.args.first _ c.blocks-2.ensures) ∙ sym c.refusal-refused.ensures ∙ both.1) few c.flush.ensures.spends
+
+pub returns-in-Ok-clause-spends : goal.returns-in-Ok-clause-spends
+returns-in-Ok-clause-spends g c n few =
+    let whole = c.refusal-refused.ensures ∙ ap (λ (s : ℕ). refusal s c.args.request.now) (sym (size_of_session c.args.first _ c.blocks-2.ensures)) in
+    blocks_spend _ _ n c.args.request.now c.refusal-refused.result c.args.first c.serve_blocks.new.session c.in-Ok.outcome whole few c.in-Ok.ensures.along.needs c.in-Ok.ensures.short
+    (λ flush none. let no : false ≡ true = c.if-is_flush.ensures.1 (flush, none) in cc)

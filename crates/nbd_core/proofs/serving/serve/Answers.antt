@@ -13,8 +13,8 @@ use Rattle.nbd_core.proofs.serving.serve.Goals as goal
 pub requests-init : goal.requests-init
 requests-init g c = record {
   exchanges = [];
-  replied = replied_nothing _ _ _ _ _ _ _ _ (λ entry from. from.1);
-  carries = carries_start _ _ _ c.requires;
+  replied = replied_nothing _ _ _ _ _ _ _ _ (λ entry from. from.1) c.requires.fresh;
+  carries = carries_start _ _ _ c.requires.ready;
   quiet = refl;
 }
 
@@ -48,7 +48,7 @@ requests-preserved g c =
     let head = subst (λ (it : Option Request). HeadCame (g.I.Source.left c.requests.input) (g.I.Source.left c.next_request.new.input) c.requests.intake c.next_request.new.intake (Ok it)) c.in-Some.is c.in_ok-request.ensures.came in
     let size : 4096 * blocks_of c.requests.session ≡ 4096 * blocks_of c.args.first = ap (λ (n : ℕ). 4096 * n) so_far.carries.blocks in
     let answered = answered_on _ _ _ _ _ _ _ _ _ _ _ _ _ _ size c.in-Ok.ensures.answered in
-    let more = replied_more _ _ _ _ _ _ c.in-Ok.next (4096 * blocks_of c.args.first) _ _ _ _ _ _ _ _ _ _ _ so_far.exchanges c.in-Some.request (λ entry from. from.0) so_far.carries.capacity so_far.carries.keeps.keys.extends c.in-Ok.ensures.carries.keeps.keys.extends (λ is. let no : false ≡ true = c.if-is_disconnect.ensures.1 is in cc) so_far.replied head answered in
+    let more = replied_more _ _ _ _ _ _ c.in-Ok.next (4096 * blocks_of c.args.first) _ _ _ _ _ _ _ _ _ _ _ so_far.exchanges c.in-Some.request (λ entry from. from.0) so_far.carries.capacity c.in-Ok.ensures.carries.capacity c.in-Ok.ensures.carries.rises so_far.carries.keeps.keys.extends c.in-Ok.ensures.carries.keeps.keys.extends (λ is. let no : false ≡ true = c.if-is_disconnect.ensures.1 is in cc) so_far.replied head answered in
     record {
       exchanges = so_far.exchanges ++ more.0 ∷ [];
       replied = more.1;
@@ -78,14 +78,14 @@ returns-in_err-request-clause-served g c =
 pub returns-then-is_disconnect-clause-served : goal.returns-then-is_disconnect-clause-served
 returns-then-is_disconnect-clause-served g c =
     let head = subst (λ (it : Option Request). HeadCame (g.I.Source.left c.requests.input) (g.I.Source.left c.next_request.new.input) c.requests.intake c.next_request.new.intake (Ok it)) c.in-Some.is c.in_ok-request.ensures.came in
-    served_goodbye _ _ _ _ _ _ _ _ _ _ _ _ _ _ _ c.requests.invariant.exchanges c.in-Some.request _ (λ entry from. from.0) c.requests.invariant.carries.capacity c.finish.ensures.carries.keeps.keys.extends (c.if-is_disconnect.ensures.0 refl) c.requests.invariant.replied head c.finish.ensures.ends c.finish.ensures.finishes
+    served_goodbye _ _ _ _ _ _ _ _ _ _ _ _ _ _ _ c.requests.invariant.exchanges c.in-Some.request _ (λ entry from. from.0) c.requests.invariant.carries.capacity c.finish.ensures.carries.keeps.keys.extends c.finish.ensures.carries.capacity c.finish.ensures.carries.rises c.finish.ensures.short (c.if-is_disconnect.ensures.0 refl) c.requests.invariant.replied head c.finish.ensures.ends c.finish.ensures.finishes
 
 pub returns-in-Err-clause-served : goal.returns-in-Err-clause-served
 returns-in-Err-clause-served g c =
     let so_far = c.requests.invariant in
     let head = subst (λ (it : Option Request). HeadCame (g.I.Source.left c.requests.input) (g.I.Source.left c.next_request.new.input) c.requests.intake c.next_request.new.intake (Ok it)) c.in-Some.is c.in_ok-request.ensures.came in
     let size : 4096 * blocks_of c.requests.session ≡ 4096 * blocks_of c.args.first = ap (λ (n : ℕ). 4096 * n) so_far.carries.blocks in
-    served_halted _ _ _ _ _ _ (4096 * blocks_of c.args.first) _ _ _ _ _ _ _ _ _ _ _ so_far.exchanges c.in-Some.request c.in-Err.halt (λ entry from. from.0) so_far.carries.capacity c.in-Err.ensures.carries.keeps.keys.extends (λ is. let no : false ≡ true = c.if-is_disconnect.ensures.1 is in cc) so_far.replied head (answered_on _ _ _ _ _ _ _ _ _ _ _ _ _ _ size c.in-Err.ensures.answered)
+    served_halted _ _ _ _ _ _ (4096 * blocks_of c.args.first) _ _ _ _ _ _ _ _ _ _ _ so_far.exchanges c.in-Some.request c.in-Err.halt (λ entry from. from.0) so_far.carries.capacity c.in-Err.ensures.carries.keeps.keys.extends c.in-Err.ensures.carries.capacity c.in-Err.ensures.carries.rises (λ is. let no : false ≡ true = c.if-is_disconnect.ensures.1 is in cc) so_far.replied head (answered_on _ _ _ _ _ _ _ _ _ _ _ _ _ _ size c.in-Err.ensures.answered)
 
 pub returns-clause-served : goal.returns-clause-served
 returns-clause-served g c =

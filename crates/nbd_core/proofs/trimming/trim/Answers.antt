@@ -1,7 +1,7 @@
-use Rattle.std.proofs.Common.{◌≡◌, ◌≤◌, ◌+◌, ◌-◌, ℕ, ap, inl, refl, subst, sym, ◌∙◌, arith, Ok, Some}
+use Rattle.std.proofs.Common.{◌≡◌, ◌≤◌, ◌+◌, ◌-◌, ℕ, ap, inl, length, refl, subst, sym, ◌∙◌, arith, Ok, Some}
 use Rattle.sdbt_base.specs.Arrays.{mounted}
 use Rattle.byte_arrays.specs.Ranges.{blocks_from, covered_blocks}
-use Rattle.byte_arrays.proofs.RangeLaws.{covered_is}
+use Rattle.byte_arrays.proofs.RangeLaws.{covered_is, length-blocks_from}
 use Rattle.device_course.specs.States.{IsAt}
 use Rattle.device_session.specs.Open.{needed_by}
 use Rattle.nbd_terms.specs.Held.{trim_all}
@@ -51,9 +51,12 @@ trim_block-requires-clause-within g c =
     omega (arith, covered.1, c.requires.within, (c.loop-block.invariant.along no_draw).blocks)
 
 pub returns-in-Err-clause-along : goal.returns-in-Err-clause-along
-returns-in-Err-clause-along g c =
-    let n : ℕ = c.loop-block.block - c.covered-blocks.result.start in
-    (n + 1, λ drawn. along_then g.P.Platform n 1 _ _ _ drawn drawn drawn _ _ _ (c.loop-block.invariant.along drawn) (c.in-Err.ensures.goes drawn).along)
+returns-in-Err-clause-along g c drawn =
+    let blocks = c.covered-blocks.result in
+    let n : ℕ = c.loop-block.block - blocks.start in
+    along_more g.P.Platform (n + 1) (length (covered_blocks c.args.request.now.offset c.args.request.now.length)) _ _ drawn drawn _ _
+    (omega (arith, ap length c.covered-blocks.ensures.blocks, length-blocks_from blocks.start (blocks.end - blocks.start), c.loop-block-test.true, c.loop-block.auto.block))
+    (along_then g.P.Platform n 1 _ _ _ drawn drawn drawn _ _ _ (c.loop-block.invariant.along drawn) (c.in-Err.ensures.goes drawn).along)
 
 pub returns-in-Err-clause-blame : goal.returns-in-Err-clause-blame
 returns-in-Err-clause-blame g c rest =
@@ -76,7 +79,10 @@ pub after_stop-requires : goal.after_stop-requires
 after_stop-requires g c = (c.in-Err.ensures.goes no_draw).stops
 
 pub returns-clause-along : goal.returns-clause-along
-returns-clause-along g c = (c.loop-block.block - c.covered-blocks.result.start, c.loop-block.invariant.along)
+returns-clause-along g c drawn =
+    let blocks = c.covered-blocks.result in
+    along_more g.P.Platform (c.loop-block.block - blocks.start) (length (covered_blocks c.args.request.now.offset c.args.request.now.length)) _ _ drawn drawn _ _
+    (omega (arith, ap length c.covered-blocks.ensures.blocks, length-blocks_from blocks.start (blocks.end - blocks.start), c.loop-block.invariant.few)) (c.loop-block.invariant.along drawn)
 
 pub returns-clause-blame : goal.returns-clause-blame
 returns-clause-blame g c rest = blame_done _ _ _ (ap (λ (n : ℕ). record rest { platform = n }) c.loop-block.invariant.quiet)

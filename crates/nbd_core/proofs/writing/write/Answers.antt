@@ -3,13 +3,15 @@ use Rattle.byte_arrays.specs.Ranges.{touched_blocks}
 use Rattle.byte_arrays.proofs.RangeLaws.{length-blocks_from}
 use Rattle.session_calls.specs.Along.{drawn_by}
 use Rattle.session_calls.proofs.AlongLaws.{along_start}
+use Rattle.nbd_core.proofs.CallLaws.{along_more}
 use Rattle.nbd_core.proofs.DamageLaws.{space_sound}
+use Rattle.nbd_core.proofs.ShortLaws.{never_short}
 use Rattle.nbd_core.proofs.DataLaws.{data_did}
 use Rattle.nbd_core.proofs.TurnLaws.{leads_idle, no_space, on_outcome, writes_held}
 use Rattle.nbd_core.proofs.writing.write.Goals as goal
 
 pub returns-then-blocks-capacity-clause-along : goal.returns-then-blocks-capacity-clause-along
-returns-then-blocks-capacity-clause-along g c = (0, along_start g.P.Platform _ (drawn_by g.T.Tape c.args.tape.now) _ c.requires.open)
+returns-then-blocks-capacity-clause-along g c = along_more g.P.Platform 0 (length (touched_blocks c.args.request.now.offset c.args.request.now.length)) _ _ _ _ _ _ (omega arith) (along_start g.P.Platform _ (drawn_by g.T.Tape c.args.tape.now) _ c.requires.open)
 
 pub returns-then-blocks-capacity-clause-blame : goal.returns-then-blocks-capacity-clause-blame
 returns-then-blocks-capacity-clause-blame g c rest = c.let_go.ensures.blame (record rest { platform = g.P.Platform.faults c.args.platform.now; tape = g.T.Tape.faults c.args.tape.now })
@@ -43,3 +45,11 @@ returns-clause-bytes g c =
 
 pub returns-then-blocks-capacity-clause-damage : goal.returns-then-blocks-capacity-clause-damage
 returns-then-blocks-capacity-clause-damage g c told mounted = space_sound _ _ c.let_go.ensures.outcome
+
+pub returns-then-blocks-capacity-clause-short : goal.returns-then-blocks-capacity-clause-short
+returns-then-blocks-capacity-clause-short g c =
+    let blocks = c.touched-blocks.result in
+    on_outcome _ _ c.let_go.result (λ outcome is lack. omega (arith, ap length c.touched-blocks.ensures.blocks, length-blocks_from blocks.start (blocks.end - blocks.start), c.if-blocks-capacity.true)) c.let_go.ensures.outcome
+
+pub returns-clause-short : goal.returns-clause-short
+returns-clause-short g c = never_short _ c.write_range.result c.write_range.ensures.room

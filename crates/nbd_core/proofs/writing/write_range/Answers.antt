@@ -8,7 +8,8 @@ use Rattle.session_calls.specs.Along.{drawn_by}
 use Rattle.session_calls.proofs.AlongLaws.{along_start, along_then}
 use Rattle.nbd_core.proofs.ArrayLaws.{front_of, range_halted, range_step, wrote_range}
 use Rattle.nbd_core.proofs.BlameLaws.{blame_done, blame_take, blame_then, cause_wide, same_blocks, same_fell}
-use Rattle.nbd_core.proofs.CallLaws.{platform_quiet, tape_quiet}
+use Rattle.nbd_core.proofs.CallLaws.{along_more, platform_quiet, tape_quiet}
+use Rattle.nbd_core.proofs.ShortLaws.{done_no_space, stop_no_space}
 use Rattle.nbd_core.proofs.CameLaws.{came_nothing, length-gone}
 use Rattle.nbd_core.proofs.DamageLaws.{damage_given, done_sound}
 use Rattle.nbd_core.proofs.DataLaws.{gone_then, gone_skip, data_whole, data_short, data_broken, data_then}
@@ -33,13 +34,30 @@ loop-done-init g c = record {
 }
 
 pub returns-in-Ok-false-clause-along : goal.returns-in-Ok-false-clause-along
-returns-in-Ok-false-clause-along g c = (c.loop-done.invariant.parts, c.loop-done.invariant.along)
+returns-in-Ok-false-clause-along g c =
+    let so_far = c.loop-done.invariant in
+    let at = so_far.at c.loop-done-test.true in
+    let part = c.first-part.ensures c.args.at c.loop-done.done refl (part_front c.args.at c.loop-done.done so_far.parts at) in
+    let whole : c.loop-done.done + (c.args.count - c.loop-done.done) ≡ c.args.count = omega (arith, so_far.within) in
+    let few : so_far.parts < length (touched_blocks c.args.at c.args.count) =
+    subst (λ (n : ℕ). so_far.parts < length (touched_blocks c.args.at n)) whole (part_touched c.args.at (c.loop-done.done + (c.args.count - c.loop-done.done)) c.loop-done.done _ _ _ so_far.parts part at) in
+    along_more g.P.Platform so_far.parts (length (touched_blocks c.args.at c.args.count)) _ _ _ _ _ _ (omega (arith, few)) so_far.along
 
 pub returns-in-Err-clause-along : goal.returns-in-Err-clause-along
-returns-in-Err-clause-along g c = (c.loop-done.invariant.parts, c.loop-done.invariant.along)
+returns-in-Err-clause-along g c =
+    let so_far = c.loop-done.invariant in
+    let at = so_far.at c.loop-done-test.true in
+    let part = c.first-part.ensures c.args.at c.loop-done.done refl (part_front c.args.at c.loop-done.done so_far.parts at) in
+    let whole : c.loop-done.done + (c.args.count - c.loop-done.done) ≡ c.args.count = omega (arith, so_far.within) in
+    let few : so_far.parts < length (touched_blocks c.args.at c.args.count) =
+    subst (λ (n : ℕ). so_far.parts < length (touched_blocks c.args.at n)) whole (part_touched c.args.at (c.loop-done.done + (c.args.count - c.loop-done.done)) c.loop-done.done _ _ _ so_far.parts part at) in
+    along_more g.P.Platform so_far.parts (length (touched_blocks c.args.at c.args.count)) _ _ _ _ _ _ (omega (arith, few)) so_far.along
 
 pub returns-clause-along : goal.returns-clause-along
-returns-clause-along g c = (c.loop-done.invariant.parts, c.loop-done.invariant.along)
+returns-clause-along g c =
+    let so_far = c.loop-done.invariant in
+    let done : c.loop-done.done ≡ c.args.count = omega (arith, so_far.within, c.loop-done-test.false) in
+    along_more g.P.Platform so_far.parts (length (touched_blocks c.args.at c.args.count)) _ _ _ _ _ _ (omega (arith, so_far.last done)) so_far.along
 
 pub returns-clause-bytes : goal.returns-clause-bytes
 returns-clause-bytes g c =
@@ -135,8 +153,14 @@ loop-done-preserved g c =
 pub returns-in-Err-written-clause-along : goal.returns-in-Err-written-clause-along
 returns-in-Err-written-clause-along g c =
     let so_far = c.loop-done.invariant in
+    let at = so_far.at c.loop-done-test.true in
+    let part = c.first-part.ensures c.args.at c.loop-done.done refl (part_front c.args.at c.loop-done.done so_far.parts at) in
+    let whole : c.loop-done.done + (c.args.count - c.loop-done.done) ≡ c.args.count = omega (arith, so_far.within) in
+    let few : so_far.parts < length (touched_blocks c.args.at c.args.count) =
+    subst (λ (n : ℕ). so_far.parts < length (touched_blocks c.args.at n)) whole (part_touched c.args.at (c.loop-done.done + (c.args.count - c.loop-done.done)) c.loop-done.done _ _ _ so_far.parts part at) in
     let d = drawn_by g.T.Tape in
-    (so_far.parts + 1, along_then g.P.Platform so_far.parts 1 _ _ _ (d c.args.tape.now) (d c.loop-done.tape) (d c.write_part-written.new.tape) _ _ _ so_far.along c.in-Err-written.ensures.calls.along)
+    along_more g.P.Platform (so_far.parts + 1) (length (touched_blocks c.args.at c.args.count)) _ _ _ _ _ _ (omega (arith, few))
+    (along_then g.P.Platform so_far.parts 1 _ _ _ (d c.args.tape.now) (d c.loop-done.tape) (d c.write_part-written.new.tape) _ _ _ so_far.along c.in-Err-written.ensures.calls.along)
 
 pub returns-in-Err-written-clause-blame : goal.returns-in-Err-written-clause-blame
 returns-in-Err-written-clause-blame g c rest =
@@ -201,3 +225,9 @@ returns-in-Err-written-clause-damage g c told mounted =
 
 pub returns-clause-damage : goal.returns-clause-damage
 returns-clause-damage g c told mounted = done_sound _
+
+pub returns-in-Err-written-clause-room : goal.returns-in-Err-written-clause-room
+returns-in-Err-written-clause-room g c = stop_no_space c.in-Err-written.stop _ c.give_up.ensures.outcome
+
+pub returns-clause-room : goal.returns-clause-room
+returns-clause-room g c = done_no_space
