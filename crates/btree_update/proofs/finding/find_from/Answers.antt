@@ -50,7 +50,7 @@ returns-in-Below-clause-uses g c =
     record {
       warm = λ keeps.
           (let at = subst (KeepsFrom old c.args.order c.args.block) c.in-Below.is keeps in
-          (c.find.ensures.kept at.0 at.1.0 at.1.1).0);
+          (c.find.ensures.cached at.0 at.1.0 at.1.1).0);
       fills = λ tells. OnOk_from _ _ c.find.result
           (λ found h room.
           let level = subst (λ s. level_from s ≤ c.find.new.reader.cache.capacity) c.in-Below.is room in

@@ -144,7 +144,7 @@ returns-in-Kept-clause-uses g c =
           (let at = subst (RootKeeps old order block below high) c.in-Kept.is keeps in
           let by = subst (λ y. RootFindsBy (CachedFits old) order block below high y at.0) (made.outs-Kept c.in-Kept.low c.in-Kept.addr c.in-Kept.key) at.1 in
           let from = subst (λ w. FindsBelow (CachedFits old) block w c.in-Kept.key at.0) (sym same) by in
-          (c.find.ensures.kept at.0 from.0 from.1).0);
+          (c.find.ensures.cached at.0 from.0 from.1).0);
       fills = λ tells. OnOk_from _ _ c.find.result
           (λ found h room.
           let from : FindsBelow (CachedFits new) block want c.in-Kept.key found = (h.path, h.warm (omega (arith, room, c.find.ensures.capacity))) in

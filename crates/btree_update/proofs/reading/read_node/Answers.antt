@@ -39,7 +39,7 @@ returns-clause-stands g c = λ tells stands.
     let kept = cached_node c.args.want.now.addr c.args.key.now (record { level = c.args.want.now.level; entries = c.fetch_node.new.entries }) in
     let pages = (g.P.Platform.history c.args.platform.now).present.readable in
     let fits = c.in_ok-fetch_node.ensures.fits tells in
-    let keeps = subst (KeepsOnly pages c.args.reader.now.cache) (sym (c.put.ensures.kept ∙ ap (λ (old : Cached). filled old kept) uses.0)) (keeps_filled pages c.args.reader.now.cache kept (inr fits.0)) in
+    let keeps = subst (KeepsOnly pages c.args.reader.now.cache) (sym (c.put.ensures.cached ∙ ap (λ (old : Cached). filled old kept) uses.0)) (keeps_filled pages c.args.reader.now.cache kept (inr fits.0)) in
     stands_on pages c.args.reader.now.cache c.put.new.self stands keeps)
 
 pub returns-in_err-fetch_node-clause-bad : goal.returns-in_err-fetch_node-clause-bad
@@ -64,7 +64,7 @@ returns-in-Some-clause-capacity g c =
 pub returns-clause-capacity : goal.returns-clause-capacity
 returns-clause-capacity g c =
     let uses = subst (λ (r : Option (Bor _)). Uses c.args.reader.now.cache c.args.want.now.addr c.args.key.now (option_copied r) c.get.follows.lender-at-none) c.in_default.is c.get.follows.holds-at-none in
-    ap (λ (cache : Cached). cache.capacity) c.put.ensures.kept ∙ ap (λ (cache : Cached). cache.capacity) uses.0
+    ap (λ (cache : Cached). cache.capacity) c.put.ensures.cached ∙ ap (λ (cache : Cached). cache.capacity) uses.0
 
 pub returns-then-not-fits-clause-but : goal.returns-then-not-fits-clause-but
 returns-then-not-fits-clause-but g c =
@@ -80,7 +80,7 @@ pub returns-clause-but : goal.returns-clause-but
 returns-clause-but g c =
     let uses = subst (λ (r : Option (Bor _)). Uses c.args.reader.now.cache c.args.want.now.addr c.args.key.now (option_copied r) c.get.follows.lender-at-none) c.in_default.is c.get.follows.holds-at-none in
     let kept = cached_node c.args.want.now.addr c.args.key.now (record { level = c.args.want.now.level; entries = c.fetch_node.new.entries }) in
-    subst (KeepsBut c.args.want.now.addr c.args.key.now c.args.reader.now.cache) (sym (c.put.ensures.kept ∙ ap (λ (old : Cached). filled old kept) uses.0)) (but_filled c.args.reader.now.cache kept)
+    subst (KeepsBut c.args.want.now.addr c.args.key.now c.args.reader.now.cache) (sym (c.put.ensures.cached ∙ ap (λ (old : Cached). filled old kept) uses.0)) (but_filled c.args.reader.now.cache kept)
 
 pub returns-in_err-fetch_node-clause-but : goal.returns-in_err-fetch_node-clause-but
 returns-in_err-fetch_node-clause-but g c =
