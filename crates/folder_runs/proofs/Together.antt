@@ -31,6 +31,10 @@ use Rattle.device_course.specs.Reaching.{DisclosesTree}
 use Rattle.device_course.specs.Fitting.{FitsImage, LeavesFitting}
 use Rattle.script_lang.specs.Answers.{IsMark}
 use Rattle.script_lang.specs.Replies.{Reply}
+use Rattle.script_lang.specs.Commands.{Command}
+use Rattle.script_lang.specs.Commands as commands
+use Rattle.device_cli.specs.Causes.{MeetsRecord, IsOf}
+use Rattle.device_cli.specs.Pages.{IfNext}
 use Rattle.device_cli.specs.World.{World}
 use Rattle.device_cli.specs.Represents.{StandsFor}
 use Rattle.device_cli.specs.Ran.{AnswersScript}
@@ -43,6 +47,26 @@ use Rattle.folder_runs.proofs.ChainsOver.{over_first, over_second, over_grows, f
 use Rattle.folder_runs.proofs.Opened.{handed_first, kept_opened, served_opened, fits_opened, low_opened}
 
 -- ---- answers
+
+-- what holds of a next line holds of it where it says less
+next_line : (replies : List Reply) (lines : List (List ℕ)) (P Q : List ℕ → Type 0) → ((line : List ℕ) → P line → Q line) → IfNext replies lines P → IfNext replies lines Q
+next_line [] [] P Q weaker next = absurd next
+next_line [] (line ∷ lines) P Q weaker next = weaker line next
+next_line (reply ∷ replies) [] P Q weaker next = absurd next
+next_line (reply ∷ replies) (line ∷ lines) P Q weaker next = next_line replies lines P Q weaker next
+
+-- the record that a command meets, where that is told
+told_record : (tells : Type 0) (image : Image) (command : Command) (addr : ℕ) → tells → MeetsRecord tells image command addr → MeetsRecord (Unit {0}) image command addr
+told_record tells image (commands.Read block) addr told meets = λ _. meets told
+told_record tells image (commands.Write block content) addr told meets = λ _. meets told
+told_record tells image (commands.Trim block) addr told meets = λ _. meets told
+told_record tells image (commands.Format blocks order) addr told meets = meets
+told_record tells image commands.Mount addr told meets = meets
+told_record tells image commands.Commit addr told meets = meets
+told_record tells image commands.Drop addr told meets = meets
+told_record tells image commands.Erase addr told meets = meets
+told_record tells image commands.Stat addr told meets = meets
+told_record tells image commands.Seize addr told meets = meets
 
 -- what a run answers where it is told
 pub told_answers : (tells : Type 0) (old new : World) (status : ℕ) (left left_now written written_now : Option (List ℕ)) → tells → AnswersScript tells old new status left left_now written written_now
@@ -61,9 +85,15 @@ told_answers tells old new status left left_now written written_now told run = r
   whole = run.whole;
   no_part = run.no_part;
   bad_root = run.bad_root;
-  bad_record = λ is. let bad = run.bad_record is in (bad.0, bad.1, bad.2, λ _. bad.3 told);
+  bad_record = λ is.
+      let bad = run.bad_record is in
+      (bad.0, bad.1, next_line run.replies run.lines _ _ (λ line of. (of.0, of.1, told_record tells new.history.present of.0 bad.0 told of.2)) bad.2);
+  no_key = run.no_key;
+  no_entry = run.no_entry;
+  no_memory = run.no_memory;
   cut = run.cut;
   full = run.full;
+  ranges = λ _. run.ranges told;
   looks = λ _. run.looks told;
   answered = λ _. run.answered told;
 }
