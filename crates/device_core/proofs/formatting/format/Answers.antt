@@ -271,6 +271,10 @@ returns-in-Err-Ledger-clause-cause g c =
       λ told. stays_then _ _ _ (call_more _ _ _ (one_look _ _ (c.load_root.ensures.time told) (c.load_root.ensures.image told)) (c.append.ensures.adds.time told) (c.append.ensures.adds.cell told)) (cause.1 told),
     )
 
+pub returns-in-Err-PlatformFault-clause-certifies : goal.returns-in-Err-PlatformFault-clause-certifies
+returns-in-Err-PlatformFault-clause-certifies g c =
+    inl (refl, λ told. call_more _ _ _ (one_look _ _ (c.load_root.ensures.time told) (c.load_root.ensures.image told)) (c.append.ensures.adds.time told) (c.append.ensures.adds.cell told))
+
 pub returns-in-Err-Ledger-clause-certifies : goal.returns-in-Err-Ledger-clause-certifies
 returns-in-Err-Ledger-clause-certifies g c =
     let at = goal.at.returns-in-Err-Ledger-clause-certifies g c in
