@@ -152,20 +152,20 @@ sealed_among (n ∷ ns) after in' = (
 )
 
 -- a node that isn't gone is of the tree after, if it was of the one before
-still_among : (gone : List ℕ) (ks : List Kept) (committed places news after : List Place) → All (λ p. Contains places p ⊎ Contains gone p.addr) committed → IsPermutation (news ++ places) after → All (λ k. IsAmong committed k.addr k.key) ks →
+still_among : (gone : List ℕ) (ks : List CachedNode) (committed places news after : List Place) → All (λ p. Contains places p ⊎ Contains gone p.addr) committed → IsPermutation (news ++ places) after → All (λ k. IsAmong committed k.addr k.key) ks →
     All (λ k. IsAmong after k.addr k.key) (without_all gone ks)
 still_among gone ks committed places news after left same all = All-weaker (Contains stays) (λ k. IsAmong after k.addr k.key) here stays (All-contains_itself stays)
   where
-    stays : List Kept
+    stays : List CachedNode
     stays = without_all gone ks
 
-    here : (k : Kept) → Contains (without_all gone ks) k → IsAmong after k.addr k.key
+    here : (k : CachedNode) → Contains (without_all gone ks) k → IsAmong after k.addr k.key
     here k has =
-        let at = All-contains (λ (j : Kept). IsAmong committed j.addr j.key) (without_all gone ks) k (All-without_all (λ (j : Kept). IsAmong committed j.addr j.key) gone ks all) has in
+        let at = All-contains (λ (j : CachedNode). IsAmong committed j.addr j.key) (without_all gone ks) k (All-without_all (λ (j : CachedNode). IsAmong committed j.addr j.key) gone ks all) has in
         elim (All-contains (λ (p : Place). Contains places p ⊎ Contains gone p.addr) committed at.place left at.here) [
           | inl stays ↦ record { place = at.place; here = Contains-permutation (news ++ places) after at.place same (Contains-append_right news places at.place stays); addr_is = at.addr_is; key_is = at.key_is }
           | inr is_gone ↦
-              absurd (All-contains (λ (j : Kept). j.addr ≢ at.place.addr) (without_all gone ks) k (All-contains (λ (addr : ℕ). All (λ (j : Kept). j.addr ≢ addr) (without_all gone ks)) gone at.place.addr (none-without_all gone ks) is_gone) has (sym at.addr_is))
+              absurd (All-contains (λ (j : CachedNode). j.addr ≢ at.place.addr) (without_all gone ks) k (All-contains (λ (addr : ℕ). All (λ (j : CachedNode). j.addr ≢ addr) (without_all gone ks)) gone at.place.addr (none-without_all gone ks) is_gone) has (sym at.addr_is))
         ]
 
 -- a session that goes on with a tree of sealed nodes and what is left of its committed places keeps nodes of that tree
@@ -173,7 +173,7 @@ pub taken_among : (session now : Session) (cache : Cached) (root : Root) (commit
     All (λ p. Contains places p ⊎ Contains session.grove.gone.items p.addr) committed → IsPermutation (map place_of ns ++ places) after → KeepsAmong committed session.cache → KeepsAmong after now.cache
 taken_among session now cache root committed places after ns taken sealed left same kept =
     let gone = session.grove.gone.items in
-    let Is : Kept → Type 0 = λ k. IsAmong after k.addr k.key in
+    let Is : CachedNode → Type 0 = λ k. IsAmong after k.addr k.key in
     let new = sealed_among ns after (λ p has. Contains-permutation (map place_of ns ++ places) after p same (Contains-append_left (map place_of ns) places p has)) in
     let all = All-sealed Is (forgotten gone session.cache) ns (still_among gone session.cache.nodes committed places (map place_of ns) after left same kept) new in
     subst (KeepsAmong after) (sym taken.cached) (All-without_all Is gone cache.nodes (subst (KeepsAmong after) (sym sealed) all))

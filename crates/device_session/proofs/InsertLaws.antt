@@ -67,7 +67,7 @@ by_later image later device root parts whole earlier cell s =
 
 -- what a cache keeps is of the pages still
 pub cached_later : (image later : Image) (cache : Cached) → IsWhole image → IsEarlier image later → StandsOver image.readable cache → StandsOver later.readable cache
-cached_later image later cache whole earlier h = All-weaker (IsOfPage image.readable) (IsOfPage later.readable) (λ (k : Kept) is. record {
+cached_later image later cache whole earlier h = All-weaker (IsOfPage image.readable) (IsOfPage later.readable) (λ (k : CachedNode) is. record {
   page = is.page;
   reads = alike (length image.recorded) image.readable later.readable k.addr earlier.readable (let within = get_within image.readable k.addr is.page is.reads in omega (arith, within, whole.as_many)) ∙ is.reads;
   in_range = is.in_range;

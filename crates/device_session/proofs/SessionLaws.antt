@@ -88,7 +88,7 @@ pub none_cached : (pages : List (List ℕ)) (cache : Cached) → cache.nodes ≡
 none_cached pages cache none = subst (All (IsOfPage pages)) (sym none) (All-nil (IsOfPage pages))
 
 pub none_among : (places : List Place) (cache : Cached) → cache.nodes ≡ [] → KeepsAmong places cache
-none_among places cache none = subst (All (λ k. IsAmong places k.addr k.key)) (sym none) (All-nil (λ (k : Kept). IsAmong places k.addr k.key))
+none_among places cache none = subst (All (λ k. IsAmong places k.addr k.key)) (sym none) (All-nil (λ (k : CachedNode). IsAmong places k.addr k.key))
 
 -- over an image that stands the session has the device's array
 pub fresh_holds : (session : Session) (image : Image) (device : Device) (pages : ℕ) → IsRootWithin pages session.root → IsWhole image → image.cell ≡ Some (root_bytes session.root) → IsFresh session → Stands image (Some device) → Holds session image device device.contents
