@@ -98,16 +98,25 @@ fn is_in_use(rt: &HostRuntime, cell: &str, folder: &str) -> Result<bool, Fail> {
     Ok(is_in_use && left && len == 100)
 }
 
+/// Whether a platform in these folders keeps out one in the others while it is there.
+fn is_kept_out(rt: &HostRuntime, cell: &str, folder: &str) -> Result<bool, Fail> {
+    let _platform = open_in_folders(rt, cell, folder)?;
+    fill_apart(rt)?;
+    is_in_use(rt, CELL, APART)
+}
+
+/// How many pages a platform has, which ends with that.
+fn pages_of<P: Platform + Drop>(platform: P) -> u64 {
+    platform.head()
+}
+
 /// Whether a platform in these folders keeps out one in the others, and lets it in when it is gone.
 fn keeps_out(rt: &HostRuntime, cell: &str, folder: &str) -> Result<bool, Fail> {
     make_folder(rt, b"", b"")?;
     make_apart(rt)?;
-    let first = open_in_folders(rt, cell, folder)?;
-    fill_apart(rt)?;
-    let is_kept_out = is_in_use(rt, CELL, APART)?;
-    drop(first);
-    let second = open_in_folders(rt, CELL, APART)?;
-    Ok(is_kept_out && second.head() == 1)
+    let is_kept_out = is_kept_out(rt, cell, folder)?;
+    let pages = pages_of(open_in_folders(rt, CELL, APART)?);
+    Ok(is_kept_out && pages == 1)
 }
 
 #[test]

@@ -1,10 +1,11 @@
-use Rattle.std.proofs.Common.{refl, ◌∙◌, sym, ap, length, ℕ, ◌+◌, ◌*◌}
+use Rattle.std.proofs.Common.{Err, refl, ◌∙◌, sym, ap, length, ℕ, ◌+◌, ◌*◌}
 use Rattle.sdbt_base.specs.Arrays.{content_of}
 use Rattle.byte_arrays.specs.Arrays.{bytes_at}
 use Rattle.nbd_terms.specs.Held.{array_of}
 use Rattle.byte_arrays.proofs.ArrayLaws.{length-bytes_at}
 use Rattle.nbd_core.proofs.ArrayLaws.{reads_stopped, reads_whole}
 use Rattle.nbd_core.proofs.CallLaws.{calls_of}
+use Rattle.nbd_core.proofs.DamageLaws.{read_meets}
 use Rattle.nbd_core.proofs.reading.read_part.Goals as goal
 
 pub returns-then-is_whole-clause-calls : goal.returns-then-is_whole-clause-calls
@@ -32,3 +33,9 @@ returns-clause-reads g c told device array at =
     let place : ℕ = 4096 * c.args.part.block + c.args.part.start in
     let copied = c.copy_from_slice.ensures in
     (led.0, copied.after ∙ c.bytes_of.ensures (content_of array.contents) led.1 ∙ ap (bytes_at (array_of array) place) (sym (copied.len ∙ c.requires.size)))
+
+pub returns-then-is_whole-clause-damage : goal.returns-then-is_whole-clause-damage
+returns-then-is_whole-clause-damage g c told mounted = read_meets _ _ _ _ _ _ _ c.read_block.ensures.any (told, mounted)
+
+pub returns-in-Err-clause-damage : goal.returns-in-Err-clause-damage
+returns-in-Err-clause-damage g c told mounted = read_meets _ _ _ _ _ _ (Err c.in-Err.stop) c.in-Err.ensures.any (told, mounted)

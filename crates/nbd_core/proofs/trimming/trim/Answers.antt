@@ -9,7 +9,7 @@ use Rattle.session_calls.specs.Along.{Along}
 use Rattle.session_calls.proofs.AlongLaws.{along_start, along_then}
 use Rattle.nbd_lang.specs.declared.replies.Outcome.TheVariants.{Done}
 use Rattle.nbd_core.proofs.ArrayLaws.{trim_halted, trim_step, trimmed_some}
-use Rattle.nbd_core.proofs.DamageLaws.{damage_after, done_sound}
+use Rattle.nbd_core.proofs.DamageLaws.{damage_after, done_sound, trim_meets}
 use Rattle.nbd_core.proofs.TurnLaws.{trims_lead}
 use Rattle.nbd_core.proofs.BlameLaws.{blame_done, blame_platform, blame_then, stop_halts}
 use Rattle.nbd_core.proofs.CallLaws.{along_more, draws_none, no_draw, platform_quiet}
@@ -98,7 +98,7 @@ returns-clause-leads g c =
 
 pub returns-in-Err-clause-damage : goal.returns-in-Err-clause-damage
 returns-in-Err-clause-damage g c told mounted =
-    damage_after _ c.in-Err.stop _ (c.in-Err.ensures.damage told ((c.loop-block.invariant.along no_draw).mounted told mounted)) c.after_stop.ensures
+    damage_after _ c.in-Err.stop _ (trim_meets _ _ _ _ _ (Err c.in-Err.stop) c.in-Err.ensures.any (told, (c.loop-block.invariant.along no_draw).mounted told mounted)) c.after_stop.ensures
 
 pub returns-clause-damage : goal.returns-clause-damage
 returns-clause-damage g c told mounted = done_sound _

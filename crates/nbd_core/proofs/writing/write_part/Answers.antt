@@ -1,6 +1,7 @@
-use Rattle.std.proofs.Common.{◌∙◌, ap, length, refl, arith}
+use Rattle.std.proofs.Common.{Err, ◌∙◌, ap, length, refl, arith}
 use Rattle.session_calls.specs.Along.{drawn_by}
 use Rattle.nbd_core.proofs.ArrayLaws.{adds_behind, adds_none, adds_one, on_stop, writes_patched, writes_unread, writes_whole}
+use Rattle.nbd_core.proofs.DamageLaws.{read_meets, write_meets}
 use Rattle.nbd_core.proofs.CallLaws.{calls_of, calls_then, calls_stopped, platform_quiet}
 use Rattle.nbd_core.proofs.writing.write_part.Goals as goal
 
@@ -68,4 +69,10 @@ returns-clause-needs g c =
     on_stop c.write_block-2.result _ _ (λ same. omega (arith, same, before)) c.write_block-2.ensures.goes.needs_still
 
 pub returns-clause-damage : goal.returns-clause-damage
-returns-clause-damage g c told mounted = c.write_block-2.ensures.damage told ((c.in-Ok.ensures.goes (drawn_by g.T.Tape c.args.tape.now)).along.mounted told mounted)
+returns-clause-damage g c told mounted = write_meets _ _ _ _ _ _ c.write_block-2.ensures.any (told, (c.in-Ok.ensures.goes (drawn_by g.T.Tape c.args.tape.now)).along.mounted told mounted)
+
+pub returns-then-is_whole-clause-damage : goal.returns-then-is_whole-clause-damage
+returns-then-is_whole-clause-damage g c told mounted = write_meets _ _ _ _ _ _ c.write_block.ensures.any (told, mounted)
+
+pub returns-in-Err-clause-damage : goal.returns-in-Err-clause-damage
+returns-in-Err-clause-damage g c told mounted = read_meets _ _ _ _ _ _ (Err c.in-Err.stop) c.in-Err.ensures.any (told, mounted)
