@@ -1,6 +1,6 @@
 -- Which outcomes tell of a record that doesn't fit.
 use Rattle.std.proofs.Common.{◌≡◌, ◌≢◌, ◌≤◌, ◌⊎◌, ℕ, List, Bool, true, false, Option, Some, Result, Ok, Err, inl, inr, refl, sym, subst, ◌∙◌, arith}
-use Rattle.std.specs.Prelude.{IfOk, nat_lt, ◌+◌}
+use Rattle.std.specs.Prelude.{IfOk, IsErrOf, nat_lt, ◌+◌}
 use Rattle.platform.specs.Image.{Image}
 use Rattle.platform.specs.History.{Extends, History, moment}
 use Rattle.platform.proofs.Moments.{image_at-now}
@@ -22,7 +22,7 @@ use Rattle.nbd_core.specs.declared.halts.Halt.{Halt}
 use Rattle.nbd_core.specs.declared.serving.Performed.{Performed}
 
 -- the address that a stop names
-same_address : (met addr : ℕ) → device.BadRecord met ≡ device.BadRecord addr → met ≡ addr
+same_address : (met addr : ℕ) → IsErrOf {T = Unit {0}} (Err (device.BadRecord met)) (device.BadRecord addr) → met ≡ addr
 same_address met addr is = cc
 
 -- a wrong place, or the root node of a tree that is miscounted with more said of it, is a wrong page
@@ -33,7 +33,7 @@ wrong_page (inr counted) = inr counted.0
 -- what a read, a write and a trim of a session name is a wrong page
 pub read_meets : (Known : Type 0) (image after : Image) (session : Session) (block : ℕ) (bytes : List ℕ) (result : Result (Unit {0}) DeviceStop)
     → ReadsAny Known image after session block bytes result → Known → MeetsDamage after result
-read_meets Known image after session block bytes (Ok done) any known addr is = absurd is
+read_meets Known image after session block bytes (Ok done) any known addr is = absurd cc
 read_meets Known image after session block bytes (Err (device.BadRecord met)) any known addr is = subst (IsWrongPage after) (same_address met addr is) (inl (any known))
 read_meets Known image after session block bytes (Err device.Platform) any known addr is = absurd cc
 read_meets Known image after session block bytes (Err device.Memory) any known addr is = absurd any
@@ -43,7 +43,7 @@ read_meets Known image after session block bytes (Err device.BadRoot) any known 
 
 pub write_meets : (Known : Type 0) (image after : Image) (session : Session) (block : ℕ) (result : Result (Unit {0}) DeviceStop)
     → WritesAny Known image after session block result → Known → MeetsDamage after result
-write_meets Known image after session block (Ok done) any known addr is = absurd is
+write_meets Known image after session block (Ok done) any known addr is = absurd cc
 write_meets Known image after session block (Err (device.BadRecord met)) any known addr is = subst (IsWrongPage after) (same_address met addr is) (wrong_page (any known))
 write_meets Known image after session block (Err device.Platform) any known addr is = absurd cc
 write_meets Known image after session block (Err device.Memory) any known addr is = absurd cc
@@ -53,7 +53,7 @@ write_meets Known image after session block (Err device.BadRoot) any known addr 
 
 pub trim_meets : (Known : Type 0) (image after : Image) (session : Session) (block : ℕ) (result : Result (Unit {0}) DeviceStop)
     → TrimsAny Known image after session block result → Known → MeetsDamage after result
-trim_meets Known image after session block (Ok done) any known addr is = absurd is
+trim_meets Known image after session block (Ok done) any known addr is = absurd cc
 trim_meets Known image after session block (Err (device.BadRecord met)) any known addr is = subst (IsWrongPage after) (same_address met addr is) (wrong_page (any known))
 trim_meets Known image after session block (Err device.Platform) any known addr is = absurd cc
 trim_meets Known image after session block (Err device.Memory) any known addr is = absurd cc

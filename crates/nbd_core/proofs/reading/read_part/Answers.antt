@@ -35,7 +35,11 @@ returns-clause-reads g c told device array at =
     (led.0, copied.after ∙ c.bytes_of.ensures (content_of array.contents) led.1 ∙ ap (bytes_at (array_of array) place) (sym (copied.len ∙ c.requires.size)))
 
 pub returns-then-is_whole-clause-damage : goal.returns-then-is_whole-clause-damage
-returns-then-is_whole-clause-damage g c told mounted = read_meets _ _ _ _ _ _ _ c.read_block.ensures.any (told, mounted)
+returns-then-is_whole-clause-damage g c told mounted =
+    read_meets _ (g.P.Platform.history c.args.platform.now).present (g.P.Platform.history c.read_block.new.platform).present
+    c.args.session.now c.args.part.block c.read_block.new.out c.read_block.result c.read_block.ensures.any (told, mounted)
 
 pub returns-in-Err-clause-damage : goal.returns-in-Err-clause-damage
-returns-in-Err-clause-damage g c told mounted = read_meets _ _ _ _ _ _ (Err c.in-Err.stop) c.in-Err.ensures.any (told, mounted)
+returns-in-Err-clause-damage g c told mounted =
+    read_meets _ (g.P.Platform.history c.args.platform.now).present (g.P.Platform.history c.read_block-2.new.platform).present
+    c.args.session.now c.args.part.block c.read_block-2.new.out (Err c.in-Err.stop) c.in-Err.ensures.any (told, mounted)

@@ -1,4 +1,4 @@
-use Rattle.std.proofs.Common.{◌≡◌, ◌≤◌, ◌+◌, ◌-◌, ℕ, ap, inl, length, refl, subst, sym, ◌∙◌, arith, Ok, Some}
+use Rattle.std.proofs.Common.{Err, ◌≡◌, ◌≤◌, ◌+◌, ◌-◌, ℕ, ap, inl, length, refl, subst, sym, ◌∙◌, arith, Ok, Some}
 use Rattle.sdbt_base.specs.Arrays.{mounted}
 use Rattle.byte_arrays.specs.Ranges.{blocks_from, covered_blocks}
 use Rattle.byte_arrays.proofs.RangeLaws.{covered_is, length-blocks_from}
@@ -98,7 +98,7 @@ returns-clause-leads g c =
 
 pub returns-in-Err-clause-damage : goal.returns-in-Err-clause-damage
 returns-in-Err-clause-damage g c told mounted =
-    damage_after _ c.in-Err.stop _ (trim_meets _ _ _ _ _ (Err c.in-Err.stop) c.in-Err.ensures.any (told, (c.loop-block.invariant.along no_draw).mounted told mounted)) c.after_stop.ensures
+    damage_after _ c.in-Err.stop _ (trim_meets _ (g.P.Platform.history c.loop-block.platform).present (g.P.Platform.history c.trim_block.new.platform).present c.loop-block.session c.loop-block.block (Err c.in-Err.stop) c.in-Err.ensures.any (told, (c.loop-block.invariant.along no_draw).mounted told mounted)) c.after_stop.ensures
 
 pub returns-clause-damage : goal.returns-clause-damage
 returns-clause-damage g c told mounted = done_sound _

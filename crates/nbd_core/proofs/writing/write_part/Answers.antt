@@ -69,10 +69,17 @@ returns-clause-needs g c =
     on_stop c.write_block-2.result _ _ (λ same. omega (arith, same, before)) c.write_block-2.ensures.goes.needs_still
 
 pub returns-clause-damage : goal.returns-clause-damage
-returns-clause-damage g c told mounted = write_meets _ _ _ _ _ _ c.write_block-2.ensures.any (told, (c.in-Ok.ensures.goes (drawn_by g.T.Tape c.args.tape.now)).along.mounted told mounted)
+returns-clause-damage g c told mounted =
+    write_meets _ (g.P.Platform.history c.read_block.new.platform).present (g.P.Platform.history c.write_block-2.new.platform).present
+    c.read_block.new.session c.args.part.block c.write_block-2.result c.write_block-2.ensures.any
+    (told, (c.in-Ok.ensures.goes (drawn_by g.T.Tape c.args.tape.now)).along.mounted told mounted)
 
 pub returns-then-is_whole-clause-damage : goal.returns-then-is_whole-clause-damage
-returns-then-is_whole-clause-damage g c told mounted = write_meets _ _ _ _ _ _ c.write_block.ensures.any (told, mounted)
+returns-then-is_whole-clause-damage g c told mounted =
+    write_meets _ (g.P.Platform.history c.args.platform.now).present (g.P.Platform.history c.write_block.new.platform).present
+    c.args.session.now c.args.part.block c.write_block.result c.write_block.ensures.any (told, mounted)
 
 pub returns-in-Err-clause-damage : goal.returns-in-Err-clause-damage
-returns-in-Err-clause-damage g c told mounted = read_meets _ _ _ _ _ _ (Err c.in-Err.stop) c.in-Err.ensures.any (told, mounted)
+returns-in-Err-clause-damage g c told mounted =
+    read_meets _ (g.P.Platform.history c.args.platform.now).present (g.P.Platform.history c.read_block.new.platform).present
+    c.args.session.now c.args.part.block c.read_block.new.out (Err c.in-Err.stop) c.in-Err.ensures.any (told, mounted)
