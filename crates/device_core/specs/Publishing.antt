@@ -1,10 +1,9 @@
 -- The cause of each answer of a format and of an erasure: which comes where, and that a fault comes only where the count of that object rose.
-use Rattle.std.specs.Prelude.{◌≡◌, ◌≢◌, ◌⊎◌, ◌+◌, None, Result, Ok, Err, length}
+use Rattle.std.specs.Prelude.{◌≡◌, ◌≢◌, ◌+◌, None, Result, Ok, Err}
 use Rattle.sdbt_base.specs.Counts.{Counts, PlatformRose, TapeRose, LedgerRose}
 use Rattle.sdbt_base.specs.Faults.{Rose}
 use Rattle.sdbt_base.specs.declared.tapes.Tape.{Ghosts as TapeGhosts}
 use Rattle.platform.specs.declared.platforms.Platform.{Ghosts as PlatformGhosts}
-use Rattle.platform.specs.Image.{Image}
 use Rattle.platform.specs.History.{CellStays}
 use Rattle.page_store.specs.Stands.{Stands}
 use Rattle.device_terms.specs.Effects.{AddsNothing}
@@ -20,10 +19,6 @@ abbrev pub IsPublishCause : Type 0 → Counts → Counts → Result (Unit {0}) P
 IsPublishCause Still before now (Ok done) = now ≡ before
 IsPublishCause Still before now (Err publish.Platform) = PlatformRose before now
 IsPublishCause Still before now (Err publish.Ledger) = LedgerRose before now × Still
-
--- the ledger is as it was, or all pages were synced before it got anything
-abbrev pub PutsSynced : {W : Type 0} → Image → W → W → Type 0
-PutsSynced image ledger ledger_now = (ledger_now ≡ ledger) ⊎ (image.synced ≡ length image.recorded)
 
 -- nothing came of a format: no page, no key, and at each moment the cell as it was
 abbrev pub IsUnmade : {S R : Type 0} → PlatformGhosts S → TapeGhosts R → S → S → R → R → Type 0

@@ -9,9 +9,9 @@ ghost use Rattle.root_codec.specs.declared.root.Root.{Root};
 ghost use Rattle.root_codec.specs.RootRecord.{root_bytes};
 ghost use Rattle.device_terms.specs.Served.{IsServedImage};
 ghost use Rattle.device_terms.specs.Effects.{Discloses, NamesLast};
-ghost use Rattle.device_terms.specs.Certifying.{Certifies};
+ghost use Rattle.device_terms.specs.Certifying.{Certifies, PutsSynced};
 ghost use Rattle.device_core.specs.Certifying.{IsOfFormat};
-ghost use Rattle.device_core.specs.Publishing.{IsFormatCause, PutsSynced};
+ghost use Rattle.device_core.specs.Publishing.{IsFormatCause};
 
 use crate::certifying::first_entry;
 use crate::publishing::{PublishFault, publish};
@@ -59,8 +59,8 @@ pub fn format<P: Platform, T: Tape, L: Sink>(
         (λ keys. IsSound (P.history platform.old).present) (λ keys. ⊤) }
     ensures certifies { Certifies P.tells (L.written ledger.old) (L.written ledger.new) (P.history platform.old) (P.history platform.new)
         (P.head platform.old) 0 (IsOfFormat (P.history platform.old).present (P.history platform.new).present) (IsOk result) }
-    // The pages outlast a loss of power before the ledger gets the entry.
-    ensures synced { P.tells → PutsSynced (P.history platform.new).present ledger.old ledger.new }
+    // The leaf's page was added, and all pages outlast a loss of power, before the ledger gets the entry.
+    ensures synced { PutsSynced P.Platform 1 platform.old platform.new ledger.old ledger.new }
     ensures grows { Grows P.Platform platform.old platform.new × (T.faults tape.old ≤ T.faults tape.new)
         × (L.faults ledger.old ≤ L.faults ledger.new) }
 {

@@ -5,7 +5,8 @@ ghost use Rattle.sdbt_base.specs.Told.{Got, GotPart};
 ghost use Rattle.platform.specs.Image.{with_cell, all_synced};
 ghost use Rattle.platform.specs.History.{Turns, CellStays};
 ghost use Rattle.root_codec.specs.RootRecord.{FitsRoot, root_bytes};
-ghost use Rattle.device_core.specs.Publishing.{IsPublishCause, PutsSynced};
+ghost use Rattle.device_terms.specs.Certifying.{PutsSynced};
+ghost use Rattle.device_core.specs.Publishing.{IsPublishCause};
 
 use platform::Platform;
 use root_codec::{Root, encode_root};
@@ -41,7 +42,7 @@ pub(crate) fn publish<P: Platform, L: Sink>(
         ⊎ (GotPart (L.written ledger.old) entry.now (L.written ledger.new)
         × (P.tells → CellStays (P.history platform.old) (P.history platform.new)) × (IsOk result → ⊥)) }
 
-    ensures synced { P.tells → PutsSynced (P.history platform.new).present ledger.old ledger.new }
+    ensures synced { PutsSynced P.Platform 0 platform.old platform.new ledger.old ledger.new }
     ensures head { P.head platform.new ≡ P.head platform.old }
     ensures capacity { P.capacity platform.new ≡ P.capacity platform.old }
     ensures reads { P.tells → P.reads platform.new ≡ P.reads platform.old }

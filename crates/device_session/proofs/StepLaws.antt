@@ -1,5 +1,5 @@
 -- What a commit says, by how far it came.
-use Rattle.std.proofs.Common.{◌≡◌, ◌≢◌, ◌∙◌, inl, ℕ, ◌+◌, ◌≤◌, ◌^◌, false, List, All, length, map, ◌++◌, Result, Ok, Err, refl, sym, ap, subst, arith}
+use Rattle.std.proofs.Common.{◌≡◌, ◌≢◌, ◌∙◌, inl, inr, ℕ, ◌+◌, ◌≤◌, ◌^◌, false, List, All, length, map, ◌++◌, Result, Ok, Err, refl, sym, ap, subst, arith}
 use Rattle.std.specs.Prelude.{Some, IfOk, IfErr, OnOk, IsOk}
 use Rattle.sdbt_base.specs.Arrays.{Device, Blocks, committed_with}
 use Rattle.sdbt_base.specs.Counts.{Counts, counts}
@@ -9,7 +9,7 @@ use Rattle.sdbt_base.specs.declared.tapes.Tape.{Ghosts as TapeGhosts}
 use Rattle.platform.specs.declared.platforms.Platform.{Ghosts as PlatformGhosts}
 use Rattle.platform.specs.Image.{Image}
 use Rattle.platform.specs.History.{Turns, CellStays}
-use Rattle.platform.proofs.Moments.{During-start, whole-now}
+use Rattle.platform.proofs.Moments.{During-start, Extends-earlier, whole-now}
 use Rattle.root_codec.specs.declared.root.Root.{Root}
 use Rattle.root_codec.specs.RootRecord.{root_bytes}
 use Rattle.page_store.specs.Keeping.{DrewAll, KeepsKeys}
@@ -39,6 +39,7 @@ use Rattle.device_session.specs.Open.{IsOpen, needed_by}
 use Rattle.device_session.specs.Holds.{Holds}
 use Rattle.device_session.specs.Keys.{HoldsListed}
 use Rattle.device_session.specs.Finishing.{PutsLine, IsPublishCause, TakesUp}
+use Rattle.device_terms.specs.Certifying.{PutsSynced}
 use Rattle.device_terms.specs.Effects.{NamesLast}
 use Rattle.device_terms.specs.Effects.{Discloses, GrowsBy}
 use Rattle.device_session.specs.Publishing.{Commits, HasRaised, IsCommitCause, commit_counts}
@@ -78,7 +79,7 @@ untouched_after session image device contents number off is h =
 pub commits_nothing : {S R W : Type 0} (P : PlatformGhosts S) (T : TapeGhosts R) (L : SinkGhosts W) (platform : S) (tape : R) (ledger : W) (session : Session) (result : Result CommitReply CommitFault)
     → IsOpen session (P.head platform)
     → (P.tells → (device : Device) (contents : Blocks) → Holds session (P.history platform).present device contents → IfOk result (λ reply. Holds session (P.history platform).present (device_after reply device contents) contents))
-    → IfErr result (IsCommitCause P T platform platform tape tape (commit_counts P T L platform tape ledger) (commit_counts P T L platform tape ledger))
+    → IfErr result (IsCommitCause P T platform platform tape tape ledger ledger (commit_counts P T L platform tape ledger) (commit_counts P T L platform tape ledger))
     → Commits P T L platform platform tape tape ledger ledger session session result
 commits_nothing P T L platform tape ledger session result opened array cause =
     let old = P.history platform in
@@ -93,6 +94,7 @@ commits_nothing P T L platform tape ledger session result opened array cause =
         forgets = λ told keys h. forgets_still old old (listed_sound session old.present keys h) (still old);
       };
       certifies = inl (refl, λ told. still old);
+      synced = inl refl;
       cause = cause;
       quiet = on_any result _ refl;
       grows = record { rises = omega arith; at_most = omega arith; capacity = refl; platform_faults = omega arith; tape_faults = omega arith; ledger_faults = omega arith };
@@ -117,7 +119,7 @@ same_counts P T L platform platform_now tape tape_now ledger same_platform same_
 pub commits_stopped : {S R W : Type 0} (P : PlatformGhosts S) (T : TapeGhosts R) (L : SinkGhosts W) (platform platform_now : S) (tape tape_now : R) (ledger : W) (session now : Session) (fault : CommitFault)
     → OnlyAdds P T platform platform_now tape tape_now → P.head platform_now ≤ P.head platform + needed_by session
     → KeepsKeys P.tells (T.drawn tape) (T.drawn tape_now) (P.history platform) (P.history platform_now) (KnowsPlaces (P.history platform).present (places_of session.grove)) (λ keys. Unit {0})
-    → IsCommitCause P T platform platform_now tape tape_now (commit_counts P T L platform tape ledger) (commit_counts P T L platform_now tape_now ledger) fault
+    → IsCommitCause P T platform platform_now tape tape_now ledger ledger (commit_counts P T L platform tape ledger) (commit_counts P T L platform_now tape_now ledger) fault
     → Commits P T L platform platform_now tape tape_now ledger ledger session now (Err fault)
 commits_stopped P T L platform platform_now tape tape_now ledger session now fault adds within keeps cause =
     let old = P.history platform in
@@ -133,6 +135,7 @@ commits_stopped P T L platform platform_now tape tape_now ledger session now fau
         forgets = λ told keys h. forgets_still old new (listed_sound session old.present keys h) (adds.cell told);
       };
       certifies = inl (refl, adds.cell);
+      synced = inl refl;
       cause = cause;
       quiet = tt;
       grows = record { rises = adds.head; at_most = within; capacity = adds.capacity; platform_faults = adds.platform_faults; tape_faults = adds.tape_faults; ledger_faults = omega arith };
@@ -184,11 +187,25 @@ commit_grows P T L platform mid new tape tape_now ledger ledger_now session prep
   ledger_faults = all.count;
 }
 
+-- all pages were synced before the line was put
+commit_synced : {S R W : Type 0} (P : PlatformGhosts S) (T : TapeGhosts R) (L : SinkGhosts W) (platform mid new : S) (tape tape_now : R) (ledger ledger_now : W) (session : Session) (prepared : Prepared) (Was : Type 0)
+    → IsCommitting P T L platform mid new tape tape_now ledger ledger_now session prepared Was → PutsSynced P (needed_by session) platform new ledger ledger_now
+commit_synced P T L platform mid new tape tape_now ledger ledger_now session prepared Was all =
+    let is = all.readied.ready.is in
+    inr (
+      all.swaps.head ∙ is.grown,
+      λ told.
+          let first = P.history mid in
+          let last = P.history new in
+          let synced : first.present.synced ≡ length first.present.recorded = ap (λ (i : Image). i.synced) (is.synced told) ∙ sym (ap (λ (i : Image). length i.recorded) (is.synced told)) in
+          omega (arith, synced, (Extends-earlier first last (all.turns told).extends).synced, (whole-now last).synced, all.size told),
+    )
+
 -- why the last steps failed
 failed_cause : {S R W : Type 0} (P : PlatformGhosts S) (T : TapeGhosts R) (L : SinkGhosts W) (platform mid new : S) (tape tape_now : R) (ledger ledger_now : W) (session : Session) (prepared : Prepared) (Was : Type 0) (fault : CommitFault)
     → IsCommitting P T L platform mid new tape tape_now ledger ledger_now session prepared Was
     → IsPublishCause (P.tells → CellStays (P.history mid) (P.history new)) (counts (P.faults mid) 0 0 0 (L.faults ledger)) (counts (P.faults new) 0 0 0 (L.faults ledger_now)) (refused fault)
-    → IsCommitCause P T platform new tape tape_now (commit_counts P T L platform tape ledger) (commit_counts P T L new tape_now ledger_now) fault
+    → IsCommitCause P T platform new tape tape_now ledger ledger_now (commit_counts P T L platform tape ledger) (commit_counts P T L new tape_now ledger_now) fault
 failed_cause P T L platform mid new tape tape_now ledger ledger_now session prepared Was fault.PlatformFault all cause = (
   subst (λ (n : ℕ). Rose n (P.faults new)) all.quiet.0 cause.0,
   λ k. counts (P.faults new) (all.quiet.1 k) 0 0 (cause.1 k).ledger,
@@ -213,6 +230,7 @@ commits_failed P T L platform mid new tape tape_now ledger ledger_now session no
   discloses = commit_discloses P T L platform mid new tape tape_now ledger ledger_now session prepared Was (λ keys. Unit {0}) all (λ told device contents h keys. tt);
   certifies = commit_certifies P.tells (L.written ledger) (L.written ledger_now) (P.history platform) (P.history mid) (P.history new) (T.drawn tape) (T.drawn tape_now) session (P.head platform) (P.head mid) prepared Was (done (Err fault)) all.readied
       (λ was ok. absurd cc) all.turns all.put;
+  synced = commit_synced P T L platform mid new tape tape_now ledger ledger_now session prepared Was all;
   cause = failed_cause P T L platform mid new tape tape_now ledger ledger_now session prepared Was fault all cause;
   quiet = tt;
   grows = commit_grows P T L platform mid new tape tape_now ledger ledger_now session prepared Was all;
@@ -280,6 +298,7 @@ commits_done P T L platform mid new tape tape_now ledger ledger_now session now 
           (λ told device contents h keys. listed_fresh now (P.history new).present (committed_with device contents) contents keys (taken_pages session now r.cache next taken r.ready.is.in_range) (holds told device contents h));
       certifies = commit_certifies P.tells (L.written ledger) (L.written ledger_now) (P.history platform) (P.history mid) (P.history new) (T.drawn tape) (T.drawn tape_now) session (P.head platform) (P.head mid) prepared Was (done (Ok (Committed number))) r
           (λ never ok. was never) all.turns all.put;
+      synced = commit_synced P T L platform mid new tape tape_now ledger ledger_now session prepared Was all;
       cause = tt;
       quiet =
           let same : P.faults new ≡ P.faults platform = ap (λ (c : Counts). c.platform) quiet ∙ all.quiet.0 in

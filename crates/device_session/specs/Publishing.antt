@@ -22,7 +22,7 @@ use Rattle.device_session.specs.declared.refusals.CommitReply.{CommitReply}
 use Rattle.device_session.specs.declared.refusals.CommitReply.TheVariants.{Committed}
 use Rattle.device_session.specs.declared.refusals.CommitFault.{CommitFault}
 use Rattle.device_session.specs.declared.refusals.CommitFault.TheVariants as commit
-use Rattle.device_terms.specs.Certifying.{Certifies}
+use Rattle.device_terms.specs.Certifying.{Certifies, PutsSynced}
 use Rattle.device_terms.specs.Effects.{Discloses, AddsNothing, GrowsBy, NamesLast}
 use Rattle.device_session.specs.Certifying.{IsOfCommit}
 use Rattle.device_session.specs.Holds.{Holds}
@@ -68,15 +68,15 @@ pub record HasRaised {S R : Type 0} (P : PlatformGhosts S) (T : TapeGhosts R) (p
   pub keys : P.tells → (device : Device) (contents : Blocks) → Holds session (P.history platform).present device contents → HasTreeKeys now (P.history platform_now).present.readable
 
 -- a commit fails where the platform, the tape or the ledger failed, and no other of them, or no memory was given, for which nothing was handed over and none
--- failed. But for a fault of the platform the cell is as it was at each moment
-abbrev pub IsCommitCause : {S R : Type 0} → PlatformGhosts S → TapeGhosts R → S → S → R → R → Counts → Counts → CommitFault → Type 0
-IsCommitCause P T platform platform_now tape tape_now before now commit.PlatformFault = PlatformRose before now
-IsCommitCause P T platform platform_now tape tape_now before now commit.TapeFault =
-    TapeRose before now × (P.tells → CellStays (P.history platform) (P.history platform_now))
-IsCommitCause P T platform platform_now tape tape_now before now commit.LedgerFault =
+-- failed. But for a fault of the platform the cell is as it was at each moment; and where no key was drawn, or no memory given, the ledger is as it was
+abbrev pub IsCommitCause : {S R W : Type 0} → PlatformGhosts S → TapeGhosts R → S → S → R → R → W → W → Counts → Counts → CommitFault → Type 0
+IsCommitCause P T platform platform_now tape tape_now ledger ledger_now before now commit.PlatformFault = PlatformRose before now
+IsCommitCause P T platform platform_now tape tape_now ledger ledger_now before now commit.TapeFault =
+    TapeRose before now × (P.tells → CellStays (P.history platform) (P.history platform_now)) × (ledger_now ≡ ledger)
+IsCommitCause P T platform platform_now tape tape_now ledger ledger_now before now commit.LedgerFault =
     LedgerRose before now × (P.tells → CellStays (P.history platform) (P.history platform_now))
-IsCommitCause P T platform platform_now tape tape_now before now commit.Memory =
-    AddsNothing P T platform platform_now tape tape_now × (P.tells → CellStays (P.history platform) (P.history platform_now)) × (now ≡ before)
+IsCommitCause P T platform platform_now tape tape_now ledger ledger_now before now commit.Memory =
+    AddsNothing P T platform platform_now tape tape_now × (P.tells → CellStays (P.history platform) (P.history platform_now)) × (now ≡ before) × (ledger_now ≡ ledger)
 
 -- the counts of faults of what a commit is handed
 abbrev pub commit_counts : {S R W : Type 0} → PlatformGhosts S → TapeGhosts R → SinkGhosts W → S → R → W → Counts
@@ -95,6 +95,8 @@ pub record Commits {S R W : Type 0} (P : PlatformGhosts S) (T : TapeGhosts R) (L
       (HoldsListed session (P.history platform).present) (λ keys. OnOk result (HoldsListed now (P.history platform_now).present keys))
   pub certifies : Certifies P.tells (L.written ledger) (L.written ledger_now) (P.history platform) (P.history platform_now)
       session.root.head (number_of session + 1) (IsOfCommit session (P.history platform).present (P.history platform_now).present) (IsOk result)
-  pub cause : IfErr result (IsCommitCause P T platform platform_now tape tape_now (commit_counts P T L platform tape ledger) (commit_counts P T L platform_now tape_now ledger_now))
+  -- each node in memory has its page, and all pages outlast a loss of power, before the ledger gets anything
+  pub synced : PutsSynced P (needed_by session) platform platform_now ledger ledger_now
+  pub cause : IfErr result (IsCommitCause P T platform platform_now tape tape_now ledger ledger_now (commit_counts P T L platform tape ledger) (commit_counts P T L platform_now tape_now ledger_now))
   pub quiet : OnOk result (commit_counts P T L platform_now tape_now ledger_now ≡ commit_counts P T L platform tape ledger)
   pub grows : GrowsBy P T L (needed_by session) platform platform_now tape tape_now ledger ledger_now

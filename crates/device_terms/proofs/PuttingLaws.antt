@@ -1,12 +1,14 @@
 -- What the publishing of a root record puts to the ledger, and what a call puts that ends with it.
-use Rattle.std.proofs.Common.{◌≡◌, inl, inr, ℕ, List, Some, subst}
+use Rattle.std.proofs.Common.{◌≡◌, ◌+◌, inl, inr, ℕ, List, Some, subst, arith}
 use Rattle.std.specs.Prelude.{◌⊎◌, Option}
 use Rattle.sdbt_base.specs.Told.{Got, GotPart}
 use Rattle.platform.specs.History.{History, CellStays}
+use Rattle.platform.specs.declared.platforms.Platform.{Ghosts}
 use Rattle.root_codec.specs.declared.root.Root.{Root}
 use Rattle.root_codec.specs.RootRecord.{root_bytes}
 use Rattle.cert_maker.specs.Cert.{Cert}
 use Rattle.cert_codec.specs.Text.{entry}
+use Rattle.device_terms.specs.Certifying.{PutsSynced}
 use Rattle.device_terms.proofs.MomentLaws.{stays_then}
 
 -- what the publishing of a root record put to the ledger
@@ -36,4 +38,11 @@ pub published_done : (tells : Type 0) (written written_now : Option (List ℕ)) 
 published_done tells written written_now mid new line root Was Done never put = elim put [
   | inl whole ↦ inl (whole.0, λ told. elim (whole.1 told) [ inl came ↦ inl came | inr stays ↦ inr (stays.0, never stays.1) ])
   | inr part ↦ inr (part.0, part.1, never part.2)
+]
+
+-- pages that were added before the call count, too
+pub puts_behind : {S W : Type 0} (P : Ghosts S) (more all : ℕ) (platform mid new : S) (ledger ledger_now : W) → P.head mid + more ≡ P.head platform + all → PutsSynced P more mid new ledger ledger_now → PutsSynced P all platform new ledger ledger_now
+puts_behind P more all platform mid new ledger ledger_now head put = elim put [
+  | inl same ↦ inl same
+  | inr got ↦ inr (omega (arith, head, got.0), got.1)
 ]

@@ -1,8 +1,9 @@
 -- What is put to the ledger before a root record is replaced.
-use Rattle.std.specs.Prelude.{◌≡◌, ◌⊎◌, ℕ, List, Option, Some}
+use Rattle.std.specs.Prelude.{◌≡◌, ◌⊎◌, ◌+◌, ℕ, List, Option, Some, length}
 use Rattle.sdbt_base.specs.Told.{Got, GotPart}
 use Rattle.sdbt_base.specs.declared.lists.Unkept.{Unkept}
 use Rattle.platform.specs.History.{History, CellStays}
+use Rattle.platform.specs.declared.platforms.Platform.{Ghosts}
 use Rattle.root_codec.specs.declared.root.Root.{Root}
 use Rattle.root_codec.specs.RootRecord.{FitsRoot, root_bytes}
 use Rattle.page_store.specs.Tree.{Place, Parts, Tree}
@@ -41,3 +42,9 @@ pub record PutsEntry (tells : Type 0) (written written_now : Option (List ℕ)) 
 abbrev pub Certifies : Type 0 → Option (List ℕ) → Option (List ℕ) → History → History → ℕ → ℕ → (Root → Cert → Type 0) → Type 0 → Type 0
 Certifies tells written written_now old new base commit Is Done =
     ((written_now ≡ written) × (tells → CellStays old new)) ⊎ PutsEntry tells written written_now old new base commit Is Done
+
+-- the ledger is as it was; or it got something, and before that so many pages were added and all pages were synced
+abbrev pub PutsSynced : {S W : Type 0} → Ghosts S → ℕ → S → S → W → W → Type 0
+PutsSynced P added platform platform_now ledger ledger_now =
+    (ledger_now ≡ ledger)
+    ⊎ ((P.head platform_now ≡ P.head platform + added) × (P.tells → (P.history platform_now).present.synced ≡ length (P.history platform_now).present.recorded))

@@ -27,26 +27,34 @@ use Rattle.device_session.specs.declared.refusals.CommitReply.TheVariants as rep
 use Rattle.device_session.proofs.CountLaws.{needs_none}
 use Rattle.sdbt_base.specs.Counts.{Counts}
 use Rattle.session_calls.specs.Blame.{HasCause}
-use Rattle.session_calls.specs.Commits.{AnswersReply, CommitLeads, HasNumber, LeftAt, ReplyLeads, stop_of_fault}
+use Rattle.session_calls.specs.Commits.{AnswersReply, CommitLeads, HasNumber, LeavesLedger, LeftAt, ReplyLeads, stop_of_fault}
 use Rattle.session_calls.specs.declared.stops.DeviceStop.{DeviceStop}
 use Rattle.session_calls.specs.declared.stops.DeviceStop.TheVariants as stops
 use Rattle.session_calls.proofs.StateLaws.{at_array}
 
 -- whose count rose, and that no other did
-pub fault_blamed : {S R : Type 0} (P : PlatformGhosts S) (T : TapeGhosts R) (platform platform_now : S) (tape tape_now : R) (fault : CommitFault) (before now : Counts)
-    → IsCommitCause P T platform platform_now tape tape_now before now fault → HasCause before now (stop_of_fault fault)
-fault_blamed P T platform platform_now tape tape_now faults.PlatformFault before now cause = cause
-fault_blamed P T platform platform_now tape tape_now faults.TapeFault before now cause = cause.0
-fault_blamed P T platform platform_now tape tape_now faults.LedgerFault before now cause = cause.0
-fault_blamed P T platform platform_now tape tape_now faults.Memory before now cause = cause.2
+pub fault_blamed : {S R W : Type 0} (P : PlatformGhosts S) (T : TapeGhosts R) (platform platform_now : S) (tape tape_now : R) (ledger ledger_now : W) (fault : CommitFault) (before now : Counts)
+    → IsCommitCause P T platform platform_now tape tape_now ledger ledger_now before now fault → HasCause before now (stop_of_fault fault)
+fault_blamed P T platform platform_now tape tape_now ledger ledger_now faults.PlatformFault before now cause = cause
+fault_blamed P T platform platform_now tape tape_now ledger ledger_now faults.TapeFault before now cause = cause.0
+fault_blamed P T platform platform_now tape tape_now ledger ledger_now faults.LedgerFault before now cause = cause.0
+fault_blamed P T platform platform_now tape tape_now ledger ledger_now faults.Memory before now cause = cause.2
 
 -- what it left
-pub fault_left : {S R : Type 0} (P : PlatformGhosts S) (T : TapeGhosts R) (platform platform_now : S) (tape tape_now : R) (fault : CommitFault) (before now : Counts)
-    → IsCommitCause P T platform platform_now tape tape_now before now fault → LeftAt P T platform platform_now tape tape_now (stop_of_fault fault)
-fault_left P T platform platform_now tape tape_now faults.PlatformFault before now cause = tt
-fault_left P T platform platform_now tape tape_now faults.TapeFault before now cause = cause.1
-fault_left P T platform platform_now tape tape_now faults.LedgerFault before now cause = cause.1
-fault_left P T platform platform_now tape tape_now faults.Memory before now cause = (cause.0, cause.1)
+pub fault_left : {S R W : Type 0} (P : PlatformGhosts S) (T : TapeGhosts R) (platform platform_now : S) (tape tape_now : R) (ledger ledger_now : W) (fault : CommitFault) (before now : Counts)
+    → IsCommitCause P T platform platform_now tape tape_now ledger ledger_now before now fault → LeftAt P T platform platform_now tape tape_now (stop_of_fault fault)
+fault_left P T platform platform_now tape tape_now ledger ledger_now faults.PlatformFault before now cause = tt
+fault_left P T platform platform_now tape tape_now ledger ledger_now faults.TapeFault before now cause = cause.1
+fault_left P T platform platform_now tape tape_now ledger ledger_now faults.LedgerFault before now cause = cause.1
+fault_left P T platform platform_now tape tape_now ledger ledger_now faults.Memory before now cause = (cause.0, cause.1)
+
+-- and of the ledger
+pub fault_unput : {S R W : Type 0} (P : PlatformGhosts S) (T : TapeGhosts R) (platform platform_now : S) (tape tape_now : R) (ledger ledger_now : W) (fault : CommitFault) (before now : Counts)
+    → IsCommitCause P T platform platform_now tape tape_now ledger ledger_now before now fault → LeavesLedger ledger ledger_now (stop_of_fault fault)
+fault_unput P T platform platform_now tape tape_now ledger ledger_now faults.PlatformFault before now cause = tt
+fault_unput P T platform platform_now tape tape_now ledger ledger_now faults.TapeFault before now cause = cause.2
+fault_unput P T platform platform_now tape tape_now ledger ledger_now faults.LedgerFault before now cause = tt
+fault_unput P T platform platform_now tape tape_now ledger ledger_now faults.Memory before now cause = cause.3
 
 -- of the device
 pub fault_leads : {S R : Type 0} (P : PlatformGhosts S) (T : TapeGhosts R) (platform platform_now : S) (tape tape_now : R) (fault : CommitFault) (device : Device) (array : OpenSession) → P.tells

@@ -1,10 +1,11 @@
 -- What a commit of a session says, by its answer.
-use Rattle.std.specs.Prelude.{◌≡◌, ◌+◌, ◌-◌, ◌<◌, ◌≤◌, ℕ, true, false, Some, Result, Ok, Err, IfOk, IsOk}
+use Rattle.std.specs.Prelude.{◌≡◌, ◌+◌, ◌-◌, ◌<◌, ◌≤◌, ℕ, true, false, Some, Result, Ok, Err, IfErr, IfOk, IsOk}
 use Rattle.sdbt_base.specs.Arrays.{Device, Session as OpenSession, committed, committed_if, mounted}
 use Rattle.sdbt_base.specs.declared.sinks.Sink.{Ghosts as SinkGhosts}
 use Rattle.sdbt_base.specs.declared.tapes.Tape.{Ghosts as TapeGhosts}
 use Rattle.platform.specs.declared.platforms.Platform.{Ghosts as PlatformGhosts}
 use Rattle.platform.specs.History.{CellStays, During, History, Turns}
+use Rattle.device_terms.specs.Certifying.{PutsSynced}
 use Rattle.device_terms.specs.Effects.{AddsNothing}
 use Rattle.device_course.specs.Keys.{KeepsOn}
 use Rattle.device_course.specs.Marks.{Leaves}
@@ -37,6 +38,15 @@ pub record ComesBack {S : Type 0} (P : PlatformGhosts S) (platform_now : S) (ses
   pub blocks : blocks_of now ≡ blocks_of session
   pub room : room_of now ≡ room_of session
 
+-- what a stop leaves of the ledger: where no key is drawn, or no memory given, it is as it was
+abbrev pub LeavesLedger : {W : Type 0} → W → W → DeviceStop → Type 0
+LeavesLedger ledger ledger_now stops.Tape = ledger_now ≡ ledger
+LeavesLedger ledger ledger_now stops.Memory = ledger_now ≡ ledger
+LeavesLedger ledger ledger_now stops.Platform = Unit {0}
+LeavesLedger ledger ledger_now stops.Ledger = Unit {0}
+LeavesLedger ledger ledger_now stops.BadRoot = ⊥
+LeavesLedger ledger ledger_now (stops.BadRecord addr) = ⊥
+
 -- what a commit does to a run, whatever its answer: it adds at most the pages that it needs; keys are kept, and the ledger gets what belongs to the root records that come into the cell, of one
 -- more entry a part only where no session comes back; and a stop at a fault came where the count of that object rose
 pub record CommitGoes {S R W : Type 0} (P : PlatformGhosts S) (T : TapeGhosts R) (L : SinkGhosts W) (platform platform_now : S) (tape tape_now : R) (ledger ledger_now : W) (session : Session) (result : Result Committed DeviceStop) : Type 0 where
@@ -47,6 +57,9 @@ pub record CommitGoes {S R W : Type 0} (P : PlatformGhosts S) (T : TapeGhosts R)
   pub keeps : KeepsOn P.tells (T.drawn tape) (T.drawn tape_now) (L.written ledger) (L.written ledger_now) (Some session) (P.history platform) (P.history platform_now) (IsOk result)
       (λ keys. IfOk result (λ done. IsListed (Some done.session) (P.history platform_now).present keys))
   pub blame : IsBlamed (counts (P.faults platform) (T.faults tape) 0 0 (L.faults ledger)) (counts (P.faults platform_now) (T.faults tape_now) 0 0 (L.faults ledger_now)) result
+  -- the pages that it needs are added, and all pages are synced, before the ledger gets anything
+  pub synced : PutsSynced P (needed_by session) platform platform_now ledger ledger_now
+  pub unput : IfErr result (LeavesLedger ledger ledger_now)
 
 -- the session, and all that it was handed, are as they were
 abbrev pub AreSame : {S R W : Type 0} → S → S → R → R → W → W → Session → Session → Type 0

@@ -7,6 +7,8 @@ use Rattle.std.specs.Prelude.{IsTrue, IsSome, ◌↔◌, ◌≢◌}
 use Rattle.std.proofs.lemmas.Grind.{common_steps}
 use Rattle.device_terms.proofs.MomentLaws.{one_look, call_more, stays_then}
 use Rattle.device_terms.proofs.StandingLaws.{during_stands}
+use Rattle.device_terms.proofs.PuttingLaws.{puts_behind}
+use Rattle.device_terms.specs.Certifying.{PutsSynced}
 use Rattle.device_core.proofs.FirstLaws.{IsFirst, first_root, is_first, no_entries_fit}
 use Rattle.platform.specs.Image.{Image}
 use Rattle.root_codec.specs.declared.root.Root.{Root}
@@ -295,3 +297,16 @@ returns-in-Ok-publish-clause-certifies g c =
     let address : c.in-Ok-append.placed.addr ≡ g.P.Platform.head c.load_root.new.self = c.in-Ok-append.ensures.placed.address in
     format_certifies _ _ _ _ _ _ _ _ _ _ _ _ _ _ _ (λ was ok. was (ap is_ok c.in-Ok-publish.is)) (address ∙ c.load_root.ensures.head) (c.head-addr.ensures.value ∙ c.load_root.ensures.head)
     (calls g at.After-publish (written_first g at.In-Ok-append)) c.in-Ok-first_entry.ensures (rw c.bytes.ensures at c.publish.ensures.put)
+
+-- the leaf's page was added before
+behind : (g : Over) (c : After-publish g) → PutsSynced g.P.Platform 1 c.args.platform.now c.publish.new.platform c.args.ledger.now c.publish.new.ledger
+behind g c = puts_behind g.P.Platform 0 1 c.args.platform.now c.append.new.platform c.publish.new.platform c.args.ledger.now c.publish.new.ledger (omega (arith, c.in-Ok-append.ensures.placed.head, c.load_root.ensures.head)) c.publish.ensures.synced
+
+pub returns-in-Ok-publish-clause-synced : goal.returns-in-Ok-publish-clause-synced
+returns-in-Ok-publish-clause-synced g c = behind g (goal.at.returns-in-Ok-publish-clause-synced g c).After-publish
+
+pub returns-in-Err-Ledger-clause-synced : goal.returns-in-Err-Ledger-clause-synced
+returns-in-Err-Ledger-clause-synced g c = behind g (goal.at.returns-in-Err-Ledger-clause-synced g c).After-publish
+
+pub returns-clause-synced : goal.returns-clause-synced
+returns-clause-synced g c = behind g (goal.at.returns-clause-synced g c).After-publish

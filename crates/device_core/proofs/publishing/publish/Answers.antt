@@ -1,4 +1,4 @@
-use Rattle.std.proofs.Common.{◌≡◌, inl, inr, ℕ, List, Option, Some, length, ap, sym, ◌∙◌}
+use Rattle.std.proofs.Common.{◌≡◌, inl, inr, ℕ, List, Option, Some, length, ap, sym, ◌∙◌, arith}
 use Rattle.platform.specs.Image.{Image, IsEither, all_synced, with_cell}
 use Rattle.device_terms.proofs.MomentLaws.{one_call, call_more, not_published, published}
 use Rattle.device_core.proofs.publishing.publish.Goals as goal
@@ -54,10 +54,16 @@ synced_still old new cell synced (inl is) = ap (λ (i : Image). i.synced) is ∙
 synced_still old new cell synced (inr is) = ap (λ (i : Image). i.synced) is ∙ (synced ∙ sym (ap (λ (i : Image). length i.recorded) is))
 
 pub returns-in_default-put-clause-synced : goal.returns-in_default-put-clause-synced
-returns-in_default-put-clause-synced g c = λ told. inr (synced_all (g.P.Platform.history c.args.platform.now).present (g.P.Platform.history c.sync.new.self).present (c.in-Ok.ensures.synced told))
+returns-in_default-put-clause-synced g c = inr (omega (arith, c.sync.ensures.head), λ told. synced_all (g.P.Platform.history c.args.platform.now).present (g.P.Platform.history c.sync.new.self).present (c.in-Ok.ensures.synced told))
 
 pub returns-in-Ok-swap_root-clause-synced : goal.returns-in-Ok-swap_root-clause-synced
-returns-in-Ok-swap_root-clause-synced g c = λ told. inr (synced_still (g.P.Platform.history c.sync.new.self).present (g.P.Platform.history c.swap_root.new.self).present (Some c.encode_root.new.out) (synced_all (g.P.Platform.history c.args.platform.now).present (g.P.Platform.history c.sync.new.self).present (c.in-Ok.ensures.synced told)) (c.swap_root.ensures.either told))
+returns-in-Ok-swap_root-clause-synced g c = inr (
+  omega (arith, c.sync.ensures.head, c.swap_root.ensures.head),
+  λ told. synced_still (g.P.Platform.history c.sync.new.self).present (g.P.Platform.history c.swap_root.new.self).present (Some c.encode_root.new.out) (synced_all (g.P.Platform.history c.args.platform.now).present (g.P.Platform.history c.sync.new.self).present (c.in-Ok.ensures.synced told)) (c.swap_root.ensures.either told),
+)
 
 pub returns-in-Err-clause-synced : goal.returns-in-Err-clause-synced
-returns-in-Err-clause-synced g c = λ told. inr (synced_still (g.P.Platform.history c.sync.new.self).present (g.P.Platform.history c.swap_root.new.self).present (Some c.encode_root.new.out) (synced_all (g.P.Platform.history c.args.platform.now).present (g.P.Platform.history c.sync.new.self).present (c.in-Ok.ensures.synced told)) (c.swap_root.ensures.either told))
+returns-in-Err-clause-synced g c = inr (
+  omega (arith, c.sync.ensures.head, c.swap_root.ensures.head),
+  λ told. synced_still (g.P.Platform.history c.sync.new.self).present (g.P.Platform.history c.swap_root.new.self).present (Some c.encode_root.new.out) (synced_all (g.P.Platform.history c.args.platform.now).present (g.P.Platform.history c.sync.new.self).present (c.in-Ok.ensures.synced told)) (c.swap_root.ensures.either told),
+)

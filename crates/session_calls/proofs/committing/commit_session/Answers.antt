@@ -8,9 +8,9 @@ use Rattle.device_session.specs.declared.refusals.CommitFault.{CommitFault}
 use Rattle.device_session.specs.declared.refusals.CommitReply.{CommitReply}
 use Rattle.sdbt_base.specs.Counts.{Counts, counts}
 use Rattle.session_calls.specs.Blame.{HasCause}
-use Rattle.session_calls.specs.Commits.{CommitLeads, LeftAt}
+use Rattle.session_calls.specs.Commits.{CommitLeads, LeavesLedger, LeftAt}
 use Rattle.session_calls.specs.declared.stops.DeviceStop.{DeviceStop}
-use Rattle.session_calls.proofs.CommitLaws.{fault_blamed, fault_leads, fault_left, reply_answers, reply_leads}
+use Rattle.session_calls.proofs.CommitLaws.{fault_blamed, fault_leads, fault_left, fault_unput, reply_answers, reply_leads}
 use Rattle.session_calls.proofs.committing.commit_session.Goals as goal
 
 pub returns-in-Ok-clause-goes : goal.returns-in-Ok-clause-goes
@@ -34,6 +34,8 @@ returns-in-Ok-clause-goes g c =
         quiet = commits.quiet;
         cause = tt;
       };
+      synced = commits.synced;
+      unput = tt;
     }
 
 pub returns-in-Err-clause-goes : goal.returns-in-Err-clause-goes
@@ -49,8 +51,10 @@ returns-in-Err-clause-goes g c =
       blame = record {
         fell = record { platform = commits.grows.platform_faults; tape = commits.grows.tape_faults; input = omega arith; output = omega arith; ledger = commits.grows.ledger_faults };
         quiet = tt;
-        cause = subst (λ (s : DeviceStop). HasCause before now s) (sym c.stop_of.ensures) (fault_blamed g.P.Platform g.T.Tape _ _ _ _ c.in-Err.fault before now commits.cause);
+        cause = subst (λ (s : DeviceStop). HasCause before now s) (sym c.stop_of.ensures) (fault_blamed g.P.Platform g.T.Tape _ _ _ _ _ _ c.in-Err.fault before now commits.cause);
       };
+      synced = commits.synced;
+      unput = subst (λ (s : DeviceStop). LeavesLedger c.args.ledger.now c.commit.new.ledger s) (sym c.stop_of.ensures) (fault_unput g.P.Platform g.T.Tape _ _ _ _ _ _ c.in-Err.fault before now commits.cause);
     }
 
 pub returns-in-Ok-clause-answers : goal.returns-in-Ok-clause-answers
@@ -69,7 +73,7 @@ returns-in-Err-clause-answers g c =
         | inl few ↦ absurd (let no = (c.in-Err.ensures.full touched few).5 in cc)
         | inr many ↦ many
       ];
-      left = subst (λ (s : DeviceStop). LeftAt P g.T.Tape c.args.platform.now c.commit.new.platform c.args.tape.now c.commit.new.tape s) (sym c.stop_of.ensures) (fault_left P g.T.Tape _ _ _ _ c.in-Err.fault _ _ c.in-Err.ensures.commits.cause);
+      left = subst (λ (s : DeviceStop). LeftAt P g.T.Tape c.args.platform.now c.commit.new.platform c.args.tape.now c.commit.new.tape s) (sym c.stop_of.ensures) (fault_left P g.T.Tape _ _ _ _ _ _ c.in-Err.fault _ _ c.in-Err.ensures.commits.cause);
     }
 
 pub returns-in-Ok-clause-leads : goal.returns-in-Ok-clause-leads
@@ -89,4 +93,4 @@ returns-in-Err-clause-leads g c told device array at =
     let P = g.P.Platform in
     let commits = c.in-Err.ensures.commits in
     subst (λ (s : DeviceStop). CommitLeads (P.history c.args.platform.now) (P.history c.commit.new.platform) device array (Err s)) (sym c.stop_of.ensures)
-    (fault_leads P g.T.Tape _ _ c.args.tape.now c.commit.new.tape c.in-Err.fault device array told (fault_left P g.T.Tape _ _ _ _ c.in-Err.fault _ _ commits.cause) at.there.device (commits.time told device array.contents at.there.session.0))
+    (fault_leads P g.T.Tape _ _ c.args.tape.now c.commit.new.tape c.in-Err.fault device array told (fault_left P g.T.Tape _ _ _ _ _ _ c.in-Err.fault _ _ commits.cause) at.there.device (commits.time told device array.contents at.there.session.0))

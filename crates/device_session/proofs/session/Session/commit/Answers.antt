@@ -1,4 +1,4 @@
-use Rattle.std.proofs.Common.{◌≡◌, ◌∙◌, ℕ, is_ok, sym, ap, subst, arith}
+use Rattle.std.proofs.Common.{◌≡◌, ◌∙◌, ℕ, is_ok, refl, sym, ap, subst, arith}
 use Rattle.sdbt_base.specs.Counts.{counts}
 use Rattle.std.specs.Prelude.{IsOk, box_value}
 use Rattle.btree_walk.specs.declared.reader.NodeReader.{NodeReader}
@@ -53,13 +53,13 @@ pub returns-in-Err-Memory-clause-commits : goal.returns-in-Err-Memory-clause-com
 returns-in-Err-Memory-clause-commits g c = rw (← c.self.view_is) (
     let cause = rw c.in-Err-Memory.field-0-is at c.in-Err-Memory.ensures.cause in
     commits_stopped _ _ _ _ _ _ _ _ _ _ _ c.prepare.ensures.beside c.prepare.ensures.within c.in-Err-Memory.ensures.keeps
-    (record { head = ap g.P.Platform.head cause.1; image = λ told. ap (λ s. (g.P.Platform.history s).present) cause.1; drawn = ap g.T.Tape.drawn cause.2 }, c.prepare.ensures.beside.cell, same_counts g.P.Platform g.T.Tape g.L.Sink _ _ _ _ _ cause.1 cause.2))
+    (record { head = ap g.P.Platform.head cause.1; image = λ told. ap (λ s. (g.P.Platform.history s).present) cause.1; drawn = ap g.T.Tape.drawn cause.2 }, c.prepare.ensures.beside.cell, same_counts g.P.Platform g.T.Tape g.L.Sink _ _ _ _ _ cause.1 cause.2, refl))
 
 pub returns-in-Err-TapeFault-clause-commits : goal.returns-in-Err-TapeFault-clause-commits
 returns-in-Err-TapeFault-clause-commits g c = rw (← c.self.view_is) (
     let cause = rw c.in-Err-TapeFault.field-0-is at c.in-Err-TapeFault.ensures.cause in
     commits_stopped _ _ _ _ _ _ _ _ _ _ _ c.prepare.ensures.beside c.prepare.ensures.within c.in-Err-TapeFault.ensures.keeps
-    ((cause.1, ap (λ (n : ℕ). counts n (g.T.Tape.faults c.prepare.new.tape) 0 0 (g.L.Sink.faults c.args.ledger.now)) cause.2), c.prepare.ensures.beside.cell))
+    ((cause.1, ap (λ (n : ℕ). counts n (g.T.Tape.faults c.prepare.new.tape) 0 0 (g.L.Sink.faults c.args.ledger.now)) cause.2), c.prepare.ensures.beside.cell, refl))
 
 pub returns-in-Err-PlatformFault-clause-commits : goal.returns-in-Err-PlatformFault-clause-commits
 returns-in-Err-PlatformFault-clause-commits g c = rw (← c.self.view_is) (
