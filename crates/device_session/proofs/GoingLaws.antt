@@ -74,22 +74,28 @@ needed_ready : (old new : Grove) → KeepsTree old new → grown_in new ≡ grow
 needed_ready old new k = let level = k.level in let top = k.top in (λ i. nodes (level i) (top i))
 
 -- nothing was changed
-pub updates_none : {E : Type 0} (session now : Session) (result : Result (Unit {0}) E) → needed_by now ≡ needed_by session → now.is_touched ≡ session.is_touched → Updates session now result
-updates_none session now result needs touched = record { needs = omega (arith, needs); needs_still = still (needed_by now ≡ needed_by session) result needs; touched_still = still (now.is_touched ≡ session.is_touched) result touched }
+pub updates_none : {E : Type 0} (session now : Session) (result : Result (Unit {0}) E) → needed_by now ≡ needed_by session → now.is_touched ≡ session.is_touched → now.mapped ≡ session.mapped → Updates session now result
+updates_none session now result needs touched mapped = record {
+  needs = omega (arith, needs);
+  needs_still = still (needed_by now ≡ needed_by session) result needs;
+  touched_still = still (now.is_touched ≡ session.is_touched) result touched;
+  mapped_still = still (now.mapped ≡ session.mapped) result mapped;
+}
 
 -- an update after a look
-pub updates_then : {E : Type 0} (session between now : Session) (result : Result (Unit {0}) E) → between.is_touched ≡ session.is_touched → KeepsTree session.grove between.grove → Updates between now result → Updates session now result
-updates_then session between now result touched tree u =
+pub updates_then : {E : Type 0} (session between now : Session) (result : Result (Unit {0}) E) → between.mapped ≡ session.mapped → between.is_touched ≡ session.is_touched → KeepsTree session.grove between.grove → Updates between now result → Updates session now result
+updates_then session between now result mapped touched tree u =
     let same = needed_ready session.grove between.grove tree in
     record {
       needs = subst (λ n. needed_by now ≤ n + 41) same u.needs;
       needs_still = subst (λ n. OnErr result (needed_by now ≡ n)) same u.needs_still;
       touched_still = subst (λ b. OnErr result (now.is_touched ≡ b)) touched u.touched_still;
+      mapped_still = subst (λ n. OnErr result (now.mapped ≡ n)) mapped u.mapped_still;
     }
 
 -- a look alone
-pub updates_ready : {E : Type 0} (session now : Session) (result : Result (Unit {0}) E) → now.is_touched ≡ session.is_touched → KeepsTree session.grove now.grove → Updates session now result
-updates_ready session now result touched tree = updates_none session now result (needed_ready session.grove now.grove tree) touched
+pub updates_ready : {E : Type 0} (session now : Session) (result : Result (Unit {0}) E) → now.mapped ≡ session.mapped → now.is_touched ≡ session.is_touched → KeepsTree session.grove now.grove → Updates session now result
+updates_ready session now result mapped touched tree = updates_none session now result (needed_ready session.grove now.grove tree) touched mapped
 
 -- ---- what a write is beside its purpose
 

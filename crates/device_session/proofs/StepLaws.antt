@@ -317,6 +317,7 @@ commits_raised P T L platform mid new tape tape_now ledger ledger_now session no
       replied = ap Committed (number_is ∙ is.next_is.commit);
       number = ap (λ (root : Root). root.commit) taken.root_is ∙ is.next_is.commit;
       untouched = taken.untouched;
+      counted = ap (λ (root : Root). root.mapped) taken.root_is ∙ is.next_is.mapped_is;
       pages = taken_pages session now r.cache prepared.root taken is.in_range;
       tree = subst (λ (root : Root). IsTreeOf root now.grove) (sym taken.root_is) taken.tree;
       wiped = taken.wiped;

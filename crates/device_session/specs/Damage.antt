@@ -1,5 +1,5 @@
 -- What a session is over any pages, forged ones too, and what of the pages below its root record isn't as it should be.
-use Rattle.std.specs.Prelude.{◌≡◌, ◌≢◌, ◌⊎◌, ◌<◌, ◌≤◌, ℕ, List, None, Some, Bool, true, false, length}
+use Rattle.std.specs.Prelude.{◌≡◌, ◌≢◌, ◌⊎◌, ◌+◌, ◌<◌, ◌≤◌, ℕ, List, None, Some, Bool, true, false, length}
 use Rattle.platform.specs.Image.{Image}
 use Rattle.node_codec.specs.declared.body.Entry.{Entry}
 use Rattle.root_codec.specs.declared.root.Root.{Root}
@@ -44,6 +44,16 @@ HasRoom session = (session.mapped < session.root.blocks) × (session.grove.level
 abbrev pub IsFound : Bool → List (List ℕ) → Session → ℕ → Type 0
 IsFound true pages session block = (entry : Entry) × GroveFinds pages block session.grove (Some entry)
 IsFound false pages session block = GroveFinds pages block session.grove None
+
+-- what a write makes of the count: the block was mapped, and it stays; or the block wasn't, another one could be, and it is one more
+abbrev pub CountsPut : List (List ℕ) → ℕ → Session → Session → Type 0
+CountsPut pages block session now =
+    (IsFound true pages session block × (now.mapped ≡ session.mapped)) ⊎ (IsFound false pages session block × HasRoom session × (now.mapped ≡ session.mapped + 1))
+
+-- and a trim: the block wasn't mapped, and it stays; or the block was, and it is one less
+abbrev pub CountsTaken : List (List ℕ) → ℕ → Session → Session → Type 0
+CountsTaken pages block session now =
+    (IsFound false pages session block × (now.mapped ≡ session.mapped)) ⊎ (IsFound true pages session block × (now.mapped + 1 ≡ session.mapped))
 
 -- this is the root node, where a block that isn't mapped is to be and no more can
 abbrev pub IsPastLimit : List (List ℕ) → Session → ℕ → ℕ → Type 0

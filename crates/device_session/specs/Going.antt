@@ -13,8 +13,9 @@ pub record GoesOn (Known : Type 0) (image after : Image) (pages : ℕ) (session 
   pub root : now.root ≡ session.root
   pub capacity : now.cache.capacity ≡ session.cache.capacity
 
--- an update makes a commit need 41 pages more at most; one that was refused leaves what it needs, and whether something was changed
+-- an update makes a commit need 41 pages more at most; one that was refused leaves what it needs, whether something was changed, and how many blocks are counted
 pub record Updates {E : Type 0} (session now : Session) (result : Result (Unit {0}) E) : Type 0 where
   pub needs : needed_by now ≤ needed_by session + 41
   pub needs_still : OnErr result (needed_by now ≡ needed_by session)
   pub touched_still : OnErr result (is_touched now ≡ is_touched session)
+  pub mapped_still : OnErr result (now.mapped ≡ session.mapped)

@@ -15,6 +15,8 @@ use Rattle.device_session.specs.Damage.{Follows}
 pub record Mounts {S : Type 0} (P : Ghosts S) (room : ℕ) (platform platform_now : S) (session : Session) : Type 0 where
   pub is_open : IsOpen session (P.head platform_now)
   pub untouched : is_touched session ≡ false
+  -- it counts what the root record says, whatever the tree has
+  pub mapped : session.mapped ≡ session.root.mapped
   pub pages : AreDataPages session []
   pub empty : session.cache ≡ cached room []
   pub found : P.tells → (P.history platform).present.cell ≡ Some (root_bytes session.root)

@@ -50,13 +50,14 @@ pub record Recaches (head count : ℕ) (gone : List ℕ) (old new : Cached) : Ty
   pub is : new ≡ forgotten gone (with_sealed (forgotten gone old) nodes)
 
 -- a commit that raised the number: as many pages were added as there were nodes in memory, and the root record in the cell names the last of them with
--- the key that was drawn last; the session has no data pages that weren't told of, and its tree is the new one, with no node in memory. Its cache
+-- the key that was drawn last, and says how many blocks the session counts; the session has no data pages that weren't told of, and its tree is the new one, with no node in memory. Its cache
 -- has what it had but for the nodes that are gone, none of which is left, and the new tree's nodes that were in memory; nothing of what was read or sealed is left in its buffers, and no entry in the room of
 -- the node that was read last; and where it had an array, each key in its fields is of the new tree
 pub record HasRaised {S R : Type 0} (P : PlatformGhosts S) (T : TapeGhosts R) (platform platform_now : S) (tape tape_now : R) (session now : Session) (reply : CommitReply) : Type 0 where
   pub replied : reply ≡ Committed (number_of session + 1)
   pub number : number_of now ≡ number_of session + 1
   pub untouched : is_touched now ≡ false
+  pub counted : now.root.mapped ≡ session.mapped
   pub pages : AreDataPages now []
   pub tree : IsTreeOf now.root now.grove
   pub wiped : IsWiped now.buffers now.node

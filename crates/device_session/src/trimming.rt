@@ -1,4 +1,4 @@
-ghost use Rattle.std.specs.Prelude.{◌⊎◌, ◌<◌, ◌≤◌, ℕ, false, IsOk, IsErrOf};
+ghost use Rattle.std.specs.Prelude.{◌<◌, ℕ, OnOk, IsErrOf};
 ghost use Rattle.sdbt_base.specs.Arrays.{Device, Blocks};
 ghost use Rattle.platform.specs.Calls.{Looks};
 ghost use Rattle.btree_walk.specs.Sights.{StandsOver};
@@ -13,7 +13,7 @@ use platform::Platform;
 impl Session {
     ghost use Rattle.device_session.specs.Open.{IsOpen, blocks_of};
     ghost use Rattle.device_session.specs.Holds.{Holds};
-    ghost use Rattle.device_session.specs.Damage.{IsTrimMisfit, IsTrimDamage, NamesDamage, IsFound};
+    ghost use Rattle.device_session.specs.Damage.{IsTrimMisfit, IsTrimDamage, NamesDamage, CountsTaken};
     ghost use Rattle.device_session.specs.Going.{GoesOn, Updates};
     ghost use Rattle.device_session.specs.Keys.{StaysListed};
 
@@ -27,13 +27,13 @@ impl Session {
         requires { IsOpen self.old (P.head platform.old) }
         ensures array { P.tells → (device : Device) (contents : Blocks) → Holds self.old (P.history platform.old).present device contents
             → Trims (P.history platform.new).present device contents block self.old self.new result }
-        // On any pages: what is named is a node that doesn't fit, or the root node, where a block is mapped and none is counted; and a block
-        // is trimmed where one is counted, or it isn't mapped.
+        // On any pages: what is named is a node that doesn't fit, or the root node, where a block is mapped and none is counted; and one is
+        // counted less where the block was mapped.
         ensures damaged { P.tells → (addr : ℕ) → IsErrOf result (TrimRefusal.BadRecord addr)
             → NamesDamage (P.history platform.old).present (P.history platform.new).present self.old addr
             (IsTrimMisfit (P.history platform.old).present.readable self.old block addr) (IsTrimDamage (P.history platform.old).present.readable self.old block addr) }
-        ensures counter { P.tells → StandsOver (P.history platform.old).present.readable self.old.cache → IsOk result
-            → IsFound false (P.history platform.old).present.readable self.old block ⊎ (1 ≤ self.old.mapped) }
+        ensures counter { P.tells → StandsOver (P.history platform.old).present.readable self.old.cache
+            → OnOk result (CountsTaken (P.history platform.old).present.readable block self.old self.new) }
         ensures goes_on { GoesOn P.tells (P.history platform.old).present (P.history platform.new).present (P.head platform.new) self.old self.new }
         ensures updates { Updates self.old self.new result }
         ensures listed { P.tells → StaysListed (P.history platform.old).present (P.history platform.new).present self.old self.new }

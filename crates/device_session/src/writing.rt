@@ -1,4 +1,4 @@
-ghost use Rattle.std.specs.Prelude.{◌≡◌, ◌⊎◌, ◌<◌, ◌≤◌, ℕ, true, All, IsTrue, OnOk, IsOk, IsErrOf, length};
+ghost use Rattle.std.specs.Prelude.{◌≡◌, ◌⊎◌, ◌<◌, ◌≤◌, ℕ, true, All, IsTrue, OnOk, IsErrOf, length};
 ghost use Rattle.std.specs.Bool.{OnFalse};
 ghost use Rattle.sdbt_base.specs.Counts.{counts};
 ghost use Rattle.sdbt_base.specs.Arrays.{padded, Device, Blocks};
@@ -19,7 +19,7 @@ use sdbt_base::Tape;
 impl Session {
     ghost use Rattle.device_session.specs.Open.{IsOpen, blocks_of, is_touched};
     ghost use Rattle.device_session.specs.Holds.{Holds};
-    ghost use Rattle.device_session.specs.Damage.{IsWriteMisfit, IsWriteDamage, NamesDamage, IsFound, IsAtLimit, HasRoom};
+    ghost use Rattle.device_session.specs.Damage.{IsWriteMisfit, IsWriteDamage, NamesDamage, IsFound, IsAtLimit, HasRoom, CountsPut};
     ghost use Rattle.device_session.specs.Going.{GoesOn, Updates};
     ghost use Rattle.device_session.specs.Keys.{HoldsListed};
 
@@ -41,12 +41,13 @@ impl Session {
         ensures array { P.tells → (device : Device) (contents : Blocks) → Holds self.old (P.history platform.old).present device contents
             → Writes (P.history platform.new).present device contents block (P.head platform.old) (padded content.now) self.old self.new result }
         // On any pages: what is named is a node that doesn't fit, or the root node, where the block isn't mapped and no more can be; and a
-        // block is written where it is mapped, or another one can be.
+        // block is written where it is mapped, or another one can be, which is counted then.
         ensures damaged { P.tells → (addr : ℕ) → IsErrOf result (WriteRefusal.BadRecord addr)
             → NamesDamage (P.history platform.old).present (P.history platform.new).present self.old addr
             (IsWriteMisfit (P.history platform.old).present.readable self.old block addr) (IsWriteDamage (P.history platform.old).present.readable self.old block addr) }
-        ensures counter { P.tells → StandsOver (P.history platform.old).present.readable self.old.cache → IsOk result ⊎ IsErrOf result WriteRefusal.TapeFault
-            → IsFound true (P.history platform.old).present.readable self.old block ⊎ HasRoom self.old }
+        ensures counter { P.tells → StandsOver (P.history platform.old).present.readable self.old.cache
+            → OnOk result (CountsPut (P.history platform.old).present.readable block self.old self.new)
+            × (IsErrOf result WriteRefusal.TapeFault → IsFound true (P.history platform.old).present.readable self.old block ⊎ HasRoom self.old) }
         ensures goes_on { GoesOn P.tells (P.history platform.old).present (P.history platform.new).present (P.head platform.new) self.old self.new }
         ensures touched { OnOk result (is_touched self.new ≡ true) }
         ensures updates { Updates self.old self.new result }
@@ -106,6 +107,7 @@ impl Session {
         ensures goes_on { GoesOn (P.tells × IsReadyFor (P.history platform.old).present.readable block self.old.grove is_mapped)
             (P.history platform.old).present (P.history platform.new).present (P.head platform.new) self.old self.new }
         ensures touched { OnOk result (is_touched self.new ≡ true) }
+        ensures counts { OnOk result (self.new.mapped ≡ counted_with is_mapped self.old.mapped) }
         ensures updates { Updates self.old self.new result }
         ensures keeps { KeepsKeys P.tells (T.drawn tape.old) (T.drawn tape.new) (P.history platform.old) (P.history platform.new)
             (λ keys. HoldsListed self.old (P.history platform.old).present keys × IsReadyFor (P.history platform.old).present.readable block self.old.grove is_mapped)

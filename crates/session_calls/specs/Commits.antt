@@ -31,11 +31,12 @@ stop_of_fault faults.TapeFault = stops.Tape
 stop_of_fault faults.LedgerFault = stops.Ledger
 stop_of_fault faults.PlatformFault = stops.Platform
 
--- a session that comes back is open and on the root record in the cell, with as many blocks, and room for as many nodes in its cache
+-- a session that comes back is open and on the root record in the cell, with as many blocks, as many of them counted as mapped, and room for as many nodes in its cache
 pub record ComesBack {S : Type 0} (P : PlatformGhosts S) (platform_now : S) (session now : Session) : Type 0 where
   pub is_open : IsOpen now (P.head platform_now)
   pub mounted : P.tells → IsMounted (P.history platform_now).present now
   pub blocks : blocks_of now ≡ blocks_of session
+  pub mapped : now.mapped ≡ session.mapped
   pub room : room_of now ≡ room_of session
 
 -- what a stop leaves of the ledger: where no key is drawn, or no memory given, it is as it was

@@ -1,5 +1,6 @@
-ghost use Rattle.std.specs.Prelude.{◌≡◌, ◌<◌, ◌≤◌, ◌≢◌, ◌+◌, All, Some, length};
+ghost use Rattle.std.specs.Prelude.{◌≡◌, ◌<◌, ◌≤◌, ◌≢◌, ◌+◌, All, Some, OnOk, length};
 ghost use Rattle.sdbt_base.specs.Arrays.{Device, Session as OpenSession, mounted};
+ghost use Rattle.device_session.specs.Damage.{CountsPut};
 ghost use Rattle.device_session.specs.Open.{IsOpen, blocks_of};
 ghost use Rattle.device_course.specs.States.{IsAt};
 ghost use Rattle.session_calls.specs.Along.{Along, drawn_by};
@@ -32,6 +33,8 @@ pub fn write_block<P: Platform, T: Tape>(
     // On any pages: why it is answered so.
     ensures any { WritesAny (P.tells × IsMounted (P.history platform.old).present session.old) (P.history platform.old).present (P.history platform.new).present
         session.old block result }
+    ensures counts { P.tells → IsMounted (P.history platform.old).present session.old
+        → OnOk result (CountsPut (P.history platform.old).present.readable block session.old session.new) }
 {
     match session.write(platform, tape, block, content) {
         Ok(()) => Ok(()),

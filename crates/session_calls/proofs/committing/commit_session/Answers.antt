@@ -23,6 +23,7 @@ returns-in-Ok-clause-goes g c =
             let both = c.in-Ok.ensures.mounted told in
             record { cell = both.1 there.cell; follows = both.0 there.follows };
         blocks = commits.goes_on.1;
+        mapped = commits.goes_on.2;
         room = commits.goes_on.3;
       };
       capacity = commits.grows.capacity;

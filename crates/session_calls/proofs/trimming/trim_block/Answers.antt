@@ -1,4 +1,4 @@
-use Rattle.std.proofs.Common.{ℕ, Ok, Err, refl, ap, ◌∙◌, arith}
+use Rattle.std.proofs.Common.{ℕ, Ok, Err, inl, inr, refl, ap, ◌∙◌, arith}
 use Rattle.device_session.specs.Open.{is_touched}
 use Rattle.sdbt_base.specs.Counts.{counts}
 use Rattle.session_calls.proofs.CellLaws.{wrong_page}
@@ -24,6 +24,7 @@ returns-in-Ok-clause-goes g c drawn = record {
       (λ told device array at. trim_leads _ _ device array c.args.block (Ok tt)
       (trim_done _ _ device array c.args.block (is_touched c.args.session.now) at.there.session.1 (c.in-Ok.ensures.array told device array.contents at.there.session.0).array (served_still _ _ (c.trim.ensures.looks.time told) at.served)));
   needs_still = tt;
+  mapped_still = tt;
   stops = tt;
   quiet = ap (λ (n : ℕ). counts n drawn.faults 0 0 0) c.in-Ok.ensures.cause.1;
   cause = tt;
@@ -36,6 +37,7 @@ returns-in-Err-clause-goes g c drawn = record {
       (trim_refused _ _ device array c.args.block (is_touched c.args.session.now) c.in-Err.refusal c.stop_of_trim.result c.stop_of_trim.ensures (c.in-Err.ensures.array told device array.contents at.there.session.0).array
       (c.in-Err.ensures.updates.touched_still ∙ at.there.session.1) (served_still _ _ (c.trim.ensures.looks.time told) at.served)));
   needs_still = c.in-Err.ensures.updates.needs_still;
+  mapped_still = c.in-Err.ensures.updates.mapped_still;
   stops = trim_of_call c.in-Err.refusal _ c.stop_of_trim.ensures;
   quiet = tt;
   cause = trim_blamed c.in-Err.refusal _ _ _ (counts (g.P.Platform.faults c.args.platform.now) drawn.faults 0 0 0) (counts (g.P.Platform.faults c.trim.new.platform) drawn.faults 0 0 0) refl c.stop_of_trim.ensures c.in-Err.ensures.cause;
@@ -43,7 +45,10 @@ returns-in-Err-clause-goes g c drawn = record {
 
 -- on any pages
 pub returns-in-Ok-clause-any : goal.returns-in-Ok-clause-any
-returns-in-Ok-clause-any g c known = c.in-Ok.ensures.counter known.0 known.1.follows.cached refl
+returns-in-Ok-clause-any g c known = elim (c.in-Ok.ensures.counter known.0 known.1.follows.cached) [ inl lacks ↦ inl lacks.0 | inr has ↦ inr (omega (arith, has.1)) ]
+
+pub returns-in-Ok-clause-counts : goal.returns-in-Ok-clause-counts
+returns-in-Ok-clause-counts g c told mounted = c.in-Ok.ensures.counter told mounted.follows.cached
 
 pub returns-in-Err-clause-any : goal.returns-in-Err-clause-any
 returns-in-Err-clause-any g c =

@@ -1,4 +1,4 @@
-use Rattle.std.proofs.Common.{Ok, Err, inl, inr, refl, ap, ◌∙◌}
+use Rattle.std.proofs.Common.{Ok, Err, inl, inr, ap, ◌∙◌}
 use Rattle.sdbt_base.specs.Arrays.{padded, written}
 use Rattle.btree_update.specs.Groves.{places_of}
 use Rattle.sdbt_base.specs.Counts.{counts}
@@ -24,6 +24,7 @@ returns-in-Ok-clause-goes g c = record {
   along = write_along g.P.Platform g.T.Tape _ _ _ _ _ _ c.args.block c.args.content.now (Ok tt) c.in-Ok.ensures.goes_on c.in-Ok.ensures.updates.needs c.in-Ok.ensures.keeps c.in-Ok.ensures.grows
       (λ told device array at. at_array _ _ device (written array c.args.block c.args.content.now) (c.in-Ok.ensures.array told device array.contents at.there.session.0).array c.in-Ok.ensures.touched (served_still _ _ (c.write.ensures.grows.time told) at.served));
   needs_still = tt;
+  mapped_still = tt;
   stops = tt;
   quiet = c.in-Ok.ensures.cause.2;
   cause = tt;
@@ -34,6 +35,7 @@ returns-in-Err-clause-goes g c = record {
   along = write_along g.P.Platform g.T.Tape _ _ _ _ _ _ c.args.block c.args.content.now (Err c.stop_of_write.result) c.in-Err.ensures.goes_on c.in-Err.ensures.updates.needs c.in-Err.ensures.keeps c.in-Err.ensures.grows
       (λ told device array at. write_refused _ _ device array c.args.block c.args.content.now (padded c.args.content.now) c.in-Err.refusal _ c.stop_of_write.ensures (c.in-Err.ensures.array told device array.contents at.there.session.0).array (c.in-Err.ensures.updates.touched_still ∙ at.there.session.1) (served_still _ _ (c.write.ensures.grows.time told) at.served));
   needs_still = c.in-Err.ensures.updates.needs_still;
+  mapped_still = c.in-Err.ensures.updates.mapped_still;
   stops = write_of_call c.in-Err.refusal _ c.stop_of_write.ensures;
   quiet = tt;
   cause = write_blamed c.in-Err.refusal _ _ _ _ _ (counts (g.P.Platform.faults c.args.platform.now) (g.T.Tape.faults c.args.tape.now) 0 0 0)
@@ -48,7 +50,10 @@ returns-in-Err-clause-adds g c = write_added g.P.Platform g.T.Tape _ _ _ _ (plac
 
 -- on any pages
 pub returns-in-Ok-clause-any : goal.returns-in-Ok-clause-any
-returns-in-Ok-clause-any g c known = c.in-Ok.ensures.counter known.0 known.1.follows.cached (inl refl)
+returns-in-Ok-clause-any g c known = elim ((c.in-Ok.ensures.counter known.0 known.1.follows.cached).0) [ inl has ↦ inl has.0 | inr lacks ↦ inr lacks.1 ]
+
+pub returns-in-Ok-clause-counts : goal.returns-in-Ok-clause-counts
+returns-in-Ok-clause-counts g c told mounted = (c.in-Ok.ensures.counter told mounted.follows.cached).0
 
 pub returns-in-Err-clause-any : goal.returns-in-Err-clause-any
 returns-in-Err-clause-any g c =
@@ -56,4 +61,4 @@ returns-in-Err-clause-any g c =
     (λ addr named known. wrong_page c.args.session.now _ addr (g.P.Platform.history c.args.platform.now) (g.P.Platform.history c.write.new.platform) _ c.requires.open known.1 (c.write.ensures.grows.time known.0)
     (write_left g.P.Platform g.T.Tape _ _ _ _ (places_of c.write.new.self.grove) c.args.block addr c.in-Err.refusal named c.in-Err.ensures.adds known.0)
     (c.in-Err.ensures.damaged known.0 addr (ap Err named)).damage)
-    (λ keyless known. c.in-Err.ensures.counter known.0 known.1.follows.cached (inr (ap Err keyless)))
+    (λ keyless known. (c.in-Err.ensures.counter known.0 known.1.follows.cached).1 (ap Err keyless))

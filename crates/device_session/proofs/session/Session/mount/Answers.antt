@@ -28,6 +28,7 @@ returns-clause-mounts g c =
     record {
       is_open = fresh_open _ pages _ within c.of-grove.ensures.below c.current.ensures.reads_cell.head fresh;
       untouched = refl;
+      mapped = refl;
       pages = own;
       empty = c.in_ok-reader.ensures.cache;
       found = found;

@@ -129,7 +129,7 @@ returns-in-Err-TapeFault-clause-goes_on g c = still_goes_on g (goal.at.returns-i
 
 still_updates : (g : Over) (c : After-append g) (refusal : WriteRefusal) → Updates c.args.self.now (record (the_view c.self.inside) { buffers = c.append.new.self }) (Err refusal)
 still_updates g c refusal =
-    subst (λ (s : Session). Updates s (record (the_view c.self.inside) { buffers = c.append.new.self }) (Err refusal)) c.self.view_is (updates_none (the_view c.self.inside) (record (the_view c.self.inside) { buffers = c.append.new.self }) (Err refusal) refl refl)
+    subst (λ (s : Session). Updates s (record (the_view c.self.inside) { buffers = c.append.new.self }) (Err refusal)) c.self.view_is (updates_none (the_view c.self.inside) (record (the_view c.self.inside) { buffers = c.append.new.self }) (Err refusal) refl refl refl)
 
 pub returns-in-Err-PlatformFault-clause-updates : goal.returns-in-Err-PlatformFault-clause-updates
 returns-in-Err-PlatformFault-clause-updates g c = still_updates g (goal.at.returns-in-Err-PlatformFault-clause-updates g c).After-append _
@@ -229,7 +229,11 @@ returns-clause-updates g c =
       needs = subst (λ (s : Session). grown_in c.insert.new.self ≤ needed_by s + 41) c.self.view_is (let grown = c.insert.ensures.grown in let low = o.level in omega (arith, grown, low));
       needs_still = tt;
       touched_still = tt;
+      mapped_still = tt;
     }
+
+pub returns-clause-counts : goal.returns-clause-counts
+returns-clause-counts g c = c.count_with-self-inside.ensures ∙ ap (λ (s : Session). counted_with c.args.is_mapped s.mapped) c.self.view_is
 
 pub returns-clause-keeps : goal.returns-clause-keeps
 returns-clause-keeps g c =

@@ -148,14 +148,15 @@ returns-then-self-eq0-clause-damaged g c = λ told addr is.
     }
 
 pub returns-then-not-is_mapped-clause-counter : goal.returns-then-not-is_mapped-clause-counter
-returns-then-not-is_mapped-clause-counter g c = λ told h ok.
+returns-then-not-is_mapped-clause-counter g c = λ told h.
     let off : c.in-Ok.is_mapped ≡ false = c.if-not-is_mapped.true in
-    inl (subst (λ b. IsFound b (g.P.Platform.history c.args.platform.now).present.readable c.args.self.now c.args.block) off (c.in-Ok.ensures.ready told h).found)
+    inl (subst (λ b. IsFound b (g.P.Platform.history c.args.platform.now).present.readable c.args.self.now c.args.block) off (c.in-Ok.ensures.ready told h).found, c.ready.ensures.same.0)
 
 pub returns-clause-counter : goal.returns-clause-counter
-returns-clause-counter g c = λ told h ok.
+returns-clause-counter g c = λ told h.
+    let on : c.in-Ok.is_mapped ≡ true = c.if-not-is_mapped.false in
     let same : c.self-2.inside.mapped ≡ c.args.self.now.mapped = ap (λ (s : Session). s.mapped) c.self-2.view_is ∙ c.ready.ensures.same.0 in
-    inr (omega (arith, same, c.if-self-eq0.false))
+    inr (subst (λ b. IsFound b (g.P.Platform.history c.args.platform.now).present.readable c.args.self.now c.args.block) on (c.in-Ok.ensures.ready told h).found, omega (arith, same, c.if-self-eq0.false))
 
 -- ---- beside its purpose
 
@@ -184,28 +185,29 @@ returns-clause-goes_on g c =
     level old new (inr e) le = omega (arith, e, le)
 
 pub returns-then-block-self-clause-updates : goal.returns-then-block-self-clause-updates
-returns-then-block-self-clause-updates g c = updates_none _ _ _ refl refl
+returns-then-block-self-clause-updates g c = updates_none _ _ _ refl refl refl
 
 pub returns-in-Err-BadRecord-clause-updates : goal.returns-in-Err-BadRecord-clause-updates
-returns-in-Err-BadRecord-clause-updates g c = updates_ready _ _ _ c.ready.ensures.same.1 c.ready.ensures.same.2
+returns-in-Err-BadRecord-clause-updates g c = updates_ready _ _ _ c.ready.ensures.same.0 c.ready.ensures.same.1 c.ready.ensures.same.2
 
 pub returns-in-Err-PlatformFault-clause-updates : goal.returns-in-Err-PlatformFault-clause-updates
-returns-in-Err-PlatformFault-clause-updates g c = updates_ready _ _ _ c.ready.ensures.same.1 c.ready.ensures.same.2
+returns-in-Err-PlatformFault-clause-updates g c = updates_ready _ _ _ c.ready.ensures.same.0 c.ready.ensures.same.1 c.ready.ensures.same.2
 
 pub returns-in-Err-Memory-clause-updates : goal.returns-in-Err-Memory-clause-updates
-returns-in-Err-Memory-clause-updates g c = updates_ready _ _ _ c.ready.ensures.same.1 c.ready.ensures.same.2
+returns-in-Err-Memory-clause-updates g c = updates_ready _ _ _ c.ready.ensures.same.0 c.ready.ensures.same.1 c.ready.ensures.same.2
 
 pub returns-then-not-is_mapped-clause-updates : goal.returns-then-not-is_mapped-clause-updates
-returns-then-not-is_mapped-clause-updates g c = updates_ready _ _ _ c.ready.ensures.same.1 c.ready.ensures.same.2
+returns-then-not-is_mapped-clause-updates g c = updates_ready _ _ _ c.ready.ensures.same.0 c.ready.ensures.same.1 c.ready.ensures.same.2
 
 pub returns-then-self-eq0-clause-updates : goal.returns-then-self-eq0-clause-updates
-returns-then-self-eq0-clause-updates g c = updates_ready _ _ _ c.ready.ensures.same.1 c.ready.ensures.same.2
+returns-then-self-eq0-clause-updates g c = updates_ready _ _ _ c.ready.ensures.same.0 c.ready.ensures.same.1 c.ready.ensures.same.2
 
 pub returns-clause-updates : goal.returns-clause-updates
 returns-clause-updates g c =
     let o = was_open g (goal.at.returns-clause-updates g c).After-remove in
-    updates_then c.args.self.now c.ready.new.self _ _ c.ready.ensures.same.1 c.ready.ensures.same.2 (record {
+    updates_then c.args.self.now c.ready.new.self _ _ c.ready.ensures.same.0 c.ready.ensures.same.1 c.ready.ensures.same.2 (record {
       needs = subst (λ (s : Session). grown_in c.remove.new.self ≤ needed_by s + 41) c.self-2.view_is (let grown = c.remove.ensures.grown in let low = o.level in omega (arith, grown, low));
       needs_still = tt;
       touched_still = tt;
+      mapped_still = tt;
     })

@@ -1,5 +1,5 @@
-use Rattle.std.proofs.Common.{◌≡◌, ◌∙◌, inl, inr, [], ◌∷◌, ◌++◌, ◌<◌, List, refl, sym, ap, subst}
-use Rattle.std.specs.Prelude.{OnOk}
+use Rattle.std.proofs.Common.{◌≡◌, ◌∙◌, inl, inr, [], ◌∷◌, ◌++◌, ◌<◌, ℕ, Bool, true, false, List, refl, sym, ap, subst}
+use Rattle.std.specs.Prelude.{Result, Ok, Err, OnOk}
 use Rattle.root_codec.specs.declared.root.Root.{Root}
 use Rattle.platform.specs.Image.{Image}
 use Rattle.platform.proofs.Moments.{During-start, During-step}
@@ -13,9 +13,10 @@ use Rattle.page_store.specs.Tree.{Wrong}
 use Rattle.btree_walk.specs.Sights.{StandsOver}
 use Rattle.btree_update.specs.Groves.{IsWrongOnWay}
 use Rattle.sdbt_base.specs.declared.lists.Unkept.{Unkept}
-use Rattle.device_session.specs.Damage.{IsFound, IsPastLimit, IsMiscounted, HasRoom}
+use Rattle.device_session.specs.Damage.{CountsPut, IsFound, IsPastLimit, IsMiscounted, HasRoom}
 use Rattle.device_session.proofs.GoingLaws.{goes_start, goes_then, updates_none, updates_ready, updates_then, grows_start, grows_looked, grows_then}
-use Rattle.device_session.specs.Ready.{IsReadyFor}
+use Rattle.device_session.specs.Ready.{IsReadyFor, counted_with}
+use Rattle.device_session.specs.declared.refusals.WriteRefusal.{WriteRefusal}
 use Rattle.device_session.proofs.DamageLaws.{update_is_wrong, miscounted_full, limit_same, room_same}
 use Rattle.device_session.proofs.UpdateLaws.{ready_pages, on_false}
 use Rattle.device_session.proofs.InsertLaws.{all_mapped}
@@ -108,6 +109,11 @@ returns-clause-array g c = λ told device contents h.
 
 -- ---- on any pages
 
+-- a count after a write that was done, where this says whether the block was mapped
+counts_put : (result : Result (Unit {0}) WriteRefusal) (mapped is : Bool) (between before now : ℕ) → mapped ≡ is → between ≡ before → OnOk result (now ≡ counted_with mapped between) → (Is : Type 0) → (now ≡ counted_with is before → Is) → OnOk result Is
+counts_put (Ok done) mapped is between before now same still counts Is then = let to : counted_with mapped between ≡ counted_with is before = λ i. counted_with (same i) (still i) in then (counts ∙ to)
+counts_put (Err refusal) mapped is between before now same still counts Is then = tt
+
 pub returns-in-Err-BadRecord-clause-damaged : goal.returns-in-Err-BadRecord-clause-damaged
 returns-in-Err-BadRecord-clause-damaged g c = λ told addr is.
     let image = (g.P.Platform.history c.args.platform.now).present in
@@ -145,12 +151,22 @@ pub returns-clause-damaged : goal.returns-clause-damaged
 returns-clause-damaged g c = λ told addr is. absurd (rw is at c.put.ensures.cause)
 
 pub returns-clause-counter : goal.returns-clause-counter
-returns-clause-counter g c = λ told h stop. elim c.else-not-is_mapped.branch [
-  | else-not-is_mapped-via-then-not-is_mapped+else-is_at_limit w ↦
-      inr (room_same c.args.self.now c.ready.new.self c.ready.ensures.goes_on.root c.ready.ensures.same.0 c.ready.ensures.same.2.level (on_false w.is_at_limit.result (HasRoom c.ready.new.self) w.if-is_at_limit.false w.is_at_limit.ensures.room))
-  | else-not-is_mapped-via-else-not-is_mapped w ↦
-      inl (subst (λ b. IsFound b (g.P.Platform.history c.args.platform.now).present.readable c.args.self.now c.args.block) w.if-not-is_mapped.false (c.in-Ok.ensures.ready told h).found)
-]
+returns-clause-counter g c = λ told h.
+    let pages = (g.P.Platform.history c.args.platform.now).present.readable in
+    let looked = (c.in-Ok.ensures.ready told h).found in
+    elim c.else-not-is_mapped.branch [
+      | else-not-is_mapped-via-then-not-is_mapped+else-is_at_limit w ↦
+          let room = room_same c.args.self.now c.ready.new.self c.ready.ensures.goes_on.root c.ready.ensures.same.0 c.ready.ensures.same.2.level (on_false w.is_at_limit.result (HasRoom c.ready.new.self) w.if-is_at_limit.false w.is_at_limit.ensures.room) in
+          let lacks = subst (λ b. IsFound b pages c.args.self.now c.args.block) w.if-not-is_mapped.true looked in (
+            counts_put c.put.result c.in-Ok.is_mapped false c.ready.new.self.mapped c.args.self.now.mapped c.put.new.self.mapped w.if-not-is_mapped.true c.ready.ensures.same.0 c.put.ensures.counts (CountsPut pages c.args.block c.args.self.now c.put.new.self) (λ one. inr (lacks, room, one)),
+            λ stop. inr room,
+          )
+      | else-not-is_mapped-via-else-not-is_mapped w ↦
+          let has = subst (λ b. IsFound b pages c.args.self.now c.args.block) w.if-not-is_mapped.false looked in (
+            counts_put c.put.result c.in-Ok.is_mapped true c.ready.new.self.mapped c.args.self.now.mapped c.put.new.self.mapped w.if-not-is_mapped.false c.ready.ensures.same.0 c.put.ensures.counts (CountsPut pages c.args.block c.args.self.now c.put.new.self) (λ same. inl (has, same)),
+            λ stop. inl has,
+          )
+    ]
 
 -- ---- beside its purpose
 
@@ -164,25 +180,25 @@ pub returns-clause-goes_on : goal.returns-clause-goes_on
 returns-clause-goes_on g c = goes_then _ _ _ _ _ _ _ _ _ _ c.ready.ensures.goes_on c.put.ensures.goes_on (λ told f. (told, (c.in-Ok.ensures.ready told f.cached).ready))
 
 pub returns-then-block-self-clause-updates : goal.returns-then-block-self-clause-updates
-returns-then-block-self-clause-updates g c = updates_none _ _ _ refl refl
+returns-then-block-self-clause-updates g c = updates_none _ _ _ refl refl refl
 
 pub returns-then-head-capacity-clause-updates : goal.returns-then-head-capacity-clause-updates
-returns-then-head-capacity-clause-updates g c = updates_none _ _ _ refl refl
+returns-then-head-capacity-clause-updates g c = updates_none _ _ _ refl refl refl
 
 pub returns-in-Err-BadRecord-clause-updates : goal.returns-in-Err-BadRecord-clause-updates
-returns-in-Err-BadRecord-clause-updates g c = updates_ready _ _ _ c.ready.ensures.same.1 c.ready.ensures.same.2
+returns-in-Err-BadRecord-clause-updates g c = updates_ready _ _ _ c.ready.ensures.same.0 c.ready.ensures.same.1 c.ready.ensures.same.2
 
 pub returns-in-Err-PlatformFault-clause-updates : goal.returns-in-Err-PlatformFault-clause-updates
-returns-in-Err-PlatformFault-clause-updates g c = updates_ready _ _ _ c.ready.ensures.same.1 c.ready.ensures.same.2
+returns-in-Err-PlatformFault-clause-updates g c = updates_ready _ _ _ c.ready.ensures.same.0 c.ready.ensures.same.1 c.ready.ensures.same.2
 
 pub returns-in-Err-Memory-clause-updates : goal.returns-in-Err-Memory-clause-updates
-returns-in-Err-Memory-clause-updates g c = updates_ready _ _ _ c.ready.ensures.same.1 c.ready.ensures.same.2
+returns-in-Err-Memory-clause-updates g c = updates_ready _ _ _ c.ready.ensures.same.0 c.ready.ensures.same.1 c.ready.ensures.same.2
 
 pub returns-then-is_at_limit-clause-updates : goal.returns-then-is_at_limit-clause-updates
-returns-then-is_at_limit-clause-updates g c = updates_ready _ _ _ c.ready.ensures.same.1 c.ready.ensures.same.2
+returns-then-is_at_limit-clause-updates g c = updates_ready _ _ _ c.ready.ensures.same.0 c.ready.ensures.same.1 c.ready.ensures.same.2
 
 pub returns-clause-updates : goal.returns-clause-updates
-returns-clause-updates g c = updates_then _ _ _ _ c.ready.ensures.same.1 c.ready.ensures.same.2 c.put.ensures.updates
+returns-clause-updates g c = updates_then _ _ _ _ c.ready.ensures.same.0 c.ready.ensures.same.1 c.ready.ensures.same.2 c.put.ensures.updates
 
 pub returns-then-block-self-clause-grows : goal.returns-then-block-self-clause-grows
 returns-then-block-self-clause-grows g c = grows_start _ _ _ _
