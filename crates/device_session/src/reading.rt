@@ -1,4 +1,4 @@
-ghost use Rattle.std.specs.Prelude.{◌≡◌, ◌<◌, ◌≤◌, ◌+◌, ℕ, OnOk, IsErrOf, length};
+ghost use Rattle.std.specs.Prelude.{◌≡◌, ◌<◌, ◌≤◌, ◌+◌, ℕ, OnOk, OnErr, IsErrOf, length};
 ghost use Rattle.sdbt_base.specs.Faults.{TellsOf};
 ghost use Rattle.sdbt_base.specs.Arrays.{Device, Blocks};
 ghost use Rattle.platform.specs.Calls.{Looks};
@@ -26,7 +26,7 @@ impl Session {
     ///
     /// It allocates nothing, and reads one page for each level and one for the block at most; one alone where the cache keeps the
     /// nodes on the way to the block, as it does after a read of it, where it has room for one of each level. `Range` comes exactly where the
-    /// device has no such block, and nothing is read then.
+    /// device has no such block, and nothing is read then. A refusal leaves `out` as it was.
     #[tactic(auto, using(crate::proofs::SessionLaws::walk_looks, platform::proofs::CallLaws::looks_start, platform::proofs::CallLaws::looks_call, platform::proofs::CallLaws::looks_then))]
     pub fn read<P: Platform>(
         &mut self,
@@ -48,7 +48,9 @@ impl Session {
         ensures misfit { P.tells → StandsOver (P.history platform.old).present.readable self.old.cache → (addr : ℕ)
             → IsErrOf result (ReadRefusal.BadRecord addr) → IsFirstMisfit (P.history platform.old).present.readable self.old.grove block addr }
         ensures goes_on { GoesOn P.tells (P.history platform.old).present (P.history platform.new).present (P.head platform.new) self.old self.new }
-        ensures same { (self.new.mapped ≡ self.old.mapped) × (self.new.is_touched ≡ self.old.is_touched) × (self.new.grove ≡ self.old.grove) }
+        // A refused read leaves `out` as it was.
+        ensures same { (self.new.mapped ≡ self.old.mapped) × (self.new.is_touched ≡ self.old.is_touched) × (self.new.grove ≡ self.old.grove)
+            × OnErr result (out.new ≡ out.old) }
         ensures listed { P.tells → StaysListed (P.history platform.old).present (P.history platform.new).present self.old self.new }
         ensures looks { Looks P.Platform platform.old platform.new }
         ensures reads { ReadsFew P.Platform block platform.old platform.new self.old self.new result }
@@ -82,6 +84,7 @@ fn read_block<P: Platform>(
         → OnOk result (FitsAt (P.history platform.old).present.readable (block_want entry.now.addr block) entry.now.key (DataRecord block out.new)) }
     ensures nothing_fits { P.tells → (addr : ℕ) → IsErrOf result (FetchRefusal.BadRecord addr)
         → (addr ≡ entry.now.addr) × NothingFits (P.history platform.old).present.readable (block_want entry.now.addr block) entry.now.key }
+    ensures left { OnErr result (out.new ≡ out.old) }
     ensures looks { Looks P.Platform platform.old platform.new }
     ensures reads { P.tells → P.reads platform.new ≤ P.reads platform.old + 1 }
     ensures cause { TellsOf FetchRefusal.PlatformFault result (P.faults platform.old) (P.faults platform.new) }

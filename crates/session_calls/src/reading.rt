@@ -1,4 +1,4 @@
-ghost use Rattle.std.specs.Prelude.{◌≡◌, ◌<◌, ◌≢◌, Some, length};
+ghost use Rattle.std.specs.Prelude.{◌≡◌, ◌<◌, ◌≢◌, Some, OnErr, length};
 ghost use Rattle.sdbt_base.specs.Arrays.{Device, Session as OpenSession, mounted};
 ghost use Rattle.device_session.specs.Open.{IsOpen, blocks_of};
 ghost use Rattle.device_course.specs.States.{IsAt};
@@ -12,7 +12,7 @@ use platform::Platform;
 
 /// Puts the content of a block that the device has into the 4,096 bytes of `out`: zeros where it is not mapped.
 ///
-/// The session goes on after a stop, with the array that it had.
+/// The session goes on after a stop, with the array that it had, and `out` is as it was then.
 pub fn read_block<P: Platform>(
     session: &mut Session,
     platform: &mut P,
@@ -30,6 +30,7 @@ pub fn read_block<P: Platform>(
     ensures any { ReadsAny (P.tells × IsMounted (P.history platform.old).present session.old) (P.history platform.old).present (P.history platform.new).present
         session.old block out.new result }
     ensures counts { session.new.mapped ≡ session.old.mapped }
+    ensures left { OnErr result (out.new ≡ out.old) }
 {
     match session.read(platform, block, out) {
         Ok(()) => Ok(()),

@@ -1,4 +1,4 @@
-use Rattle.std.proofs.Common.{◌≡◌, ◌∙◌, subst}
+use Rattle.std.proofs.Common.{◌≡◌, ◌∙◌, refl, subst}
 use Rattle.page_store.specs.declared.refusals.FetchRefusal.TheVariants.{BadRecord}
 use Rattle.page_store.specs.declared.wants.Want.{Want}
 use Rattle.page_store.specs.Places.{NothingFits}
@@ -14,3 +14,8 @@ returns-in_err-fetch_block-clause-nothing_fits g c =
       c.in_err-fetch_block.ensures.bad addr (ap Err bad) ∙ ap (λ (w : Want). w.addr) c.of_block-want.ensures,
       subst (λ (w : Want). NothingFits (g.P.Platform.history c.args.platform.now).present.readable w c.args.entry.now.key) c.of_block-want.ensures (c.in_err-fetch_block.ensures.nothing_fits told addr (ap Err bad)),
     ))
+
+pub returns-in_err-fetch_block-clause-left : goal.returns-in_err-fetch_block-clause-left
+returns-in_err-fetch_block-clause-left g c =
+    let p = err_from_is_err_and c.from_residual.result c.from_residual.ensures.1 in
+    rw p.1 refl

@@ -1,4 +1,4 @@
-use Rattle.std.proofs.Common.{◌≡◌, ◌∙◌, ◌<◌, ℕ, Err, None, Some, inl, inr, ap, sym, subst, arith}
+use Rattle.std.proofs.Common.{◌≡◌, ◌∙◌, ◌<◌, ℕ, Err, None, Some, inl, inr, refl, ap, sym, subst, arith}
 use Rattle.std.specs.Prelude.{box_value, replicate}
 use Rattle.sdbt_base.specs.Arrays.{Device, Blocks}
 use Rattle.platform.specs.Image.{Image}
@@ -207,3 +207,15 @@ pub returns-clause-reads : goal.returns-clause-reads
 returns-clause-reads g c =
     few_found g.P.Platform c.args.block c.args.platform.now c.find.new.platform _ c.args.self.now (the_view c.self.inside) c.find.new.reader.cache c.read_block.new.buffers (box_value c.find.new.reader.node) c.find.result _ c.self.view_is c.if-block-self.false c.find.ensures.looks c.find.ensures.uses
     c.read_block.ensures.reads (λ told. c.in_ok-found.ensures.uses.fills told)
+
+-- ---- what a refusal leaves
+
+pub returns-in_err-found-clause-same : goal.returns-in_err-found-clause-same
+returns-in_err-found-clause-same g c =
+    let p = err_from_is_err_and c.from_residual.result c.from_residual.ensures.1 in
+    rw p.1 (ap (λ (s : Session). s.mapped) c.self.view_is, ap (λ (s : Session). s.is_touched) c.self.view_is, ap (λ (s : Session). s.grove) c.self.view_is, refl)
+
+pub returns-in_err-read_block-clause-same : goal.returns-in_err-read_block-clause-same
+returns-in_err-read_block-clause-same g c =
+    let p = err_from_is_err_and c.from_residual-in_err-read_block.result c.from_residual-in_err-read_block.ensures.1 in
+    rw p.1 (ap (λ (s : Session). s.mapped) c.self.view_is, ap (λ (s : Session). s.is_touched) c.self.view_is, ap (λ (s : Session). s.grove) c.self.view_is, c.in_err-read_block.ensures.left)
