@@ -27,3 +27,4 @@ pub mod DatumLaws
 pub mod ManyLaws
 pub mod AscendLaws
 pub mod KeptWay
+pub mod FewLaws

@@ -1,5 +1,6 @@
 -- What is read for an update.
-use Rattle.std.specs.Prelude.{◌≡◌, ℕ, ◌-◌, ◌<◌, ◌≤◌, List, vec_capacity}
+use Rattle.std.specs.Prelude.{◌≡◌, ℕ, ◌+◌, ◌-◌, ◌<◌, ◌≤◌, List, Option, length, vec_capacity}
+use Rattle.platform.specs.declared.platforms.Platform.{Ghosts}
 use Rattle.node_codec.specs.declared.body.Entry.{Entry}
 use Rattle.node_codec.specs.Record.{NodeRecord, FitsNode}
 use Rattle.page_store.specs.declared.wants.Want.{Want}
@@ -58,3 +59,9 @@ pub record CanHoldRoot (order level block high head : ℕ) (top : Child) : Type 
   pub shaped : IsRoot order (level - 1) high top
   pub to : block < high
   pub within : AreBelow head (stubs level high top)
+
+-- so many nodes on the way at most, and so many neighbours beside it, were added to those that were held; and no more pages were read than nodes were added
+pub record HoldsFew {S : Type 0} (P : Ghosts S) (way beside : ℕ) (platform after : S) (held held_now : List Twig) (helpers helpers_now : List (Option Twig)) : Type 0 where
+  pub on_way : length held_now ≤ length held + way
+  pub neighbours : length helpers_now ≤ length helpers + beside
+  pub reads : P.tells → P.reads after + (length held + length helpers) ≤ P.reads platform + (length held_now + length helpers_now)

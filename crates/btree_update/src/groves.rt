@@ -22,6 +22,7 @@ ghost use Rattle.btree_update.specs.Among.{HaveNodes, CachesAmong};
 ghost use Rattle.btree_twigs.specs.declared.twigs.Child.{Child};
 ghost use Rattle.btree_update.specs.declared.refusals.ReadyRefusal.{ReadyRefusal};
 ghost use Rattle.btree_update.specs.Held.{AreBelow};
+ghost use Rattle.btree_update.specs.Holding.{HoldsFew};
 ghost use Rattle.btree_update.specs.Finding.{GroveFinds, GroveStops, KeepsWay, UsesCache};
 ghost use Rattle.btree_update.specs.Groves.{KeepsTree, IsSound, IsReadFrom, IsReadBeside, IsReadBesideAt, HasLevels, RefusesWrong, MayRise, CanInsert, CanRemove, GroveMaps, places_of, grown_in, IsAddressOf, LetsGo, Goes};
 
@@ -175,7 +176,9 @@ impl Grove {
         requires sound { IsSound self.old }
         requires to { block < self.old.blocks }
         requires within { AreBelow (P.head platform.old) (places_of self.old) }
-        ensures can { IfOk result (λ mapped. CanInsert block self.new × (IsTrue mapped → CanRemove block self.new)) }
+        // What was held before is not held any more. A node is read for each that is held now, at most.
+        ensures can { IfOk result (λ mapped. CanInsert block self.new × (IsTrue mapped → CanRemove block self.new)
+            × HoldsFew P.Platform self.old.level (self.old.level - 1) platform.old platform.new [] self.new.held.items [] self.new.beside.items) }
         ensures reads { P.tells → StandsOver (P.history platform.old).present.readable reader.old.cache →
             IfOk result (λ mapped. IsReadFrom (P.history platform.old).present.readable block self.new × (IsTrue mapped → IsReadBeside (P.history platform.old).present.readable block self.new)) }
         ensures mapped { P.tells → StandsOver (P.history platform.old).present.readable reader.old.cache →

@@ -10,7 +10,7 @@ ghost use Rattle.btree_walk.specs.Looks.{Looks};
 ghost use Rattle.btree_walk.specs.Sights.{StandsOver};
 ghost use Rattle.btree_update.specs.Among.{HaveNodes, CachesAmong};
 ghost use Rattle.btree_update.specs.Held.{AnyRead, IsReadAs};
-ghost use Rattle.btree_update.specs.Holding.{CanHoldBelow};
+ghost use Rattle.btree_update.specs.Holding.{CanHoldBelow, HoldsFew};
 ghost use Rattle.btree_update.specs.Wrong.{IsWrongBeside, IsWrongChild};
 ghost use Rattle.btree_update.specs.Beside.{CanRead, LendsFrom, HoldsBeside, IsAfter, loses_for};
 
@@ -68,6 +68,7 @@ pub(crate) fn hold_beside<P: Platform>(
     ensures bad { P.tells → StandsOver (P.history platform.old).present.readable reader.old.cache →
         (front : List Child) (c : Child) (back : List Child) → children_of twig.now ≡ front ++ c ∷ back → length front + 1 ≡ at → (addr : ℕ) → IsErrOf result (ReadyRefusal.BadRecord addr)
         → IsWrongBeside low_in (IsWrongChild (P.history platform.old).present.readable order addr level) high front c back }
+    ensures few { IfOk result (λ _. HoldsFew P.Platform 0 1 platform.old platform.new [] [] beside.old.items beside.new.items) }
     ensures caches { CachesAmong P.Platform (λ pages. HaveNodes pages (stubs_below level high twig.now)) platform.old reader.old.cache reader.new.cache }
     ensures looks { Looks P.Platform 1 platform.old platform.new }
     ensures cause { TellsOf ReadyRefusal.PlatformFault result (P.faults platform.old) (P.faults platform.new) }

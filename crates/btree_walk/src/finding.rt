@@ -1,7 +1,7 @@
-ghost use Rattle.std.specs.Prelude.{◌≡◌, ◌<◌, ◌-◌, ℕ, List, Option, Ok, IfOk, IfSome, IsErrOf};
+ghost use Rattle.std.specs.Prelude.{◌≡◌, ◌<◌, ◌-◌, ℕ, List, Option, Ok, Err, IfOk, IfSome, IsErrOf};
 ghost use Rattle.sdbt_base.specs.Faults.{TellsOf};
 ghost use Rattle.node_codec.specs.declared.body.Entry.{Entry};
-ghost use Rattle.btree_walk.specs.Sights.{CachedFits, Sees, Misses, StandsOver, KeepsOnly};
+ghost use Rattle.btree_walk.specs.Sights.{CachedFits, CachedMisfits, Sees, Misses, StandsOver, KeepsOnly};
 ghost use Rattle.btree_walk.specs.Among.{IsAmong, GoDown, StaysAmong};
 ghost use Rattle.btree_walk.specs.Finds.{AsksFor, Finds, Stops, IsFound};
 ghost use Rattle.btree_walk.specs.Looks.{Looks};
@@ -40,6 +40,9 @@ pub fn find<P: Platform>(
     ensures cached { (found : Option Entry) (path : List ℕ) →
         Finds (CachedFits reader.old.cache.nodes) start.now.most block found (start.now.level - 1) start.now key.now path →
         (platform.new ≡ platform.old) × (result ≡ Ok found) }
+    // What is cached for the node stands in the place of its page, also where it doesn't fit.
+    ensures misfit { CachedMisfits reader.old.cache.nodes start.now key.now →
+        (platform.new ≡ platform.old) × (result ≡ Err (FetchRefusal.BadRecord start.now.addr)) }
 
     ensures keeps { P.tells → KeepsOnly (P.history platform.old).present.readable reader.old.cache reader.new.cache }
     ensures capacity { reader.new.cache.capacity ≡ reader.old.cache.capacity }

@@ -1,10 +1,10 @@
-ghost use Rattle.std.specs.Prelude.{◌≡◌, ◌<◌, List, IsOkAnd};
+ghost use Rattle.std.specs.Prelude.{◌≡◌, ◌<◌, List, Err, IsOkAnd};
 ghost use Rattle.node_codec.specs.declared.body.Entry.{Entry};
 ghost use Rattle.node_codec.specs.declared.body.NodeBody.{NodeBody};
 ghost use Rattle.node_cache.specs.Cached.{IsCached};
 ghost use Rattle.node_codec.specs.Record.{NodeRecord};
 ghost use Rattle.btree_walk.specs.Ways.{IsTurn};
-ghost use Rattle.btree_walk.specs.Sights.{CachedFits, StillKeeps};
+ghost use Rattle.btree_walk.specs.Sights.{CachedFits, CachedMisfits, StillKeeps};
 ghost use Rattle.btree_walk.specs.Finds.{AsksFor, LooksFor};
 
 use crate::reader::NodeReader;
@@ -30,6 +30,7 @@ pub(crate) fn look<P: Platform>(
     ensures cached { (entries : List Entry) → CachedFits reader.old.cache.nodes want.now key.now (NodeRecord want.now.level entries) →
         (platform.new ≡ platform.old) × IsOkAnd result (IsTurn want.now entries block) }
 
+    ensures misfit { CachedMisfits reader.old.cache.nodes want.now key.now → (platform.new ≡ platform.old) × (result ≡ Err (FetchRefusal.BadRecord want.now.addr)) }
     ensures still { (node : NodeBody) → IsCached reader.old.cache.nodes want.now.addr key.now node → StillKeeps want.now.addr reader.old.cache reader.new.cache }
 {
     if let Some(node) = reader.cache.get(want.addr, key) {

@@ -99,15 +99,16 @@ updates_ready session now result mapped touched tree = updates_none session now 
 
 -- ---- what a write is beside its purpose
 
-pub grows_start : {S R : Type 0} (P : Ghosts S) (T : TapeGhosts R) (platform : S) (tape : R) → WriteGrows P T platform platform tape tape
-grows_start P T platform tape = record {
+pub grows_start : {S R : Type 0} (P : Ghosts S) (T : TapeGhosts R) (most : ℕ) (platform : S) (tape : R) → WriteGrows P T most platform platform tape tape
+grows_start P T most platform tape = record {
   time = (looks_start P platform).time;
   by_one = record { rises = omega arith; by_one = omega arith; capacity = refl; faults = omega arith };
+  reads = λ told. omega arith;
   tape_faults = omega arith;
 }
 
 -- after a look
-pub grows_then : {S R : Type 0} (P : Ghosts S) (T : TapeGhosts R) (most : ℕ) (platform mid platform_now : S) (tape tape_now : R) → WalkLooks P most platform mid → WriteGrows P T mid platform_now tape tape_now → WriteGrows P T platform platform_now tape tape_now
+pub grows_then : {S R : Type 0} (P : Ghosts S) (T : TapeGhosts R) (most : ℕ) (platform mid platform_now : S) (tape tape_now : R) → WalkLooks P most platform mid → WriteGrows P T 0 mid platform_now tape tape_now → WriteGrows P T most platform platform_now tape tape_now
 grows_then P T most platform mid platform_now tape tape_now looks g =
     let by = g.by_one in
     let head = looks.head in
@@ -115,8 +116,9 @@ grows_then P T most platform mid platform_now tape tape_now looks g =
     record {
       time = λ told. stays_then (P.history platform) (P.history mid) (P.history platform_now) ((walk_looks P most platform mid looks).time told) (g.time told);
       by_one = record { rises = omega (arith, by.rises, head); by_one = omega (arith, by.by_one, head); capacity = by.capacity ∙ looks.capacity; faults = omega (arith, by.faults, faults) };
+      reads = λ told. omega (arith, looks.reads_most told, g.reads told);
       tape_faults = g.tape_faults;
     }
 
-pub grows_looked : {S R : Type 0} (P : Ghosts S) (T : TapeGhosts R) (most : ℕ) (platform platform_now : S) (tape : R) → WalkLooks P most platform platform_now → WriteGrows P T platform platform_now tape tape
-grows_looked P T most platform platform_now tape looks = grows_then P T most platform platform_now platform_now tape tape looks (grows_start P T platform_now tape)
+pub grows_looked : {S R : Type 0} (P : Ghosts S) (T : TapeGhosts R) (most : ℕ) (platform platform_now : S) (tape : R) → WalkLooks P most platform platform_now → WriteGrows P T most platform platform_now tape tape
+grows_looked P T most platform platform_now tape looks = grows_then P T most platform platform_now platform_now tape tape looks (grows_start P T 0 platform_now tape)

@@ -1,4 +1,4 @@
-ghost use Rattle.std.specs.Prelude.{◌<◌, ℕ, OnOk, IsErrOf};
+ghost use Rattle.std.specs.Prelude.{◌+◌, ◌*◌, ◌<◌, ◌≤◌, ℕ, OnOk, IsErrOf};
 ghost use Rattle.sdbt_base.specs.Arrays.{Device, Blocks};
 ghost use Rattle.platform.specs.Calls.{Looks};
 ghost use Rattle.btree_walk.specs.Sights.{StandsOver};
@@ -21,7 +21,7 @@ impl Session {
     ///
     /// `Range` comes exactly where the device has no such block. `BadRecord` never comes on a sound device;
     /// on a forged one it names a node on the way to the block, or beside it, that does not fit, or the root
-    /// node where the root record says that no block is mapped.
+    /// node where the root record says that no block is mapped. It reads two pages for each level at most.
     #[tactic(auto, using(crate::proofs::SessionLaws::walk_looks, platform::proofs::CallLaws::looks_start, platform::proofs::CallLaws::looks_call, platform::proofs::CallLaws::looks_then))]
     pub fn trim<P: Platform>(&mut self, platform: &mut P, block: u64) -> Result<(), TrimRefusal>
         requires { IsOpen self.old (P.head platform.old) }
@@ -38,6 +38,7 @@ impl Session {
         ensures updates { Updates self.old self.new result }
         ensures listed { P.tells → StaysListed (P.history platform.old).present (P.history platform.new).present self.old self.new }
         ensures looks { Looks P.Platform platform.old platform.new }
+        ensures reads { P.tells → P.reads platform.new ≤ P.reads platform.old + 2 * self.old.grove.level }
         ensures cause { IsTrimCause block (blocks_of self.old) (P.faults platform.old) (P.faults platform.new) result }
     {
         if block >= self.root.blocks {

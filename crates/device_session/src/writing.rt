@@ -1,4 +1,4 @@
-ghost use Rattle.std.specs.Prelude.{◌≡◌, ◌⊎◌, ◌<◌, ◌≤◌, ℕ, true, All, IsTrue, OnOk, IsErrOf, length};
+ghost use Rattle.std.specs.Prelude.{◌≡◌, ◌⊎◌, ◌*◌, ◌<◌, ◌≤◌, ℕ, true, All, IsTrue, OnOk, IsErrOf, length};
 ghost use Rattle.std.specs.Bool.{OnFalse};
 ghost use Rattle.sdbt_base.specs.Counts.{counts};
 ghost use Rattle.sdbt_base.specs.Arrays.{padded, Device, Blocks};
@@ -28,7 +28,7 @@ impl Session {
     /// `Range` comes exactly where the device has no such block, and else `Full` exactly where no page is
     /// free. `BadRecord` never comes on a sound device; on a forged one it names a node on the way to the block, or
     /// beside it, that does not fit, or the root node where a block more would be mapped than there are or than its
-    /// level allows.
+    /// level allows. It reads two pages for each level at most.
     pub fn write<P: Platform, T: Tape>(
         &mut self,
         platform: &mut P,
@@ -57,7 +57,7 @@ impl Session {
         ensures adds { WriteAdds P.Platform T.Tape platform.old platform.new tape.old tape.new (places_of self.new.grove) block result }
         ensures cause { IsWriteCause block (blocks_of self.old) (P.head platform.old) (P.capacity platform.old)
             (counts (P.faults platform.old) (T.faults tape.old) 0 0 0) (counts (P.faults platform.new) (T.faults tape.new) 0 0 0) result }
-        ensures grows { WriteGrows P.Platform T.Tape platform.old platform.new tape.old tape.new }
+        ensures grows { WriteGrows P.Platform T.Tape (2 * self.old.grove.level) platform.old platform.new tape.old tape.new }
     {
         if block >= self.root.blocks {
             return Err(WriteRefusal::Range);
@@ -114,7 +114,7 @@ impl Session {
             (HoldsListed self.new (P.history platform.new).present) }
         ensures adds { WriteAdds P.Platform T.Tape platform.old platform.new tape.old tape.new (places_of self.new.grove) block result }
         ensures cause { IsPutCause (counts (P.faults platform.old) (T.faults tape.old) 0 0 0) (counts (P.faults platform.new) (T.faults tape.new) 0 0 0) result }
-        ensures grows { WriteGrows P.Platform T.Tape platform.old platform.new tape.old tape.new }
+        ensures grows { WriteGrows P.Platform T.Tape 0 platform.old platform.new tape.old tape.new }
     {
         are_bytes(content);
         let addr = platform.head();

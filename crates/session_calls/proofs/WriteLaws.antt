@@ -113,13 +113,13 @@ write_leads image now device array block bytes (Err stops.BadRoot) led = absurd 
 write_leads image now device array block bytes (Err (stops.BadRecord addr)) led = absurd led
 
 -- a write goes on, whatever its answer
-pub write_along : {S R : Type 0} (P : PlatformGhosts S) (T : TapeGhosts R) (platform platform_now : S) (tape tape_now : R) (session now : Session) (block : ℕ) (bytes : List ℕ) (result : Result (Unit {0}) DeviceStop)
+pub write_along : {S R : Type 0} (P : PlatformGhosts S) (T : TapeGhosts R) (most : ℕ) (platform platform_now : S) (tape tape_now : R) (session now : Session) (block : ℕ) (bytes : List ℕ) (result : Result (Unit {0}) DeviceStop)
     → GoesOn P.tells (P.history platform).present (P.history platform_now).present (P.head platform_now) session now → needed_by now ≤ needed_by session + 41
     → KeepsKeys P.tells (T.drawn tape) (T.drawn tape_now) (P.history platform) (P.history platform_now) (HoldsListed session (P.history platform).present) (HoldsListed now (P.history platform_now).present)
-    → WriteGrows P T platform platform_now tape tape_now
+    → WriteGrows P T most platform platform_now tape tape_now
     → (P.tells → (device : Device) (array : OpenSession) → IsAt (P.history platform).present (Some session) (mounted device array) → WritesBlock (P.history platform_now).present now device array block bytes result)
     → Along P 1 platform platform_now (drawn_by T tape) (drawn_by T tape_now) session now
-write_along P T platform platform_now tape tape_now session now block bytes result goes_on needs keeps grows leads = record {
+write_along P T most platform platform_now tape tape_now session now block bytes result goes_on needs keeps grows leads = record {
   is_open = goes_on.is_open;
   mounted = λ told mounted. mounted_still (Some session) session now (P.history platform) (P.history platform_now) refl mounted goes_on.root (grows.time told) (goes_on.follows told);
   blocks = ap (λ (r : Root). r.blocks) goes_on.root;

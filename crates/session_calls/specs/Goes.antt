@@ -1,5 +1,5 @@
 -- What one call of a session says, by its answer.
-use Rattle.std.specs.Prelude.{◌≡◌, ◌≤◌, ◌+◌, ◌⊎◌, ℕ, List, [], ◌∷◌, Some, Result, Ok, Err, IfErr, OnErr, OnOk}
+use Rattle.std.specs.Prelude.{◌≡◌, ◌≤◌, ◌+◌, ◌*◌, ◌⊎◌, ℕ, List, [], ◌∷◌, Some, Result, Ok, Err, IfErr, OnErr, OnOk}
 use Rattle.sdbt_base.specs.Arrays.{Device, Session as OpenSession, content_of, unmapped, written, mounted}
 use Rattle.sdbt_base.specs.declared.tapes.Tape.{Ghosts as TapeGhosts}
 use Rattle.platform.specs.declared.platforms.Platform.{Ghosts as PlatformGhosts}
@@ -21,12 +21,13 @@ use Rattle.session_calls.specs.Blame.{HasCause, IsOfCall}
 use Rattle.session_calls.specs.declared.stops.DeviceStop.{DeviceStop}
 use Rattle.session_calls.specs.declared.stops.DeviceStop.TheVariants as stops
 
--- the session goes on, whatever the answer: a refused call leaves what a commit needs, and how many blocks are counted. The counts of faults are as they were where the call was done, and where it stopped at a fault that of
+-- the session goes on, whatever the answer: a refused call leaves what a commit needs, and how many blocks are counted; two pages for each level are read at most, and one beside them. The counts of faults are as they were where the call was done, and where it stopped at a fault that of
 -- this object rose alone
 pub record Goes {S X : Type 0} (P : PlatformGhosts S) (updates : ℕ) (platform platform_now : S) (drawn drawn_now : Drawn) (session now : Session) (result : Result X DeviceStop) : Type 0 where
   pub along : Along P updates platform platform_now drawn drawn_now session now
   pub needs_still : OnErr result (needed_by now ≡ needed_by session)
   pub mapped_still : OnErr result (now.mapped ≡ session.mapped)
+  pub reads : P.tells → P.reads platform_now ≤ P.reads platform + (2 * session.grove.level + 1)
   pub stops : IfErr result IsOfCall
   pub quiet : OnOk result (counts (P.faults platform_now) drawn_now.faults 0 0 0 ≡ counts (P.faults platform) drawn.faults 0 0 0)
   pub cause : IfErr result (HasCause (counts (P.faults platform) drawn.faults 0 0 0) (counts (P.faults platform_now) drawn_now.faults 0 0 0))

@@ -15,6 +15,7 @@ use Rattle.btree_update.specs.Holding.{CanHold, CanHoldBelow, IsNodeFor, IsNodeO
 use Rattle.btree_update.specs.Held.{AreBelow}
 use Rattle.btree_update.proofs.OpenLaws.{IsOnWay, on_way, child_is, has_least}
 use Rattle.btree_update.proofs.GroveLaws.{above_it}
+use Rattle.btree_update.proofs.FewLaws.{few_none, few_more, few_read, few_beside}
 use Rattle.btree_update.proofs.HoldLaws.{no_way, leaf_way, one_way, below_child, read_as, way_grown, held_grown, way_lt, way_read, way_held, held_for}
 use Rattle.btree_update.specs.Wrong.{ComesToWrong, Here, WrongOnWay, WrongUnder, WrongFrom}
 use Rattle.btree_update.specs.declared.refusals.ReadyRefusal.TheVariants.{BadRecord}
@@ -43,9 +44,11 @@ nothing_before block high n ds cs same zero_is after lt =
 
 pub hold_below-returns-then-at-eq0-clause-at_hand : goal.hold_below-returns-then-at-eq0-clause-at_hand
 hold_below-returns-then-at-eq0-clause-at_hand g t c =
-    let at = c.requires.can in
-    no_way (λ end d. HeldFor AnyRead c.args.order c.args.block c.args.level end d c.args.held.now.items) c.args.order c.args.level at.least at.low c.args.high c.args.block c.args.twig.now at.shaped
-    (nothing_before c.args.block c.args.high c.place-at.result _ (children_of c.args.twig.now) c.deref.ensures.value c.if-at-eq0.true c.place-at.ensures.after at.to)
+    let at = c.requires.can in (
+      no_way (λ end d. HeldFor AnyRead c.args.order c.args.block c.args.level end d c.args.held.now.items) c.args.order c.args.level at.least at.low c.args.high c.args.block c.args.twig.now at.shaped
+          (nothing_before c.args.block c.args.high c.place-at.result _ (children_of c.args.twig.now) c.deref.ensures.value c.if-at-eq0.true c.place-at.ensures.after at.to),
+      few_none g.P.Platform c.args.level c.args.level c.args.platform.now c.args.held.now.items c.args.beside.now.items,
+    )
 
 pub hold_below-returns-then-at-eq0-clause-reads : goal.hold_below-returns-then-at-eq0-clause-reads
 hold_below-returns-then-at-eq0-clause-reads g t c = λ tells stands.
@@ -54,7 +57,10 @@ hold_below-returns-then-at-eq0-clause-reads g t c = λ tells stands.
     (nothing_before c.args.block c.args.high c.place-at.result _ (children_of c.args.twig.now) c.deref.ensures.value c.if-at-eq0.true c.place-at.ensures.after at.to))
 
 pub hold_below-returns-then-level-eq0-clause-at_hand : goal.hold_below-returns-then-level-eq0-clause-at_hand
-hold_below-returns-then-level-eq0-clause-at_hand g t c = leaf_way AnyRead c.args.order c.args.block c.args.level c.args.high c.args.twig.now c.args.held.now.items c.if-level-eq0.true
+hold_below-returns-then-level-eq0-clause-at_hand g t c = (
+  leaf_way AnyRead c.args.order c.args.block c.args.level c.args.high c.args.twig.now c.args.held.now.items c.if-level-eq0.true,
+  few_none g.P.Platform c.args.level c.args.level c.args.platform.now c.args.held.now.items c.args.beside.now.items,
+)
 
 pub hold_below-returns-then-level-eq0-clause-reads : goal.hold_below-returns-then-level-eq0-clause-reads
 hold_below-returns-then-level-eq0-clause-reads g t c = λ tells stands.
@@ -99,10 +105,17 @@ hold_below-returns-clause-at_hand g t c =
     let w = on_way c.args.order c.args.block c.args.level c.args.high c.place-at.result (children_of c.args.twig.now) c.deref.result.now c.index-child.result.now c.deref.ensures.value c.if-at-eq0.false
     c.place-at.ensures.within c.place-at.ensures.before c.place-at.ensures.after at.to c.index-child.ensures in
     let e = end_is c.args.high c.place-at.result w.at c.end_of-end.result c.deref-2.result.now (children_of c.args.twig.now) c.deref-2.ensures.value w.at_is c.end_of-end.ensures in
-    IfOk_all _ c.hold_beside.result
-    (λ b. one_way (λ end d. HeldFor AnyRead c.args.order c.args.block c.args.level end d c.hold_way.new.held.items) c.args.order c.args.level at.least at.low c.args.high c.args.block c.place-at.result 0 c.args.twig.now c.index-child.result.now at.shaped w
-    (subst (λ m. HeldFor AnyRead c.args.order c.args.block c.args.level m c.index-child.result.now c.hold_way.new.held.items) e
-    (held_for AnyRead c.args.order c.args.block c.args.level (c.args.level - 1) c.end_of-end.result c.index-child.result.now c.hold_way.new.held.items (above c.args.level c.if-level-eq0.false) c.in_ok-left.ensures.at_hand)))
+    let held = c.in_ok-left.ensures.at_hand in
+    let deep : c.args.level ≡ suc (c.args.level - 1) = above c.args.level c.if-level-eq0.false in
+    IfOk_map _ _ c.hold_beside.result
+    (λ b few. (
+      one_way (λ end d. HeldFor AnyRead c.args.order c.args.block c.args.level end d c.hold_way.new.held.items) c.args.order c.args.level at.least at.low c.args.high c.args.block c.place-at.result 0 c.args.twig.now c.index-child.result.now at.shaped w
+          (subst (λ m. HeldFor AnyRead c.args.order c.args.block c.args.level m c.index-child.result.now c.hold_way.new.held.items) e
+          (held_for AnyRead c.args.order c.args.block c.args.level (c.args.level - 1) c.end_of-end.result c.index-child.result.now c.hold_way.new.held.items deep held.0)),
+      few_beside g.P.Platform c.args.level (c.args.level - 1) c.args.level c.args.platform.now c.hold_way.new.platform c.hold_beside.new.platform c.args.held.now.items c.hold_way.new.held.items c.args.beside.now.items c.hold_way.new.beside.items
+          c.hold_beside.new.beside.items held.1 few (omega (arith, deep)),
+    ))
+    c.hold_beside.ensures.few
 
 pub hold_below-returns-clause-reads : goal.hold_below-returns-clause-reads
 hold_below-returns-clause-reads g t c = λ tells stands.
@@ -252,8 +265,11 @@ hold_way-hold_below-requires-in-Kept g t c κs within =
 pub hold_way-returns-in-Grown-clause-at_hand : goal.hold_way-returns-in-Grown-clause-at_hand
 hold_way-returns-in-Grown-clause-at_hand g t c =
     IfOk_map _ _ c.hold_below.result
-    (λ b h. subst (λ x. HeldFrom AnyRead c.args.order c.args.least c.args.block (c.args.level - 1) c.args.high x c.hold_below.new.held.items) (sym c.in-Grown.is)
-    (held_grown AnyRead c.args.order c.args.least c.args.block (c.args.level - 1) c.args.high c.in-Grown.low c.in-Grown.twig c.hold_below.new.held.items h))
+    (λ b h. (
+      subst (λ x. HeldFrom AnyRead c.args.order c.args.least c.args.block (c.args.level - 1) c.args.high x c.hold_below.new.held.items) (sym c.in-Grown.is)
+          (held_grown AnyRead c.args.order c.args.least c.args.block (c.args.level - 1) c.args.high c.in-Grown.low c.in-Grown.twig c.hold_below.new.held.items h.0),
+      few_more g.P.Platform (c.args.level - 1) c.args.level (c.args.level - 1) c.args.platform.now c.hold_below.new.platform c.args.held.now.items c.hold_below.new.held.items c.args.beside.now.items c.hold_below.new.beside.items (omega arith) h.1,
+    ))
     c.hold_below.ensures.at_hand
 
 pub hold_way-returns-in-Grown-clause-reads : goal.hold_way-returns-in-Grown-clause-reads
@@ -268,8 +284,11 @@ pub hold_way-returns-in_ok-hold-in-Kept-clause-at_hand : goal.hold_way-returns-i
 hold_way-returns-in_ok-hold-in-Kept-clause-at_hand g t c =
     let at = subst (CanHold c.args.order c.args.least c.args.level c.args.block c.args.high (g.P.Platform.head c.args.platform.now)) c.in-Kept.is c.requires.can in
     let h = way_held c.args.order c.args.least c.args.level c.args.block c.args.high (g.P.Platform.head c.args.platform.now) c.in-Kept.low c.in-Kept.addr c.in-Kept.key c.in_ok-twig-in-Kept.twig at c.in_ok-twig-in-Kept.ensures.fits
-    AnyRead c.hold_below-in-Kept.new.held.items c.hold.new.held.items c.in_ok-hold-in-Kept.ensures.held tt c.in_ok-left-in-Kept.ensures.at_hand in
-    subst (λ x. HeldFrom AnyRead c.args.order c.args.least c.args.block (c.args.level - 1) c.args.high x c.hold.new.held.items) (sym c.in-Kept.is) h
+    AnyRead c.hold_below-in-Kept.new.held.items c.hold.new.held.items c.in_ok-hold-in-Kept.ensures.held tt c.in_ok-left-in-Kept.ensures.at_hand.0 in (
+      subst (λ x. HeldFrom AnyRead c.args.order c.args.least c.args.block (c.args.level - 1) c.args.high x c.hold.new.held.items) (sym c.in-Kept.is) h,
+      few_read g.P.Platform (c.args.level - 1) c.args.level (c.args.level - 1) c.args.platform.now c.read_node.new.platform c.hold_below-in-Kept.new.platform c.args.held.now.items c.hold_below-in-Kept.new.held.items c.hold.new.held.items c.args.beside.now.items
+          c.hold_below-in-Kept.new.beside.items c.in_ok-twig-in-Kept.twig c.in_ok-left-in-Kept.ensures.at_hand.1 c.in_ok-twig-in-Kept.ensures.looks.reads_most c.in_ok-hold-in-Kept.ensures.held (omega (arith, c.requires.can.one)),
+    )
 
 pub hold_way-returns-in_ok-hold-in-Kept-clause-reads : goal.hold_way-returns-in_ok-hold-in-Kept-clause-reads
 hold_way-returns-in_ok-hold-in-Kept-clause-reads g t c = λ tells stands.

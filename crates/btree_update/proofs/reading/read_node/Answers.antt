@@ -1,8 +1,11 @@
-use Rattle.std.proofs.Common.{◌≡◌, ap, sym, subst, inr, ◌∙◌, Option, Bor, Err}
+use Rattle.std.proofs.Common.{◌≡◌, refl, ap, sym, subst, inl, inr, ◌∙◌, Option, Bor, Err}
 use Rattle.std.proofs.lemmas.Bool.{false≢true}
 use Rattle.std.specs.Option.{option_copied}
 use Rattle.node_cache.specs.Cached.{Cached, Uses, cached_node, filled}
-use Rattle.btree_walk.specs.Sights.{KeepsOnly}
+use Rattle.node_codec.specs.declared.body.NodeBody.{NodeBody}
+use Rattle.btree_walk.specs.Sights.{NodeFits, KeepsOnly}
+use Rattle.btree_walk.proofs.OnLaws.{IfOk_map}
+use Rattle.btree_update.specs.Reading.{all_kept}
 use Rattle.btree_walk.proofs.SightLaws.{keeps_filled, keeps_used}
 use Rattle.btree_update.specs.declared.refusals.ReadyRefusal.TheVariants.{BadRecord}
 use Rattle.std.proofs.lemmas.Result.{err_from_is_err_and}
@@ -86,3 +89,34 @@ pub returns-in_err-fetch_node-clause-but : goal.returns-in_err-fetch_node-clause
 returns-in_err-fetch_node-clause-but g c =
     let uses = subst (λ (r : Option (Bor _)). Uses c.args.reader.now.cache c.args.want.now.addr c.args.key.now (option_copied r) c.get.follows.lender-at-none) c.in_default.is c.get.follows.holds-at-none in
     subst (KeepsBut c.args.want.now.addr c.args.key.now c.args.reader.now.cache) (sym uses.0) (but_same c.args.want.now.addr c.args.key.now c.args.reader.now.cache)
+
+-- ---- what is cached
+
+pub returns-then-not-fits-clause-cached : goal.returns-then-not-fits-clause-cached
+returns-then-not-fits-clause-cached g c = λ node here. (refl, λ misfit. refl, tt)
+
+pub returns-in-Some-clause-cached : goal.returns-in-Some-clause-cached
+returns-in-Some-clause-cached g c = λ node here.
+    let same : node ≡ c.in-Some.node.now = c.in-Some.ensures.found.only node here in (
+      refl,
+      λ misfit. absurd (misfit (subst (NodeFits c.args.want.now) (sym same) (c.fits.ensures.0 c.if-not-fits.false))),
+      IfOk_map _ _ c.in_memory.result (λ twig is. is.1 ∙ ap (λ (n : NodeBody). all_kept n.entries.items) (sym same)) c.in_memory.ensures.node,
+    )
+
+pub returns-in_err-fetch_node-clause-cached : goal.returns-in_err-fetch_node-clause-cached
+returns-in_err-fetch_node-clause-cached g c = λ node here. absurd (c.in_default.ensures.none node here)
+
+pub returns-clause-cached : goal.returns-clause-cached
+returns-clause-cached g c = λ node here. absurd (c.in_default.ensures.none node here)
+
+pub returns-in-Some-clause-fills : goal.returns-in-Some-clause-fills
+returns-in-Some-clause-fills g c =
+    let uses = subst (λ (r : Option (Bor _)). Uses c.args.reader.now.cache c.args.want.now.addr c.args.key.now (option_copied r) c.get.follows.lender-at-none) c.in-Some.is c.get.follows.holds-at-none in
+    IfOk_map _ _ c.in_memory.result (λ twig is. (c.in-Some.node.now, is.1, inl uses.1)) c.in_memory.ensures.node
+
+pub returns-clause-fills : goal.returns-clause-fills
+returns-clause-fills g c =
+    let uses = subst (λ (r : Option (Bor _)). Uses c.args.reader.now.cache c.args.want.now.addr c.args.key.now (option_copied r) c.get.follows.lender-at-none) c.in_default.is c.get.follows.holds-at-none in
+    let node : NodeBody = record { level = c.args.want.now.level; entries = c.fetch_node.new.entries } in
+    let first = c.put.ensures.cached ∙ ap (λ (old : Cached). filled old (cached_node c.args.want.now.addr c.args.key.now node)) uses.0 in
+    IfOk_map _ _ c.in_memory-2.result (λ twig is. (node, is.1, inr first)) c.in_memory-2.ensures.node

@@ -1,4 +1,4 @@
-use Rattle.std.proofs.Common.{◌≡◌, ℕ, suc, ◌<◌, ◌≤◌, ◌+◌, ◌-◌, ◌++◌, ◌∷◌, List, Err, length, take, drop, sym, ap, subst, ◌∙◌, arith}
+use Rattle.std.proofs.Common.{◌≡◌, ℕ, suc, ◌<◌, ◌≤◌, ◌+◌, ◌-◌, ◌++◌, [], ◌∷◌, List, None, Err, length, take, drop, sym, ap, subst, ◌∙◌, arith}
 use Rattle.std.proofs.lemmas.Result.{err_from_is_err_and}
 use Rattle.btree_twigs.specs.declared.twigs.Child.{Child, out-Child}
 use Rattle.btree_twigs.specs.declared.twigs.Twig.{Twig}
@@ -14,6 +14,7 @@ use Rattle.btree_update.specs.Wrong.{IsWrongChild}
 use Rattle.btree_update.specs.Beside.{CanRead, loses_for, LendsFrom, HoldsBeside, HoldsHelp}
 use Rattle.btree_update.proofs.OpenLaws.{below_front, below_back}
 use Rattle.btree_update.proofs.WrongLaws.{wrong_at}
+use Rattle.btree_update.proofs.FewLaws.{few_none, few_one}
 use Rattle.btree_update.proofs.BesideLaws.{loses_few, after_for, helped_at}
 use Rattle.page_store.specs.Tree.{Place}
 use Rattle.btree_twigs.specs.Stubs.{stubs_below}
@@ -130,3 +131,15 @@ returns-in_ok-keep-in-Short-clause-caches g c =
     let split = split_here (children_of c.args.twig.now) c.beside_of-other.result c.index.result.now lt c.index.ensures in
     caches_fewer g.P.Platform (λ pages. HaveNodes pages (stubs_below c.args.level c.args.high c.args.twig.now)) (λ pages. HaveNodes pages (stubs c.args.level c.end_of-end.result c.index.result.now)) c.args.platform.now c.args.reader.now.cache c.read_help.new.reader.cache
     (λ pages places such. beside_among pages places c.args.level c.args.high c.beside_of-other.result c.end_of-end.result c.args.twig.now c.deref.result.now c.index.result.now split c.deref.ensures.value c.end_of-end.ensures such) c.in_ok-help-in-Short.ensures.caches
+
+-- ---- how many
+
+pub returns-in-Unmapped-clause-few : goal.returns-in-Unmapped-clause-few
+returns-in-Unmapped-clause-few g c = few_none g.P.Platform 0 1 c.args.platform.now [] c.args.beside.now.items
+
+pub returns-in_ok-keep-in-Enough-clause-few : goal.returns-in_ok-keep-in-Enough-clause-few
+returns-in_ok-keep-in-Enough-clause-few g c = few_one g.P.Platform c.args.platform.now c.args.platform.now c.args.beside.now.items c.keep.new.beside.items None c.in_ok-keep-in-Enough.ensures.kept (λ told. omega arith)
+
+pub returns-in_ok-keep-in-Short-clause-few : goal.returns-in_ok-keep-in-Short-clause-few
+returns-in_ok-keep-in-Short-clause-few g c =
+    few_one g.P.Platform c.args.platform.now c.read_help.new.platform c.args.beside.now.items c.keep-in-Short.new.beside.items c.in_ok-help-in-Short.help.node c.in_ok-keep-in-Short.ensures.kept c.in_ok-help-in-Short.ensures.looks.reads_most

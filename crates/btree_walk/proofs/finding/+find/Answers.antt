@@ -119,3 +119,19 @@ returns-in-Below-clause-keeps g t c = λ tells.
     let same : (g.P.Platform.history c.look.new.platform).present.readable ≡ pages = ap (λ i. i.readable) (c.in_ok-found.ensures.look.looks.image tells) in
     keeps_then pages c.args.reader.now.cache c.look.new.reader.cache c.find.new.reader.cache (c.in_ok-found.ensures.look.keeps tells)
     (subst (λ (p : List (List ℕ)). KeepsOnly p c.look.new.reader.cache c.find.new.reader.cache) same (c.find.ensures.keeps tells)))
+
+-- ---- a cached node that isn't wanted
+
+pub returns-in_err-found-clause-misfit : goal.returns-in_err-found-clause-misfit
+returns-in_err-found-clause-misfit g t c =
+    let p = err_from_is_err_and c.from_residual.result c.from_residual.ensures.1 in
+    rw (p.1, p.2) (λ is.
+    let misfit = c.in_err-found.ensures.misfit is in
+    let same : c.in_err-found.field-0.0 ≡ BadRecord c.args.start.now.addr = let told = misfit.1 in cc in
+    (misfit.0, ap Err same))
+
+pub returns-in-Found-clause-misfit : goal.returns-in-Found-clause-misfit
+returns-in-Found-clause-misfit g t c = λ is. absurd (let no = (c.in_ok-found.ensures.misfit is).1 in cc)
+
+pub returns-in-Below-clause-misfit : goal.returns-in-Below-clause-misfit
+returns-in-Below-clause-misfit g t c = λ is. absurd (let no = (c.in_ok-found.ensures.misfit is).1 in cc)

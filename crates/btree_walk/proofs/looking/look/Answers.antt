@@ -5,6 +5,7 @@ use Rattle.node_codec.specs.declared.body.NodeBody.{NodeBody}
 use Rattle.node_cache.specs.Cached.{Cached, Uses}
 use Rattle.btree_walk.specs.Ways.{IsTurn}
 use Rattle.btree_walk.specs.Finds.{LooksFor}
+use Rattle.btree_walk.specs.Sights.{NodeFits}
 use Rattle.btree_walk.proofs.SightLaws.{keeps_used}
 use Rattle.btree_walk.proofs.AmongLaws.{but_used}
 use Rattle.btree_walk.proofs.RecentLaws.{still_used}
@@ -67,3 +68,14 @@ returns-clause-still g c = λ node kept. absurd (c.in_default.ensures.none node 
 
 pub returns-clause-cached : goal.returns-clause-cached
 returns-clause-cached g c = λ entries is. absurd (c.in_default.ensures.none is.node is.here)
+
+-- ---- a cached node that isn't wanted
+
+pub returns-then-fits-clause-misfit : goal.returns-then-fits-clause-misfit
+returns-then-fits-clause-misfit g c = λ is. absurd (is.misfit (subst (NodeFits c.args.want.now) (sym (c.in-Some.ensures.found.only is.node is.here)) (c.fits.ensures.0 c.if-fits.true)))
+
+pub returns-else-fits-clause-misfit : goal.returns-else-fits-clause-misfit
+returns-else-fits-clause-misfit g c = λ is. (refl, refl)
+
+pub returns-clause-misfit : goal.returns-clause-misfit
+returns-clause-misfit g c = λ is. absurd (c.in_default.ensures.none is.node is.here)

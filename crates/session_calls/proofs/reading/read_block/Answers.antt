@@ -30,6 +30,7 @@ returns-in-Ok-clause-goes g c drawn = record {
       (at_array _ _ device array there.0 (c.in-Ok.ensures.same.1 ∙ at.there.session.1) (served_still _ _ (c.read.ensures.looks.time told) at.served), there.1)));
   needs_still = tt;
   mapped_still = tt;
+  reads = λ told. omega (arith, c.in-Ok.ensures.reads.most told);
   stops = tt;
   quiet = ap (λ (n : ℕ). counts n drawn.faults 0 0 0) c.in-Ok.ensures.cause.1;
   cause = tt;
@@ -44,6 +45,7 @@ returns-in-Err-clause-goes g c drawn = record {
       (c.in-Err.ensures.same.1 ∙ at.there.session.1) (served_still _ _ (c.read.ensures.looks.time told) at.served)));
   needs_still = needed_read c.args.session.now c.read.new.self c.in-Err.ensures.same.2;
   mapped_still = c.in-Err.ensures.same.0;
+  reads = λ told. omega (arith, c.in-Err.ensures.reads.most told);
   stops = read_of_call c.in-Err.refusal _ c.stop_of_read.ensures;
   quiet = tt;
   cause = read_blamed c.in-Err.refusal _ _ _ (counts (g.P.Platform.faults c.args.platform.now) drawn.faults 0 0 0) (counts (g.P.Platform.faults c.read.new.platform) drawn.faults 0 0 0) refl c.stop_of_read.ensures c.in-Err.ensures.cause;

@@ -1,10 +1,12 @@
-use Rattle.std.proofs.Common.{◌≡◌, ℕ, ◌≤◌, ◌-◌, ◌^◌, Err, refl, sym, ap, subst, arith}
+use Rattle.std.proofs.Common.{◌≡◌, ℕ, ◌≤◌, ◌-◌, ◌^◌, List, [], Option, Err, refl, sym, ap, subst, arith}
 use Rattle.std.proofs.lemmas.Result.{err_from_is_err_and}
 use Rattle.btree_update.specs.declared.refusals.ReadyRefusal.TheVariants.{BadRecord}
 use Rattle.btree_update.specs.GroveTree.{MapsFrom}
+use Rattle.btree_twigs.specs.declared.twigs.Twig.{Twig}
 use Rattle.btree_twigs.specs.Stubs.{stubs}
 use Rattle.btree_twigs.specs.Top.{top_least}
 use Rattle.btree_update.specs.Held.{AreBelow, AnyRead, IsReadAs, HeldFrom}
+use Rattle.btree_update.specs.Holding.{HoldsFew}
 use Rattle.btree_update.specs.Wrong.{WrongFrom}
 use Rattle.btree_update.specs.Groves.{IsWrongOnWay}
 use Rattle.btree_update.proofs.RootHolds.{root_holds}
@@ -52,7 +54,11 @@ returns-in_err-make_room-clause-sound g c =
 pub returns-clause-can : goal.returns-clause-can
 returns-clause-can g c =
     let spared = c.make_spares.ensures.kept c.args.self.now.order c.requires.sound.most c.requires.sound.spares in
-    let at_hand = subst (λ l. HeldFrom AnyRead c.args.self.now.order l c.args.block (c.args.self.now.level - 1) c.args.self.now.blocks c.args.self.now.top c.hold_way.new.held.items) c.least_of_root-least.ensures c.in_ok-left.ensures.at_hand in (
+    let few : HoldsFew g.P.Platform c.args.self.now.level (c.args.self.now.level - 1) c.args.platform.now c.hold_way.new.platform [] c.hold_way.new.held.items [] c.hold_way.new.beside.items =
+    subst (λ (held : List Twig). HoldsFew g.P.Platform c.args.self.now.level (c.args.self.now.level - 1) c.args.platform.now c.hold_way.new.platform held c.hold_way.new.held.items [] c.hold_way.new.beside.items) c.clear.ensures.items
+    (subst (λ (beside : List (Option Twig)). HoldsFew g.P.Platform c.args.self.now.level (c.args.self.now.level - 1) c.args.platform.now c.hold_way.new.platform c.clear.new.self.items c.hold_way.new.held.items beside c.hold_way.new.beside.items) c.clear-2.ensures.items
+    c.in_ok-left.ensures.at_hand.1) in
+    let at_hand = subst (λ l. HeldFrom AnyRead c.args.self.now.order l c.args.block (c.args.self.now.level - 1) c.args.self.now.blocks c.args.self.now.top c.hold_way.new.held.items) c.least_of_root-least.ensures c.in_ok-left.ensures.at_hand.0 in (
       record {
         sound = sound_as c.args.self.now _ c.requires.sound (refl, refl, refl, refl) spared;
         to = c.requires.to;
@@ -73,6 +79,7 @@ returns-clause-can g c =
             gone_room = omega (arith, c.in_ok-make_room.ensures.gone, c.len.ensures, c.len-2.ensures);
             never_room = c.in_ok-make_room.ensures.never;
           }),
+      few,
     )
 
 pub returns-clause-reads : goal.returns-clause-reads

@@ -138,10 +138,11 @@ pub returns-in-Err-TapeFault-clause-updates : goal.returns-in-Err-TapeFault-clau
 returns-in-Err-TapeFault-clause-updates g c = still_updates g (goal.at.returns-in-Err-TapeFault-clause-updates g c).After-append _
 
 -- an append that was done or failed
-grows : (g : Over) (c : After-append g) → WriteGrows g.P.Platform g.T.Tape c.args.platform.now c.append.new.platform c.args.tape.now c.append.new.tape
+grows : (g : Over) (c : After-append g) → WriteGrows g.P.Platform g.T.Tape 0 c.args.platform.now c.append.new.platform c.args.tape.now c.append.new.tape
 grows g c = record {
   time = λ told. During-step _ _ (λ image. image.cell ≡ (g.P.Platform.history c.args.platform.now).present.cell) (c.append.ensures.adds.time told) refl (c.append.ensures.adds.cell told);
   by_one = c.append.ensures.adds.grows;
+  reads = λ told. omega (arith, c.append.ensures.adds.reads told);
   tape_faults = c.append.ensures.adds.tape_faults;
 }
 

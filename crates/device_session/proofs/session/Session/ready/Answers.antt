@@ -4,6 +4,7 @@ use Rattle.std.specs.Bool.{OnTrue, OnFalse}
 use Rattle.platform.specs.Image.{Image}
 use Rattle.page_store.specs.Tree.{Mapped}
 use Rattle.btree_walk.specs.Sights.{StandsOver}
+use Rattle.btree_walk.proofs.OnLaws.{IfOk_map}
 use Rattle.btree_update.specs.Maps.{HasBlock, LacksBlock}
 use Rattle.btree_update.specs.Groves.{IsReadFrom, IsReadBeside, IsWrongOnWay, GroveMaps}
 use Rattle.device_session.specs.Sessions.{Session}
@@ -54,3 +55,6 @@ returns-clause-ready g c = λ told h.
       found = subst (λ (s : Session). IfOk c.ready.result (λ mapped. IsFound mapped image.readable s c.args.block)) c.self.view_is (found_by image.readable c.args.block (the_view c.self.inside) c.ready.result (c.ready.ensures.finds told over));
       bad = λ addr is. subst (λ (s : Session). IsWrongOnWay image.readable c.args.block s.grove addr) c.self.view_is ((c.ready.ensures.bad told over).wrong addr is);
     }
+
+pub returns-clause-can : goal.returns-clause-can
+returns-clause-can g c = IfOk_map _ _ c.ready.result (λ mapped can. (can.0, can.1)) c.ready.ensures.can

@@ -201,10 +201,10 @@ pub returns-clause-updates : goal.returns-clause-updates
 returns-clause-updates g c = updates_then _ _ _ _ c.ready.ensures.same.0 c.ready.ensures.same.1 c.ready.ensures.same.2 c.put.ensures.updates
 
 pub returns-then-block-self-clause-grows : goal.returns-then-block-self-clause-grows
-returns-then-block-self-clause-grows g c = grows_start _ _ _ _
+returns-then-block-self-clause-grows g c = grows_start _ _ _ _ _
 
 pub returns-then-head-capacity-clause-grows : goal.returns-then-head-capacity-clause-grows
-returns-then-head-capacity-clause-grows g c = grows_start _ _ _ _
+returns-then-head-capacity-clause-grows g c = grows_start _ _ _ _ _
 
 pub returns-in-Err-BadRecord-clause-grows : goal.returns-in-Err-BadRecord-clause-grows
 returns-in-Err-BadRecord-clause-grows g c = grows_looked _ _ _ _ _ _ c.ready.ensures.looks
