@@ -32,7 +32,7 @@ stands_on pages old new stands keeps = All-weaker (λ k. Contains old.nodes k �
     by k (inl before) = All-contains (IsOfPage pages) old.nodes k stands before
     by k (inr page) = page
 
--- a node that is kept is what its page is
+-- a node that is cached is what its page is
 pub kept_is_page : (pages : List (List ℕ)) (cache : Cached) (addr : ℕ) (key : List ℕ) (node : NodeBody) → StandsOver pages cache → IsCached cache.nodes addr key node → IsRecordAt pages addr key (NodeRecord node.level node.entries.items)
 kept_is_page pages cache addr key node stands here = All-contains (IsOfPage pages) cache.nodes (cached_node addr key node) stands here
 

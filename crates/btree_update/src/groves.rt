@@ -147,7 +147,7 @@ impl Grove {
         ensures fits { P.tells → StandsOver (P.history platform.old).present.readable reader.old.cache → (mapped : List Mapped) → GroveMaps (P.history platform.old).present.readable self.now mapped →
             (addr : ℕ) → ¬ (IsErrOf result (FetchRefusal.BadRecord addr)) }
         ensures entry { IfOk result (λ found. IfSome found (λ e. (e.low ≡ block) × (e.addr < P.head platform.old))) }
-        // What is kept is of the places that lead down from the nodes that the tree names.
+        // What is cached is of the places that lead down from the nodes that the tree names.
         ensures caches { CachesAmong P.Platform (λ pages. HaveNodes pages (places_of self.now)) platform.old reader.old.cache reader.new.cache }
         ensures looks { Looks P.Platform self.now.level platform.old platform.new }
         ensures cause { TellsOf FetchRefusal.PlatformFault result (P.faults platform.old) (P.faults platform.new) }
@@ -191,7 +191,7 @@ impl Grove {
             RefusesWrong (P.history platform.old).present.readable block self.old (λ addr. IsErrOf result (ReadyRefusal.BadRecord addr)) }
         ensures sound { IsSound self.new }
         ensures tree { KeepsTree self.old self.new }
-        // What is kept is of the places that lead down from the nodes that the tree names.
+        // What is cached is of the places that lead down from the nodes that the tree names.
         ensures caches { CachesAmong P.Platform (λ pages. HaveNodes pages (places_of self.old)) platform.old reader.old.cache reader.new.cache }
         ensures looks { Looks P.Platform (2 * self.old.level) platform.old platform.new }
         ensures cause { TellsOf ReadyRefusal.PlatformFault result (P.faults platform.old) (P.faults platform.new) }

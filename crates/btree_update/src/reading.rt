@@ -22,7 +22,7 @@ use platform::Platform;
 use sdbt_base::Key;
 use std::alloc::Global;
 
-/// The node of a place, in memory: the one that the cache keeps, or else that of its page, which the cache then keeps.
+/// The node of a place, in memory: the one that is cached, or else that of its page, which is cached then.
 pub(crate) fn read_node<P: Platform>(
     alloc: Global,
     platform: &mut P,

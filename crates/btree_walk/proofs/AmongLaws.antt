@@ -33,7 +33,7 @@ but_filled old k = All-take (WasOrAt k.addr k.key old) old.capacity (k ∷ witho
 pub but_used : (old new : Cached) (addr : ℕ) (key : List ℕ) (node : NodeBody) → Uses old addr key (Some node) new → KeepsBut addr key old new
 but_used old new addr key node uses = subst (KeepsBut addr key old) (sym uses.1) (but_on old (cached_node addr key node))
 
--- where that place is among these, what is kept is
+-- where that place is among these, what is cached is
 pub among_but : (places : List Place) (addr : ℕ) (key : List ℕ) (old new : Cached) → IsAmong places addr key → KeepsBut addr key old new → KeepsAmong places old → KeepsAmong places new
 among_but places addr key old new at but kept = All-weaker (WasOrAt addr key old) (λ k. IsAmong places k.addr k.key) (λ k either. by k either) new.nodes but
   where
@@ -55,7 +55,7 @@ goes_among pages cache want next key next_key entries block places stands sees g
     let here = way_entry (λ (e : Entry). IsAmong places e.addr e.key) entries want.high block goes.bound goes.entry each goes.way in
     subst (λ (w : Want). IsAmong places w.addr next_key) (sym goes.next_is) (subst (IsAmong places goes.entry.addr) (sym goes.key_is) here)
 
--- what is kept after two such changes
+-- what is cached after two such changes
 pub keeps_then : (pages : List (List ℕ)) (old mid new : Cached) → KeepsOnly pages old mid → KeepsOnly pages mid new → KeepsOnly pages old new
 keeps_then pages old mid new one two = record {
   capacity = two.capacity ∙ one.capacity;

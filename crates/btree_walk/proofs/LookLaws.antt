@@ -27,7 +27,7 @@ looks_still P x = record {
   faults = omega arith;
 }
 
--- a node that fits where another is kept is that one
+-- a node that fits where another is cached is that one
 pub same_entries : (kept : List CachedNode) (want : Want) (key : List ℕ) (node : NodeBody) (entries : List Entry) → IsOnlyCached kept want.addr key node → CachedFits kept want key (NodeRecord want.level entries) → entries ≡ node.entries.items
 same_entries kept want key node entries only is =
     let same : is.node ≡ node = only.only is.node is.here in
@@ -35,7 +35,7 @@ same_entries kept want key node entries only is =
     let mine : entries ≡ is.node.entries.items = cc in
     mine ∙ ap (λ (n : NodeBody). n.entries.items) same
 
--- the kept node fits, where some kept node does
+-- the cached node fits, where some cached node does
 pub fits_too : (kept : List CachedNode) (want : Want) (key : List ℕ) (node : NodeBody) (entries : List Entry) → IsOnlyCached kept want.addr key node → CachedFits kept want key (NodeRecord want.level entries) → NodeFits want node
 fits_too kept want key node entries only is = subst (NodeFits want) (only.only is.node is.here) is.fits
 

@@ -18,7 +18,7 @@ use Rattle.btree_walk.proofs.LookLaws.{next_below, next_less}
 use Rattle.btree_walk.proofs.FindLaws.{finds_map, stops_map, finds_leaf, finds_on, stops_on, first_fits, leaf_inverse, inner_inverse}
 
 module _ (pages : List (List ℕ)) (start : Want) (key : List ℕ) (block : ℕ) (c0 c1 : Cached) where
-  -- where the node that was used is kept, it fits there
+  -- where the node that was used is cached, it fits there
   used_fits : (turn : Turn) (used : UsesNode start key block c0 c1 turn) (kept : List CachedNode) → Contains kept (cached_node start.addr key used.node) → CachedFits kept start key (NodeRecord start.level used.node.entries.items)
   used_fits turn used kept here = record { node = used.node; here = here; fits = used.fits; is = ap (λ n. NodeRecord n used.node.entries.items) (sym used.fits.wanted.same_level) }
 
@@ -80,14 +80,14 @@ module _ (pages : List (List ℕ)) (start : Want) (key : List ℕ) (block : ℕ)
 -- ---- where the cache keeps the way
 
 module _ (start : Want) (key : List ℕ) (block : ℕ) (c0 : Cached) (some : 1 ≤ start.level) where
-  -- the first node of a way that is kept is kept
+  -- the first node of a way that is cached is cached
   pub first_kept : (found : Option Entry) (path : List ℕ) → Finds (CachedFits c0.nodes) start.most block found (start.level - 1) start key path → (entries : List Entry) × CachedFits c0.nodes start key (NodeRecord start.level entries)
   first_kept found path is =
       let first = first_fits (CachedFits c0.nodes) start.most block found (start.level - 1) start key path is in
       let level : suc (start.level - 1) ≡ start.level = omega arith in
       (first.0, subst (λ (n : ℕ). CachedFits c0.nodes start key (NodeRecord n first.0)) level first.1)
 
-  -- a leaf that is kept has one entry of the block
+  -- a leaf that is cached has one entry of the block
   pub same_found : (found other : Option Entry) (path : List ℕ) → ((entries : List Entry) → CachedFits c0.nodes start key (NodeRecord start.level entries) → IsTurn start entries block (Found found)) → Finds (CachedFits c0.nodes) start.most block other (start.level - 1) start key path → found ≡ other
   same_found found other path turned is =
       let first = first_kept other path is in
@@ -97,7 +97,7 @@ module _ (start : Want) (key : List ℕ) (block : ℕ) (c0 : Cached) (some : 1 �
       let fits = subst (λ (n : ℕ). CachedFits c0.nodes start key (NodeRecord n end.entries)) (sym leaf) end.fits in
       entry_is_one end.entries block found other (in_range_of c0.nodes start key start.level end.entries fits).ascend (turned end.entries fits).1 end.is
 
-  -- and what lies below one is kept still
+  -- and what lies below one is cached still
   pub kept_on : (next : Want) (next_key : List ℕ) (c1 : Cached) (found : Option Entry) (path : List ℕ) → StillKeeps start.addr c0 c1
       → ((entries : List Entry) → CachedFits c0.nodes start key (NodeRecord start.level entries) → IsTurn start entries block (Below next next_key))
       → Finds (CachedFits c0.nodes) start.most block found (start.level - 1) start key path

@@ -75,7 +75,7 @@ more_early (suc few) (suc more) (k ∷ ks) j le in' = elim (Contains-cons k (tak
   | inr later ↦ Contains-tail k (take more ks) j (more_early few more ks j (omega arith) later)
 ]
 
--- a node among the first ones is kept
+-- a node among the first ones is cached
 pub early_kept : (few : ℕ) (ks : List CachedNode) (j : CachedNode) → Contains (take few ks) j → Contains ks j
 early_kept zero ks j in' = absurd (Contains-nil j in')
 early_kept (suc few) [] j in' = absurd (Contains-nil j in')
@@ -125,7 +125,7 @@ early_on k next more all old mid new all_is less made stays few j above room in'
     let sum : few + 1 + more ≡ few + all = omega arith in
     subst (λ n. Contains (take n new.nodes) j) sum (stays (few + 1) j (omega arith) (omega arith) one)
 
--- ---- what stays kept where a node was used again
+-- ---- what stays cached where a node was used again
 
 contains-without : (addr : ℕ) (j : CachedNode) (ks : List CachedNode) → j.addr ≢ addr → Contains ks j → Contains (without addr ks) j
 contains-without addr j [] other in' = absurd (Contains-nil j in')

@@ -65,7 +65,7 @@ misses_before pages old new want key small keeps (inl is) =
           is.misfit record { in_range = fits'.0.in_range.0; wanted = fits'.1 })
     ]
 
--- a node that is kept and fits is in range
+-- a node that is cached and fits is in range
 pub in_range_of : (kept : List CachedNode) (want : Want) (key : List ℕ) (level : ℕ) (entries : List Entry) → CachedFits kept want key (NodeRecord level entries) → FitsNode want.addr level entries
 in_range_of kept want key level entries is =
     let l : level ≡ is.node.level = let e = is.is in cc in

@@ -46,7 +46,7 @@ pub fn find<P: Platform>(
 
     ensures keeps { P.tells → KeepsOnly (P.history platform.old).present.readable reader.old.cache reader.new.cache }
     ensures capacity { reader.new.cache.capacity ≡ reader.old.cache.capacity }
-    // What is kept is of the places that lead down from the node.
+    // What is cached is of the places that lead down from the node.
     ensures among { P.tells → StandsOver (P.history platform.old).present.readable reader.old.cache →
         StaysAmong (λ places. GoDown (P.history platform.old).present.readable places × IsAmong places start.now.addr key.now) reader.old.cache reader.new.cache }
     ensures looks { Looks P.Platform start.now.level platform.old platform.new }

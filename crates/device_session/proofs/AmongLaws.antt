@@ -141,7 +141,7 @@ held_nodes session image device contents h = (
       (recursion_from_All (λ (p : Place). Contains h.committed.places p ⊎ IsOwn session.root.head p) (joined h.each).places h.tree.accounted.accounts.kept),
 )
 
--- ---- what is kept
+-- ---- what is cached
 
 -- sealed nodes are places of the tree that they make
 sealed_among : (ns : List Sealed) (after : List Place) → ((p : Place) → Contains (map place_of ns) p → Contains after p) → AllByRecursion (λ (n : Sealed). IsAmong after n.addr n.key) ns

@@ -12,7 +12,7 @@ use Rattle.device_session.specs.Sessions.{Session}
 
 -- the image stands for the device that the session was opened on, or that its last commit made; each place of the session's tree that has a
 -- page fits, and the page reads as it was recorded; what it maps is an array of these contents: without a change the device's own, and after
--- one the page of the root record's node is let go of; and each node that is kept in the cache is what its page is, and has the address and the
+-- one the page of the root record's node is let go of; and each node that is cached is what its page is, and has the address and the
 -- key of a place of the root record's tree
 pub record Holds (session : Session) (image : Image) (device : Device) (contents : Blocks) : Type 0 where
   pub committed : Parts

@@ -56,7 +56,7 @@ impl Session {
 
     /// Opens a session on the device. It reads no page.
     ///
-    /// `cache` is how many nodes are kept, at most 4,096. `NoDevice` comes exactly where the cell is empty, `BadRoot` exactly
+    /// `cache` is how many nodes are cached, at most 4,096. `NoDevice` comes exactly where the cell is empty, `BadRoot` exactly
     /// where it is full and holds no root record, or one that speaks of more pages than there are.
     #[tactic(auto, using(platform::proofs::CallLaws::looks_start, platform::proofs::CallLaws::looks_call, platform::proofs::CallLaws::looks_then))]
     pub fn mount<P: Platform>(

@@ -19,7 +19,7 @@ pub capacity_sealed : (cache : Cached) (ns : List Sealed) → (with_sealed cache
 capacity_sealed cache [] = refl
 capacity_sealed cache (n ∷ ns) = capacity_sealed (filled cache (cached_as n)) ns
 
--- what holds of all nodes that were kept and of those that are put holds of all that are kept then
+-- what holds of all nodes that were cached and of those that are put holds of all that are cached then
 pub All-sealed : (P : CachedNode → Type 0) (cache : Cached) (ns : List Sealed) → All P cache.nodes → AllByRecursion (λ n. P (cached_as n)) ns → All P (with_sealed cache ns).nodes
 All-sealed P cache [] all each = all
 All-sealed P cache (n ∷ ns) all each = All-sealed P (filled cache (cached_as n)) ns (All-filled P cache (cached_as n) all each.0) each.1
