@@ -122,29 +122,30 @@ AnswersAny tells image after held command (Err stop) = MayStop tells after comma
 abbrev pub IsOf : (Command → Type 0) → List ℕ → Type 0
 IsOf P line = (command : Command) × Spells line command × P command
 
--- at a moment the cell held a root record of a device without the block
-pub record WasPast (history : History) (block : ℕ) : Type 0 where
+-- at a moment, which is not before this one, the cell held a root record of a device without the block
+pub record WasPast (history : History) (from block : ℕ) : Type 0 where
   pub at : ℕ
+  pub later : from ≤ at
   pub within : at ≤ moment history
   pub root : Root
   pub in_range : FitsRoot root
   pub cell : (image_at history at).cell ≡ Some (root_bytes root)
   pub past : root.blocks ≤ block
 
--- the command's numbers are those of no device, or of no block of the device in the cell at a moment
-abbrev pub WasOutOfRange : History → Command → Type 0
-WasOutOfRange history (commands.Format blocks order) = in_limits blocks order ≡ false
-WasOutOfRange history (commands.Read block) = WasPast history block
-WasOutOfRange history (commands.Write block content) = WasPast history block
-WasOutOfRange history (commands.Trim block) = WasPast history block
-WasOutOfRange history _ = ⊥
+-- the command's numbers are those of no device, or of no block of the device in the cell at a moment, which is not before this one
+abbrev pub WasOutOfRange : History → ℕ → Command → Type 0
+WasOutOfRange history from (commands.Format blocks order) = in_limits blocks order ≡ false
+WasOutOfRange history from (commands.Read block) = WasPast history from block
+WasOutOfRange history from (commands.Write block content) = WasPast history from block
+WasOutOfRange history from (commands.Trim block) = WasPast history from block
+WasOutOfRange history from _ = ⊥
 
--- what the replies to these lines say that are `range`, was so at moments of the history
-abbrev pub AreOutOfRange : History → List (List ℕ) → List Reply → Type 0
-AreOutOfRange history lines [] = Unit {0}
-AreOutOfRange history [] (reply ∷ replies) = ⊥
-AreOutOfRange history (line ∷ lines) (reply ∷ replies) = (reply ≡ given.Range → IsOf (WasOutOfRange history) line) × AreOutOfRange history lines replies
+-- what the replies to these lines say that are `range`, was so at moments that are not before this one
+abbrev pub AreOutOfRange : History → ℕ → List (List ℕ) → List Reply → Type 0
+AreOutOfRange history from lines [] = Unit {0}
+AreOutOfRange history from [] (reply ∷ replies) = ⊥
+AreOutOfRange history from (line ∷ lines) (reply ∷ replies) = (reply ≡ given.Range → IsOf (WasOutOfRange history from) line) × AreOutOfRange history from lines replies
 
--- the same of a part of a run
+-- the same of the moments of a part of a run
 abbrev pub RangesOn : Type 0 → History → History → List (List ℕ) → List Reply → Type 0
-RangesOn tells old new lines replies = tells → Extends old new × AreOutOfRange new lines replies
+RangesOn tells old new lines replies = tells → Extends old new × AreOutOfRange new (moment old) lines replies

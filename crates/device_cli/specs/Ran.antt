@@ -88,7 +88,7 @@ pub record AnswersScript (tells : Type 0) (old new : World) (status : ℕ) (left
   -- a reply that too few pages were free is true for good
   pub full : AreShort new.head new.capacity 0 lines replies
   -- and one that says `range` was true at a moment of the run
-  pub ranges : tells → AreOutOfRange new.history lines replies
+  pub ranges : tells → AreOutOfRange new.history (moment old.history) lines replies
   -- where the lines only look, no more pages are read than these: one for a read of the block that was read just before, 21 for another one, and else none
   pub looks : tells → (most : ℕ) (last : Option ℕ) → AreLooks None lines most last → new.reads ≤ old.reads + most
   -- over an image that stands for a device which can be served, from that device on without a session
