@@ -1,5 +1,5 @@
 -- What the end of an order gives: what is forgotten, and what the words `check` and `seize` say.
-use Rattle.std.proofs.Common.{◌≡◌, ◌≤◌, ◌⊎◌, ℕ, List, Option, None, Result, sym, ◌∙◌, ap, subst}
+use Rattle.std.proofs.Common.{◌≡◌, ◌≤◌, ◌⊎◌, ℕ, List, Option, None, Result, inl, inr, sym, ◌∙◌, ap, subst}
 use Rattle.std.specs.Prelude.{◌≢◌, IfErr}
 use Rattle.sdbt_base.specs.Arrays.{Device, closed}
 use Rattle.platform.specs.History.{History, Steps}
@@ -14,8 +14,10 @@ use Rattle.device_course.specs.Course.{Made}
 use Rattle.device_course.specs.Marks.{last_mark}
 use Rattle.device_course.proofs.ProgramLaws.{Ended}
 use Rattle.device_course.proofs.ReachingLaws.{discloses}
+use Rattle.device_cli.specs.Causes.{HasLacked, IsOf}
 use Rattle.device_cli.specs.Checks.{Checked, Checks, IsSilent, status_at}
 use Rattle.device_cli.specs.Handed.{Handed}
+use Rattle.device_cli.specs.Pages.{IfNext}
 use Rattle.device_cli.specs.Program.{ServesScript, Forgets}
 use Rattle.device_cli.specs.Ran.{Ran, AnswersScript, IsComplete}
 use Rattle.line_run.specs.Stops.{Ending, exit_of, HasCause}
@@ -54,6 +56,12 @@ ended_run tells old new Going was session reads ending left left_now written wri
 
 -- ---- what the words say
 
+-- want of memory is told at a line that takes some
+where_lacked : (tells : Type 0) (old new : World) (status : ℕ) (left left_now written written_now : Option (List ℕ)) (Whole : Type 0) (script : AnswersScript tells old new status left left_now written written_now)
+    → (status ≡ 11) ⊎ ((status ≡ 0) × Whole) → ((status ≡ 11) × IfNext script.replies script.lines (IsOf (HasLacked tells new.history.present new.head new.capacity))) ⊎ ((status ≡ 0) × Whole)
+where_lacked tells old new status left left_now written written_now Whole script (inl e) = inl (e, script.no_memory e)
+where_lacked tells old new status left left_now written written_now Whole script (inr whole) = inr whole
+
 pub serves_at : {S R I O L : Type 0} (tells : Type 0) (status : ℕ) (old new : Handed S R I O L) (session : Option Session) (ending : Ending) → old.world.session ≡ None → new.world.session ≡ None → status ≡ exit_of ending
     → Ran tells old.world (record new.world { session = session }) damage_line ending old.left new.left old.written new.written → IfErr ending (HasCause old.counts new.counts) → ServesScript tells status old new
 serves_at tells status old new session ending alone then_alone is ran cause =
@@ -62,10 +70,13 @@ serves_at tells status old new session ending alone then_alone is ran cause =
     let script : AnswersScript tells old.world now (exit_of ending) old.left new.left old.written new.written =
     subst (λ (there : World). AnswersScript tells old.world there (exit_of ending) old.left new.left old.written new.written) same
     (answers_script tells old.world session now.history now.head now.capacity now.reads ending old.left new.left old.written new.written alone ran) in
+    let answers : AnswersScript tells old.world now status old.left new.left old.written new.written =
+    subst (λ (n : ℕ). AnswersScript tells old.world now n old.left new.left old.written new.written) (sym is) script in
     record {
-      answers = subst (λ (n : ℕ). AnswersScript tells old.world now n old.left new.left old.written new.written) (sym is) script;
-      complete = λ told there stands served text ample quiet. subst (λ (n : ℕ). (n ≡ 11) ⊎ ((n ≡ 0) × IsComplete (closed there) text old.written new.written)) (sym is)
-          (complete_ending tells old.world now ending old.counts new.counts old.left new.left old.written new.written text there told stands served script ran.taken ran.gave ran.took cause quiet ample);
+      answers = answers;
+      complete = λ told there stands served text ample quiet. where_lacked tells old.world now status old.left new.left old.written new.written (IsComplete (closed there) text old.written new.written) answers
+          (subst (λ (n : ℕ). (n ≡ 11) ⊎ ((n ≡ 0) × IsComplete (closed there) text old.written new.written)) (sym is)
+          (complete_ending tells old.world now ending old.counts new.counts old.left new.left old.written new.written text there told stands served script ran.taken ran.gave ran.took cause quiet ample));
     }
 
 pub checked_at : {S R I O L : Type 0} (tells : Type 0) (status : ℕ) (old new : Handed S R I O L) (ending : Result Finding Stop) → new.tape ≡ old.tape → new.ledger ≡ old.ledger → new.world.head ≡ old.world.head

@@ -7,7 +7,7 @@ pub mod TurnLaws
 pub mod EnoughLaws
 pub mod PassLaws
 pub mod SeenLaws
-pub mod RangeLaws
+pub mod ReplyLaws
 pub mod RepliedLaws
 pub mod Serving
 pub mod Reading

@@ -12,7 +12,7 @@ use Rattle.device_course.specs.Marks.{Leaves}
 use Rattle.device_cli.specs.Represents.{Stood}
 use Rattle.device_cli.proofs.RepliedLaws.{made_idle, Replied-idle, Handled-then, count-then}
 use Rattle.device_cli.proofs.PassLaws.{AreMarks-none}
-use Rattle.device_cli.proofs.RangeLaws.{ranges_none}
+use Rattle.device_cli.proofs.ReplyLaws.{so_none}
 use Rattle.script_lang.specs.Replies.{line_of, Reply}
 use Rattle.device_cli.specs.Run.{Took}
 use Rattle.line_run.specs.Stops.{TookUntil, Ending, IsSound, exit_of}
@@ -64,7 +64,7 @@ Ran-other tells old new ending left left_now a b other r = let p = r.handled.rep
   handled = record {
     put = r.handled.put;
     got = r.handled.got;
-    replied = record { replies = p.replies; part = p.part; put_is = p.put_is; behind = IsBehind-other ending p.part other p.behind; many = p.many; stopped = p.stopped; ranges = p.ranges; later = p.later; full = p.full; enough = p.enough; looks = p.looks; answered = p.answered };
+    replied = record { replies = p.replies; part = p.part; put_is = p.put_is; behind = IsBehind-other ending p.part other p.behind; many = p.many; stopped = p.stopped; so = p.so; later = p.later; full = p.full; enough = p.enough; looks = p.looks; answered = p.answered };
   };
   prompt = r.prompt;
 }
@@ -94,7 +94,7 @@ Ran-last tells old new stop left left_now a b c r got = let p = r.handled.replie
       behind = refl;
       many = p.many;
       stopped = p.stopped;
-      ranges = p.ranges;
+      so = p.so;
       later = p.later;
       full = p.full;
       enough = p.enough;
@@ -125,7 +125,7 @@ Ran-cut tells old new stop left left_now a b c r (n, got) damaged = let p = r.ha
       behind = inr (stop, (n, refl));
       many = p.many;
       stopped = tt;
-      ranges = p.ranges;
+      so = p.so;
       later = p.later;
       full = p.full;
       enough = p.enough;
@@ -167,7 +167,7 @@ Ran-refused tells old new stop left written which later same unread extends stil
       behind = refl;
       many = omega arith;
       stopped = early_end stop which;
-      ranges = ranges_none tells old.history new.history [] extends;
+      so = so_none tells old.history new.history [] extends;
       later = later;
       full = λ updates enough. tt;
       enough = λ updates enough. tt;
@@ -190,7 +190,7 @@ Ran-refused tells old new stop left written which later same unread extends stil
   prompt = record { before = []; last = []; parts = refl; piece = omega arith; served = omega arith };
 }
   where
-    early_end : (s : DeviceStop) → IsEarly s → IsEndingAt tells new.history.present [] [] (Err (stops.Device s))
+    early_end : (s : DeviceStop) → IsEarly s → IsEndingAt tells new [] [] (Err (stops.Device s))
     early_end device.BadRoot w = tt
     early_end device.Platform w = tt
     early_end device.Memory w = absurd w

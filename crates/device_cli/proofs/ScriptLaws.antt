@@ -18,7 +18,7 @@ use Rattle.platform.specs.Runs.{Passes}
 use Rattle.device_cli.specs.Replied.{HasMark, AreMany, IsEndingAt, IsAhead, EndsIn, Answered}
 use Rattle.line_run.specs.Stops.{Ending, exit_of}
 use Rattle.line_run.specs.Puts.{IsBehind, IsFirstPart, damage_line, AreLines, HaveCome}
-use Rattle.device_cli.specs.Causes.{Draws, PutsEntry, TakesMemory, MeetsRecord, IsOf}
+use Rattle.device_cli.specs.Causes.{Draws, PutsEntry, HasLacked, MeetsRecord, IsOf}
 use Rattle.device_cli.specs.Added.{left_by, HasAdded, IsNear}
 use Rattle.device_cli.specs.Pages.{needed_for, updates_of, accepted, AnswersOn, IfNext}
 use Rattle.device_cli.proofs.TurnLaws.{answers_bound, needed_most}
@@ -108,57 +108,57 @@ bad_root (Err (stops.Device device.Ledger)) part h e = absurd (omega (arith, e))
 bad_root (Err (stops.Device device.BadRoot)) part h e = h
 bad_root (Err (stops.Device (device.BadRecord addr))) part h e = absurd (omega (arith, e))
 
-bad_record : (tells : Type 0) (image : Image) (ending : Ending) (part : List ℕ) (replies : List Reply) (lines : List (List ℕ)) → IsBehind line_of damage_line part ending → IsEndingAt tells image replies lines ending
-    → exit_of ending ≡ 9 → (addr : ℕ) × (part ≡ damage_line (device.BadRecord addr)) × IfNext replies lines (IsOf (λ command. MeetsRecord tells image command addr))
-bad_record tells image (Ok done) part replies lines h d e = absurd (omega (arith, e))
-bad_record tells image (Err stops.Source) part replies lines h d e = absurd (omega (arith, e))
-bad_record tells image (Err stops.Sink) part replies lines h d e = absurd (omega (arith, e))
-bad_record tells image (Err stops.Limit) part replies lines h d e = absurd (omega (arith, e))
-bad_record tells image (Err (stops.Device device.Platform)) part replies lines h d e = absurd (omega (arith, e))
-bad_record tells image (Err (stops.Device device.Tape)) part replies lines h d e = absurd (omega (arith, e))
-bad_record tells image (Err (stops.Device device.Memory)) part replies lines h d e = absurd (omega (arith, e))
-bad_record tells image (Err (stops.Device device.Ledger)) part replies lines h d e = absurd (omega (arith, e))
-bad_record tells image (Err (stops.Device device.BadRoot)) part replies lines h d e = absurd (omega (arith, e))
-bad_record tells image (Err (stops.Device (device.BadRecord addr))) part replies lines h d e = (addr, h, d)
+bad_record : (tells : Type 0) (now : World) (ending : Ending) (part : List ℕ) (replies : List Reply) (lines : List (List ℕ)) → IsBehind line_of damage_line part ending → IsEndingAt tells now replies lines ending
+    → exit_of ending ≡ 9 → (addr : ℕ) × (part ≡ damage_line (device.BadRecord addr)) × IfNext replies lines (IsOf (λ command. MeetsRecord tells now.history.present command addr))
+bad_record tells now (Ok done) part replies lines h d e = absurd (omega (arith, e))
+bad_record tells now (Err stops.Source) part replies lines h d e = absurd (omega (arith, e))
+bad_record tells now (Err stops.Sink) part replies lines h d e = absurd (omega (arith, e))
+bad_record tells now (Err stops.Limit) part replies lines h d e = absurd (omega (arith, e))
+bad_record tells now (Err (stops.Device device.Platform)) part replies lines h d e = absurd (omega (arith, e))
+bad_record tells now (Err (stops.Device device.Tape)) part replies lines h d e = absurd (omega (arith, e))
+bad_record tells now (Err (stops.Device device.Memory)) part replies lines h d e = absurd (omega (arith, e))
+bad_record tells now (Err (stops.Device device.Ledger)) part replies lines h d e = absurd (omega (arith, e))
+bad_record tells now (Err (stops.Device device.BadRoot)) part replies lines h d e = absurd (omega (arith, e))
+bad_record tells now (Err (stops.Device (device.BadRecord addr))) part replies lines h d e = (addr, h, d)
 
-no_key : (tells : Type 0) (image : Image) (ending : Ending) (replies : List Reply) (lines : List (List ℕ)) → IsEndingAt tells image replies lines ending
+no_key : (tells : Type 0) (now : World) (ending : Ending) (replies : List Reply) (lines : List (List ℕ)) → IsEndingAt tells now replies lines ending
     → exit_of ending ≡ 6 → IfNext replies lines (IsOf Draws)
-no_key tells image (Ok done) replies lines d e = absurd (omega (arith, e))
-no_key tells image (Err stops.Source) replies lines d e = absurd (omega (arith, e))
-no_key tells image (Err stops.Sink) replies lines d e = absurd (omega (arith, e))
-no_key tells image (Err stops.Limit) replies lines d e = absurd (omega (arith, e))
-no_key tells image (Err (stops.Device device.Platform)) replies lines d e = absurd (omega (arith, e))
-no_key tells image (Err (stops.Device device.Tape)) replies lines d e = d
-no_key tells image (Err (stops.Device device.Memory)) replies lines d e = absurd (omega (arith, e))
-no_key tells image (Err (stops.Device device.Ledger)) replies lines d e = absurd (omega (arith, e))
-no_key tells image (Err (stops.Device device.BadRoot)) replies lines d e = absurd (omega (arith, e))
-no_key tells image (Err (stops.Device (device.BadRecord addr))) replies lines d e = absurd (omega (arith, e))
+no_key tells now (Ok done) replies lines d e = absurd (omega (arith, e))
+no_key tells now (Err stops.Source) replies lines d e = absurd (omega (arith, e))
+no_key tells now (Err stops.Sink) replies lines d e = absurd (omega (arith, e))
+no_key tells now (Err stops.Limit) replies lines d e = absurd (omega (arith, e))
+no_key tells now (Err (stops.Device device.Platform)) replies lines d e = absurd (omega (arith, e))
+no_key tells now (Err (stops.Device device.Tape)) replies lines d e = d
+no_key tells now (Err (stops.Device device.Memory)) replies lines d e = absurd (omega (arith, e))
+no_key tells now (Err (stops.Device device.Ledger)) replies lines d e = absurd (omega (arith, e))
+no_key tells now (Err (stops.Device device.BadRoot)) replies lines d e = absurd (omega (arith, e))
+no_key tells now (Err (stops.Device (device.BadRecord addr))) replies lines d e = absurd (omega (arith, e))
 
-no_entry : (tells : Type 0) (image : Image) (ending : Ending) (replies : List Reply) (lines : List (List ℕ)) → IsEndingAt tells image replies lines ending
+no_entry : (tells : Type 0) (now : World) (ending : Ending) (replies : List Reply) (lines : List (List ℕ)) → IsEndingAt tells now replies lines ending
     → exit_of ending ≡ 7 → IfNext replies lines (IsOf PutsEntry)
-no_entry tells image (Ok done) replies lines d e = absurd (omega (arith, e))
-no_entry tells image (Err stops.Source) replies lines d e = absurd (omega (arith, e))
-no_entry tells image (Err stops.Sink) replies lines d e = absurd (omega (arith, e))
-no_entry tells image (Err stops.Limit) replies lines d e = absurd (omega (arith, e))
-no_entry tells image (Err (stops.Device device.Platform)) replies lines d e = absurd (omega (arith, e))
-no_entry tells image (Err (stops.Device device.Tape)) replies lines d e = absurd (omega (arith, e))
-no_entry tells image (Err (stops.Device device.Memory)) replies lines d e = absurd (omega (arith, e))
-no_entry tells image (Err (stops.Device device.Ledger)) replies lines d e = d
-no_entry tells image (Err (stops.Device device.BadRoot)) replies lines d e = absurd (omega (arith, e))
-no_entry tells image (Err (stops.Device (device.BadRecord addr))) replies lines d e = absurd (omega (arith, e))
+no_entry tells now (Ok done) replies lines d e = absurd (omega (arith, e))
+no_entry tells now (Err stops.Source) replies lines d e = absurd (omega (arith, e))
+no_entry tells now (Err stops.Sink) replies lines d e = absurd (omega (arith, e))
+no_entry tells now (Err stops.Limit) replies lines d e = absurd (omega (arith, e))
+no_entry tells now (Err (stops.Device device.Platform)) replies lines d e = absurd (omega (arith, e))
+no_entry tells now (Err (stops.Device device.Tape)) replies lines d e = absurd (omega (arith, e))
+no_entry tells now (Err (stops.Device device.Memory)) replies lines d e = absurd (omega (arith, e))
+no_entry tells now (Err (stops.Device device.Ledger)) replies lines d e = d
+no_entry tells now (Err (stops.Device device.BadRoot)) replies lines d e = absurd (omega (arith, e))
+no_entry tells now (Err (stops.Device (device.BadRecord addr))) replies lines d e = absurd (omega (arith, e))
 
-no_memory : (tells : Type 0) (image : Image) (ending : Ending) (replies : List Reply) (lines : List (List ℕ)) → IsEndingAt tells image replies lines ending
-    → exit_of ending ≡ 11 → IfNext replies lines (IsOf TakesMemory)
-no_memory tells image (Ok done) replies lines d e = absurd (omega (arith, e))
-no_memory tells image (Err stops.Source) replies lines d e = absurd (omega (arith, e))
-no_memory tells image (Err stops.Sink) replies lines d e = absurd (omega (arith, e))
-no_memory tells image (Err stops.Limit) replies lines d e = absurd (omega (arith, e))
-no_memory tells image (Err (stops.Device device.Platform)) replies lines d e = absurd (omega (arith, e))
-no_memory tells image (Err (stops.Device device.Tape)) replies lines d e = absurd (omega (arith, e))
-no_memory tells image (Err (stops.Device device.Memory)) replies lines d e = d
-no_memory tells image (Err (stops.Device device.Ledger)) replies lines d e = absurd (omega (arith, e))
-no_memory tells image (Err (stops.Device device.BadRoot)) replies lines d e = absurd (omega (arith, e))
-no_memory tells image (Err (stops.Device (device.BadRecord addr))) replies lines d e = absurd (omega (arith, e))
+no_memory : (tells : Type 0) (now : World) (ending : Ending) (replies : List Reply) (lines : List (List ℕ)) → IsEndingAt tells now replies lines ending
+    → exit_of ending ≡ 11 → IfNext replies lines (IsOf (HasLacked tells now.history.present now.head now.capacity))
+no_memory tells now (Ok done) replies lines d e = absurd (omega (arith, e))
+no_memory tells now (Err stops.Source) replies lines d e = absurd (omega (arith, e))
+no_memory tells now (Err stops.Sink) replies lines d e = absurd (omega (arith, e))
+no_memory tells now (Err stops.Limit) replies lines d e = absurd (omega (arith, e))
+no_memory tells now (Err (stops.Device device.Platform)) replies lines d e = absurd (omega (arith, e))
+no_memory tells now (Err (stops.Device device.Tape)) replies lines d e = absurd (omega (arith, e))
+no_memory tells now (Err (stops.Device device.Memory)) replies lines d e = d
+no_memory tells now (Err (stops.Device device.Ledger)) replies lines d e = absurd (omega (arith, e))
+no_memory tells now (Err (stops.Device device.BadRoot)) replies lines d e = absurd (omega (arith, e))
+no_memory tells now (Err (stops.Device (device.BadRecord addr))) replies lines d e = absurd (omega (arith, e))
 
 cut : (ending : Ending) (part : List ℕ) → IsBehind line_of damage_line part ending → exit_of ending ≡ 4
     → ((reply : Reply) × IsFirstPart (line_of reply) part) ⊎ ((stop : DeviceStop) × IsFirstPart (damage_line stop) part)
@@ -396,13 +396,13 @@ answers_script tells old session history head capacity reads ending left left_no
   whole = whole ending (length p.replies) (length r.lines) r.taken left_now r.lines p.many r.come;
   no_part = no_part ending p.part p.behind;
   bad_root = bad_root ending p.part p.behind;
-  bad_record = bad_record tells history.present ending p.part p.replies r.lines p.behind p.stopped;
-  no_key = no_key tells history.present ending p.replies r.lines p.stopped;
-  no_entry = no_entry tells history.present ending p.replies r.lines p.stopped;
-  no_memory = no_memory tells history.present ending p.replies r.lines p.stopped;
+  bad_record = bad_record tells (world session history head capacity reads) ending p.part p.replies r.lines p.behind p.stopped;
+  no_key = no_key tells (world session history head capacity reads) ending p.replies r.lines p.stopped;
+  no_entry = no_entry tells (world session history head capacity reads) ending p.replies r.lines p.stopped;
+  no_memory = no_memory tells (world session history head capacity reads) ending p.replies r.lines p.stopped;
   cut = cut ending p.part p.behind;
   full = p.full 0 (enough_alone old.session alone);
-  ranges = λ told. (p.ranges told).1;
+  so = λ told. (p.so told).1;
   looks = λ told most last h. (p.looks told None last most (subst (λ (held : Option Session). IsWarmFor held None) (sym alone) tt) h).0;
   answered = λ told there stands served.
       forget old session history head capacity reads (exit_of ending) (closed there) r.lines p.replies p.part
@@ -450,7 +450,7 @@ answers_nothing tells w left written = record {
   no_memory = λ e. absurd (omega (arith, e));
   cut = λ e. absurd (omega (arith, e));
   full = tt;
-  ranges = λ told. tt;
+  so = λ told. tt;
   looks = λ told most last h. omega (arith, h.0);
   answered = λ told there stands served. record {
     now = closed there;

@@ -1,4 +1,4 @@
-use Rattle.std.proofs.Common.{◌≡◌, ℕ, List, refl}
+use Rattle.std.proofs.Common.{◌≡◌, ℕ, List, inl, refl}
 use Rattle.platform.specs.History.{Extends}
 use Rattle.platform.proofs.Moments.{Extends-refl}
 use Rattle.script_lang.specs.Commands.{asked}
@@ -9,7 +9,7 @@ use Rattle.device_cli.specs.World.{World, IsLater, world_of}
 use Rattle.line_run.specs.Puts.{no_line}
 use Rattle.device_cli.proofs.RepliedLaws.{IsLater-refl, Handled-line, Handled-stop, turned_bad, turned_command, tells_short}
 use Rattle.device_cli.proofs.CellLaws.{served_at}
-use Rattle.device_cli.proofs.RangeLaws.{out_there, ranges_line}
+use Rattle.device_cli.proofs.ReplyLaws.{so_there, so_line}
 use Rattle.device_cli.proofs.LookLaws.{looks_bad, looks_line}
 use Rattle.device_course.proofs.KeysLaws.{on_start, on_done}
 use Rattle.device_cli.proofs.Choices.{on_ok}
@@ -21,7 +21,7 @@ returns-in_default-clause-handled g c text kept =
     let written = g.O.Sink.written in
     let old : World = world_of P c.args.desk.now.session c.args.platform.now in
     Handled-line P.tells old old no_line text Bad c.put_reply.result (written c.args.output.now) (written c.put_reply.new.output)
-    (IsLater-refl old (g.met.P.Platform.has_room c.args.platform.now)) (ranges_line P.tells _ _ text Bad (λ told. Extends-refl old.history) (λ told e. absurd cc)) (λ updates enough e. absurd cc) (λ updates enough. enough) (looks_bad P.tells old old text _ (c.in_default.ensures.none text kept))
+    (IsLater-refl old (g.met.P.Platform.has_room c.args.platform.now)) (so_line P.tells _ _ text Bad (λ told. Extends-refl old.history) (λ told. inl (c.in_default.ensures.none text kept, refl))) (λ updates enough e. absurd cc) (λ updates enough. enough) (looks_bad P.tells old old text _ (c.in_default.ensures.none text kept))
     (λ told entry updates rep enough. turned_bad old entry updates text (c.in_default.ensures.none text kept) rep) c.put_reply.ensures.put
 
 -- what is said is that no page was free only where that was given
@@ -54,7 +54,7 @@ returns-in-Ok-clause-handled g c text kept =
     let reply = said c.in-Ok.reply c.serve.new.self.buffer in
     let extended : P.tells → Extends old.history new.history = λ told. (c.serve.ensures.keeps.serves told (c.requires.cell told)).extends in
     Handled-line P.tells old new no_line text reply c.put_reply-in-Ok.result (written c.args.output.now) (written c.put_reply-in-Ok.new.output)
-    later (ranges_line P.tells old.history new.history text reply (λ told. extended told) (out_there P.tells c.args.desk.now.session _ old.history new.history text command reply (c.in-Some.ensures.found text kept) c.requires.ready c.requires.mounted (λ told. extended told) c.in-Ok.ensures.any))
+    later (so_line P.tells old.history new.history text reply (λ told. extended told) (so_there P.tells c.args.desk.now.session _ old.history new.history text command reply (c.in-Some.ensures.found text kept) c.requires.ready c.requires.mounted (λ told. extended told) c.in-Ok.ensures.any))
     (tells_short old new text command reply (c.in-Some.ensures.found text kept) later (full_as_said c.in-Ok.reply c.serve.new.self.buffer _ c.in-Ok.ensures.after.full)) c.in-Ok.ensures.enough
     (looks_line P.tells old new text command _ (c.in-Some.ensures.found text kept) (λ told before warm look. let few = c.in-Ok.ensures.looks told before warm look in (few.0, λ done. few.1 refl)))
     (λ told entry updates rep enough. turned_command old new entry updates text command reply (c.in-Some.ensures.found text kept) c.requires.ready
