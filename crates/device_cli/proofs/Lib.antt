@@ -8,6 +8,7 @@ pub mod EnoughLaws
 pub mod PassLaws
 pub mod SeenLaws
 pub mod ReplyLaws
+pub mod DrawingLaws
 pub mod RepliedLaws
 pub mod Serving
 pub mod Reading

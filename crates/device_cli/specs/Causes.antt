@@ -84,11 +84,6 @@ MayStop tells held image head capacity command device.Memory = LacksMemory tells
 MayStop tells held image head capacity command device.BadRoot = JudgesRoot command
 MayStop tells held image head capacity command (device.BadRecord addr) = MeetsRecord tells image command addr
 
--- a command that draws no key leaves the tape, and one that puts no entry the ledger
-pub record IsUncalled {T L : Type 0} (tape tape_now : T) (ledger ledger_now : L) (command : Command) : Type 0 where
-  pub undrawn : (Draws command → ⊥) → tape_now ≡ tape
-  pub unput : (PutsEntry command → ⊥) → ledger_now ≡ ledger
-
 -- ---- replies
 
 -- the command's numbers are out of range: no device has these, or the session's device hasn't this one

@@ -11,6 +11,7 @@ use Rattle.script_lang.specs.Commands.{Command}
 use Rattle.line_run.specs.Puts.{IsBehind, IsFirstPart}
 use Rattle.line_run.specs.Stops.{Ending, IsSound}
 use Rattle.device_cli.specs.Causes.{Draws, PutsEntry, HasLacked, MeetsRecord, IsOf, SoOn}
+use Rattle.device_cli.specs.Drawing.{DrewUntil}
 use Rattle.device_cli.specs.Looks.{LooksOn}
 use Rattle.device_cli.specs.World.{World, is_full, AreEnough, IsLater}
 use Rattle.device_course.specs.Marks.{Leaves, mark_at, last_mark}
@@ -109,6 +110,7 @@ pub record Replied (tells : Type 0) (old new : World) (last : DeviceStop → Lis
   pub behind : IsBehind line_of last part ending
   pub many : AreMany (length replies) (length lines) ending
   pub stopped : IsEndingAt tells new replies lines ending
+  pub drew : DrewUntil old.drawn lines replies new.drawn
   pub so : SoOn tells old.history new.history lines replies
   pub later : IsLater old new
   pub full : (updates : ℕ) → AreEnough old.session updates → AreShort new.head new.capacity updates lines replies

@@ -8,7 +8,8 @@ ghost use Rattle.sdbt_base.specs.Counts.{counts};
 ghost use Rattle.session_calls.specs.Blame.{IsBlamed};
 ghost use Rattle.platform.specs.History.{During};
 ghost use Rattle.seizure.specs.Opened.{count_of_kind};
-ghost use Rattle.device_cli.specs.Causes.{AnswersAny, IsUncalled};
+ghost use Rattle.device_cli.specs.Causes.{AnswersAny};
+ghost use Rattle.device_cli.specs.Drawing.{DrewFor, Spends};
 ghost use Rattle.device_cli.specs.Replied.{outcome};
 ghost use Rattle.device_cli.specs.World.{world_of};
 
@@ -68,7 +69,8 @@ impl Desk {
             (counts (P.faults platform.new) (T.faults tape.new) 0 0 (L.faults ledger.new)) result }
         // On any image: why it is answered so.
         ensures any { AnswersAny P.tells (world_of P.Platform self.old.session platform.old) (world_of P.Platform self.new.session platform.new) (asked command.now self.old.buffer) (outcome result self.new.buffer) }
-        ensures still { IsUncalled tape.old tape.new ledger.old ledger.new (asked command.now self.old.buffer) }
+        // What it draws and puts, by its reply.
+        ensures still { Spends tape.old tape.new ledger.old ledger.new (T.drawn tape.old) (T.drawn tape.new) (asked command.now self.old.buffer) (outcome result self.new.buffer) }
         ensures pages { AddsPages P.Platform self.old self.new platform.old platform.new (asked command.now self.old.buffer) result }
         ensures enough { StaysEnough self.old self.new result }
         ensures keeps { Keeps P.Platform T.Tape L.Sink self.old self.new platform.old platform.new tape.old tape.new ledger.old ledger.new result }
@@ -107,6 +109,7 @@ impl Desk {
             (counts (P.faults platform.new) (T.faults tape.new) 0 0 (L.faults ledger.new)) result }
         ensures any { AnswersAny P.tells (world_of P.Platform self.old.session platform.old) (world_of P.Platform self.new.session platform.new) (commands.Format blocks order) (outcome result self.new.buffer) }
         ensures pages { AddsPages P.Platform self.old self.new platform.old platform.new (commands.Format blocks order) result }
+        ensures drew { IfOk (outcome result self.new.buffer) (λ reply. DrewFor (T.drawn tape.old) (commands.Format blocks order) reply (T.drawn tape.new)) }
         ensures enough { StaysEnough self.old self.new result }
         ensures keeps { Keeps P.Platform T.Tape L.Sink self.old self.new platform.old platform.new tape.old tape.new ledger.old ledger.new result }
         ensures answered { P.tells → ServesAny P.Platform self.old self.new platform.old platform.new (commands.Format blocks order) result }
@@ -182,6 +185,7 @@ impl Desk {
             (counts (P.faults platform.new) (T.faults tape.new) 0 0 0) result }
         ensures any { AnswersAny P.tells (world_of P.Platform self.old.session platform.old) (world_of P.Platform self.new.session platform.new) (commands.Write block (take count self.old.buffer)) (outcome result self.new.buffer) }
         ensures pages { AddsPages P.Platform self.old self.new platform.old platform.new (commands.Write block (take count self.old.buffer)) result }
+        ensures drew { IfOk (outcome result self.new.buffer) (λ reply. DrewFor (T.drawn tape.old) (commands.Write block (take count self.old.buffer)) reply (T.drawn tape.new)) }
         ensures enough { StaysEnough self.old self.new result }
         ensures keeps { (written : Option (List ℕ))
             → KeepsFrom P.Platform (T.drawn tape.old) (T.drawn tape.new) written written self.old self.new platform.old platform.new result }
@@ -232,6 +236,7 @@ impl Desk {
             (counts (P.faults platform.new) (T.faults tape.new) 0 0 (L.faults ledger.new)) result }
         ensures any { AnswersAny P.tells (world_of P.Platform self.old.session platform.old) (world_of P.Platform self.new.session platform.new) commands.Commit (outcome result self.new.buffer) }
         ensures pages { AddsPages P.Platform self.old self.new platform.old platform.new commands.Commit result }
+        ensures drew { IfOk (outcome result self.new.buffer) (λ reply. DrewFor (T.drawn tape.old) commands.Commit reply (T.drawn tape.new)) }
         ensures enough { StaysEnough self.old self.new result }
         ensures keeps { Keeps P.Platform T.Tape L.Sink self.old self.new platform.old platform.new tape.old tape.new ledger.old ledger.new result }
         ensures answered { P.tells → ServesAny P.Platform self.old self.new platform.old platform.new commands.Commit result }

@@ -27,6 +27,8 @@ use Rattle.device_course.proofs.KeysLaws.{on_look, on_call, sound_of, listed_ima
 use Rattle.device_cli.proofs.CellLaws.{ready_later}
 use Rattle.device_cli.proofs.Choices.{on_ok}
 use Rattle.device_cli.specs.World.{needed_of}
+use Rattle.page_store.proofs.KeepingLaws.{drew_none}
+use Rattle.device_cli.proofs.DrawingLaws.{refused_drew}
 use Rattle.device_cli.proofs.ReplyLaws.{refused_any}
 use Rattle.device_cli.proofs.EnoughLaws.{enough_refused, pages_refused}
 use Rattle.device_cli.proofs.desk.Desk.format.Goals as goal
@@ -182,3 +184,17 @@ returns-in-Err-Memory-clause-any g c =
       omega (arith, g.met.P.Platform.has_room c.args.platform.now, cause.1, cause.2.0.head, c.format.ensures.grows.0.capacity),
       λ told. ap (λ (image : Image). image.cell) (cause.2.0.image told) ∙ cause.0 told,
     )
+
+-- ---- what it draws
+
+pub returns-in-Ok-clause-drew : goal.returns-in-Ok-clause-drew
+returns-in-Ok-clause-drew g c = (c.format.ensures.discloses.keys.grew, tt, c.format.ensures.discloses.keys.drew)
+
+pub returns-in-Err-NotEmpty-clause-drew : goal.returns-in-Err-NotEmpty-clause-drew
+returns-in-Err-NotEmpty-clause-drew g c = ([], refl, drew_none _ _ (rw c.in-Err-NotEmpty.field-0-is at c.in-Err-NotEmpty.ensures.cause).1.0.drawn)
+
+pub returns-in-Err-Full-clause-drew : goal.returns-in-Err-Full-clause-drew
+returns-in-Err-Full-clause-drew g c = ([], refl, drew_none _ _ (rw c.in-Err-Full.field-0-is at c.in-Err-Full.ensures.cause).2.0.drawn)
+
+pub returns-then-not-is_in_limits-clause-drew : goal.returns-then-not-is_in_limits-clause-drew
+returns-then-not-is_in_limits-clause-drew g c = refused_drew (g.T.Tape.drawn c.args.tape.now) c.args.blocks c.args.order c.refuse_format.result c.args.self.now.buffer c.refuse_format.ensures.either

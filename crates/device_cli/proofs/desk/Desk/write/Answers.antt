@@ -1,4 +1,4 @@
-use Rattle.std.proofs.Common.{◌≡◌, ◌<◌, ◌≤◌, ◌⊎◌, true, List, ℕ, None, Some, Err, refl, take, ◌∙◌, ap, rules, arith}
+use Rattle.std.proofs.Common.{◌≡◌, ◌<◌, ◌≤◌, ◌⊎◌, true, List, [], ◌∷◌, ℕ, None, Some, Err, refl, take, ◌∙◌, ap, rules, arith}
 use Rattle.std.proofs.lemmas.Grind.{common_steps}
 use Rattle.std.proofs.lemmas.Result.{err_from_is_err_and}
 use Rattle.sdbt_base.specs.Arrays.{written}
@@ -11,6 +11,7 @@ use Rattle.script_lang.specs.Replies as replies
 use Rattle.device_cli.specs.World.{World, is_full, world_of}
 use Rattle.device_cli.proofs.CallLaws.{after_stopped, halts_led, mounted_has, mounted_held, no_root, on_held, past_device, room_held, serves_led, within_device, write_added, write_kept, write_sound, write_stops}
 use Rattle.device_cli.proofs.EnoughLaws.{enough_more}
+use Rattle.page_store.proofs.KeepingLaws.{drew_none}
 use Rattle.device_cli.proofs.ReplyLaws.{held_has}
 use Rattle.device_cli.proofs.ServedLaws.{gives_unmounted_write, gives_write_full, gives_write_range, gives_written, is_full_false, is_full_true}
 use Rattle.device_cli.proofs.ServingLaws.{keeps_same, serves_unmounted}
@@ -151,3 +152,23 @@ returns-in_err-write_block-clause-answered g c told entry rep =
     rw (stopped g c) (halts_led old new c.in-Some.session entry (Write c.args.block bytes) c.in_err-write_block.field-0.0 c.in-Some.is (c.requires.before.cell told)
     (λ d t at. write_sound _ c.write_block.new.session d t c.args.block bytes c.in_err-write_block.field-0.0 (c.in_err-write_block.ensures.leads told d t at))
     (c.in_err-write_block.ensures.goes.along.cell told) rep)
+
+-- ---- what it draws and adds
+
+pub returns-in_default-clause-drew : goal.returns-in_default-clause-drew
+returns-in_default-clause-drew g c = ([], refl, drew_none _ _ refl)
+
+pub returns-then-block-blocks-clause-drew : goal.returns-then-block-blocks-clause-drew
+returns-then-block-blocks-clause-drew g c = ([], refl, drew_none _ _ refl)
+
+pub returns-then-head-capacity-clause-drew : goal.returns-then-head-capacity-clause-drew
+returns-then-head-capacity-clause-drew g c = ([], refl, drew_none _ _ refl)
+
+pub returns-clause-drew : goal.returns-clause-drew
+returns-clause-drew g c = (c.in_ok-write_block.ensures.adds.1 ∷ [], refl, c.in_ok-write_block.ensures.adds.2)
+
+pub returns-clause-pages : goal.returns-clause-pages
+returns-clause-pages g c = c.in_ok-write_block.ensures.adds.0
+
+pub returns-in_err-write_block-clause-drew : goal.returns-in_err-write_block-clause-drew
+returns-in_err-write_block-clause-drew g c = rw (stopped g c) tt
